@@ -1,0 +1,3 @@
+pub mod Carried
+pub mod Codes
+pub mod Texts

@@ -1,0 +1,121 @@
+//! What can happen in a world, and what a node can be given.
+
+use crate::faults::Fault;
+use crate::ids::{Addr, ServerId};
+use crate::messages::{Body, Message};
+use crate::sequence::{Seq, TryClone};
+use std::alloc::Global;
+
+/// What a world is opened with.
+#[derive(Clone, Copy, Debug, PartialEq, Eq)]
+pub struct Setup {
+    /// How many replicas each segment has, 1 to 5.
+    pub factor: u8,
+    /// How many entries a segment takes, 1 to 1,024.
+    pub segment: u16,
+}
+
+/// One event of a world: one input, taken by one node.
+#[derive(Debug, Drop, PartialEq)]
+pub enum Event {
+    /// The outside asks a server to write or read.
+    Ask {
+        to: ServerId,
+        body: Body,
+    },
+    /// The message of this number, counted from 0, reaches its addressee.
+    Deliver(usize),
+    /// A timer of the coordinator or of a running server goes off.
+    Tick(Addr),
+    /// A running server stops. Its host keeps its replicas.
+    Stop(ServerId),
+    /// A host is started, with what it keeps of its open replicas, named by master and segment.
+    Start {
+        host: u8,
+        kept: Seq<(ServerId, u16)>,
+    },
+    /// The coordinator is told that a server is believed dead.
+    Suspect(ServerId),
+    /// The coordinator is told to decide the recovery of a server.
+    Decide(ServerId),
+    /// The coordinator is told to create a table for an owner.
+    Create {
+        table: u32,
+        owner: ServerId,
+    },
+    /// The coordinator is told to split a tablet before a key.
+    Split {
+        table: u32,
+        at: u64,
+    },
+}
+
+impl TryClone for Event {
+    fn try_clone(&self, alloc: Global) -> Result<Event, Fault> {
+        match self {
+            Event::Ask { to, body } => Ok(Event::Ask {
+                to: *to,
+                body: body.try_clone(alloc)?,
+            }),
+            Event::Deliver(number) => Ok(Event::Deliver(*number)),
+            Event::Tick(addr) => Ok(Event::Tick(*addr)),
+            Event::Stop(id) => Ok(Event::Stop(*id)),
+            Event::Start { host, kept } => Ok(Event::Start {
+                host: *host,
+                kept: kept.try_clone(alloc)?,
+            }),
+            Event::Suspect(id) => Ok(Event::Suspect(*id)),
+            Event::Decide(id) => Ok(Event::Decide(*id)),
+            Event::Create { table, owner } => Ok(Event::Create {
+                table: *table,
+                owner: *owner,
+            }),
+            Event::Split { table, at } => Ok(Event::Split {
+                table: *table,
+                at: *at,
+            }),
+        }
+    }
+}
+
+/// What one node can be given: an event without the name of its node, a message in full.
+#[derive(Debug, Drop, PartialEq)]
+pub enum Input {
+    /// A message to this node.
+    Message(Message),
+    /// The node's timer.
+    Tick,
+    /// The server stops.
+    Stop,
+    /// The host is started and keeps these of its open replicas.
+    Start(Seq<(ServerId, u16)>),
+    /// To the coordinator: this server is believed dead.
+    Suspect(ServerId),
+    /// To the coordinator: decide the recovery of this server.
+    Decide(ServerId),
+    /// To the coordinator: create this table for this owner.
+    Create { table: u32, owner: ServerId },
+    /// To the coordinator: split the tablet of this table that holds this key before it.
+    Split { table: u32, at: u64 },
+}
+
+impl TryClone for Input {
+    fn try_clone(&self, alloc: Global) -> Result<Input, Fault> {
+        match self {
+            Input::Message(message) => Ok(Input::Message(message.try_clone(alloc)?)),
+            Input::Tick => Ok(Input::Tick),
+            Input::Stop => Ok(Input::Stop),
+            Input::Start(kept) => Ok(Input::Start(kept.try_clone(alloc)?)),
+            Input::Suspect(id) => Ok(Input::Suspect(*id)),
+            Input::Decide(id) => Ok(Input::Decide(*id)),
+            Input::Create { table, owner } => Ok(Input::Create {
+                table: *table,
+                owner: *owner,
+            }),
+            Input::Split { table, at } => Ok(Input::Split {
+                table: *table,
+                at: *at,
+            }),
+        }
+    }
+}

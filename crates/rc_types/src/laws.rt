@@ -1,0 +1,9 @@
+//! What the definitions over messages say, as contracts of functions that do nothing.
+
+ghost use Rattle.rc_types.specs.Carried.{EqualMessagesCarryTheSame, EntriesCount};
+
+/// Messages are plain data: `≡` compares them by their fields, the entries in them too.
+pub fn messages_are_plain_data()
+    ensures same { EqualMessagesCarryTheSame }
+    ensures entries { EntriesCount }
+{}

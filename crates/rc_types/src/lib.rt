@@ -1,0 +1,25 @@
+//! The types that every other crate speaks of: ids, log entries, messages, events, refusals and
+//! limits. All of it is plain data, and a copy of it equals its source.
+#![tactic(auto)]
+
+mod entries;
+mod events;
+mod faults;
+mod ids;
+pub mod laws;
+pub mod limits;
+mod messages;
+mod rows;
+mod sequence;
+#[cfg(test)]
+mod tests;
+mod verdicts;
+
+pub use entries::Entry;
+pub use events::{Event, Input, Setup};
+pub use faults::{Code, Fault};
+pub use ids::{Addr, Pair, ServerId};
+pub use messages::{Body, Message};
+pub use rows::{KeyRange, Part, PlanRow, Row, Tablet};
+pub use sequence::{Seq, TryClone};
+pub use verdicts::Breach;

@@ -1,0 +1,101 @@
+//! Rows of answers and plans, ranges of keys, parts of a recovery, and tablets.
+
+use crate::faults::Fault;
+use crate::ids::ServerId;
+use crate::sequence::{Seq, TryClone};
+use std::alloc::Global;
+
+/// What a backup tells of one replica of a master that it was asked about.
+#[derive(Debug, Drop, PartialEq)]
+pub struct Row {
+    /// The segment.
+    pub seg: u16,
+    /// The replica's epoch.
+    pub epoch: u16,
+    /// Whether the replica is closed.
+    pub closed: bool,
+    /// How many entries it has.
+    pub len: usize,
+    /// The digest that it was opened with: the segments that make up the log.
+    pub digest: Seq<u16>,
+}
+
+impl TryClone for Row {
+    fn try_clone(&self, alloc: Global) -> Result<Row, Fault> {
+        let digest = self.digest.try_clone(alloc)?;
+        Ok(Row {
+            seg: self.seg,
+            epoch: self.epoch,
+            closed: self.closed,
+            len: self.len,
+            digest,
+        })
+    }
+}
+
+/// One row of a recovery plan: of this segment, the first `len` entries of this backup's replica.
+#[derive(Clone, Copy, Debug, PartialEq, Eq)]
+pub struct PlanRow {
+    /// The segment.
+    pub seg: u16,
+    /// The backup whose replica is taken.
+    pub holder: ServerId,
+    /// How many of its entries are taken, from the first on.
+    pub len: usize,
+}
+
+impl TryClone for PlanRow {
+    fn try_clone(&self, _alloc: Global) -> Result<PlanRow, Fault> {
+        Ok(*self)
+    }
+}
+
+/// A contiguous range of the keys of one table.
+#[derive(Clone, Copy, Debug, PartialEq, Eq)]
+pub struct KeyRange {
+    /// The table.
+    pub table: u32,
+    /// The first key.
+    pub lo: u64,
+    /// The last key, not below `lo`.
+    pub hi: u64,
+}
+
+/// A recovery master's part of a crashed master's tablets: a range, the term that its entries have
+/// in the crashed master's log, and the term that they get.
+#[derive(Clone, Copy, Debug, PartialEq, Eq)]
+pub struct Part {
+    /// The table.
+    pub table: u32,
+    /// The first key.
+    pub lo: u64,
+    /// The last key.
+    pub hi: u64,
+    /// The term that the tablet had when its owner crashed.
+    pub previous: u32,
+    /// The term that it is recovered under.
+    pub term: u32,
+}
+
+impl TryClone for Part {
+    fn try_clone(&self, _alloc: Global) -> Result<Part, Fault> {
+        Ok(*self)
+    }
+}
+
+/// A range of keys with its one owner.
+#[derive(Clone, Copy, Debug, PartialEq, Eq)]
+pub struct Tablet {
+    /// The table.
+    pub table: u32,
+    /// The first key.
+    pub lo: u64,
+    /// The last key.
+    pub hi: u64,
+    /// Who owns it, or owned it when it crashed.
+    pub owner: ServerId,
+    /// The term of this ownership.
+    pub term: u32,
+    /// Whether the owner has crashed and nobody has it since.
+    pub crashed: bool,
+}

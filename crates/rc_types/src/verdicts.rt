@@ -1,0 +1,32 @@
+//! What a judge of a list of messages can find.
+
+use crate::ids::ServerId;
+
+/// A breach of the headline in a list of messages.
+#[derive(Clone, Copy, Debug, PartialEq, Eq)]
+pub enum Breach {
+    /// A write that the plan's master has acknowledged is not in the recovered log at its place.
+    Missing {
+        attempt: u32,
+        master: ServerId,
+        seg: u16,
+        offset: usize,
+    },
+    /// A place of the recovered log holds what its master never sent there, or sent in two ways.
+    Invented {
+        attempt: u32,
+        master: ServerId,
+        seg: u16,
+        offset: usize,
+    },
+    /// A write acknowledged under a later ownership has no greater version than one acknowledged
+    /// under an earlier one.
+    Version {
+        table: u32,
+        key: u64,
+        earlier_term: u32,
+        earlier_version: u64,
+        later_term: u32,
+        later_version: u64,
+    },
+}
