@@ -50,6 +50,25 @@ impl TryClone for PlanRow {
     }
 }
 
+/// Which log a recovery takes: the segment of its head, and a row for each segment.
+#[derive(Debug, Drop, PartialEq)]
+pub struct Plan {
+    /// The segment of the newest digest that was found open.
+    pub head: u16,
+    /// One row for each segment of that digest, ascending.
+    pub rows: Seq<PlanRow>,
+}
+
+impl TryClone for Plan {
+    fn try_clone(&self, alloc: Global) -> Result<Plan, Fault> {
+        let rows = self.rows.try_clone(alloc)?;
+        Ok(Plan {
+            head: self.head,
+            rows,
+        })
+    }
+}
+
 /// A contiguous range of the keys of one table.
 #[derive(Clone, Copy, Debug, PartialEq, Eq)]
 pub struct KeyRange {

@@ -163,3 +163,19 @@ fn copies_of_rows_and_events(rt: HostRuntime) -> Result<(), Fail> {
     assert_eq!(rt; again!(rt; deliver.try_clone(alloc)), deliver);
     Ok(())
 }
+
+#[test]
+fn copies_of_plans(rt: HostRuntime) -> Result<(), Fail> {
+    let alloc = rt.alloc();
+    let row = PlanRow {
+        seg: 2,
+        holder: id(1, 1),
+        len: 8,
+    };
+    let plan = Plan {
+        head: 2,
+        rows: Seq::from_vec(again!(rt; [row].to_vec(alloc))),
+    };
+    assert_eq!(rt; again!(rt; plan.try_clone(alloc)), plan);
+    Ok(())
+}

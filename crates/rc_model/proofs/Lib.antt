@@ -1,0 +1,2 @@
+mod Worlds
+mod Picks

@@ -1,0 +1,34 @@
+-- Ids: when two are the same, and their order.
+use Rattle.std.specs.Prelude.{Bool, false, nat_eq, nat_lt, ◌&&◌, ◌||◌, if◌then◌else◌, List, [], ◌∷◌}
+use Rattle.rc_types.specs.declared.ids.ServerId.{ServerId}
+use Rattle.rc_types.specs.declared.ids.Addr.{Addr}
+use Rattle.rc_types.specs.declared.ids.Addr.TheVariants.{Coordinator, Server, Outside}
+
+-- the same index and the same generation
+abbrev pub same_id : ServerId → ServerId → Bool
+same_id a b = nat_eq a.index b.index && nat_eq a.generation b.generation
+
+-- a comes before b: a lower index, or the same index and a lower generation
+abbrev pub id_before : ServerId → ServerId → Bool
+id_before a b = nat_lt a.index b.index || (nat_eq a.index b.index && nat_lt a.generation b.generation)
+
+-- the list of ids in order with one more, which is put before the first that it comes before
+abbrev pub insert_id : ServerId → List ServerId → List ServerId
+insert_id id [] = id ∷ []
+insert_id id (other ∷ ids) = if id_before id other then id ∷ other ∷ ids else other ∷ insert_id id ids
+
+-- the ids in order
+abbrev pub ids_in_order : List ServerId → List ServerId
+ids_in_order [] = []
+ids_in_order (id ∷ ids) = insert_id id (ids_in_order ids)
+
+-- id is one of these
+abbrev pub is_one_of : ServerId → List ServerId → Bool
+is_one_of id [] = false
+is_one_of id (other ∷ ids) = same_id id other || is_one_of id ids
+
+-- the address is this server's
+abbrev pub is_server : ServerId → Addr → Bool
+is_server id (Server other) = same_id id other
+is_server id Coordinator = false
+is_server id Outside = false

@@ -1,0 +1,125 @@
+-- The choice of the log: which rows of the backups' answers a recovery takes.
+use Rattle.std.specs.Prelude.{◌≡◌, ℕ, Bool, not, nat_eq, nat_lt, ◌&&◌, ◌||◌, if◌then◌else◌, List, [], ◌∷◌, ◌++◌, filter, Option, Some, None, Result, Ok, Err}
+use Rattle.rc_types.specs.declared.ids.ServerId.{ServerId}
+use Rattle.rc_types.specs.declared.ids.Pair.{Pair}
+use Rattle.rc_types.specs.declared.rows.Row.{Row}
+use Rattle.rc_types.specs.declared.rows.PlanRow.{PlanRow}
+use Rattle.rc_types.specs.declared.rows.Plan.{Plan}
+use Rattle.rc_types.specs.declared.faults.Fault.{Fault}
+use Rattle.rc_types.specs.declared.faults.Fault.TheVariants.{HeadMissing, SegmentMissing}
+use Rattle.rc_model.specs.Ids.{id_before}
+
+-- a row with the backup that told it
+pub record HeldRow : Type 0 where
+  pub holder : ServerId
+  pub row : Row
+
+-- the rows of all answers, in the order of the answers
+abbrev pub rows_of : ServerId → List Row → List HeldRow
+rows_of holder [] = []
+rows_of holder (row ∷ rows) = record { holder = holder; row = row } ∷ rows_of holder rows
+
+abbrev pub held_rows : List (ServerId × List Row) → List HeldRow
+held_rows [] = []
+held_rows (reply ∷ replies) = rows_of reply.0 reply.1 ++ held_rows replies
+
+-- the pair is below the other
+abbrev pub is_below : Pair → Pair → Bool
+is_below pair other = nat_lt pair.seg other.seg || (nat_eq pair.seg other.seg && nat_lt pair.epoch other.epoch)
+
+-- a closed row always counts, an open one if it is not below the least pair
+abbrev pub is_valid : Pair → Row → Bool
+is_valid min row = row.closed || not (is_below (record { seg = row.seg; epoch = row.epoch }) min)
+
+abbrev pub is_open_valid : Pair → HeldRow → Bool
+is_open_valid min held = not held.row.closed && is_valid min held.row
+
+abbrev pub is_valid_of : Pair → ℕ → HeldRow → Bool
+is_valid_of min seg held = nat_eq held.row.seg seg && is_valid min held.row
+
+-- by greater epoch, then greater length, then least holder
+abbrev pub longer_first : HeldRow → HeldRow → Bool
+longer_first a b =
+    nat_lt b.row.epoch a.row.epoch || (nat_eq a.row.epoch b.row.epoch && (nat_lt b.row.len a.row.len || (nat_eq a.row.len b.row.len && id_before a.holder b.holder)))
+
+-- a greater segment, and in one segment as above
+abbrev pub head_first : HeldRow → HeldRow → Bool
+head_first a b = nat_lt b.row.seg a.row.seg || (nat_eq a.row.seg b.row.seg && longer_first a b)
+
+-- closed before open, and then as above
+abbrev pub closed_first : HeldRow → HeldRow → Bool
+closed_first a b = (a.row.closed && not b.row.closed) || (not (not a.row.closed && b.row.closed) && longer_first a b)
+
+-- the first by an order, and of those that are alike the one that stands first in the list
+abbrev pub first_by_from : (HeldRow → HeldRow → Bool) → HeldRow → List HeldRow → HeldRow
+first_by_from before best [] = best
+first_by_from before best (row ∷ rows) = first_by_from before (if before row best then row else best) rows
+
+abbrev pub first_by : (HeldRow → HeldRow → Bool) → List HeldRow → Option HeldRow
+first_by before [] = None
+first_by before (row ∷ rows) = Some (first_by_from before row rows)
+
+-- the head row: of the valid open rows of the greatest segment that has one
+abbrev pub head_row : Pair → List (ServerId × List Row) → Option HeldRow
+head_row min replies = first_by head_first (filter (is_open_valid min) (held_rows replies))
+
+-- the row that is taken of a segment other than the head's
+abbrev pub row_of : Pair → List (ServerId × List Row) → ℕ → Option HeldRow
+row_of min replies seg = first_by closed_first (filter (is_valid_of min seg) (held_rows replies))
+
+-- the different numbers of a list, ascending
+abbrev pub insert_once : ℕ → List ℕ → List ℕ
+insert_once n [] = n ∷ []
+insert_once n (m ∷ ms) = if nat_lt n m then n ∷ m ∷ ms else (if nat_eq n m then m ∷ ms else m ∷ insert_once n ms)
+
+abbrev pub ascending : List ℕ → List ℕ
+ascending [] = []
+ascending (n ∷ ns) = insert_once n (ascending ns)
+
+-- as a row of a plan
+abbrev pub plan_row : HeldRow → PlanRow
+plan_row held = record { seg = held.row.seg; holder = held.holder; len = held.row.len }
+
+-- the row that is taken of a segment, given the head row
+abbrev pub taken_row : Pair → List (ServerId × List Row) → HeldRow → ℕ → Option HeldRow
+taken_row min replies head seg = if nat_eq seg head.row.seg then Some head else row_of min replies seg
+
+-- a row for each of these segments, or the first one that has none
+abbrev pub taken_rows : Pair → List (ServerId × List Row) → HeldRow → List ℕ → Result (List PlanRow) Fault
+taken_rows min replies head [] = Ok []
+taken_rows min replies head (seg ∷ segs) = with_row (taken_row min replies head seg) (taken_rows min replies head segs)
+  where
+    with_row : Option HeldRow → Result (List PlanRow) Fault → Result (List PlanRow) Fault
+    with_row None rest = Err (SegmentMissing seg)
+    with_row (Some held) (Ok rows) = Ok (plan_row held ∷ rows)
+    with_row (Some held) (Err fault) = Err fault
+
+abbrev pub plan_of : ℕ → Result (List PlanRow) Fault → Result Plan Fault
+plan_of head (Ok rows) = Ok (record { head = head; rows = rows })
+plan_of head (Err fault) = Err fault
+
+-- the plan: no head row, F8; a segment of its digest without a valid row, F9 of the least one
+abbrev pub pick : Pair → List (ServerId × List Row) → Result Plan Fault
+pick min replies = pick_by (head_row min replies)
+  where
+    pick_by : Option HeldRow → Result Plan Fault
+    pick_by None = Err HeadMissing
+    pick_by (Some head) = plan_of head.row.seg (taken_rows min replies head (ascending head.row.digest))
+
+-- A plan is pickable from these answers, under this least pair.
+
+-- each segment has the row that is taken of it, and the rows stand in the order of the segments
+abbrev pub AreTaken : Pair → List (ServerId × List Row) → HeldRow → List ℕ → List PlanRow → Type 0
+AreTaken min replies head [] [] = Unit {0}
+AreTaken min replies head (seg ∷ segs) (row ∷ rows) = ((held : HeldRow) × (taken_row min replies head seg ≡ Some held) × (row ≡ plan_row held)) × AreTaken min replies head segs rows
+AreTaken min replies head [] (row ∷ rows) = ⊥
+AreTaken min replies head (seg ∷ segs) [] = ⊥
+
+pub record IsPickable (min : Pair) (replies : List (ServerId × List Row)) (plan : Plan) : Type 0 where
+  -- a head row exists
+  pub head : HeldRow
+  pub head_is : head_row min replies ≡ Some head
+  -- it names the head
+  pub segment : plan.head ≡ head.row.seg
+  -- and one row for each different segment of its digest, ascending
+  pub taken : AreTaken min replies head (ascending head.row.digest) plan.rows

@@ -1,0 +1,72 @@
+-- The tablets: a list in order of (table, lo), of ranges that do not overlap. A table that is there
+-- is covered from key 0 to the last one.
+use Rattle.std.specs.Prelude.{ℕ, ◌+◌, ◌-◌, Bool, true, false, not, nat_eq, nat_lt, nat_le, ◌&&◌, ◌||◌, if◌then◌else◌, List, [], ◌∷◌, Option, Some, None}
+use Rattle.rc_types.specs.declared.ids.ServerId.{ServerId}
+use Rattle.rc_types.specs.declared.rows.Tablet.{Tablet}
+use Rattle.rc_types.specs.declared.rows.KeyRange.{KeyRange}
+use Rattle.rc_model.specs.Ids.{same_id}
+
+-- the tablet holds the point (table, key)
+abbrev pub holds : Tablet → ℕ → ℕ → Bool
+holds tablet table key = nat_eq tablet.table table && (nat_le tablet.lo key && nat_le key tablet.hi)
+
+-- the tablet of a point: the first that holds it
+abbrev pub tablet_of : List Tablet → ℕ → ℕ → Option Tablet
+tablet_of [] table key = None
+tablet_of (tablet ∷ tablets) table key = if holds tablet table key then Some tablet else tablet_of tablets table key
+
+-- some tablet of the table is there
+abbrev pub has_table : List Tablet → ℕ → Bool
+has_table [] table = false
+has_table (tablet ∷ tablets) table = nat_eq tablet.table table || has_table tablets table
+
+-- the tablets of one owner, in order
+abbrev pub tablets_of : ServerId → List Tablet → List Tablet
+tablets_of owner [] = []
+tablets_of owner (tablet ∷ tablets) = if same_id owner tablet.owner then tablet ∷ tablets_of owner tablets else tablets_of owner tablets
+
+-- the new tablet is put before the first that lies behind it
+abbrev pub insert_tablet : Tablet → List Tablet → List Tablet
+insert_tablet new [] = new ∷ []
+insert_tablet new (tablet ∷ tablets) = if nat_lt new.table tablet.table then new ∷ tablet ∷ tablets else tablet ∷ insert_tablet new tablets
+
+-- the whole of a table
+abbrev pub whole_table : ℕ → ServerId → ℕ → Tablet
+whole_table table owner term = record { table = table; lo = 0; hi = 18446744073709551615; owner = owner; term = term; crashed = false }
+
+-- the tablets with a new table, all of it one tablet
+abbrev pub with_table : ℕ → ServerId → ℕ → List Tablet → List Tablet
+with_table table owner term tablets = insert_tablet (whole_table table owner term) tablets
+
+-- a tablet whose owner has crashed is marked
+abbrev pub mark_if_owned : ServerId → Tablet → Tablet
+mark_if_owned owner tablet = if same_id owner tablet.owner then record tablet { crashed = true } else tablet
+
+-- all tablets of a crashed owner are marked
+abbrev pub marked_crashed : ServerId → List Tablet → List Tablet
+marked_crashed owner [] = []
+marked_crashed owner (tablet ∷ tablets) = mark_if_owned owner tablet ∷ marked_crashed owner tablets
+
+-- how many of an owner's tablets are not marked yet
+abbrev pub count_to_mark : ServerId → List Tablet → ℕ
+count_to_mark owner [] = 0
+count_to_mark owner (tablet ∷ tablets) = if same_id owner tablet.owner && not tablet.crashed then count_to_mark owner tablets + 1 else count_to_mark owner tablets
+
+-- the tablet that holds the point becomes two, of which the second begins at the point
+abbrev pub split_at : ℕ → ℕ → List Tablet → List Tablet
+split_at table at [] = []
+split_at table at (tablet ∷ tablets) = if holds tablet table at then record tablet { hi = at - 1 } ∷ record tablet { lo = at } ∷ tablets else tablet ∷ split_at table at tablets
+
+-- the tablet has exactly this range
+abbrev pub is_range : KeyRange → Tablet → Bool
+is_range range tablet = nat_eq tablet.table range.table && (nat_eq tablet.lo range.lo && nat_eq tablet.hi range.hi)
+
+-- some tablet has exactly this range
+abbrev pub has_range : KeyRange → List Tablet → Bool
+has_range range [] = false
+has_range range (tablet ∷ tablets) = is_range range tablet || has_range range tablets
+
+-- the tablet of this range gets a new owner and term, and its mark goes
+abbrev pub assigned : KeyRange → ServerId → ℕ → List Tablet → List Tablet
+assigned range owner term [] = []
+assigned range owner term (tablet ∷ tablets) = if is_range range tablet then record tablet { owner = owner; term = term; crashed = false } ∷ tablets else tablet ∷ assigned range owner term tablets
