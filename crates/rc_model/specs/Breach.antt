@@ -49,11 +49,12 @@ first_missing sent plan (ack ∷ acks) =
 
 -- Nothing recovered is invented
 
--- something was sent for the place, and all that was sent for it is the same
+-- all of these are the same as this one
 abbrev pub all_same : Entry → List Entry → Bool
 all_same entry [] = true
 all_same entry (other ∷ others) = same_entry entry other && all_same entry others
 
+-- something was sent for the place, and all that was sent for it is the same
 abbrev pub is_one_entry : List Entry → Bool
 is_one_entry [] = false
 is_one_entry (entry ∷ entries) = all_same entry entries

@@ -37,12 +37,12 @@ made (message ∷ sent) m s o =
 abbrev pub IsMade : List Message → ServerId → ℕ → ℕ → Entry → Type 0
 IsMade sent m s o entry = (k : ℕ) × (slice_get (made sent m s o) k ≡ Some entry)
 
--- to whom an open Place of a segment under an epoch goes
+-- to whom a proper Place, one that doesn't close, of a segment under an epoch goes
 abbrev pub placed_to : Addr → Body → ℕ → ℕ → List ServerId
 placed_to (Server id) (Place seg epoch digest entries closed) s e = if nat_eq seg s && (nat_eq epoch e && not closed) then id ∷ [] else []
 placed_to _ _ s e = []
 
--- the members of a segment under an epoch: to whom its master sent an open Place of it
+-- the members of a segment under an epoch: to whom its master sent a proper Place of it
 abbrev pub members_of : List Message → ServerId → ℕ → ℕ → List ServerId
 members_of [] m s e = []
 members_of (message ∷ sent) m s e =
@@ -50,7 +50,7 @@ members_of (message ∷ sent) m s e =
 
 -- Acknowledgements, plans, least pairs
 
--- an acknowledged write: its master and its place, and what was written under which version
+-- an acknowledged write: its place, and what was written under which version
 pub record Ack : Type 0 where
   pub seg : ℕ
   pub offset : ℕ
@@ -112,7 +112,7 @@ abbrev pub pair_in : Body → Pair
 pair_in (CommitOk seg epoch) = record { seg = seg; epoch = epoch }
 pair_in _ = record { seg = 0; epoch = 0 }
 
--- the least pair of a master: the greatest that the coordinator has granted to it
+-- the least pair of a master: the greatest that the coordinator has told it to be committed
 abbrev pub least_pair : List Message → ServerId → Pair
 least_pair [] m = record { seg = 0; epoch = 0 }
 least_pair (message ∷ sent) m = if is_server m message.to then greater_pair (pair_in message.body) (least_pair sent m) else least_pair sent m

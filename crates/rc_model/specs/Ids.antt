@@ -22,11 +22,6 @@ abbrev pub ids_in_order : List ServerId → List ServerId
 ids_in_order [] = []
 ids_in_order (id ∷ ids) = insert_id id (ids_in_order ids)
 
--- id is one of these
-abbrev pub is_one_of : ServerId → List ServerId → Bool
-is_one_of id [] = false
-is_one_of id (other ∷ ids) = same_id id other || is_one_of id ids
-
 -- the address is this server's
 abbrev pub is_server : ServerId → Addr → Bool
 is_server id (Server other) = same_id id other

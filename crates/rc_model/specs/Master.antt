@@ -38,7 +38,7 @@ pub record Master : Type 0 where
   pub head : ℕ
   pub segments : ℕ → Segment
   pub phase : Phase
-  -- how many entries are durable, counted over all segments
+  -- how many entries are durable, counted over all segments (so far in segment 1)
   pub durable : ℕ
   pub granted : List GrantedRange
   -- parts to be recovered, and their entries that wait to be appended

@@ -1,5 +1,6 @@
 -- What a master owns, and how it numbers versions.
-use Rattle.std.specs.Prelude.{ℕ, ◌+◌, Bool, false, nat_eq, nat_le, ◌&&◌, ◌||◌, if◌then◌else◌, List, [], ◌∷◌, max, Option, Some, None}
+use Rattle.std.specs.Prelude.{◌≡◌, ℕ, ◌+◌, Bool, nat_eq, nat_le, ◌&&◌, if◌then◌else◌, List, [], ◌∷◌, max, find, Option, option_map}
+use Rattle.std.specs.List.{list_any}
 use Rattle.rc_types.specs.declared.entries.Entry.{Entry}
 use Rattle.rc_types.specs.declared.rows.KeyRange.{KeyRange}
 use Rattle.rc_types.specs.declared.kept.GrantedRange.{GrantedRange}
@@ -10,13 +11,11 @@ in_range range table key = nat_eq range.table table && (nat_le range.lo key && n
 
 -- the term of the first granted range that holds the point
 abbrev pub term_of : List GrantedRange → ℕ → ℕ → Option ℕ
-term_of [] table key = None
-term_of (grant ∷ grants) table key = if in_range grant.range table key then Some grant.term else term_of grants table key
+term_of grants table key = option_map (λ grant. grant.term) (find (λ grant. in_range grant.range table key) grants)
 
 -- the term is owned already
 abbrev pub owns_term : List GrantedRange → ℕ → Bool
-owns_term [] term = false
-owns_term (grant ∷ grants) term = nat_eq grant.term term || owns_term grants term
+owns_term grants term = list_any (λ grant. nat_eq grant.term term) grants
 
 -- the entry is of this key, under this term
 abbrev pub is_of : ℕ → ℕ → ℕ → Entry → Bool

@@ -1,4 +1,4 @@
--- Tables are functions, and `put` changes one at one key. Lists are read by place, from 0.
+-- Tables are functions, and `put` changes one at one key.
 use Rattle.std.specs.Prelude.{ℕ, nat_eq, if◌then◌else◌}
 use Rattle.rc_types.specs.declared.ids.ServerId.{ServerId}
 use Rattle.rc_model.specs.Ids.{same_id}

@@ -1,0 +1,9 @@
+pub mod First
+pub mod Ascending
+pub mod PlanRows
+pub mod Orders
+pub mod Firsts
+pub mod Pickable
+pub mod NonePickable
+pub mod Clauses
+pub mod Columns

@@ -1,0 +1,4 @@
+pub mod Held
+pub mod Orders
+pub mod Missing
+pub mod Meaning

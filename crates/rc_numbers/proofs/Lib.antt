@@ -1,0 +1,3 @@
+pub mod NumbersLengths
+pub mod NumbersRules
+pub mod NumbersWorld

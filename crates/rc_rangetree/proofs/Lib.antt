@@ -1,0 +1,5 @@
+pub mod Appended
+pub mod InOrder
+pub mod Covered
+pub mod Forks
+pub mod Changes

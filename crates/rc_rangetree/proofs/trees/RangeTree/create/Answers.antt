@@ -1,0 +1,13 @@
+use Rattle.std.proofs.Common.{◌≡◌, false}
+use Rattle.rc_model.specs.Tablets.{has_table}
+use Rattle.rc_rangetree.specs.Nodes.{leaves}
+use Rattle.rc_rangetree.proofs.Changes.{searchable, tree_created}
+use Rattle.rc_rangetree.proofs.trees.RangeTree.create.Goals as goal
+
+pub insert-requires-clause-tree : goal.insert-requires-clause-tree
+insert-requires-clause-tree g c = searchable c.self.invariant
+
+pub invariant_of-self-2 : goal.invariant_of-self-2
+invariant_of-self-2 g c =
+    let absent : has_table (leaves c.self.inside.root) c.args.table ≡ false = cc in
+    tree_created c.args.table c.args.owner c.args.term c.self.invariant absent c.if-self-eq-MAX_TABLETS.false c.in_ok-insert.ensures.list c.in_ok-insert.ensures.bounds

@@ -1,0 +1,4 @@
+pub mod Nodes
+pub mod Points
+pub mod Ranges
+pub mod Refusals

@@ -1,0 +1,183 @@
+//! The tree of all tablets.
+
+ghost use Rattle.std.specs.Prelude.{◌≡◌, ◌↔◌, false, [], is_some, OnOk, OnErr, IfOk, IfErr, Ok, Err, if◌then◌else◌};
+ghost use Rattle.rc_types.specs.declared.faults.Fault.TheVariants.{OutOfMemory, NoTable};
+ghost use Rattle.rc_model.specs.Tablets.{tablet_of, has_table, tablets_of, with_table, marked_crashed, count_to_mark, split_at, has_range, assigned};
+ghost use Rattle.rc_rangetree.specs.Ranges.{AreTablets};
+ghost use Rattle.rc_rangetree.specs.Refusals.{Answers, create_refusal, split_refusal};
+
+use crate::nodes::Node;
+use crate::points::Point;
+use rc_types::limits::{LAST_KEY, MAX_TABLETS};
+use rc_types::{Fault, KeyRange, ServerId, Tablet};
+use std::alloc::{Allocator, Global};
+use std::marker::Model;
+
+/// The tablets of all tables. Contracts see the list of them, in order of table and first key: the
+/// ranges don't overlap, each table that is there is covered from its first key to its last, and
+/// there are at most 1,024 tablets.
+///
+/// A call that is refused leaves the same list. Calls go down the tree by recursion; it isn't kept
+/// shallow yet, so a tree of n tablets may be n - 1 forks deep, at most 1,023.
+#[derive(Drop)]
+pub struct RangeTree<A: Allocator> {
+    alloc: A,
+    root: Node<A>,
+    count: usize,
+}
+
+impl<A: Allocator> Model for RangeTree<A> {
+    ghost use Rattle.std.specs.Prelude.{List};
+    ghost use Rattle.rc_types.specs.declared.rows.Tablet.{Tablet};
+
+    ghost Value = { List Tablet };
+
+    ghost use Rattle.rc_rangetree.specs.Nodes.{leaves, IsTree};
+
+    ghost view = { λ tree. leaves tree.root };
+
+    ghost invariant = { λ tree. IsTree tree.root tree.count };
+}
+
+impl<A: Allocator + Clone> RangeTree<A> {
+    /// A tree with no tablets. It takes memory of this allocator once there are two.
+    pub fn new_in(alloc: A) -> Self
+        ensures { result ≡ [] }
+    {
+        RangeTree {
+            alloc,
+            root: Node::Empty,
+            count: 0,
+        }
+    }
+
+    /// The tablet that holds the key. There is one for each key of a table that is there. It takes
+    /// no memory.
+    #[tactic(auto, using(crate::proofs::Covered::covered))]
+    pub fn find(&self, table: u32, key: u64) -> Option<Tablet>
+        ensures value { result ≡ tablet_of self.now table key }
+        ensures covered { is_some result ≡ has_table self.now table }
+        ensures are_tablets { AreTablets self.now }
+    {
+        self.root.find(Point { table, key })
+    }
+
+    /// All tablets, in order.
+    ///
+    /// Errors: F1.
+    pub fn tablets(&self, alloc: Global) -> Result<Vec<Tablet>, Fault>
+        ensures list { IfOk result (λ tablets. tablets.items ≡ self.now) }
+        ensures are_tablets { AreTablets self.now }
+        ensures err { IfErr result (λ e. e ≡ OutOfMemory) }
+    {
+        let mut tablets = Vec::with_capacity(alloc, self.count)?;
+        self.root.list_into(&mut tablets)?;
+        Ok(tablets)
+    }
+
+    /// The tablets of one owner, in order.
+    ///
+    /// Errors: F1.
+    pub fn tablets_of(&self, alloc: Global, owner: ServerId) -> Result<Vec<Tablet>, Fault>
+        ensures list { IfOk result (λ tablets. tablets.items ≡ tablets_of owner self.now) }
+        ensures err { IfErr result (λ e. e ≡ OutOfMemory) }
+    {
+        let mut tablets = Vec::new(alloc);
+        self.root.list_owned_into(owner, &mut tablets)?;
+        Ok(tablets)
+    }
+
+    /// Adds a table, all of it one tablet.
+    ///
+    /// Errors: F12 where the table is there, else F15 where 1,024 tablets stand, else F1.
+    pub fn create(&mut self, table: u32, owner: ServerId, term: u32) -> Result<(), Fault>
+        ensures list { OnOk result (self.new ≡ with_table table owner term self.old) }
+        ensures refused { Answers (create_refusal table self.old) result }
+        ensures err { OnErr result (self.new ≡ self.old) }
+    {
+        if self.find(table, 0).is_some() {
+            return Err(Fault::TableExists);
+        }
+        if self.count == MAX_TABLETS {
+            return Err(Fault::TooManyTablets);
+        }
+        let tablet = Tablet {
+            table,
+            lo: 0,
+            hi: LAST_KEY,
+            owner,
+            term,
+            crashed: false,
+        };
+        self.root.insert(&self.alloc, tablet)?;
+        self.count += 1;
+        Ok(())
+    }
+
+    /// Splits the tablet that holds the key: it becomes two of the same owner and term, and the
+    /// second begins at the key.
+    ///
+    /// Errors: F13 where no tablet holds the key, else F14 where the key is the first of its tablet,
+    /// else F16 where the tablet is marked as crashed, else F15 where 1,024 tablets stand, else F1.
+    pub fn split(&mut self, table: u32, at: u64) -> Result<(), Fault>
+        ensures list { OnOk result (self.new ≡ split_at table at self.old) }
+        ensures refused { Answers (split_refusal table at self.old) result }
+        ensures no_table { (result ≡ Err NoTable) ↔ (has_table self.old table ≡ false) }
+        ensures err { OnErr result (self.new ≡ self.old) }
+    {
+        let tablet = self.find(table, at).ok_or(Fault::NoTable)?;
+        if tablet.lo == at {
+            return Err(Fault::BadSplit);
+        }
+        if tablet.crashed {
+            return Err(Fault::Recovering);
+        }
+        if self.count == MAX_TABLETS {
+            return Err(Fault::TooManyTablets);
+        }
+        self.root.split(&self.alloc, tablet, at)?;
+        self.count += 1;
+        Ok(())
+    }
+
+    /// Marks all tablets of an owner as crashed. The answer is how many of them were not marked
+    /// before. It takes no memory.
+    pub fn mark_crashed(&mut self, owner: ServerId) -> usize
+        ensures count { result ≡ count_to_mark owner self.old }
+        ensures list { self.new ≡ marked_crashed owner self.old }
+    {
+        self.root.mark_crashed(owner)
+    }
+
+    /// Gives the tablet of exactly this range a new owner and term, and takes its mark away. It
+    /// takes no memory.
+    ///
+    /// Errors: F13 where no tablet has exactly this range.
+    pub fn assign(&mut self, range: KeyRange, owner: ServerId, term: u32) -> Result<(), Fault>
+        ensures list { self.new ≡ assigned range owner term self.old }
+        ensures refused { result ≡ (if has_range range self.old then Ok tt else Err NoTable) }
+        ensures err { OnErr result (self.new ≡ self.old) }
+    {
+        if self.root.assign(range, owner, term) {
+            Ok(())
+        } else {
+            Err(Fault::NoTable)
+        }
+    }
+
+    /// The same tablets in another allocator. Where memory is refused, what was taken for the copy
+    /// is given back.
+    ///
+    /// Errors: F1.
+    pub fn try_clone_in<B: Allocator + Clone>(&self, alloc: B) -> Result<RangeTree<B>, Fault>
+        ensures list { IfOk result (λ copy. copy ≡ self.now) }
+        ensures err { IfErr result (λ e. e ≡ OutOfMemory) }
+    {
+        let root = self.root.try_clone_in(&alloc)?;
+        Ok(RangeTree {
+            alloc,
+            root,
+            count: self.count,
+        })
+    }
+}
