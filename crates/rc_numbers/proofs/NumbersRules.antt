@@ -32,8 +32,8 @@ enlists_within c id n h =
     cond_both (is_up c.servers id) _ _ (λ (after : Coordinator × List Message). NumbersWithin after.0 (n + 1))
     (λ e. within_next c n h)
     (λ e. cond_both (is_newest id c.servers.rows) _ _ (λ (after : Coordinator × List Message). NumbersWithin after.0 (n + 1))
-      (λ f. record { version = omega arith; attempts = omega arith; tablets = omega arith; terms = omega arith })
-      (λ f. within_next c n h))
+    (λ f. record { version = omega arith; attempts = omega arith; tablets = omega arith; terms = omega arith })
+    (λ f. within_next c n h))
 
 pub notes_ready_within : (c : Coordinator) (id : ServerId) (n : ℕ) → NumbersWithin c n → NumbersWithin (notes_ready c id) (n + 1)
 notes_ready_within c id n h =
@@ -138,10 +138,10 @@ creates_within c table owner n h =
     cond_both (not (is_up c.servers owner && c.ready owner)) _ _ (λ (after : Coordinator × List Message). NumbersWithin after.0 (n + 1))
     (λ e. within_next c n h)
     (λ e. cond_both (has_table c.tablets table) _ _ (λ (after : Coordinator × List Message). NumbersWithin after.0 (n + 1))
-      (λ f. within_next c n h)
-      (λ f. cond_both (nat_le 1024 (length c.tablets)) _ _ (λ (after : Coordinator × List Message). NumbersWithin after.0 (n + 1))
-        (λ g. within_next c n h)
-        (λ g. creates_table_within c table owner n (omega (arith, leb-false 1024 (length c.tablets) g)) h)))
+    (λ f. within_next c n h)
+    (λ f. cond_both (nat_le 1024 (length c.tablets)) _ _ (λ (after : Coordinator × List Message). NumbersWithin after.0 (n + 1))
+    (λ g. within_next c n h)
+    (λ g. creates_table_within c table owner n (omega (arith, leb-false 1024 (length c.tablets) g)) h)))
 
 pub coordinator_takes_within : (c : Coordinator) (from : Addr) (body : Body) (n : ℕ) → NumbersWithin c n → NumbersWithin (coordinator_takes c from body).0 (n + 1)
 coordinator_takes_within c (Server from) Enlist n h = enlists_within c from n h

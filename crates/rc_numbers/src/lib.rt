@@ -7,5 +7,4 @@ ghost use Rattle.rc_numbers.specs.Numbers.{NumbersGrowSlowly};
 /// last term is at most 1,024 for each event.
 pub fn numbers_grow_slowly()
     ensures { NumbersGrowSlowly }
-{
-}
+{}

@@ -11,4 +11,4 @@ mod Steps
 mod Heard
 mod Plans
 mod Breaches
-mod Headlines
+pub mod Headlines

@@ -1,0 +1,11 @@
+-- Numbers of masters, in a map that is a table.
+use Rattle.std.specs.Prelude.{ℕ, unwrap_or}
+use Rattle.std.specs.declared.hash.FoldHasher.{FoldHasher}
+use Rattle.std.specs.declared.hash.BuildHasherDefault.{BuildHasherDefault}
+use Rattle.indexmap.specs.IndexMap.{IndexMap, get}
+use Rattle.rc_types.specs.declared.ids.ServerId.{ServerId}
+use Rattle.rc_model.specs.Ids.{same_id}
+
+-- of each master the number that the map has, and 0 of one that is not in it
+abbrev pub number_in : IndexMap ServerId ℕ (BuildHasherDefault FoldHasher) → ServerId → ℕ
+number_in map master = unwrap_or (get same_id map master) 0

@@ -1,0 +1,16 @@
+pub mod BackupView
+pub mod HeldAfter
+pub mod FollowUps
+pub mod MasterView
+pub mod Versions
+pub mod HostView
+pub mod NodesView
+pub mod Happened
+pub mod WorldHolds
+pub mod CoordinatorNumbers
+pub mod CoordinatorView
+pub mod JudgingPlaces
+pub mod JudgingRecoveries
+pub mod JudgingRuns
+pub mod JudgingStandings
+pub mod JudgingWrites
