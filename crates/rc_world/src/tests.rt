@@ -2,7 +2,7 @@
 //! so by a line `refused`, sees that nothing of that event was sent, and takes the events from there on again.
 
 use super::*;
-use rc_types::{Addr, Body, Event, Fault, Seq, ServerId, Setup};
+use rc_types::{Addr, Body, Code, Event, Fault, Seq, ServerId, Setup};
 use std::alloc::Global;
 use std::test::Fail;
 
@@ -113,5 +113,69 @@ fn impossible(rt: HostRuntime) -> Result<(), Fail> {
         matches!(outcome, Err(Fault::BadEvent)),
         "message 25 was not sent"
     );
+    Ok(())
+}
+
+/// Takes these events, one after another.
+fn all(
+    rt: &impl Print,
+    alloc: Global,
+    world: World<Global>,
+    numbers: &[usize],
+) -> Result<World<Global>, Fault> {
+    let mut world = world;
+    for number in numbers {
+        world = go(rt, alloc, world, Event::Deliver(*number))?;
+    }
+    Ok(world)
+}
+
+#[test]
+fn lost_stored(rt: HostRuntime) -> Result<(), Fail> {
+    let alloc = rt.alloc();
+    let mut world = three_hosts(&rt, alloc)?;
+    world = write(&rt, alloc, world)?;
+    world = deliver(&rt, alloc, world, 25, 29)?;
+    assert_eq!(rt; world.sent().len(), 30, "one of two replies is lost");
+    Ok(())
+}
+
+#[test]
+fn twice_and_in_reverse(rt: HostRuntime) -> Result<(), Fail> {
+    let alloc = rt.alloc();
+    let mut world = three_hosts(&rt, alloc)?;
+    world = write(&rt, alloc, world)?;
+    world = all(&rt, alloc, world, &[25, 27, 27, 26, 26])?;
+    assert_eq!(rt;
+        world.sent().len(),
+        32,
+        "two Appends, and a Stored for each delivery"
+    );
+    world = all(&rt, alloc, world, &[31, 30, 29, 28])?;
+    assert_eq!(rt; world.sent().len(), 33, "acknowledged once");
+    world = deliver(&rt, alloc, world, 25, 26)?;
+    assert_eq!(rt;
+        world.sent().len(),
+        35,
+        "a second write, sent to both members"
+    );
+    Ok(())
+}
+
+#[test]
+fn refusals(rt: HostRuntime) -> Result<(), Fail> {
+    let alloc = rt.alloc();
+    let mut world = three_hosts(&rt, alloc)?;
+    let again = Event::Create {
+        table: 7,
+        owner: OWNER,
+    };
+    world = go(&rt, alloc, world, again)?;
+    world = go(&rt, alloc, world, Event::Decide(OWNER))?;
+    assert_eq!(rt; world.sent().len(), 27);
+    let codes = [Code::TableExists, Code::StaleAttempt];
+    for (message, code) in world.sent()[25..].iter().zip(codes) {
+        assert_eq!(rt; message.body, Body::Refused { code });
+    }
     Ok(())
 }
