@@ -1,2 +1,2 @@
-mod Worlds
+pub mod Worlds
 mod Picks

@@ -1,14 +1,27 @@
 -- How a world goes on.
-use Rattle.std.proofs.Common.{◌≡◌, Bool, true, false, cond, List, [], ◌∷◌, ◌++◌, Option, Some, None, refl, sym}
+use Rattle.std.proofs.Common.{◌≡◌, Bool, true, false, cond, List, [], ◌∷◌, ◌++◌, Option, Some, None, refl, sym, true≢false}
 use Rattle.std.proofs.lemmas.List.{append-nil}
 use Rattle.rc_types.specs.declared.events.Event.{Event}
 use Rattle.rc_types.specs.declared.messages.Message.{Message}
-use Rattle.rc_model.specs.World.{World, Node, TheOutside, TheCoordinator', TheHost, Work, Job, step, is_possible, job_done, node_steps, replay_from, work_of}
+use Rattle.rc_model.specs.World.{World, Node, TheOutside, TheCoordinator', TheHost, Work, Job, step, is_possible, job_possible, job_done, node_steps, replay_from, work_of}
 
 -- one more event at the end is one more step
 pub replay_from-push : (world : World) (events : List Event) (event : Event) → replay_from world (events ++ event ∷ []) ≡ step (replay_from world events) event
 replay_from-push world [] event = refl
 replay_from-push world (first ∷ events) event = replay_from-push (step world first) events event
+
+noted_node : (world : World) (event : Event) (node : Node) (work : Work) → (node_steps world event node work).events ≡ world.events ++ event ∷ []
+noted_node world event TheOutside work = refl
+noted_node world event TheCoordinator' work = refl
+noted_node world event (TheHost index) work = refl
+
+noted_job : (world : World) (event : Event) (job : Option Job) → job_possible world job ≡ true → (job_done world event job).events ≡ world.events ++ event ∷ []
+noted_job world event None possible = absurd (true≢false (sym possible))
+noted_job world event (Some job) possible = noted_node world event job.node job.work
+
+-- an event that is possible is noted, and nothing else is
+pub noted : (world : World) (event : Event) → is_possible world event ≡ true → (step world event).events ≡ world.events ++ event ∷ []
+noted world event possible = rw possible (noted_job world event (work_of world.sent event) possible)
 
 -- the later world has sent what the earlier one has, and more
 abbrev pub HasSentMore : World → World → Type 0

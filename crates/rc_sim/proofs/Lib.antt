@@ -1,6 +1,7 @@
-pub mod Joined
-pub mod Views
-pub mod Each
-pub mod Bytes
-pub mod Runs
-pub mod Readings
+mod Waitings
+mod Steppings
+mod Passes
+mod Scenes
+mod Written
+mod Endings
+mod Closings

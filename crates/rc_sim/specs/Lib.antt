@@ -1,7 +1,7 @@
-pub mod Lines
-pub mod Kinds
-pub mod Values
-pub mod Scenario
-pub mod Run
-pub mod Worked
-pub mod Claims
+pub mod Failures
+pub mod Waiting
+pub mod RunHolds
+pub mod Steps
+pub mod Verdicts
+pub mod Written
+pub mod Statuses

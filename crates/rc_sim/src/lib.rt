@@ -1,18 +1,18 @@
-//! What the program `ramseg` does between its input and its output: a scenario is read, it is run,
-//! and what came of it is reported.
+//! What the program `ramseg` does: a scenario is read, it is run, and what came of it is written.
 #![tactic(auto)]
 
-mod kinds;
-pub mod laws;
-mod reading;
-mod reporting;
-mod scenarios;
+mod answers;
+mod commanding;
+mod counted;
+mod mail;
+mod outlets;
+mod runs;
+mod simulating;
 #[cfg(test)]
 mod tests;
-mod values;
-pub mod worked;
+mod verdicts;
 
-pub use kinds::BodyKind;
-pub use reading::read_scenario;
-pub use reporting::{add_stopped, error_text, report_of};
-pub use scenarios::{Passing, ReadFault, Scenario, ScenarioEvent};
+pub use commanding::command;
+pub use counted::Counted;
+pub use simulating::simulate;
+pub use verdicts::{SimFault, Verdict};

@@ -1,10 +1,16 @@
-//! Reports and readings against texts from outside. Where memory is refused, a test says so by a
-//! line `refused` and makes the same call again: `scripts/refuse-allocations` counts on it.
+//! The program on worked scenarios, on bad input, and on readers and writers that fail. Where memory is
+//! refused, a test says so by a line `refused` and makes the same call again:
+//! `scripts/refuse-allocations` counts on it.
 
-use super::*;
-use rc_types::{Addr, Body, Breach, Code, Entry, Event, Message, PlanRow, Seq, ServerId, Setup};
+mod rows;
+mod streams;
+
+use crate::{Counted, SimFault, Verdict, command, simulate};
+use rows::{ROWS, Row};
 use std::alloc::{AllocError, Global};
+use std::io::Read;
 use std::test::Fail;
+use streams::{Failing, Limited, Spaces};
 
 /// The value of a call that may find no memory; once refused, the call is made again.
 macro_rules! again {
@@ -19,499 +25,243 @@ macro_rules! again {
     };
 }
 
-fn id(index: u8, generation: u32) -> ServerId {
-    ServerId { index, generation }
+/// The line of a scenario that is no JSON text.
+const NO_TEXT: &str = "error F17 at 0\n";
+
+/// What the program has answered and written.
+#[derive(Debug, PartialEq, Drop)]
+struct Outcome {
+    status: u8,
+    output: Vec<u8>,
 }
 
-fn message(from: Addr, to: Addr, body: Body) -> Message {
-    Message { from, to, body }
-}
-
-fn rows(alloc: Global) -> Result<Seq<PlanRow>, AllocError> {
-    let first = PlanRow {
-        seg: 1,
-        holder: id(1, 1),
-        len: 2,
-    };
-    let second = PlanRow {
-        seg: 2,
-        holder: id(2, 3),
-        len: 0,
-    };
-    Ok(Seq::from_vec(vec![in alloc; first, second]?))
-}
-
-/// One message for each kind of line, and two that have none.
-fn all_kinds(alloc: Global) -> Result<Vec<Message>, AllocError> {
-    let owner = Addr::Server(id(0, 1));
-    let other = Addr::Server(id(63, 4_294_967_295));
-    let mut messages = Vec::with_capacity(alloc, 10)?;
-    messages.push(message(owner, Addr::Coordinator, Body::Enlist))?;
-    let own = Body::Own {
-        table: 7,
-        lo: 0,
-        hi: 18_446_744_073_709_551_615,
-        term: 1,
-        previous: 0,
-        attempt: 0,
-    };
-    messages.push(message(Addr::Coordinator, owner, own))?;
-    let ack = Body::WriteOk {
-        seg: 1,
-        offset: 0,
-        term: 1,
-        table: 7,
-        key: 5,
-        version: 12,
-    };
-    messages.push(message(other, Addr::Outside, ack))?;
-    let read = Body::ReadOk {
-        table: 7,
-        key: 6,
-        version: 0,
-        value: None,
-    };
-    messages.push(message(owner, Addr::Outside, read))?;
-    let refusal = Body::Refused {
-        code: Code::TableExists,
-    };
-    messages.push(message(Addr::Coordinator, Addr::Outside, refusal))?;
-    let deposed = Body::Refused {
-        code: Code::Deposed,
-    };
-    messages.push(message(Addr::Coordinator, owner, deposed))?;
-    let plan = Body::Plan {
-        attempt: 1,
-        master: id(0, 1),
-        head: 2,
-        rows: rows(alloc)?,
-        parts: Seq::new(alloc),
-    };
-    messages.push(message(Addr::Coordinator, other, plan))?;
-    let split = Body::SplitOk { table: 7, at: 9 };
-    messages.push(message(Addr::Coordinator, Addr::Outside, split))?;
-    let append = Body::Append {
-        seg: 1,
-        offset: 0,
-        entries: Seq::<Entry>::new(alloc),
-    };
-    messages.push(message(owner, other, append))?;
-    Ok(messages)
-}
-
-#[test]
-fn each_kind_of_line(rt: HostRuntime) -> Result<(), Fail> {
-    let messages = again!(rt; all_kinds(rt.alloc()));
-    let text = again!(rt; report_of(rt.alloc(), messages.as_slice(), None));
-    let want =
-        "own 0.1 term 1 table 7 from 0 to 18446744073709551615 after 0 attempt 0\nack 63.4294967295 seg 1 at 0 term 1 table 7 key 5 version 12\nread 0.1 table 7 key 6 version 0\nrefused 12 from c to out\nrefused 5 from c to 0.1\nplan 1 of 0.1 to 63.4294967295 head 2 rows 1:1.1:2 2:2.3:0\nsplit table 7 at 9\nmessages 9\nacknowledged 1\nrefused 2\nplans 1\ngrants 1\naudit clean\n";
-    assert_eq!(rt; text.as_str(), want);
-    Ok(())
-}
-
-#[test]
-fn audit_lines(rt: HostRuntime) -> Result<(), Fail> {
-    let counts = "messages 0\nacknowledged 0\nrefused 0\nplans 0\ngrants 0\n";
-    let missing = Breach::Missing {
-        attempt: 1,
-        master: id(0, 1),
-        seg: 1,
-        offset: 0,
-    };
-    let invented = Breach::Invented {
-        attempt: 3,
-        master: id(2, 4),
-        seg: 65535,
-        offset: 17,
-    };
-    let versions = Breach::Version {
-        table: 7,
-        key: 5,
-        earlier_term: 3,
-        earlier_version: 2,
-        later_term: 4,
-        later_version: 1,
-    };
-    for (found, line) in [
-        (
-            missing,
-            "audit breach missing attempt 1 of 0.1 seg 1 at 0\n",
-        ),
-        (
-            invented,
-            "audit breach invented attempt 3 of 2.4 seg 65535 at 17\n",
-        ),
-        (
-            versions,
-            "audit breach version table 7 key 5 term 3 version 2 term 4 version 1\n",
-        ),
-    ] {
-        let text = again!(rt; report_of(rt.alloc(), &[], Some(found)));
-        let want = again!(rt; format!(in rt.alloc(); "{counts}{line}"));
-        assert_eq!(rt; text.as_str(), want.as_str());
+fn words(alloc: Global, line: &[&str]) -> Result<Vec<String>, AllocError> {
+    let mut words = Vec::with_capacity(alloc, line.len())?;
+    for word in line {
+        words.push(String::from_str(alloc, word)?)?;
     }
-    Ok(())
+    Ok(words)
 }
 
-#[test]
-fn last_lines(rt: HostRuntime) -> Result<(), Fail> {
-    let mut text = again!(rt; String::from_str(rt.alloc(), "audit clean\n"));
-    if add_stopped(rt.alloc(), &mut text, Code::BadEvent, 7).is_err() {
+/// What the program does on this command line and this input.
+fn program_on<R: Read + Drop>(
+    alloc: Global,
+    line: &[&str],
+    input: R,
+) -> Result<Outcome, AllocError> {
+    let words = words(alloc, line)?;
+    let mut reader = Counted::new(input);
+    let mut writer = Counted::new(Vec::new(alloc));
+    let mut errors = Counted::new(Vec::new(alloc));
+    let status = command(
+        alloc,
+        words.as_slice(),
+        &mut reader,
+        &mut writer,
+        &mut errors,
+    );
+    Ok(Outcome {
+        status,
+        output: writer.inner,
+    })
+}
+
+/// The same; where memory was refused, once more.
+fn settled<R: Read + Copy + Drop>(
+    rt: &HostRuntime,
+    line: &[&str],
+    input: R,
+) -> Result<Outcome, Fail> {
+    let first = again!(rt; program_on(rt.alloc(), line, input));
+    if first.status == 3 {
         println!(rt; "refused")?;
-        assert_eq!(rt; text.as_str(), "audit clean\n");
-        add_stopped(rt.alloc(), &mut text, Code::BadEvent, 7)?;
+        return Ok(program_on(rt.alloc(), line, input)?);
     }
-    assert_eq!(rt; text.as_str(), "audit clean\nstopped F18 at event 7\n");
-    let mut memory = String::new(rt.alloc());
-    again!(rt; add_stopped(rt.alloc(), &mut memory, Code::OutOfMemory, 0));
-    assert_eq!(rt; memory.as_str(), "stopped F1 at event 0\n");
-    let error = again!(rt; error_text(rt.alloc(), 12));
-    assert_eq!(rt; error.as_str(), "error F17 at 12\n");
-    Ok(())
+    Ok(first)
 }
 
-/// The place at which the bytes are wrong, if they are. Where memory was refused, they are read again.
-fn wrong_place(alloc: Global, bytes: &[u8]) -> Result<Option<usize>, ReadFault> {
-    let mut outcome = read_scenario(alloc, bytes);
-    if let Err(ReadFault::Memory) = outcome {
-        outcome = read_scenario(alloc, bytes);
-    }
-    match outcome {
-        Ok(_) => Ok(None),
-        Err(ReadFault::Bad(place)) => Ok(Some(place)),
-        Err(ReadFault::Memory) => Err(ReadFault::Memory),
-    }
-}
-
-/// The same for a scenario with a right event, then this one, and then a wrong one.
-fn wrong_second(alloc: Global, event: &str) -> Result<Option<usize>, ReadFault> {
-    let head = "{\"format\":1,\"factor\":2,\"segment\":8,\"events\":[{\"e\":\"start\",\"host\":1},";
-    let mut text = String::new(alloc);
-    for part in [head, event, ",0]}"] {
-        if text.push_str(part).is_err() {
-            text.push_str(part)?;
-        }
-    }
-    wrong_place(alloc, text.as_bytes())
-}
-
-const FIRST_WRITE: &str =
-    "{\"format\":1,\"factor\":2,\"segment\":8,\"events\":[{\"e\":\"start\",\"host\":0},{\"e\":\"start\",\"host\":1},{\"e\":\"start\",\"host\":2},{\"e\":\"settle\"},{\"e\":\"create\",\"table\":7,\"owner\":[0,1]},{\"e\":\"settle\"},{\"e\":\"write\",\"to\":[0,1],\"table\":7,\"key\":5,\"value\":\"a\"},{\"e\":\"settle\"},{\"e\":\"suspect\",\"id\":[0,1]},{\"e\":\"settle\"},{\"e\":\"decide\",\"id\":[0,1]}]}";
-
-#[test]
-fn reads_each_kind_of_event(rt: HostRuntime) -> Result<(), Fail> {
-    let alloc = rt.alloc();
-    let id_0 = id(0, 1);
-    let text =
-        "{\"format\":1,\"factor\":5,\"segment\":1024,\"events\":[{\"e\":\"start\",\"host\":63},{\"e\":\"deliver\",\"n\":4294967295},{\"e\":\"suspect\",\"id\":[0,1]},{\"e\":\"decide\",\"id\":[63,4294967295]},{\"owner\":[0,1],\"table\":4294967295,\"e\":\"create\"}]}";
-    let read = again!(rt; read_scenario(alloc, text.as_bytes()));
-    let setup = Setup {
-        factor: 5,
-        segment: 1024,
-    };
-    assert_eq!(rt; read.setup, setup);
-    let kept = Seq::new(alloc);
-    let start = ScenarioEvent::Core(Event::Start { host: 63, kept });
-    assert_eq!(rt; read.events.get(0), Some(&start));
-    let deliver = ScenarioEvent::Core(Event::Deliver(4_294_967_295));
-    assert_eq!(rt; read.events.get(1), Some(&deliver));
-    let suspect = ScenarioEvent::Core(Event::Suspect(id_0));
-    assert_eq!(rt; read.events.get(2), Some(&suspect));
-    let decide = ScenarioEvent::Core(Event::Decide(id(63, 4_294_967_295)));
-    assert_eq!(rt; read.events.get(3), Some(&decide));
-    let create = ScenarioEvent::Core(Event::Create {
-        table: 4_294_967_295,
-        owner: id_0,
-    });
-    assert_eq!(rt; read.events.get(4), Some(&create));
-    assert_eq!(rt; read.events.len(), 5);
-    Ok(())
+/// Whether the program answers so to this scenario.
+fn answers(rt: &HostRuntime, scenario: &[u8], status: u8, output: &str) -> Result<bool, Fail> {
+    let found = settled(rt, &["run"], scenario)?;
+    Ok(found.status == status && found.output.as_slice() == output.as_bytes())
 }
 
 #[test]
-fn reads_writes(rt: HostRuntime) -> Result<(), Fail> {
-    let alloc = rt.alloc();
-    let text =
-        "{\"format\":1,\"factor\":1,\"segment\":1,\"events\":[{\"e\":\"write\",\"to\":[0,1],\"table\":7,\"key\":18446744073709551615,\"value\":\"\\u00e4\"},{\"e\":\"write\",\"to\":[0,1],\"table\":0,\"key\":0,\"value\":null}]}";
-    let read = again!(rt; read_scenario(alloc, text.as_bytes()));
-    let first = ScenarioEvent::Core(Event::Ask {
-        to: id(0, 1),
-        body: Body::Write {
-            table: 7,
-            key: 18_446_744_073_709_551_615,
-            value: Some(Seq::from_vec(again!(rt; [195u8, 164].to_vec(alloc)))),
-        },
-    });
-    assert_eq!(rt; read.events.get(0), Some(&first));
-    let second = ScenarioEvent::Core(Event::Ask {
-        to: id(0, 1),
-        body: Body::Write {
-            table: 0,
-            key: 0,
-            value: None,
-        },
-    });
-    assert_eq!(rt; read.events.get(1), Some(&second));
-    assert_eq!(rt; read.events.len(), 2);
-    Ok(())
-}
-
-#[test]
-fn reads_passes(rt: HostRuntime) -> Result<(), Fail> {
-    let alloc = rt.alloc();
-    let text =
-        "{\"format\":1,\"factor\":1,\"segment\":1,\"events\":[{\"e\":\"settle\",\"kinds\":[\"Ready\",\"SplitOk\"],\"hosts\":[0,63]},{\"e\":\"settle\",\"hosts\":[]},{\"e\":\"settle\"}]}";
-    let read = again!(rt; read_scenario(alloc, text.as_bytes()));
-    let kinds = again!(rt; [BodyKind::Ready, BodyKind::SplitOk].to_vec(alloc));
-    let full = ScenarioEvent::Settle(Passing {
-        kinds: Seq::from_vec(kinds),
-        hosts: Seq::from_vec(again!(rt; [0u8, 63].to_vec(alloc))),
-    });
-    assert_eq!(rt; read.events.get(0), Some(&full));
-    let empty = ScenarioEvent::Settle(Passing {
-        kinds: Seq::new(alloc),
-        hosts: Seq::new(alloc),
-    });
-    assert_eq!(rt; read.events.get(1), Some(&empty));
-    assert_eq!(rt; read.events.get(2), Some(&empty));
-    Ok(())
-}
-
-#[test]
-fn passes_leave_messages_alone(rt: HostRuntime) -> Result<(), Fail> {
-    let alloc = rt.alloc();
-    let passing = Passing {
-        kinds: Seq::from_vec(again!(rt; [BodyKind::Enlist, BodyKind::Ready].to_vec(alloc))),
-        hosts: Seq::from_vec(again!(rt; [0u8, 2].to_vec(alloc))),
-    };
-    let host_1 = Addr::Server(id(1, 1));
-    for (to, body, want) in [
-        (Addr::Coordinator, Body::Ready, true),
-        (Addr::Coordinator, Body::Commit { seg: 1, epoch: 0 }, false),
-        (Addr::Outside, Body::SplitOk { table: 7, at: 9 }, true),
-        (
-            Addr::Server(id(2, 9)),
-            Body::CommitOk { seg: 1, epoch: 0 },
-            true,
-        ),
-        (host_1, Body::CommitOk { seg: 1, epoch: 0 }, false),
-        (host_1, Body::Enlist, true),
-    ] {
-        let one = message(Addr::Coordinator, to, body);
-        assert_eq!(rt; passing.leaves_alone(&one), want, "{one:?}");
+fn worked_scenarios(rt: HostRuntime) -> Result<(), Fail> {
+    for row in &ROWS {
+        let is_so = answers(&rt, row.scenario.as_bytes(), row.status, row.report)?;
+        assert!(rt; is_so, "{}", row.report);
     }
     Ok(())
 }
 
 #[test]
-fn names_of_kinds(rt: HostRuntime) {
-    for name in [
-        "Write",
-        "Read",
-        "WriteOk",
-        "ReadOk",
-        "Refused",
-        "Place",
-        "Append",
-        "Close",
-        "Stored",
-        "Commit",
-        "CommitOk",
-        "Enlist",
-        "Ready",
-        "List",
-        "Gather",
-        "Replicas",
-        "Plan",
-        "Fetch",
-        "Data",
-        "Recovered",
-        "Own",
-        "SplitOk",
-    ] {
-        assert_eq!(rt; BodyKind::named(name).map(BodyKind::name), Some(name));
+fn fronts_of_a_scenario(rt: HostRuntime) -> Result<(), Fail> {
+    let bytes = ROWS[0].scenario.as_bytes();
+    for end in 0..bytes.len() {
+        let is_so = answers(&rt, &bytes[..end], 2, NO_TEXT)?;
+        assert!(rt; is_so, "front of {end} bytes");
     }
-    assert_eq!(rt; BodyKind::named("Free"), None);
-    assert_eq!(rt; BodyKind::named("write"), None);
-    assert_eq!(rt; BodyKind::of(&Body::Enlist), BodyKind::Enlist);
-    assert_eq!(rt; BodyKind::of(&Body::Free { seg: 1 }).name(), "Free");
+    Ok(())
 }
 
 #[test]
-fn wrong_beginnings(rt: HostRuntime) -> Result<(), Fail> {
-    for (text, place) in [
-        (
-            "{\"format\":1,\"factor\":1,\"segment\":1,\"events\":[]}",
-            None,
-        ),
-        (
-            "{\"events\":[],\"factor\":9,\"segment\":1,\"format\":1,\"factor\":5}",
-            None,
-        ),
-        ("", Some(0)),
-        ("{\"format\":1", Some(0)),
-        (
-            "{\"format\":1,\"factor\":1,\"segment\":1,\"events\":[]}]",
-            Some(0),
-        ),
-        (
-            "{\"format\":1,\"factor\":1,\"segment\":1,\"events\":[1e999]}",
-            Some(0),
-        ),
-        ("[]", Some(1)),
-        ("7", Some(1)),
-        ("{}", Some(1)),
-        (
-            "{\"format\":2,\"factor\":2,\"segment\":8,\"events\":[]}",
-            Some(1),
-        ),
-        (
-            "{\"format\":\"1\",\"factor\":2,\"segment\":8,\"events\":[]}",
-            Some(1),
-        ),
-        ("{\"factor\":2,\"segment\":8,\"events\":[]}", Some(1)),
+fn no_text(rt: HostRuntime) -> Result<(), Fail> {
+    assert!(rt; answers(&rt, &[b'"', 255, b'"'], 2, NO_TEXT)?);
+    assert!(rt; answers(&rt, &[b'['; 200], 2, NO_TEXT)?);
+    Ok(())
+}
+
+#[test]
+fn too_many_bytes(rt: HostRuntime) -> Result<(), Fail> {
+    let spaces = Spaces { left: 16_777_217 };
+    let found = program_on(rt.alloc(), &["run"], spaces)?;
+    assert_eq!(rt; found.status, 2);
+    assert_eq!(rt; found.output.as_slice(), NO_TEXT.as_bytes());
+    Ok(())
+}
+
+#[test]
+fn wrong_members(rt: HostRuntime) -> Result<(), Fail> {
+    let wrong: [(&str, &str); 12] = [
         (
             "{\"format\":1,\"factor\":6,\"segment\":8,\"events\":[]}",
-            Some(1),
-        ),
-        (
-            "{\"format\":1,\"factor\":0,\"segment\":8,\"events\":[]}",
-            Some(1),
+            "1",
         ),
         (
             "{\"format\":1,\"factor\":2.0,\"segment\":8,\"events\":[]}",
-            Some(1),
-        ),
-        (
-            "{\"format\":1e0,\"factor\":2,\"segment\":8,\"events\":[]}",
-            Some(1),
-        ),
-        (
-            "{\"format\":1,\"factor\":-1,\"segment\":8,\"events\":[]}",
-            Some(1),
+            "1",
         ),
         (
             "{\"format\":1,\"factor\":2,\"segment\":0,\"events\":[]}",
-            Some(1),
+            "1",
         ),
         (
-            "{\"format\":1,\"factor\":2,\"segment\":1025,\"events\":[]}",
-            Some(1),
+            "{\"format\":1,\"factor\":2,\"segment\":8,\"events\":[],\"x\":1}",
+            "1",
         ),
         (
             "{\"format\":1,\"factor\":2,\"segment\":8,\"events\":{}}",
-            Some(1),
+            "1",
         ),
         (
-            "{\"format\":1,\"factor\":2,\"segment\":8,\"events\":[0],\"x\":1}",
-            Some(1),
+            "{\"format\":1,\"factor\":2,\"segment\":8,\"events\":[{\"e\":\"suspect\",\"id\":[0,0]}]}",
+            "2",
         ),
         (
-            "{\"format\":1,\"factor\":2,\"segment\":8,\"events\":[0]}",
-            Some(2),
+            "{\"format\":1,\"factor\":2,\"segment\":8,\"events\":[{\"e\":\"deliver\",\"n\":4294967296}]}",
+            "2",
         ),
         (
-            "{\"format\":1,\"factor\":2,\"segment\":2,\"events\":[{\"e\":\"start\",\"host\":64}]}",
-            Some(2),
+            "{\"format\":1,\"factor\":2,\"segment\":8,\"events\":[{\"e\":\"settle\"},{\"e\":\"start\",\"host\":0,\"x\":1}]}",
+            "3",
         ),
-    ] {
-        assert_eq!(rt; wrong_place(rt.alloc(), text.as_bytes())?, place, "{text}");
+        (
+            "{\"format\":1,\"factor\":2,\"segment\":8,\"events\":[{\"e\":\"fly\"}]}",
+            "2",
+        ),
+        (
+            "{\"format\":1,\"factor\":2,\"segment\":8,\"events\":[{\"e\":\"start\",\"host\":\"0\"}]}",
+            "2",
+        ),
+        (
+            "{\"format\":1,\"factor\":2,\"segment\":8,\"events\":[{\"e\":\"settle\",\"kinds\":[\"Fly\"]}]}",
+            "2",
+        ),
+        (
+            "{\"format\":1,\"factor\":2,\"segment\":8,\"events\":[{\"e\":\"settle\",\"hosts\":null}]}",
+            "2",
+        ),
+    ];
+    for (scenario, place) in wrong {
+        let line = again!(rt; format!(in rt.alloc(); "error F17 at {place}\n"));
+        let is_so = answers(&rt, scenario.as_bytes(), 2, line.as_str())?;
+        assert!(rt; is_so, "{scenario}");
+    }
+    Ok(())
+}
+
+/// The fault of a writer that takes so many bytes, at most so many a call, and what it has taken.
+fn limited(
+    rt: &HostRuntime,
+    row: &Row,
+    room: usize,
+    most: usize,
+) -> Result<(Option<SimFault>, Vec<u8>), Fail> {
+    let taken = Vec::new(rt.alloc());
+    let mut reader = Counted::new(row.scenario.as_bytes());
+    let mut writer = Counted::new(Limited { taken, room, most });
+    let fault = simulate(rt.alloc(), &mut reader, &mut writer, rt.alloc()).err();
+    Ok((fault, writer.inner.taken))
+}
+
+#[test]
+fn writers_that_fail(rt: HostRuntime) -> Result<(), Fail> {
+    let row = &ROWS[0];
+    let report = row.report.as_bytes();
+    for room in 0..report.len() {
+        let (fault, taken) = limited(&rt, row, room, 64)?;
+        assert_eq!(rt; fault, Some(SimFault::Write(room)));
+        assert_eq!(rt; taken.as_slice(), &report[..room]);
     }
     Ok(())
 }
 
 #[test]
-fn wrong_events(rt: HostRuntime) -> Result<(), Fail> {
-    for event in [
-        "{}",
-        "[]",
-        "{\"e\":1}",
-        "{\"e\":\"relocate\",\"host\":0}",
-        "{\"e\":\"stop\",\"id\":[0,1]}",
-        "{\"e\":\"tick\",\"id\":\"c\"}",
-        "{\"e\":\"read\",\"to\":[0,1],\"table\":7,\"key\":5}",
-        "{\"e\":\"split\",\"table\":7,\"at\":9}",
-        "{\"e\":\"start\",\"host\":0,\"x\":1}",
-        "{\"e\":\"start\",\"host\":0,\"kept\":[]}",
-        "{\"e\":\"start\"}",
-        "{\"e\":\"start\",\"host\":-0}",
-        "{\"e\":\"start\",\"host\":\"0\"}",
-        "{\"e\":\"deliver\",\"n\":4294967296}",
-        "{\"e\":\"deliver\",\"n\":1.0}",
-        "{\"e\":\"create\",\"table\":4294967296,\"owner\":[0,1]}",
-        "{\"e\":\"create\",\"table\":7,\"owner\":[0,0]}",
-        "{\"e\":\"create\",\"table\":7,\"owner\":[0]}",
-        "{\"e\":\"create\",\"table\":7,\"owner\":[0,1,1]}",
-        "{\"e\":\"suspect\",\"id\":[64,1]}",
-        "{\"e\":\"decide\",\"id\":[0,4294967296]}",
-        "{\"e\":\"decide\",\"id\":\"c\"}",
-    ] {
-        assert_eq!(rt; wrong_second(rt.alloc(), event)?, Some(3), "{event}");
+fn a_slow_writer(rt: HostRuntime) -> Result<(), Fail> {
+    let row = &ROWS[0];
+    let (fault, taken) = limited(&rt, row, 1_000_000, 1)?;
+    assert_eq!(rt; fault, None);
+    assert_eq!(rt; taken.as_slice(), row.report.as_bytes());
+    Ok(())
+}
+
+#[test]
+fn readers_that_fail(rt: HostRuntime) -> Result<(), Fail> {
+    let bytes = ROWS[0].scenario.as_bytes();
+    for fails_at in 0..=bytes.len() {
+        let input = Failing {
+            bytes,
+            fails_at,
+            reads: 0,
+        };
+        let mut reader = Counted::new(input);
+        let mut writer = Counted::new(Vec::new(rt.alloc()));
+        let found = simulate(rt.alloc(), &mut reader, &mut writer, rt.alloc());
+        assert_eq!(rt; found, Err(SimFault::Read));
+        assert!(rt; writer.inner.is_empty());
     }
     Ok(())
 }
 
 #[test]
-fn wrong_writes_and_passes(rt: HostRuntime) -> Result<(), Fail> {
-    for event in [
-        "{\"e\":\"write\",\"to\":[0,1],\"table\":7,\"key\":5}",
-        "{\"e\":\"write\",\"to\":[0,1],\"table\":7,\"key\":5,\"value\":1}",
-        "{\"e\":\"write\",\"to\":[0,1],\"table\":7,\"key\":5,\"value\":false}",
-        "{\"e\":\"write\",\"to\":[0,1],\"table\":7,\"key\":18446744073709551616,\"value\":null}",
-        "{\"e\":\"write\",\"to\":[0,1],\"table\":7,\"key\":5,\"value\":null,\"term\":1}",
-        "{\"e\":\"write\",\"to\":[64,1],\"table\":7,\"key\":1,\"value\":\"a\"}",
-        "{\"e\":\"settle\",\"kinds\":null}",
-        "{\"e\":\"settle\",\"hosts\":null}",
-        "{\"e\":\"settle\",\"kinds\":\"Ready\"}",
-        "{\"e\":\"settle\",\"kinds\":[\"Ready\",\"ready\"]}",
-        "{\"e\":\"settle\",\"kinds\":[\"Free\"]}",
-        "{\"e\":\"settle\",\"kinds\":[1]}",
-        "{\"e\":\"settle\",\"hosts\":[0,64]}",
-        "{\"e\":\"settle\",\"hosts\":[],\"x\":1}",
-    ] {
-        assert_eq!(rt; wrong_second(rt.alloc(), event)?, Some(3), "{event}");
+fn a_reader_of_single_bytes(rt: HostRuntime) -> Result<(), Fail> {
+    let input = Failing {
+        bytes: ROWS[0].scenario.as_bytes(),
+        fails_at: 1_000_000,
+        reads: 0,
+    };
+    let mut reader = Counted::new(input);
+    let mut writer = Counted::new(Vec::new(rt.alloc()));
+    let found = simulate(rt.alloc(), &mut reader, &mut writer, rt.alloc());
+    assert_eq!(rt; found, Ok(Verdict::Clean));
+    assert_eq!(rt; writer.inner.as_slice(), ROWS[0].report.as_bytes());
+    Ok(())
+}
+
+#[test]
+fn command_lines(rt: HostRuntime) -> Result<(), Fail> {
+    let lines: [(&[&str], u8); 5] = [
+        (&["--version"], 0),
+        (&["run", "--help"], 0),
+        (&[], 2),
+        (&["fly"], 2),
+        (&["run", "--heap"], 2),
+    ];
+    for (line, status) in lines {
+        let found = settled(&rt, line, b"".as_slice())?;
+        assert_eq!(rt; found.status, status);
+        assert_eq!(rt; found.output.is_empty(), status == 2);
     }
-    assert_eq!(rt;
-        wrong_second(rt.alloc(), "{\"e\":\"settle\",\"kinds\":[]}")?,
-        Some(4)
-    );
-    Ok(())
-}
-
-#[test]
-fn each_front_is_no_text(rt: HostRuntime) -> Result<(), Fail> {
-    let bytes = FIRST_WRITE.as_bytes();
-    assert_eq!(rt; wrong_place(rt.alloc(), bytes)?, None);
-    for n in 0..bytes.len() {
-        assert_eq!(rt; wrong_place(rt.alloc(), &bytes[..n])?, Some(0), "{n}");
-    }
-    Ok(())
-}
-
-#[test]
-fn bytes_that_are_no_text(rt: HostRuntime) -> Result<(), Fail> {
-    let alloc = rt.alloc();
-    let text = b"{\"format\":1,\"factor\":1,\"segment\":1,\"events\":[\"\xff\"]}";
-    assert_eq!(rt; wrong_place(alloc, text)?, Some(0));
-    assert_eq!(rt; wrong_place(alloc, b"\xef\xbb\xbf{}")?, Some(0));
-    assert_eq!(rt; wrong_place(alloc, b"\"\\ud800\"")?, Some(0));
-    let open = [b'['; 200];
-    assert_eq!(rt; wrong_place(alloc, &open)?, Some(0));
-    let mut nested = [b']'; 256];
-    nested[..128].copy_from_slice(&[b'['; 128]);
-    assert_eq!(rt; wrong_place(alloc, &nested[1..255])?, Some(1));
-    assert_eq!(rt; wrong_place(alloc, &nested)?, Some(0));
-    Ok(())
-}
-
-#[test]
-fn bytes_that_are_too_many(rt: HostRuntime) -> Result<(), Fail> {
-    let alloc = rt.alloc();
-    let text = b"{\"format\":1,\"factor\":1,\"segment\":1,\"events\":[]}";
-    let mut bytes = again!(rt; vec![in alloc; b' '; 16_777_217]);
-    let (_, end) = bytes.split_at_mut(16_777_217 - text.len());
-    end.copy_from_slice(text);
-    assert_eq!(rt; wrong_place(alloc, bytes.as_slice())?, Some(0));
-    assert_eq!(rt; wrong_place(alloc, &bytes[1..])?, None);
     Ok(())
 }

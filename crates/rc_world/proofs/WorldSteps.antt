@@ -4,15 +4,11 @@ use Rattle.rc_types.specs.declared.events.Setup.{Setup}
 use Rattle.rc_types.specs.declared.events.Event.{Event}
 use Rattle.rc_model.specs.World.{World, Node, TheOutside, TheCoordinator', TheHost, Work, Job, step, is_possible, node_steps, replay, replay_from, opening, work_of}
 use Rattle.rc_model.specs.Coordinator.{Coordinator}
+use Rattle.rc_model.proofs.Worlds.{replay_from-push}
 use Rattle.rc_world.specs.declared.nodes.Nodes.{Nodes}
 use Rattle.rc_world.specs.NodesView.{nodes_world, NumbersAreSmall}
 use Rattle.rc_numbers.specs.Numbers.{NumbersWithin, NumbersGrowSlowly}
 use Rattle.rc_numbers.proofs.NumbersWorld.{numbers_within}
-
--- one more event at the end is one more step
-pub replay_from-push : (world : World) (events : List Event) (event : Event) → replay_from world (events ++ event ∷ []) ≡ step (replay_from world events) event
-replay_from-push world [] event = refl
-replay_from-push world (first ∷ events) event = replay_from-push (step world first) events event
 
 -- the same world with other events before
 abbrev pub before : World → List Event → World

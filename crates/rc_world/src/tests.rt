@@ -1,27 +1,39 @@
 //! Runs of a world, with the message numbers of the worked runs. Where memory is refused, a test says
-//! so by a line `refused`, sees that nothing of that event was sent, and takes the events from there on again.
+//! so by a line `refused`, sees that the world is as it was before that event, and takes the event again:
+//! `scripts/refuse-allocations` counts on it. The worked run of the first write is compared with a run of
+//! which nothing was refused.
 
 use super::*;
 use rc_types::{Addr, Body, Code, Event, Fault, Seq, ServerId, Setup};
-use std::alloc::Global;
+use std::alloc::{AllocError, Global};
+use std::process::Abort;
 use std::test::Fail;
+
+const SETUP: Setup = Setup {
+    factor: 2,
+    segment: 8,
+};
 
 const OWNER: ServerId = ServerId {
     index: 0,
     generation: 1,
 };
 
-/// Takes the event, once more where memory was refused.
+/// Takes the event. Where memory is refused, as many events have happened and as many messages were
+/// sent as before, and the event is taken again.
 fn go(
-    rt: &impl Print,
+    rt: &(impl Abort + Print),
     alloc: Global,
     world: World<Global>,
     event: Event,
 ) -> Result<World<Global>, Fault> {
+    let before = (world.events().len(), world.sent().len());
     let event = [event];
     match run(alloc, world, &event) {
-        Err((world, _, Fault::OutOfMemory)) => {
+        Err((world, taken, Fault::OutOfMemory)) => {
             let _ = rt.println("refused");
+            assert_eq!(rt; taken, 0);
+            assert_eq!(rt; (world.events().len(), world.sent().len()), before);
             run(alloc, world, &event).map_err(|stop| stop.2)
         }
         outcome => outcome.map_err(|stop| stop.2),
@@ -30,7 +42,7 @@ fn go(
 
 /// Delivers the messages from one number on, up to another.
 fn deliver(
-    rt: &impl Print,
+    rt: &(impl Abort + Print),
     alloc: Global,
     world: World<Global>,
     from: usize,
@@ -44,12 +56,8 @@ fn deliver(
 }
 
 /// Three hosts start, and table 7 is created for the first.
-fn three_hosts(rt: &impl Print, alloc: Global) -> Result<World<Global>, Fault> {
-    let setup = Setup {
-        factor: 2,
-        segment: 8,
-    };
-    let mut world = World::new(alloc, setup, alloc);
+fn three_hosts(rt: &(impl Abort + Print), alloc: Global) -> Result<World<Global>, Fault> {
+    let mut world = World::new(alloc, SETUP, alloc);
     for host in 0..3 {
         let kept = Seq::new(alloc);
         world = go(rt, alloc, world, Event::Start { host, kept })?;
@@ -64,7 +72,11 @@ fn three_hosts(rt: &impl Print, alloc: Global) -> Result<World<Global>, Fault> {
 }
 
 /// A write of key 5, without a value.
-fn write(rt: &impl Print, alloc: Global, world: World<Global>) -> Result<World<Global>, Fault> {
+fn write(
+    rt: &(impl Abort + Print),
+    alloc: Global,
+    world: World<Global>,
+) -> Result<World<Global>, Fault> {
     let body = Body::Write {
         table: 7,
         key: 5,
@@ -73,18 +85,89 @@ fn write(rt: &impl Print, alloc: Global, world: World<Global>) -> Result<World<G
     go(rt, alloc, world, Event::Ask { to: OWNER, body })
 }
 
+/// The events of the worked run of the first write, with its recovery up to the Plan.
+fn first_write_events(alloc: Global) -> Result<Vec<Event>, AllocError> {
+    let mut events = Vec::with_capacity(alloc, 43)?;
+    for host in 0..3 {
+        let kept = Seq::new(alloc);
+        events.push(Event::Start { host, kept })?;
+    }
+    for number in 0..24 {
+        events.push(Event::Deliver(number))?;
+    }
+    let create = Event::Create {
+        table: 7,
+        owner: OWNER,
+    };
+    events.push(create)?;
+    events.push(Event::Deliver(24))?;
+    let body = Body::Write {
+        table: 7,
+        key: 5,
+        value: None,
+    };
+    events.push(Event::Ask { to: OWNER, body })?;
+    for number in 25..30 {
+        events.push(Event::Deliver(number))?;
+    }
+    events.push(Event::Suspect(OWNER))?;
+    for number in 31..37 {
+        events.push(Event::Deliver(number))?;
+    }
+    events.push(Event::Decide(OWNER))?;
+    Ok(events)
+}
+
+/// Asserts that the world is the one that a run of these events gives of which nothing is refused.
+fn is_as_unrefused(
+    rt: &(impl Abort + Print),
+    alloc: Global,
+    world: &World<Global>,
+    events: &[Event],
+) -> Result<(), Fault> {
+    let opened = World::new(alloc, SETUP, alloc);
+    let unrefused = run(alloc, opened, events).map_err(|stop| stop.2)?;
+    assert_eq!(rt; world.events(), events);
+    assert_eq!(rt; world.sent(), unrefused.sent());
+    Ok(())
+}
+
 #[test]
 fn first_write(rt: HostRuntime) -> Result<(), Fail> {
     let alloc = rt.alloc();
-    let mut world = three_hosts(&rt, alloc)?;
-    assert_eq!(rt; world.sent().len(), 25);
-    world = write(&rt, alloc, world)?;
-    world = deliver(&rt, alloc, world, 25, 30)?;
-    assert_eq!(rt; world.sent().len(), 31);
-    world = go(&rt, alloc, world, Event::Suspect(OWNER))?;
-    world = deliver(&rt, alloc, world, 31, 37)?;
-    world = go(&rt, alloc, world, Event::Decide(OWNER))?;
-    assert_eq!(rt; world.sent().len(), 38);
+    let events = match first_write_events(alloc) {
+        Ok(events) => events,
+        Err(_) => {
+            println!(rt; "refused")?;
+            first_write_events(alloc)?
+        }
+    };
+    let mut world = World::new(alloc, SETUP, alloc);
+    let mut was_refused = false;
+    for index in 0..events.len() {
+        let event = &events[index..index + 1];
+        world = match run(alloc, world, event) {
+            Ok(after) => after,
+            Err((before, taken, fault)) => {
+                println!(rt; "refused")?;
+                assert_eq!(rt; (taken, fault), (0, Fault::OutOfMemory));
+                is_as_unrefused(&rt, alloc, &before, &events[..index])?;
+                let after = run(alloc, before, event).map_err(|stop| stop.2)?;
+                is_as_unrefused(&rt, alloc, &after, &events[..index + 1])?;
+                was_refused = true;
+                after
+            }
+        };
+        let reached = world.sent().len();
+        for (place, sent) in [(28, 25), (34, 31), (42, 38)] {
+            if index == place {
+                assert_eq!(rt; reached, sent);
+            }
+        }
+    }
+    if was_refused {
+        is_as_unrefused(&rt, alloc, &world, events.as_slice())?;
+    }
     assert_eq!(rt;
         world.sent()[37].to,
         Addr::Server(ServerId {
@@ -118,7 +201,7 @@ fn impossible(rt: HostRuntime) -> Result<(), Fail> {
 
 /// Takes these events, one after another.
 fn all(
-    rt: &impl Print,
+    rt: &(impl Abort + Print),
     alloc: Global,
     world: World<Global>,
     numbers: &[usize],

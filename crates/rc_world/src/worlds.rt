@@ -61,7 +61,7 @@ impl<A: Allocator> World<A> {
 
     /// One more event. F18 exactly where it is not possible, or 200,000 events have happened; else
     /// only memory can be refused (F1). After either the world is as it was.
-    fn take(&mut self, alloc: Global, event: &Event) -> Result<(), Fault>
+    pub fn take(&mut self, alloc: Global, event: &Event) -> Result<(), Fault>
         ensures ok { OnOk result (self.new ≡ with_events self.old (event.now ∷ [])) }
         ensures possible { OnOk result (can_happen self.old event.now ≡ true) }
         ensures bad { (result ≡ Err BadEvent) ↔ (can_happen self.old event.now ≡ false) }

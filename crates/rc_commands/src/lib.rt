@@ -1,0 +1,8 @@
+//! What a command line of the program `ramseg` asks for.
+#![tactic(auto)]
+
+mod asking;
+#[cfg(test)]
+mod tests;
+
+pub use asking::{Asked, asked_for};

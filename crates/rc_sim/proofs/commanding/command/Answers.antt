@@ -1,0 +1,7 @@
+use Rattle.std.proofs.Common.{Err}
+use Rattle.rc_sim.specs.declared.verdicts.SimFault.TheVariants.{Memory}
+use Rattle.rc_sim.proofs.Closings.{keeps_same}
+use Rattle.rc_sim.proofs.commanding.command.Goals as goal
+
+pub returns-in-Err-clause-run : goal.returns-in-Err-clause-run
+returns-in-Err-clause-run g c asked = (Err Memory, c.failed.ensures, keeps_same (g.W.Write.contents c.args.writer.now.inner))
