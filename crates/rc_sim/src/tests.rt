@@ -6,91 +6,82 @@ mod rows;
 mod streams;
 
 use crate::{Counted, SimFault, Verdict, command, simulate};
-use rows::{ROWS, Row};
+use rows::ROWS;
 use std::alloc::{AllocError, Global};
 use std::io::Read;
 use std::test::Fail;
 use streams::{Failing, Limited, Spaces};
 
-/// The value of a call that may find no memory; once refused, the call is made again.
-macro_rules! again {
+/// Asserts that the call gives true. Where it doesn't, memory may have been refused in it, and it is made
+/// once more.
+macro_rules! holds {
     ($rt:expr; $call:expr) => {
-        match $call {
-            Ok(value) => value,
-            Err(_) => {
-                println!($rt; "refused")?;
-                $call?
-            }
-        }
+        let first = $call;
+        let is_so = if matches!(first, Ok(true)) {
+            true
+        } else {
+            println!($rt; "refused")?;
+            $call?
+        };
+        assert!($rt; is_so);
     };
 }
 
 /// The line of a scenario that is no JSON text.
 const NO_TEXT: &str = "error F17 at 0\n";
 
-/// What the program has answered and written.
-#[derive(Debug, PartialEq, Drop)]
-struct Outcome {
+/// Whether the program, on this command line and this input, has this status and writes this.
+fn ends<R: Read + Drop>(
+    alloc: Global,
+    line: &[&str],
+    input: R,
     status: u8,
-    output: Vec<u8>,
-}
-
-fn words(alloc: Global, line: &[&str]) -> Result<Vec<String>, AllocError> {
+    output: &[u8],
+) -> Result<bool, AllocError> {
     let mut words = Vec::with_capacity(alloc, line.len())?;
     for word in line {
         words.push(String::from_str(alloc, word)?)?;
     }
-    Ok(words)
-}
-
-/// What the program does on this command line and this input.
-fn program_on<R: Read + Drop>(
-    alloc: Global,
-    line: &[&str],
-    input: R,
-) -> Result<Outcome, AllocError> {
-    let words = words(alloc, line)?;
     let mut reader = Counted::new(input);
-    let mut writer = Counted::new(Vec::new(alloc));
+    let mut writer = Counted::new(Vec::with_capacity(alloc, 4096)?);
     let mut errors = Counted::new(Vec::new(alloc));
-    let status = command(
+    let found = command(
         alloc,
         words.as_slice(),
         &mut reader,
         &mut writer,
         &mut errors,
     );
-    Ok(Outcome {
-        status,
-        output: writer.inner,
-    })
-}
-
-/// The same; where memory was refused, once more.
-fn settled<R: Read + Copy + Drop>(
-    rt: &HostRuntime,
-    line: &[&str],
-    input: R,
-) -> Result<Outcome, Fail> {
-    let first = again!(rt; program_on(rt.alloc(), line, input));
-    if first.status == 3 {
-        println!(rt; "refused")?;
-        return Ok(program_on(rt.alloc(), line, input)?);
-    }
-    Ok(first)
+    Ok(found == status && writer.inner.as_slice() == output)
 }
 
 /// Whether the program answers so to this scenario.
-fn answers(rt: &HostRuntime, scenario: &[u8], status: u8, output: &str) -> Result<bool, Fail> {
-    let found = settled(rt, &["run"], scenario)?;
-    Ok(found.status == status && found.output.as_slice() == output.as_bytes())
+fn answers(alloc: Global, scenario: &[u8], status: u8, output: &str) -> Result<bool, AllocError> {
+    ends(alloc, &["run"], scenario, status, output.as_bytes())
+}
+
+/// Whether a simulation ends so, and has written this, where the writer takes so many bytes, at most so
+/// many a call.
+fn simulates<R: Read + Drop>(
+    alloc: Global,
+    input: R,
+    room: usize,
+    most: usize,
+    told: Result<Verdict, SimFault>,
+    written: &[u8],
+) -> Result<bool, AllocError> {
+    let taken = Vec::with_capacity(alloc, 4096)?;
+    let mut reader = Counted::new(input);
+    let mut writer = Counted::new(Limited { taken, room, most });
+    let found = simulate(alloc, &mut reader, &mut writer, alloc);
+    Ok(found == told && writer.inner.taken.as_slice() == written)
 }
 
 #[test]
 fn worked_scenarios(rt: HostRuntime) -> Result<(), Fail> {
     for row in &ROWS {
-        let is_so = answers(&rt, row.scenario.as_bytes(), row.status, row.report)?;
-        assert!(rt; is_so, "{}", row.report);
+        let scenario = row.scenario.as_bytes();
+        holds!(rt; answers(rt.alloc(), scenario, row.status, row.report));
     }
     Ok(())
 }
@@ -99,25 +90,23 @@ fn worked_scenarios(rt: HostRuntime) -> Result<(), Fail> {
 fn fronts_of_a_scenario(rt: HostRuntime) -> Result<(), Fail> {
     let bytes = ROWS[0].scenario.as_bytes();
     for end in 0..bytes.len() {
-        let is_so = answers(&rt, &bytes[..end], 2, NO_TEXT)?;
-        assert!(rt; is_so, "front of {end} bytes");
+        holds!(rt; answers(rt.alloc(), &bytes[..end], 2, NO_TEXT));
     }
     Ok(())
 }
 
 #[test]
 fn no_text(rt: HostRuntime) -> Result<(), Fail> {
-    assert!(rt; answers(&rt, &[b'"', 255, b'"'], 2, NO_TEXT)?);
-    assert!(rt; answers(&rt, &[b'['; 200], 2, NO_TEXT)?);
+    for bytes in [&[b'"', 255, b'"'] as &[u8], &[b'['; 200]] {
+        holds!(rt; answers(rt.alloc(), bytes, 2, NO_TEXT));
+    }
     Ok(())
 }
 
 #[test]
 fn too_many_bytes(rt: HostRuntime) -> Result<(), Fail> {
     let spaces = Spaces { left: 16_777_217 };
-    let found = program_on(rt.alloc(), &["run"], spaces)?;
-    assert_eq!(rt; found.status, 2);
-    assert_eq!(rt; found.output.as_slice(), NO_TEXT.as_bytes());
+    holds!(rt; ends(rt.alloc(), &["run"], spaces, 2, NO_TEXT.as_bytes()));
     Ok(())
 }
 
@@ -126,93 +115,75 @@ fn wrong_members(rt: HostRuntime) -> Result<(), Fail> {
     let wrong: [(&str, &str); 12] = [
         (
             "{\"format\":1,\"factor\":6,\"segment\":8,\"events\":[]}",
-            "1",
+            "error F17 at 1\n",
         ),
         (
             "{\"format\":1,\"factor\":2.0,\"segment\":8,\"events\":[]}",
-            "1",
+            "error F17 at 1\n",
         ),
         (
             "{\"format\":1,\"factor\":2,\"segment\":0,\"events\":[]}",
-            "1",
+            "error F17 at 1\n",
         ),
         (
             "{\"format\":1,\"factor\":2,\"segment\":8,\"events\":[],\"x\":1}",
-            "1",
+            "error F17 at 1\n",
         ),
         (
             "{\"format\":1,\"factor\":2,\"segment\":8,\"events\":{}}",
-            "1",
+            "error F17 at 1\n",
         ),
         (
             "{\"format\":1,\"factor\":2,\"segment\":8,\"events\":[{\"e\":\"suspect\",\"id\":[0,0]}]}",
-            "2",
+            "error F17 at 2\n",
         ),
         (
             "{\"format\":1,\"factor\":2,\"segment\":8,\"events\":[{\"e\":\"deliver\",\"n\":4294967296}]}",
-            "2",
+            "error F17 at 2\n",
         ),
         (
             "{\"format\":1,\"factor\":2,\"segment\":8,\"events\":[{\"e\":\"settle\"},{\"e\":\"start\",\"host\":0,\"x\":1}]}",
-            "3",
+            "error F17 at 3\n",
         ),
         (
             "{\"format\":1,\"factor\":2,\"segment\":8,\"events\":[{\"e\":\"fly\"}]}",
-            "2",
+            "error F17 at 2\n",
         ),
         (
             "{\"format\":1,\"factor\":2,\"segment\":8,\"events\":[{\"e\":\"start\",\"host\":\"0\"}]}",
-            "2",
+            "error F17 at 2\n",
         ),
         (
             "{\"format\":1,\"factor\":2,\"segment\":8,\"events\":[{\"e\":\"settle\",\"kinds\":[\"Fly\"]}]}",
-            "2",
+            "error F17 at 2\n",
         ),
         (
             "{\"format\":1,\"factor\":2,\"segment\":8,\"events\":[{\"e\":\"settle\",\"hosts\":null}]}",
-            "2",
+            "error F17 at 2\n",
         ),
     ];
-    for (scenario, place) in wrong {
-        let line = again!(rt; format!(in rt.alloc(); "error F17 at {place}\n"));
-        let is_so = answers(&rt, scenario.as_bytes(), 2, line.as_str())?;
-        assert!(rt; is_so, "{scenario}");
+    for (scenario, line) in wrong {
+        holds!(rt; answers(rt.alloc(), scenario.as_bytes(), 2, line));
     }
     Ok(())
 }
 
-/// The fault of a writer that takes so many bytes, at most so many a call, and what it has taken.
-fn limited(
-    rt: &HostRuntime,
-    row: &Row,
-    room: usize,
-    most: usize,
-) -> Result<(Option<SimFault>, Vec<u8>), Fail> {
-    let taken = Vec::new(rt.alloc());
-    let mut reader = Counted::new(row.scenario.as_bytes());
-    let mut writer = Counted::new(Limited { taken, room, most });
-    let fault = simulate(rt.alloc(), &mut reader, &mut writer, rt.alloc()).err();
-    Ok((fault, writer.inner.taken))
-}
-
 #[test]
 fn writers_that_fail(rt: HostRuntime) -> Result<(), Fail> {
-    let row = &ROWS[0];
-    let report = row.report.as_bytes();
+    let scenario = ROWS[0].scenario.as_bytes();
+    let report = ROWS[0].report.as_bytes();
     for room in 0..report.len() {
-        let (fault, taken) = limited(&rt, row, room, 64)?;
-        assert_eq!(rt; fault, Some(SimFault::Write(room)));
-        assert_eq!(rt; taken.as_slice(), &report[..room]);
+        let written = &report[..room];
+        holds!(rt; simulates(rt.alloc(), scenario, room, 64, Err(SimFault::Write(room)), written));
     }
     Ok(())
 }
 
 #[test]
 fn a_slow_writer(rt: HostRuntime) -> Result<(), Fail> {
-    let row = &ROWS[0];
-    let (fault, taken) = limited(&rt, row, 1_000_000, 1)?;
-    assert_eq!(rt; fault, None);
-    assert_eq!(rt; taken.as_slice(), row.report.as_bytes());
+    let scenario = ROWS[0].scenario.as_bytes();
+    let report = ROWS[0].report.as_bytes();
+    holds!(rt; simulates(rt.alloc(), scenario, 4096, 1, Ok(Verdict::Clean), report));
     Ok(())
 }
 
@@ -225,11 +196,7 @@ fn readers_that_fail(rt: HostRuntime) -> Result<(), Fail> {
             fails_at,
             reads: 0,
         };
-        let mut reader = Counted::new(input);
-        let mut writer = Counted::new(Vec::new(rt.alloc()));
-        let found = simulate(rt.alloc(), &mut reader, &mut writer, rt.alloc());
-        assert_eq!(rt; found, Err(SimFault::Read));
-        assert!(rt; writer.inner.is_empty());
+        holds!(rt; simulates(rt.alloc(), input, 4096, 64, Err(SimFault::Read), &[]));
     }
     Ok(())
 }
@@ -238,30 +205,25 @@ fn readers_that_fail(rt: HostRuntime) -> Result<(), Fail> {
 fn a_reader_of_single_bytes(rt: HostRuntime) -> Result<(), Fail> {
     let input = Failing {
         bytes: ROWS[0].scenario.as_bytes(),
-        fails_at: 1_000_000,
+        fails_at: 4096,
         reads: 0,
     };
-    let mut reader = Counted::new(input);
-    let mut writer = Counted::new(Vec::new(rt.alloc()));
-    let found = simulate(rt.alloc(), &mut reader, &mut writer, rt.alloc());
-    assert_eq!(rt; found, Ok(Verdict::Clean));
-    assert_eq!(rt; writer.inner.as_slice(), ROWS[0].report.as_bytes());
+    let report = ROWS[0].report.as_bytes();
+    holds!(rt; simulates(rt.alloc(), input, 4096, 64, Ok(Verdict::Clean), report));
     Ok(())
 }
 
 #[test]
-fn command_lines(rt: HostRuntime) -> Result<(), Fail> {
-    let lines: [(&[&str], u8); 5] = [
-        (&["--version"], 0),
-        (&["run", "--help"], 0),
-        (&[], 2),
-        (&["fly"], 2),
-        (&["run", "--heap"], 2),
-    ];
-    for (line, status) in lines {
-        let found = settled(&rt, line, b"".as_slice())?;
-        assert_eq!(rt; found.status, status);
-        assert_eq!(rt; found.output.is_empty(), status == 2);
+fn wrong_command_lines(rt: HostRuntime) -> Result<(), Fail> {
+    let lines: [&[&str]; 4] = [&[], &["fly"], &["run", "x"], &["run", "--heap"]];
+    for line in lines {
+        holds!(rt; ends(rt.alloc(), line, b"".as_slice(), 2, &[]));
     }
+    Ok(())
+}
+
+#[test]
+fn version(rt: HostRuntime) -> Result<(), Fail> {
+    holds!(rt; ends(rt.alloc(), &["--version"], b"".as_slice(), 0, b"ramseg 0.1.0\n".as_slice()));
     Ok(())
 }

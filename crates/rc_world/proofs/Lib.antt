@@ -3,7 +3,6 @@ mod Logs
 mod Rules
 pub mod Hosts
 pub mod HostTables
-pub mod Deliveries
 pub mod WorldSteps
 pub mod Runs
 pub mod HeldLemmas

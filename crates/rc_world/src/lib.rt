@@ -22,4 +22,4 @@ mod tests;
 mod worlds;
 
 pub use judging::audit;
-pub use worlds::{World, audit_world, run};
+pub use worlds::{World, run};

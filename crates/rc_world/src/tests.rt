@@ -175,10 +175,10 @@ fn first_write(rt: HostRuntime) -> Result<(), Fail> {
             generation: 1
         })
     );
-    let found = match audit_world(alloc, &world) {
+    let found = match audit(alloc, world.sent()) {
         Err(Fault::OutOfMemory) => {
             println!(rt; "refused")?;
-            audit_world(alloc, &world)?
+            audit(alloc, world.sent())?
         }
         outcome => outcome?,
     };

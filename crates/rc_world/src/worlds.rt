@@ -6,10 +6,9 @@ ghost use Rattle.rc_types.specs.declared.faults.Fault.TheVariants.{OutOfMemory, 
 ghost use Rattle.rc_model.specs.Breach.{breach};
 ghost use Rattle.rc_world.specs.Happened.{with_events, sent_in, can_happen, AllHappen};
 
-use crate::judging::audit;
 use crate::nodes::Nodes;
 use rc_types::limits::MAX_EVENTS;
-use rc_types::{Breach, Event, Fault, Message, Setup, TryClone};
+use rc_types::{Event, Fault, Message, Setup, TryClone};
 use std::alloc::{Allocator, Global};
 use std::marker::Model;
 
@@ -106,14 +105,4 @@ pub fn run<A: Allocator>(
         }
     }
     Ok(world)
-}
-
-/// The audit of what a world has sent. It finds no breach, whatever has happened in the world. Only
-/// memory can be refused (F1).
-#[tactic(auto, using(crate::proofs::Judged::no_breach_in))]
-pub fn audit_world<A: Allocator>(alloc: Global, world: &World<A>) -> Result<Option<Breach>, Fault>
-    ensures clean { IfOk result (λ found. found ≡ None) }
-    ensures no_memory { IfErr result (λ fault. fault ≡ OutOfMemory) }
-{
-    audit(alloc, world.sent())
 }
