@@ -4,7 +4,7 @@
 //! which nothing was refused.
 
 use super::*;
-use rc_types::{Addr, Body, Code, Event, Fault, Seq, ServerId, Setup};
+use rc_types::{Addr, Body, Breach, Code, Event, Fault, Seq, ServerId, Setup};
 use std::alloc::{AllocError, Global};
 use std::process::Abort;
 use std::test::Fail;
@@ -132,6 +132,93 @@ fn is_as_unrefused(
     Ok(())
 }
 
+/// Takes an event after those before it. Where memory is refused, the world is that of the events
+/// before, and the event is taken again.
+fn step(
+    rt: &(impl Abort + Print),
+    alloc: Global,
+    world: World<Global>,
+    before: &[Event],
+    event: &[Event],
+    up_to: &[Event],
+) -> Result<World<Global>, Fault> {
+    match run(alloc, world, event) {
+        Err((world, taken, Fault::OutOfMemory)) => {
+            let _ = rt.println("refused");
+            assert_eq!(rt; taken, 0);
+            is_as_unrefused(rt, alloc, &world, before)?;
+            take_again(rt, alloc, world, event, up_to)
+        }
+        outcome => outcome.map_err(|stop| stop.2),
+    }
+}
+
+/// Takes an event again that was refused. The world is that of all events up to it.
+fn take_again(
+    rt: &(impl Abort + Print),
+    alloc: Global,
+    world: World<Global>,
+    event: &[Event],
+    up_to: &[Event],
+) -> Result<World<Global>, Fault> {
+    let world = run(alloc, world, event).map_err(|stop| stop.2)?;
+    is_as_unrefused(rt, alloc, &world, up_to)?;
+    Ok(world)
+}
+
+/// Takes the events from one place on, up to another, one by one.
+fn steps(
+    rt: &(impl Abort + Print),
+    alloc: Global,
+    world: World<Global>,
+    events: &[Event],
+    from: usize,
+    to: usize,
+) -> Result<World<Global>, Fault> {
+    let mut world = world;
+    for index in from..to.min(events.len()) {
+        let event = &events[index..index + 1];
+        world = step(
+            rt,
+            alloc,
+            world,
+            &events[..index],
+            event,
+            &events[..index + 1],
+        )?;
+    }
+    Ok(world)
+}
+
+/// The worked run of the first write, event by event.
+fn first_write_steps(
+    rt: &(impl Abort + Print),
+    alloc: Global,
+    events: &[Event],
+) -> Result<World<Global>, Fault> {
+    let mut world = World::new(alloc, SETUP, alloc);
+    world = steps(rt, alloc, world, events, 0, 29)?;
+    assert_eq!(rt; world.sent().len(), 25);
+    world = steps(rt, alloc, world, events, 29, 35)?;
+    assert_eq!(rt; world.sent().len(), 31);
+    steps(rt, alloc, world, events, 35, 43)
+}
+
+/// The audit of a world, once more where memory was refused.
+fn audited(
+    rt: &(impl Abort + Print),
+    alloc: Global,
+    world: &World<Global>,
+) -> Result<Option<Breach>, Fault> {
+    match audit(alloc, world.sent()) {
+        Err(Fault::OutOfMemory) => {
+            let _ = rt.println("refused");
+            audit(alloc, world.sent())
+        }
+        outcome => outcome,
+    }
+}
+
 #[test]
 fn first_write(rt: HostRuntime) -> Result<(), Fail> {
     let alloc = rt.alloc();
@@ -142,47 +229,15 @@ fn first_write(rt: HostRuntime) -> Result<(), Fail> {
             first_write_events(alloc)?
         }
     };
-    let mut world = World::new(alloc, SETUP, alloc);
-    let mut was_refused = false;
-    for index in 0..events.len() {
-        let event = &events[index..index + 1];
-        world = match run(alloc, world, event) {
-            Ok(after) => after,
-            Err((before, taken, fault)) => {
-                println!(rt; "refused")?;
-                assert_eq!(rt; (taken, fault), (0, Fault::OutOfMemory));
-                is_as_unrefused(&rt, alloc, &before, &events[..index])?;
-                let after = run(alloc, before, event).map_err(|stop| stop.2)?;
-                is_as_unrefused(&rt, alloc, &after, &events[..index + 1])?;
-                was_refused = true;
-                after
-            }
-        };
-        let reached = world.sent().len();
-        for (place, sent) in [(28, 25), (34, 31), (42, 38)] {
-            if index == place {
-                assert_eq!(rt; reached, sent);
-            }
-        }
-    }
-    if was_refused {
-        is_as_unrefused(&rt, alloc, &world, events.as_slice())?;
-    }
-    assert_eq!(rt;
-        world.sent()[37].to,
-        Addr::Server(ServerId {
-            index: 1,
-            generation: 1
-        })
-    );
-    let found = match audit(alloc, world.sent()) {
-        Err(Fault::OutOfMemory) => {
-            println!(rt; "refused")?;
-            audit(alloc, world.sent())?
-        }
-        outcome => outcome?,
+    let world = first_write_steps(&rt, alloc, events.as_slice())?;
+    assert_eq!(rt; world.events(), events.as_slice());
+    assert_eq!(rt; world.sent().len(), 38);
+    let second = ServerId {
+        index: 1,
+        generation: 1,
     };
-    assert_eq!(rt; found, None);
+    assert_eq!(rt; world.sent()[37].to, Addr::Server(second));
+    assert_eq!(rt; audited(&rt, alloc, &world)?, None);
     Ok(())
 }
 
