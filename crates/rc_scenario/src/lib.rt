@@ -6,8 +6,6 @@ pub mod laws;
 mod reading;
 mod reporting;
 mod scenarios;
-#[cfg(test)]
-mod tests;
 mod values;
 pub mod worked;
 

@@ -8,8 +8,6 @@ mod mail;
 mod outlets;
 mod runs;
 mod simulating;
-#[cfg(test)]
-mod tests;
 mod verdicts;
 
 pub use commanding::command;

@@ -15,9 +15,6 @@ use indexmap::IndexMap;
 use rc_types::{Addr, Body, Fault, Message, Row, Seq, ServerId};
 use std::alloc::Global;
 
-#[cfg(test)]
-mod tests;
-
 /// What a server does as a backup: it keeps replicas of the segments of masters, and once it has
 /// fenced a master, on the coordinator's demand, it takes nothing more from it.
 #[derive(Drop)]

@@ -11,8 +11,6 @@ mod places;
 mod recoveries;
 mod runs;
 mod standing;
-#[cfg(test)]
-mod tests;
 mod writes;
 
 use evidence::Evidence;

@@ -17,8 +17,6 @@ mod master;
 mod nodes;
 mod outbox;
 mod ownership;
-#[cfg(test)]
-mod tests;
 mod worlds;
 
 pub use judging::audit;

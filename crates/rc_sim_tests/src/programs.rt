@@ -5,7 +5,7 @@
 mod rows;
 mod streams;
 
-use crate::{Counted, SimFault, Verdict, command, simulate};
+use rc_sim::{Counted, SimFault, Verdict, command, simulate};
 use rows::ROWS;
 use std::alloc::{AllocError, Global};
 use std::io::Read;

@@ -3,8 +3,8 @@
 //! `scripts/refuse-allocations` counts on it. The worked run of the first write is compared with a run of
 //! which nothing was refused.
 
-use super::*;
 use rc_types::{Addr, Body, Breach, Code, Event, Fault, Seq, ServerId, Setup};
+use rc_world::{World, audit, run};
 use std::alloc::{AllocError, Global};
 use std::process::Abort;
 use std::test::Fail;

@@ -2,8 +2,8 @@
 //! says so by a line `refused` and makes the same call again: `scripts/refuse-allocations` counts
 //! on it.
 
-use super::audit;
 use rc_types::{Addr, Body, Breach, Entry, Message, PlanRow, Seq, ServerId};
+use rc_world::audit;
 use std::alloc::{AllocError, Global};
 use std::test::Fail;
 

@@ -1,7 +1,9 @@
 //! Reports and readings against texts from outside. Where memory is refused, a test says so by a
 //! line `refused` and makes the same call again: `scripts/refuse-allocations` counts on it.
 
-use super::*;
+use rc_scenario::{
+    BodyKind, Passing, ReadFault, ScenarioEvent, add_stopped, error_text, read_scenario, report_of,
+};
 use rc_types::{Addr, Body, Breach, Code, Entry, Event, Message, PlanRow, Seq, ServerId, Setup};
 use std::alloc::{AllocError, Global};
 use std::test::Fail;
