@@ -3,7 +3,6 @@ use Rattle.std.proofs.Common.{◌≡◌, ℕ, ◌+◌, Bool, true, false, cond, 
 use Rattle.std.proofs.lemmas.Bool.Decides.{nat_tests}
 use Rattle.std.proofs.lemmas.List.Sums.{prefix_len-le-length}
 use Rattle.std.specs.List.{insert, position_or_len}
-use Rattle.std.specs.Ordering.{nat_cmp, on, then_cmp, as_partial_cmp, partial_lt}
 use Rattle.rc_types.specs.declared.ids.ServerId.{ServerId}
 use Rattle.rc_model.specs.Ids.{same_id, id_before, insert_id}
 
@@ -16,10 +15,6 @@ same_id-true a b h = same_parts a b (grind (arith, nat_tests)) (grind (arith, na
 
 pub same_id-sym : (a b : ServerId) → same_id a b ≡ same_id b a
 same_id-sym a b = grind (arith, nat_tests)
-
--- what `<` answers
-pub before-lt : (a b : ServerId) → partial_lt (as_partial_cmp (then_cmp (on (λ i. i.index) nat_cmp) (on (λ i. i.generation) nat_cmp))) a b ≡ id_before a b
-before-lt a b = grind (arith, nat_tests)
 
 -- an id goes before the first that it comes before
 pub insert-id : (id : ServerId) (ids : List ServerId) → insert ids (position_or_len (id_before id) ids) id ≡ insert_id id ids

@@ -119,6 +119,13 @@ impl ServerList {
         self.knows(id) && !self.is_up(id)
     }
 
+    /// Whether the id can be enlisted: its generation is above all known of its index.
+    pub fn is_newest(&self, id: ServerId) -> bool
+        ensures { result ≡ is_newest id self.now.rows }
+    {
+        marks::is_newest(&self.rows, id)
+    }
+
     /// The ids that are up, by index and then by generation. Only memory can be refused (F1).
     pub fn up(&self, alloc: Global) -> Result<Vec<ServerId>, Fault>
         ensures ok { IfOk result (λ ids. ids.items ≡ up self.now) }
@@ -153,7 +160,7 @@ impl ServerList {
         ensures no_memory { IfErr result (λ fault. is_newest id self.old.rows ≡ true → fault ≡ OutOfMemory) }
         ensures err { OnErr result (self.new ≡ self.old) }
     {
-        if !marks::is_newest(&self.rows, id) {
+        if !self.is_newest(id) {
             return Err(Fault::StaleGeneration);
         }
         let count = self.rows.len();

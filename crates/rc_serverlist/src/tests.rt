@@ -93,6 +93,7 @@ fn three_ids(rt: &(impl Abort + Print), alloc: Global) -> Result<ServerList, Fai
         (true, OTHER, true, 4),
     ] {
         let changes = if enlists {
+            assert_eq!(rt; list.is_newest(id), answer);
             enlist(rt, &mut list, id)?
         } else {
             crash(rt, &mut list, id)

@@ -48,11 +48,6 @@ pub core_stops : {T : Type 0} (result : Result T Fault) (old new : Happened) (ev
 core_stops (Ok t) old new event scene same taken which bad kept = tt
 core_stops (Err fault) old new event scene same taken which bad kept = rw (same, kept) (core_refused old event fault taken which (λ is. bad (ap Err is)))
 
--- events are passed, or stop the run
-pub scene_passed : (most place : ℕ) (world next : World) (event : ScenarioEvent) (events rest : List ScenarioEvent) → events ≡ event ∷ rest
-    → scenario_event most world event ≡ Ok next → run_from most place world events ≡ run_from most (place + 1) next rest
-scene_passed most place world next event events rest same made = rw (same, made) refl
-
 pub scene_stops : (most place : ℕ) (world next : World) (event : ScenarioEvent) (events rest : List ScenarioEvent) → events ≡ event ∷ rest
     → scenario_event most world event ≡ Err next → run_from most place world events ≡ record { world = next; stopped = Some place }
 scene_stops most place world next event events rest same made = rw (same, made) refl

@@ -1,5 +1,5 @@
 -- A map of what is kept of each master, as a table, and the rule of the backup by one master's part.
-use Rattle.std.proofs.Common.{◌≡◌, ℕ, Bool, true, false, cond, List, [], ◌∷◌, ◌++◌, Option, Some, None, IsSome, unwrap_or, refl, sym, ap, subst, ◌∙◌, arith}
+use Rattle.std.proofs.Common.{◌≡◌, ℕ, Bool, true, false, cond, List, [], ◌∷◌, Option, Some, None, IsSome, unwrap_or, refl, sym, ap, subst, ◌∙◌, arith}
 use Rattle.std.proofs.Math.Path.{fun_ext}
 use Rattle.std.proofs.lemmas.Bool.Decides.{nat_tests}
 use Rattle.std.specs.Map.{lookup}
@@ -91,11 +91,6 @@ pub stores-state : (own : ServerId) (table new : ServerId → Held) (master : Se
     → new ≡ put_id table master (with_replica found seg (next_replica found seg body)) → view_of new ≡ (stores own (view_of table) master seg body).0
 stores-state own table new master seg body found is e =
     ap view_of (e ∙ ap (λ held. put_id table master (with_replica held seg (next_replica held seg body))) is) ∙ sym (ap (λ both. both.0) (stores-next own (view_of table) master seg body))
-
-pub stores-sends : (own : ServerId) (table : ServerId → Held) (master : ServerId) (seg : ℕ) (body : Body) (found : Held) (before after : List Message) → found ≡ table master
-    → after ≡ before ++ answer own master seg (next_replica found seg body) → after ≡ before ++ (stores own (view_of table) master seg body).1
-stores-sends own table master seg body found before after is e =
-    e ∙ ap (λ held. before ++ answer own master seg (next_replica held seg body)) is ∙ ap (λ said. before ++ said) (sym (ap (λ both. both.1) (stores-next own (view_of table) master seg body)))
 
 -- what is no Place does nothing where there is no replica
 pub replica_after-none : (body : Body) → ((seg epoch : ℕ) (digest : List ℕ) (entries : List Entry) (closed : Bool) → body ≡ Place seg epoch digest entries closed → ⊥) → replica_after None body ≡ None

@@ -47,7 +47,3 @@ server_takes-master setup index generation backup old new message kind step =
       put-put (λ g. new_master (server_at index g)) generation old (master_takes setup old message.from message.body).0,
       ← step,
     ) refl
-
-pub server_takes-master_sends : (setup : Setup) (index generation : ℕ) (backup : Backup) (old : Master) (message : Message) →
-    is_for_backup message.body ≡ false → (server_takes setup index (running index generation backup old) message).1 ≡ (master_takes setup old message.from message.body).1
-server_takes-master_sends setup index generation backup old message kind = rw (kind, put-same (λ g. new_master (server_at index g)) generation old) refl

@@ -1,5 +1,6 @@
 mod Members
 mod Logs
+mod VersionTables
 mod Rules
 pub mod Hosts
 pub mod HostTables

@@ -1,15 +1,13 @@
 -- The rules of a master, cut as the code makes them.
-use Rattle.std.proofs.Common.{◌≡◌, ℕ, ◌+◌, Bool, true, false, cond, ltb, List, [], ◌∷◌, ◌++◌, length, Option, refl, arith, suc, add-zero, sym, ap, ◌∙◌, append_assoc, ◌<◌, take, get_or, length-take}
+use Rattle.std.proofs.Common.{◌≡◌, ℕ, ◌+◌, Bool, true, false, cond, ltb, List, [], ◌∷◌, ◌++◌, length, refl, arith, suc, add-zero, sym, ap, ◌∙◌, append_assoc, ◌<◌, take, get_or, length-take}
 use Rattle.std.proofs.lemmas.Bool.Decides.{nat_tests}
-use Rattle.std.proofs.lemmas.Grind.{common_steps}
 use Rattle.std.proofs.lemmas.List.{append-nil, take_more}
 use Rattle.rc_types.specs.declared.entries.Entry.{Entry}
-use Rattle.rc_types.specs.declared.events.Setup.{Setup}
 use Rattle.rc_types.specs.declared.messages.Message.{Message}
 use Rattle.rc_types.specs.declared.ids.ServerId.{ServerId}
 use Rattle.rc_model.specs.Segment.{segment_durable_len}
-use Rattle.rc_model.specs.Master.{Master, head_of, may_start, followed, writes, write_oks, is_too_long}
-use Rattle.rc_world.specs.FollowUps.{ok_of, started_if, acknowledged_if, permitted, wrote}
+use Rattle.rc_model.specs.Master.{Master, head_of, may_start, followed, write_oks}
+use Rattle.rc_world.specs.FollowUps.{ok_of, started_if, acknowledged_if}
 
 -- whether there are new durable places
 abbrev pub has_new : Master → Bool
@@ -30,14 +28,6 @@ followed-by master sent false false starting new = rw (starting, new) (simp appe
 
 pub followed-two : (master : Master) (sent : List Message) → followed 2 (master, sent) ≡ both master sent
 followed-two master sent = followed-by master sent (may_start master) (has_new master) refl refl
-
--- a write by what it is permitted
-pub writes-permitted : (setup : Setup) (master : Master) (table key : ℕ) (value : Option (List ℕ)) → writes setup master table key value ≡ wrote master table key value (permitted setup master table key value)
-writes-permitted setup master table key value = by_length (is_too_long value) refl
-  where
-    by_length : (long : Bool) → is_too_long value ≡ long → writes setup master table key value ≡ wrote master table key value (permitted setup master table key value)
-    by_length true long = rw long refl
-    by_length false long = rw long (grind (arith, common_steps))
 
 -- the WriteOks of a list and one more
 pub write_oks-append : (own : ServerId) (seg offset : ℕ) (xs ys : List (Entry × Bool)) → write_oks own seg offset (xs ++ ys) ≡ write_oks own seg offset xs ++ write_oks own seg (offset + length xs) ys

@@ -2,7 +2,7 @@
 use Rattle.std.proofs.Common.{◌≡◌, ℕ, ◌<◌, true, List, [], ◌∷◌, ◌++◌, length, Option, Some, None, refl, sym, ap, subst, ◌∙◌, arith}
 use Rattle.rc_types.specs.declared.events.Setup.{Setup}
 use Rattle.rc_types.specs.declared.events.Event.{Event}
-use Rattle.rc_model.specs.World.{World, Node, TheOutside, TheCoordinator', TheHost, Work, Job, step, is_possible, node_steps, replay, replay_from, opening, work_of}
+use Rattle.rc_model.specs.World.{World, Node, TheOutside, TheCoordinator', TheHost, Work, Job, step, is_possible, node_steps, replay, opening, work_of}
 use Rattle.rc_model.specs.Coordinator.{Coordinator}
 use Rattle.rc_model.proofs.Worlds.{replay_from-push}
 use Rattle.rc_world.specs.declared.nodes.Nodes.{Nodes}

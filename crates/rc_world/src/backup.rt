@@ -64,16 +64,6 @@ impl Backup {
         }
     }
 
-    /// Whether this master is fenced.
-    pub fn is_fenced(&self, master: ServerId) -> bool
-        ensures { result ≡ ((backup_view self.now).held master).fenced }
-    {
-        match self.held.get(&master) {
-            Some(held) => held.is_fenced(),
-            None => false,
-        }
-    }
-
     /// Takes a Place, an Append or a Close of this segment of the master's.
     fn store(
         &mut self,

@@ -188,11 +188,11 @@ impl<A: Allocator> Coordinator<A> {
             sent.push(notices::list_to(alloc, &self.servers, id)?)?;
             return Ok(());
         }
-        let mut servers = self.servers.try_clone(alloc)?;
-        match servers.enlist(id) {
-            Err(Fault::StaleGeneration) => return Ok(()),
-            enlisted => enlisted?,
+        if !self.servers.is_newest(id) {
+            return Ok(());
         }
+        let mut servers = self.servers.try_clone(alloc)?;
+        servers.enlist(id)?;
         let mut messages = notices::spread_list(alloc, &servers)?;
         sent.append(&mut messages)?;
         self.servers = servers;

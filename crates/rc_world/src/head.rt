@@ -3,9 +3,11 @@
 ghost use Rattle.std.specs.Prelude.{◌≡◌, ◌+◌, ◌-◌, ◌≤◌, ◌^◌, ◌<◌, ◌++◌, ◌∷◌, [], length, take, drop, true, false, vec_len, vec_capacity, OnOk, OnErr, IfErr, IfOk};
 ghost use Rattle.rc_types.specs.declared.faults.Fault.TheVariants.{OutOfMemory};
 ghost use Rattle.rc_types.specs.declared.messages.Body.TheVariants.{Append};
-ghost use Rattle.rc_world.specs.Versions.{VersionsAreSmall};
+ghost use Rattle.rc_world.specs.Versions.{VersionsAreSmall, Numbers};
 
+use crate::ownership::VersionKey;
 use crate::{config, outbox, ownership};
+use indexmap::IndexMap;
 use rc_types::{Addr, Body, Entry, Fault, Member, Message, Seq, ServerId, TryClone};
 use std::alloc::Global;
 
@@ -14,11 +16,15 @@ use std::alloc::Global;
 pub struct Head {
     /// The entries, each with a mark whether a client wrote it.
     pub(crate) entries: Vec<(Entry, bool)>,
+    /// The greatest version so far of each key under each term, so that nobody has to go over the
+    /// entries for it.
+    versions: IndexMap<VersionKey, u64>,
     pub(crate) members: Vec<Member>,
     /// Whether entries may be appended.
     pub(crate) writing: bool,
     /// How many entries are durable; once durable, for good.
     pub(crate) durable: usize,
+    ghost numbered: { Numbers versions entries.items },
     ghost small: { VersionsAreSmall entries.items },
 }
 
@@ -37,6 +43,7 @@ impl Head {
     {
         Head {
             entries: Vec::new(alloc),
+            versions: IndexMap::new(alloc),
             members,
             writing: false,
             durable: 0,
@@ -82,7 +89,8 @@ impl Head {
         ensures ok { IfOk result (λ entry. entry ≡ record { term = term; table = table; key = key; version = greatest_version term table key self.now.entries.items + 1; value = value.now }) }
         ensures no_memory { IfErr result (λ fault. fault ≡ OutOfMemory) }
     {
-        let greatest = ownership::greatest_version(self.entries.as_slice(), term, table, key);
+        let of = VersionKey { term, table, key };
+        let greatest = ownership::version_in(&self.versions, of);
         let value = value.try_clone(alloc)?;
         Ok(Entry {
             term,
@@ -100,7 +108,7 @@ impl Head {
         entry: Entry,
         sent: &mut Vec<Message>,
     ) -> Result<(), Fault>
-        requires next { entry.version ≤ length self.old.entries.items + 1 }
+        requires next { entry.version ≡ greatest_version entry.term entry.table entry.key self.old.entries.items + 1 }
         ensures state { OnOk result (head_view self.new ≡ with_entry entry true (head_view self.old)) }
         ensures sends { OnOk result (sent.new.items ≡ sent.old.items ++ to_members own self.old.members.items (Append 1 (length self.old.entries.items) (entry ∷ []))) }
         ensures room { OnOk result (vec_len sent.new + (1 + (length self.new.entries.items - self.new.durable)) ≤ vec_capacity sent.new) }
@@ -110,6 +118,11 @@ impl Head {
         ensures unsent { OnErr result (sent.new.items ≡ sent.old.items) }
         ensures no_memory { IfErr result (λ fault. fault ≡ OutOfMemory) }
     {
+        let of = VersionKey {
+            term: entry.term,
+            table: entry.table,
+            key: entry.key,
+        };
         let copy = entry.try_clone(alloc)?;
         let body = Body::Append {
             seg: 1,
@@ -120,6 +133,7 @@ impl Head {
         self.entries.reserve(1)?;
         let room = 2 + self.entries.len().saturating_sub(self.durable);
         sent.reserve(messages.len() + room)?;
+        self.versions.insert(of, entry.version)?;
         sent.append(&mut messages).unwrap();
         self.entries.push((entry, true)).unwrap();
         Ok(())

@@ -50,13 +50,6 @@ impl Held {
         }
     }
 
-    /// Whether the master is fenced.
-    pub(crate) fn is_fenced(&self) -> bool
-        ensures { result ≡ self.now.fenced }
-    {
-        self.fenced
-    }
-
     /// Fences the master.
     pub(crate) fn fence(&mut self)
         ensures { self.new ≡ record self.old { fenced = true } }

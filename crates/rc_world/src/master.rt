@@ -168,15 +168,16 @@ impl Master {
         }
     }
 
-    /// A grant: of a term that is not owned yet it is taken.
-    fn take_own(&mut self, range: KeyRange, term: u32) -> Result<(), Fault>
-        ensures state { OnOk result (master_view self.new ≡ takes_own (master_view self.old) (record { range = range; term = term })) }
+    /// A grant of a range of keys: of a term that is not owned yet it is taken.
+    fn take_own(&mut self, table: u32, lo: u64, hi: u64, term: u32) -> Result<(), Fault>
+        ensures state { OnOk result (master_view self.new ≡ takes_own (master_view self.old) (record { range = record { table = table; lo = lo; hi = hi }; term = term })) }
         ensures setup { self.new.setup ≡ self.old.setup }
         ensures room { follow_up_room self.new.head ≡ follow_up_room self.old.head }
         ensures err { OnErr result (master_view self.new ≡ master_view self.old) }
         ensures no_memory { IfErr result (λ fault. fault ≡ OutOfMemory) }
     {
         if !ownership::owns_term(self.granted.as_slice(), term) {
+            let range = KeyRange { table, lo, hi };
             self.granted.push(GrantedRange { range, term })?;
         }
         Ok(())
@@ -318,14 +319,7 @@ impl Master {
                     ..
                 },
                 _,
-            ) => self.take_own(
-                KeyRange {
-                    table: *table,
-                    lo: *lo,
-                    hi: *hi,
-                },
-                *term,
-            ),
+            ) => self.take_own(*table, *lo, *hi, *term),
             _ => Ok(()),
         }
     }

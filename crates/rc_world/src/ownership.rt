@@ -1,9 +1,11 @@
 //! What a master owns, and how it numbers versions.
 
 ghost use Rattle.std.specs.Prelude.{◌≡◌};
-ghost use Rattle.rc_model.specs.Ownership.{in_range, term_of, owns_term, is_of, greatest_version};
+ghost use Rattle.rc_model.specs.Ownership.{in_range, term_of, owns_term};
+ghost use Rattle.rc_world.specs.Versions.{version_in};
 
-use rc_types::{Entry, GrantedRange, KeyRange};
+use indexmap::IndexMap;
+use rc_types::{GrantedRange, KeyRange};
 
 /// The term of the first granted range that holds the point.
 pub(crate) fn term_of(granted: &[GrantedRange], table: u32, key: u64) -> Option<u32>
@@ -28,21 +30,23 @@ pub(crate) fn owns_term(granted: &[GrantedRange], term: u32) -> bool
     granted.iter().any(|grant| grant.term == term)
 }
 
-/// The greatest version of a key under a term in the log, 0 where there is none.
-pub(crate) fn greatest_version(log: &[(Entry, bool)], term: u32, table: u32, key: u64) -> u64
-    ensures { result ≡ greatest_version term table key log.now }
-{
-    let mut greatest = 0;
-    for (entry, _) in log {
-        if is_of(entry, term, table, key) {
-            greatest = entry.version.max(greatest);
-        }
-    }
-    greatest
+/// A key of a table, under a term: it has versions of its own.
+#[derive(Clone, Copy, PartialEq, Eq, Hash)]
+pub(crate) struct VersionKey {
+    /// The term.
+    pub(crate) term: u32,
+    /// The table.
+    pub(crate) table: u32,
+    /// The key.
+    pub(crate) key: u64,
 }
 
-fn is_of(entry: &Entry, term: u32, table: u32, key: u64) -> bool
-    ensures { result ≡ is_of term table key entry.now }
+/// The greatest version that a key has so far, 0 where it has none.
+pub(crate) fn version_in(versions: &IndexMap<VersionKey, u64>, key: VersionKey) -> u64
+    ensures { result ≡ version_in versions.now key }
 {
-    entry.term == term && entry.table == table && entry.key == key
+    match versions.get(&key) {
+        Some(version) => *version,
+        None => 0,
+    }
 }

@@ -14,7 +14,7 @@ use rc_types::{Fault, Message, ServerId};
 use std::alloc::Global;
 
 /// The messages that are judged, with an index of what was sent for each place.
-#[derive(Debug, Drop)]
+#[derive(Drop)]
 pub struct Evidence<'a> {
     /// The messages.
     pub messages: &'a [Message],

@@ -10,7 +10,7 @@ use std::alloc::Global;
 use std::collections::BTreeMap;
 
 /// A place of a master's log.
-#[derive(Clone, Copy, Debug, PartialEq, Eq, PartialOrd, Ord)]
+#[derive(Clone, Copy, PartialEq, Eq, PartialOrd, Ord)]
 pub struct PlaceKey {
     /// The master.
     pub master: ServerId,
@@ -21,7 +21,7 @@ pub struct PlaceKey {
 }
 
 /// What was sent for a place, as far as a judge asks.
-#[derive(Clone, Copy, Debug)]
+#[derive(Clone, Copy)]
 pub struct Seen<'a> {
     /// The entry that was sent first.
     pub first: &'a Entry,

@@ -17,7 +17,7 @@ use std::collections::BTreeMap;
 pub type BySegment = BTreeMap<u16, usize>;
 
 /// An accepted recovery.
-#[derive(Clone, Copy, Debug)]
+#[derive(Clone, Copy)]
 pub struct Recovery<'a> {
     /// The attempt.
     pub attempt: u32,

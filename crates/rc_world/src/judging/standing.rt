@@ -14,7 +14,7 @@ use std::alloc::Global;
 use std::collections::BTreeMap;
 
 /// The acknowledged writes of one master, taken together.
-#[derive(Debug, Drop)]
+#[derive(Drop)]
 pub struct Standing {
     /// Whether all that was sent for the place of each is that write.
     pub all_agree: bool,

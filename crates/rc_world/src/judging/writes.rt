@@ -10,7 +10,7 @@ ghost use Rattle.rc_world.specs.JudgingWrites.{ack_of, acks_from, acks_by};
 use rc_types::{Addr, Body, Entry, Message, ServerId};
 
 /// An acknowledged write: its place in its master's log, and what was written.
-#[derive(Clone, Copy, Debug)]
+#[derive(Clone, Copy)]
 pub struct AckedWrite {
     /// The segment.
     pub seg: u16,
