@@ -1,6 +1,7 @@
 -- Nothing acknowledged is missing: segment by segment, and write by write.
-use Rattle.std.proofs.Common.{◌≡◌, ℕ, ◌+◌, ◌<◌, ◌≤◌, Bool, true, false, cond, List, [], ◌∷◌, Some, None, drop, max, not, refl, ap, ◌∙◌, arith}
+use Rattle.std.proofs.Common.{◌≡◌, ℕ, ◌+◌, ◌<◌, ◌≤◌, Bool, true, false, cond, List, [], ◌∷◌, Option, Some, None, suc, subst, drop, max, not, refl, ap, ◌∙◌, arith}
 use Rattle.std.specs.Prelude.{nat_eq}
+use Rattle.std.specs.List.{All}
 use Rattle.std.specs.Ordering.{nat_cmp}
 use Rattle.std.specs.BTreeMap.{is_at}
 use Rattle.std.specs.Map.{lookup}
@@ -28,6 +29,21 @@ below_from_all limit (e ∷ entries) s all =
     first : (b : Bool) → (b ≡ true → limit e.0 ≡ limit s) → one_above (lookup (is_at (nat_cmp s)) entries) ≤ limit s → one_above (cond b (Some e.1) (lookup (is_at (nat_cmp s)) entries)) ≤ limit s
     first true same later = let is : limit e.0 ≡ limit s = same refl in let h = all.0 in omega arith
     first false same later = later
+
+-- a look-up finds each of these entries
+abbrev pub AllFound : (ℕ → Option ℕ) → List (ℕ × ℕ) → Type 0
+AllFound find [] = Unit {0}
+AllFound find (e ∷ entries) = (find e.0 ≡ Some e.1) × AllFound find entries
+
+pub found_from_all : (find : ℕ → Option ℕ) (entries : List (ℕ × ℕ)) → All (λ e. find e.0 ≡ Some e.1) entries → AllFound find entries
+found_from_all find [] all = tt
+found_from_all find (e ∷ entries) all = (all 0 e (omega arith), found_from_all find entries (λ k d h. all (suc k) d (omega arith)))
+
+-- an offset that is not below its limit refutes that all are
+pub not_covered : (found : Option ℕ) (top limit : ℕ) → found ≡ Some top → limit ≤ top → one_above found ≤ limit → ⊥
+not_covered found top limit is above below =
+    let next : top + 1 ≤ limit = subst (λ o. one_above o ≤ limit) is below in
+    omega (arith, next, above)
 
 -- a search that goes on from a place of the list finds what the search of the whole finds
 abbrev pub GoesOn : List Message → Accepted → ℕ → Type 0

@@ -1,5 +1,5 @@
--- How many places of a segment, from its first on, are known to be made one way.
-use Rattle.std.specs.Prelude.{◌≡◌, ℕ, ◌<◌, true, unwrap_or, List}
+-- How many places of a segment, from its first on, were made one way.
+use Rattle.std.specs.Prelude.{◌≡◌, ℕ, ◌-◌, ◌^◌, ◌<◌, true, false, unwrap_or, List}
 use Rattle.std.specs.declared.cmp.Ordering.{Ordering}
 use Rattle.std.specs.Ordering.{nat_cmp, ordering_then}
 use Rattle.std.specs.BTreeMap.{BTreeMap, get}
@@ -13,10 +13,15 @@ use Rattle.rc_world.specs.JudgingPlaces.{id_order}
 abbrev pub segment_order : SegmentKey → SegmentKey → Ordering
 segment_order a b = ordering_then (id_order a.master b.master) (nat_cmp a.seg b.seg)
 
--- how many places of the segment are known to be made one way
+-- the run of the segment, 0 where the table has none
 abbrev pub run_at : BTreeMap SegmentKey ℕ → ServerId → ℕ → ℕ
 run_at runs m s = unwrap_or (get segment_order runs (record { master = m; seg = s })) 0
 
--- and each of them is
-pub record AreMadeOneWay (runs : BTreeMap SegmentKey ℕ) (sent : List Message) : Type 0 where
-  pub each : (m : ServerId) (s o : ℕ) → o < run_at runs m s → is_one_entry (made sent m s o) ≡ true
+-- so many places of the segment were made one way, and the next one, where it has an offset, was not
+pub record IsRun (sent : List Message) (m : ServerId) (s n : ℕ) : Type 0 where
+  pub each : (o : ℕ) → o < n → is_one_entry (made sent m s o) ≡ true
+  pub end : n < 2 ^ 64 - 1 → is_one_entry (made sent m s n) ≡ false
+
+-- the table has the run of every segment
+abbrev pub AreRuns : BTreeMap SegmentKey ℕ → List Message → Type 0
+AreRuns runs sent = (m : ServerId) (s : ℕ) → IsRun sent m s (run_at runs m s)

@@ -1,13 +1,14 @@
 //! Nothing recovered is invented.
 
-ghost use Rattle.std.specs.Prelude.{◌≡◌, ◌≤◌, ◌-◌, IfOk, IfErr};
+ghost use Rattle.std.specs.Prelude.{◌≡◌, List, IfOk, IfErr};
 ghost use Rattle.rc_types.specs.declared.faults.Fault.TheVariants.{OutOfMemory};
+ghost use Rattle.rc_types.specs.declared.messages.Message.{Message};
 ghost use Rattle.rc_model.specs.Pick.{ascending};
 ghost use Rattle.rc_model.specs.History.{accepted};
 ghost use Rattle.rc_model.specs.Breach.{first_invented, first_invented_from};
 ghost use Rattle.rc_model.specs.Breach.{invented_of, segments_of};
 ghost use Rattle.rc_world.specs.JudgingRecoveries.{accepted_of};
-ghost use Rattle.rc_world.specs.JudgingRuns.{AreMadeOneWay};
+ghost use Rattle.rc_world.specs.JudgingRuns.{AreRuns};
 
 use crate::judging::evidence::Evidence;
 use crate::judging::recoveries::{Recovery, number_of, reaches, recovery_in};
@@ -15,64 +16,38 @@ use crate::judging::runs::{Runs, run_of};
 use rc_types::{Breach, Fault};
 use std::alloc::Global;
 
-/// The first place of the segment, from `start` on and below `reach`, that was not made one way.
-fn invented_from(
-    evidence: &Evidence<'_>,
-    recovery: &Recovery<'_>,
-    seg: u16,
-    start: usize,
-    reach: usize,
-) -> Option<Breach>
-    requires { start ≤ reach }
-    ensures { result ≡ first_invented_from evidence.now.messages.now
-        (accepted_of recovery.now) seg start (reach - start) }
-{
-    for offset in start..reach {
-        if !evidence.is_made_one_way(recovery.master, seg, offset) {
-            return Some(Breach::Invented {
-                attempt: recovery.attempt,
-                master: recovery.master,
-                seg,
-                offset,
-            });
-        }
-    }
-    None
-}
-
-/// The first place of the segment below `reach` that was not made one way. The places of the
-/// segment's run were, so the search begins past them.
+/// The first place of the segment below `reach` that was not made one way: the one after its run.
 fn invented_in_segment(
-    evidence: &Evidence<'_>,
     runs: &Runs,
     recovery: &Recovery<'_>,
     seg: u16,
     reach: usize,
 ) -> Option<Breach>
-    requires { AreMadeOneWay runs.now evidence.now.messages.now }
-    ensures { result ≡ first_invented_from evidence.now.messages.now
-        (accepted_of recovery.now) seg 0 reach }
+    ensures { (sent : List Message) → AreRuns runs.now sent →
+        result ≡ first_invented_from sent (accepted_of recovery.now) seg 0 reach }
 {
-    let start = run_of(runs, recovery.master, seg).min(reach);
-    invented_from(evidence, recovery, seg, start, reach)
+    let run = run_of(runs, recovery.master, seg);
+    if reach <= run {
+        return None;
+    }
+    Some(Breach::Invented {
+        attempt: recovery.attempt,
+        master: recovery.master,
+        seg,
+        offset: run,
+    })
 }
 
 /// The first place of this recovery that was not made one way.
-fn invented_in(
-    alloc: Global,
-    evidence: &Evidence<'_>,
-    runs: &Runs,
-    recovery: &Recovery<'_>,
-) -> Result<Option<Breach>, Fault>
-    requires { AreMadeOneWay runs.now evidence.now.messages.now }
-    ensures found { IfOk result (λ found. found ≡ first_invented evidence.now.messages.now
-        (accepted_of recovery.now) (ascending (segments_of recovery.now.rows.now))) }
+fn invented_in(alloc: Global, runs: &Runs, recovery: &Recovery<'_>) -> Result<Option<Breach>, Fault>
+    ensures found { IfOk result (λ found. (sent : List Message) → AreRuns runs.now sent → found ≡
+        first_invented sent (accepted_of recovery.now) (ascending (segments_of recovery.now.rows.now))) }
     ensures err { IfErr result (λ e. e ≡ OutOfMemory) }
 {
     let reaches = reaches(alloc, recovery.rows)?;
     for seg in reaches.keys() {
         let reach = number_of(&reaches, *seg);
-        let invented = invented_in_segment(evidence, runs, recovery, *seg, reach);
+        let invented = invented_in_segment(runs, recovery, *seg, reach);
         if invented.is_some() {
             return Ok(invented);
         }
@@ -86,7 +61,7 @@ pub fn invented_place(
     evidence: &Evidence<'_>,
     runs: &Runs,
 ) -> Result<Option<Breach>, Fault>
-    requires { AreMadeOneWay runs.now evidence.now.messages.now }
+    requires { AreRuns runs.now evidence.now.messages.now }
     ensures found { IfOk result (λ found. found ≡
         invented_of evidence.now.messages.now (accepted evidence.now.messages.now)) }
     ensures err { IfErr result (λ e. e ≡ OutOfMemory) }
@@ -95,7 +70,7 @@ pub fn invented_place(
         let Some(recovery) = recovery_in(&message.body) else {
             continue;
         };
-        let invented = invented_in(alloc, evidence, runs, &recovery)?;
+        let invented = invented_in(alloc, runs, &recovery)?;
         if invented.is_some() {
             return Ok(invented);
         }

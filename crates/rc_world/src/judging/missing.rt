@@ -1,7 +1,6 @@
 //! Nothing acknowledged is missing.
 
-ghost use Rattle.std.specs.Prelude.{◌≡◌, ◌≤◌, ℕ, true, IfOk, IfErr, unwrap_or};
-ghost use Rattle.std.specs.Bool.{OnTrue};
+ghost use Rattle.std.specs.Prelude.{◌≡◌, ◌≤◌, ◌↔◌, ℕ, true, IfOk, IfErr, unwrap_or};
 ghost use Rattle.std.specs.Ordering.{nat_cmp};
 ghost use Rattle.std.specs.BTreeMap.{get};
 ghost use Rattle.rc_types.specs.declared.faults.Fault.TheVariants.{OutOfMemory};
@@ -21,7 +20,7 @@ use std::alloc::Global;
 
 /// Whether each of these offsets is below what is reached of its segment.
 fn is_covered(tops: &BySegment, reaches: &BySegment) -> bool
-    ensures { OnTrue result ((s : ℕ) →
+    ensures { (result ≡ true) ↔ ((s : ℕ) →
         one_above (get nat_cmp tops.now s) ≤ unwrap_or (get nat_cmp reaches.now s) 0) }
 {
     for (seg, top) in tops {
@@ -32,12 +31,10 @@ fn is_covered(tops: &BySegment, reaches: &BySegment) -> bool
     true
 }
 
-/// Whether no acknowledged write of this master is missing from what is reached. The contract says
-/// what a `true` means, all that callers need: a `false` that is wrong would only cost steps.
+/// Whether no acknowledged write of this master is missing from what is reached.
 fn is_kept(standings: &Standings, master: ServerId, reaches: &BySegment) -> bool
-    ensures kept { OnTrue result (kept_at standings.now master ≡ true) }
-    ensures covered { OnTrue result ((s : ℕ) →
-        below_at standings.now master s ≤ unwrap_or (get nat_cmp reaches.now s) 0) }
+    ensures { (result ≡ true) ↔ ((kept_at standings.now master ≡ true) × ((s : ℕ) →
+        below_at standings.now master s ≤ unwrap_or (get nat_cmp reaches.now s) 0)) }
 {
     match standings.get(&master) {
         None => true,

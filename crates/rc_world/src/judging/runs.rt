@@ -2,7 +2,7 @@
 
 ghost use Rattle.std.specs.Prelude.{◌≡◌, IfOk, IfErr};
 ghost use Rattle.rc_types.specs.declared.faults.Fault.TheVariants.{OutOfMemory};
-ghost use Rattle.rc_world.specs.JudgingRuns.{run_at, AreMadeOneWay};
+ghost use Rattle.rc_world.specs.JudgingRuns.{run_at, IsRun, AreRuns};
 
 use crate::judging::evidence::Evidence;
 use rc_types::{Fault, ServerId};
@@ -21,7 +21,7 @@ pub struct SegmentKey {
 /// For each segment, how many places from its first on were made one way.
 pub type Runs = BTreeMap<SegmentKey, usize>;
 
-/// How many places of this segment are known to be made one way.
+/// The run of this segment.
 pub fn run_of(runs: &Runs, master: ServerId, seg: u16) -> usize
     ensures { result ≡ run_at runs.now master seg }
 {
@@ -29,19 +29,29 @@ pub fn run_of(runs: &Runs, master: ServerId, seg: u16) -> usize
     runs.get(&segment).copied().unwrap_or(0)
 }
 
-/// The runs of all segments. Places come in the order of their offsets, so the first place of a
-/// segment that was not made one way ends its run. The contract promises no more than callers need:
-/// a run that ends too soon would only cost steps.
+/// How many places of this segment, from its first on, were made one way.
+fn count_run(evidence: &Evidence<'_>, master: ServerId, seg: u16) -> usize
+    ensures { IsRun evidence.now.messages.now master seg result }
+{
+    for offset in 0..usize::MAX {
+        if !evidence.is_made_one_way(master, seg, offset) {
+            return offset;
+        }
+    }
+    usize::MAX
+}
+
+/// The runs of all segments. A segment of which the first place was not made has none.
 pub fn runs_in(alloc: Global, evidence: &Evidence<'_>) -> Result<Runs, Fault>
-    ensures runs { IfOk result (λ runs. AreMadeOneWay runs evidence.now.messages.now) }
+    ensures runs { IfOk result (λ runs. AreRuns runs evidence.now.messages.now) }
     ensures err { IfErr result (λ e. e ≡ OutOfMemory) }
 {
     let mut runs = BTreeMap::new(alloc);
     for place in evidence.made.keys() {
-        let (master, seg) = (place.master, place.seg);
-        let run = run_of(&runs, master, seg);
-        if place.offset == run && evidence.is_made_one_way(master, seg, run) {
-            runs.insert(SegmentKey { master, seg }, run.saturating_add(1))?;
+        if place.offset == 0 {
+            let (master, seg) = (place.master, place.seg);
+            let run = count_run(evidence, master, seg);
+            runs.insert(SegmentKey { master, seg }, run)?;
         }
     }
     Ok(runs)

@@ -1,9 +1,17 @@
-use Rattle.std.proofs.Common.{◌∙◌, arith}
+use Rattle.std.proofs.Common.{sym, subst, arith}
 use Rattle.rc_world.specs.JudgingRecoveries.{accepted_of}
-use Rattle.rc_world.proofs.JudgingRunLemmas.{first_invented_from-run}
+use Rattle.rc_world.specs.JudgingRuns.{IsRun}
+use Rattle.rc_world.proofs.JudgingRunLemmas.{invented-none, invented-next}
 use Rattle.rc_world.proofs.judging.invented.invented_in_segment.Goals as goal
 
+pub returns-then-reach-run : goal.returns-then-reach-run
+returns-then-reach-run c = λ sent known.
+    let plan = accepted_of c.args.recovery.now in
+    let run = subst (λ n. IsRun sent plan.master c.args.seg n) (sym c.run_of-run.ensures) (known plan.master c.args.seg) in
+    sym (invented-none sent plan c.args.seg c.run_of-run.result c.args.reach run (omega arith))
+
 pub returns : goal.returns
-returns c =
-    c.invented_from.ensures
-    ∙ first_invented_from-run c.args.runs.now c.args.evidence.now.messages.now (accepted_of c.args.recovery.now) c.args.seg c.min-start.result c.args.reach c.requires (omega (arith, c.run_of.ensures)) (omega arith)
+returns c = λ sent known.
+    let plan = accepted_of c.args.recovery.now in
+    let run = subst (λ n. IsRun sent plan.master c.args.seg n) (sym c.run_of-run.ensures) (known plan.master c.args.seg) in
+    sym (invented-next sent plan c.args.seg c.run_of-run.result c.args.reach run (omega arith) (omega arith))

@@ -1,5 +1,5 @@
-use Rattle.rc_world.specs.JudgingRuns.{AreMadeOneWay}
+use Rattle.rc_world.proofs.JudgingRunLemmas.{RunsSoFar}
 use Rattle.rc_world.proofs.judging.runs.runs_in.Given as goal
 
 abbrev pub invariant-loop-place : goal.invariant-loop-place
-invariant-loop-place l = AreMadeOneWay l.runs l.evidence.messages.now
+invariant-loop-place l = RunsSoFar l.runs l.evidence.messages.now l.place-iterator
