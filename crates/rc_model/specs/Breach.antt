@@ -1,14 +1,19 @@
 -- A breach of the headline in a list of messages: the first one, by clause. Nothing here knows of nodes.
-use Rattle.std.specs.Prelude.{ℕ, ◌+◌, Bool, true, false, not, nat_eq, ◌&&◌, ◌||◌, if◌then◌else◌, List, [], ◌∷◌, Option, Some, None, zero, suc}
+use Rattle.std.specs.Prelude.{ℕ, ◌+◌, Bool, true, false, not, nat_eq, nat_lt, ◌&&◌, ◌||◌, if◌then◌else◌, List, [], ◌∷◌, Option, Some, None, zero, suc}
 use Rattle.rc_types.specs.declared.entries.Entry.{Entry}
 use Rattle.rc_types.specs.declared.rows.PlanRow.{PlanRow}
 use Rattle.rc_types.specs.declared.messages.Message.{Message}
+use Rattle.rc_types.specs.declared.messages.Body.{Body}
+use Rattle.rc_types.specs.declared.messages.Body.TheVariants.{Place, Append}
 use Rattle.rc_types.specs.declared.verdicts.Breach.{Breach}
-use Rattle.rc_types.specs.declared.verdicts.Breach.TheVariants.{Missing, Invented}
+use Rattle.rc_types.specs.declared.verdicts.Breach.TheVariants.{Missing, Invented, Version}
+use Rattle.rc_model.specs.Ids.{is_server}
 use Rattle.rc_model.specs.Pick.{ascending}
-use Rattle.rc_model.specs.History.{made, Ack, acknowledged, Accepted, accepted, reach, is_recovered}
+use Rattle.rc_model.specs.Made.{made}
+use Rattle.rc_model.specs.Recovered.{Ack, acknowledged, all_acknowledged, Accepted, accepted, reach, is_recovered}
+use Rattle.rc_model.specs.Owners.{is_earlier}
 
--- a list is the same, number by number
+-- the numbers are the same, one by one
 abbrev pub same_numbers : List ℕ → List ℕ → Bool
 same_numbers [] [] = true
 same_numbers (n ∷ ns) (m ∷ ms) = nat_eq n m && same_numbers ns ms
@@ -28,18 +33,44 @@ same_entry a b =
 
 -- Nothing acknowledged is missing
 
--- the entry is of the acknowledged term, table, key and version
+-- the entry is of the acknowledged term, table and key
+abbrev pub is_of_ack : Ack → Entry → Bool
+is_of_ack ack entry = nat_eq entry.term ack.term && (nat_eq entry.table ack.table && nat_eq entry.key ack.key)
+
+-- and of its version
 abbrev pub agrees : Ack → Entry → Bool
-agrees ack entry = nat_eq entry.term ack.term && (nat_eq entry.table ack.table && (nat_eq entry.key ack.key && nat_eq entry.version ack.version))
+agrees ack entry = is_of_ack ack entry && nat_eq entry.version ack.version
 
 abbrev pub all_agree : Ack → List Entry → Bool
 all_agree ack [] = true
 all_agree ack (entry ∷ entries) = agrees ack entry && all_agree ack entries
 
--- the place is not in the recovered log, or its master sent another entry for it
+-- the entry is a greater version of what was acknowledged
+abbrev pub is_greater : Ack → Entry → Bool
+is_greater ack entry = is_of_ack ack entry && nat_lt ack.version entry.version
+
+-- among these entries of a segment, the first of which stands at the offset, a recovered one is a greater version
+abbrev pub has_greater : List PlanRow → Ack → ℕ → ℕ → List Entry → Bool
+has_greater rows ack s o [] = false
+has_greater rows ack s o (entry ∷ entries) =
+    (is_recovered rows s o && is_greater ack entry) || has_greater rows ack s (o + 1) entries
+
+abbrev pub holds_greater : List PlanRow → Ack → Body → Bool
+holds_greater rows ack (Place seg epoch digest entries closed) = has_greater rows ack seg 0 entries
+holds_greater rows ack (Append seg offset entries) = has_greater rows ack seg offset entries
+holds_greater rows ack _ = false
+
+-- a greater version of what was acknowledged is made at a place that a row holds
+abbrev pub is_superseded : List Message → Accepted → Ack → Bool
+is_superseded [] plan ack = false
+is_superseded (message ∷ sent) plan ack =
+    (is_server plan.master message.from && holds_greater plan.rows ack message.body) || is_superseded sent plan ack
+
+-- no row holds the place, and none a greater version of its key under its term; or another entry was made at the place
 abbrev pub is_missing : List Message → Accepted → Ack → Bool
 is_missing sent plan ack =
-    not (is_recovered plan.rows ack.seg ack.offset) || not (all_agree ack (made sent plan.master ack.seg ack.offset))
+    not (is_recovered plan.rows ack.seg ack.offset || is_superseded sent plan ack)
+    || not (all_agree ack (made sent plan.master ack.seg ack.offset))
 
 -- the first of these writes that is missing
 abbrev pub first_missing : List Message → Accepted → List Ack → Option Breach
@@ -80,7 +111,22 @@ abbrev pub segments_of : List PlanRow → List ℕ
 segments_of [] = []
 segments_of (row ∷ rows) = row.seg ∷ segments_of rows
 
--- Over all plans, in order
+-- Versions rise over owners
+
+-- the one was acknowledged under an earlier ownership of the key, and its version isn't below the later one's
+abbrev pub falls : List Message → Ack → Ack → Bool
+falls sent later earlier =
+    nat_eq earlier.table later.table && (nat_eq earlier.key later.key
+    && (not (nat_lt earlier.version later.version) && is_earlier sent later.table later.key earlier.term later.term))
+
+-- the first of these from which the later one falls
+abbrev pub first_fall : List Message → Ack → List Ack → Option Breach
+first_fall sent later [] = None
+first_fall sent later (earlier ∷ acks) =
+    if falls sent later earlier then Some (Version later.table later.key earlier.term earlier.version later.term later.version)
+    else first_fall sent later acks
+
+-- Over all plans, and over all acknowledgements, in order
 
 abbrev pub missing_of : List Message → List Accepted → Option Breach
 missing_of sent [] = None
@@ -90,6 +136,11 @@ abbrev pub invented_of : List Message → List Accepted → Option Breach
 invented_of sent [] = None
 invented_of sent (plan ∷ plans) = or_else (first_invented sent plan (ascending (segments_of plan.rows))) (invented_of sent plans)
 
--- the first breach: a missing write of any plan comes before an invented place of any
+abbrev pub falls_of : List Message → List Ack → Option Breach
+falls_of sent [] = None
+falls_of sent (later ∷ acks) = or_else (first_fall sent later (all_acknowledged sent)) (falls_of sent acks)
+
+-- the first breach: a missing write of any plan comes before an invented place of any, and that before a falling version
 abbrev pub breach : List Message → Option Breach
-breach sent = or_else (missing_of sent (accepted sent)) (invented_of sent (accepted sent))
+breach sent =
+    or_else (missing_of sent (accepted sent)) (or_else (invented_of sent (accepted sent)) (falls_of sent (all_acknowledged sent)))

@@ -1,6 +1,6 @@
 -- What a reader of the definitions of a scenario and of its run would expect.
 use Rattle.std.specs.Prelude.{◌≡◌, ℕ, ◌+◌, ◌<◌, ◌≤◌, length, List, Option, Some, None, option_and_then, Ok, Err, slice_get}
-use Rattle.rc_model.specs.World.{replay}
+use Rattle.rc_first_model.specs.World.{replay}
 use Rattle.serde_json.specs.Data.{Data}
 use Rattle.rc_scenario.specs.declared.scenarios.Scenario.{Scenario}
 use Rattle.rc_scenario.specs.declared.scenarios.ScenarioEvent.{ScenarioEvent}

@@ -4,7 +4,7 @@ use Rattle.rc_types.specs.declared.faults.Code.{Code}
 use Rattle.rc_types.specs.declared.messages.Body.{Body}
 use Rattle.rc_types.specs.declared.messages.Body.TheVariants.{Plan, Own}
 use Rattle.rc_types.specs.Codes.{code_number}
-use Rattle.rc_model.specs.Report.{then_number, line_feed}
+use Rattle.rc_first_model.specs.Report.{then_number, line_feed}
 
 -- the run stopped at this event of the scenario
 abbrev pub stopped_line : Code → ℕ → List ℕ

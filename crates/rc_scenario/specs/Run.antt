@@ -10,8 +10,8 @@ use Rattle.rc_types.specs.declared.events.Event.{Event}
 use Rattle.rc_types.specs.declared.events.Event.TheVariants as event
 use Rattle.rc_types.specs.declared.messages.Message.{Message}
 use Rattle.rc_types.specs.declared.limits.TheConstants.{MAX_EVENTS}
-use Rattle.rc_model.specs.World.{World, opening, step, is_possible}
-use Rattle.rc_model.specs.Report.{report}
+use Rattle.rc_first_model.specs.World.{World, opening, step, is_possible}
+use Rattle.rc_first_model.specs.Report.{report}
 use Rattle.rc_scenario.specs.declared.kinds.BodyKind.{BodyKind}
 use Rattle.rc_scenario.specs.declared.scenarios.Scenario.{Scenario}
 use Rattle.rc_scenario.specs.declared.scenarios.ScenarioEvent.{ScenarioEvent}

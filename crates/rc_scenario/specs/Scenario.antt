@@ -1,7 +1,7 @@
 -- What a JSON value says as a scenario of format 1, and which place of it is wrong.
 use Rattle.std.specs.Prelude.{ℕ, ◌+◌, nat_le, ◌&&◌, if◌then◌else◌, List, [], ◌∷◌, length, Option, Some, None, option_map, option_and_then, Result, Ok, Err, codes}
 use Rattle.std.specs.Str.{bytes_eq, is_utf8}
-use Rattle.rc_types.specs.declared.events.Setup.{Setup}
+use Rattle.rc_types.specs.declared.events.FirstSetup.{FirstSetup}
 use Rattle.rc_types.specs.declared.events.Event.TheVariants as event
 use Rattle.rc_types.specs.declared.messages.Body.TheVariants.{Write}
 use Rattle.serde_json.specs.Data.{Data}
@@ -72,15 +72,15 @@ events_of place [] = Ok []
 events_of place (d ∷ ds) = one_event_more place (event_of d) (events_of (place + 1) ds)
 
 -- the first three members of exactly four
-abbrev pub setup_of : Data → Option Setup
+abbrev pub setup_of : Data → Option FirstSetup
 setup_of d = only 4 d (given3 (λ format factor segment. record { factor = factor; segment = segment })
     (field (codes "format") (whole 1 1) d) (field (codes "factor") (whole 1 5) d) (field (codes "segment") (whole 1 1024) d))
 
-abbrev pub with_events : Setup → Result (List ScenarioEvent) ℕ → Result Scenario ℕ
+abbrev pub with_events : FirstSetup → Result (List ScenarioEvent) ℕ → Result Scenario ℕ
 with_events setup (Ok events) = Ok (record { setup = setup; events = events })
 with_events setup (Err place) = Err place
 
-abbrev pub scenario_in : Option Setup → Option (List Data) → Result Scenario ℕ
+abbrev pub scenario_in : Option FirstSetup → Option (List Data) → Result Scenario ℕ
 scenario_in (Some setup) (Some ds) = with_events setup (events_of 2 ds)
 scenario_in (Some setup) None = Err 1
 scenario_in None ds = Err 1

@@ -10,7 +10,7 @@ ghost use Rattle.rc_scenario.specs.Scenario.{kind_at, start_of, write_of, delive
 use crate::kinds::BodyKind;
 use crate::scenarios::{Passing, ReadFault, Scenario, ScenarioEvent};
 use crate::values::{id_at, is_object_of, items, items_at, number, number_at};
-use rc_types::{Body, Event, Seq, Setup};
+use rc_types::{Body, Event, Seq, FirstSetup};
 use serde_json::Value;
 use std::alloc::{AllocError, Global};
 
@@ -57,7 +57,7 @@ fn scenario(alloc: Global, value: &Value) -> Result<Scenario, ReadFault>
     Ok(Scenario { setup, events })
 }
 
-fn setup(value: &Value) -> Option<Setup>
+fn setup(value: &Value) -> Option<FirstSetup>
     ensures { result ≡ setup_of (view value.now) }
 {
     if !is_object_of(value, 4) {
@@ -66,7 +66,7 @@ fn setup(value: &Value) -> Option<Setup>
     let _format = number_at(value, "format", 1, 1)?;
     let factor = number_at(value, "factor", 1, 5)?;
     let segment = number_at(value, "segment", 1, 1024)?;
-    Some(Setup {
+    Some(FirstSetup {
         factor: factor as u8,
         segment: segment as u16,
     })

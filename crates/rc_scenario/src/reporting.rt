@@ -4,8 +4,8 @@
 ghost use Rattle.std.specs.Prelude.{◌≡◌, ◌++◌, [], IsTrue, IfOk, IfErr, OnOk, OnErr, string_bytes};
 ghost use Rattle.rc_types.specs.declared.faults.Fault.TheVariants.{OutOfMemory};
 ghost use Rattle.rc_types.specs.Texts.{addr_text};
-ghost use Rattle.rc_model.specs.Report.{body_line, message_line, message_lines, rows_text, count_of, count_line, counts_ack, counts_refused, counts_plan, counts_grant, counts_text, place_text, verdict_text, audit_line, report};
-ghost use Rattle.rc_model.specs.Breach.{breach};
+ghost use Rattle.rc_first_model.specs.Report.{body_line, message_line, message_lines, rows_text, count_of, count_line, counts_ack, counts_refused, counts_plan, counts_grant, counts_text, place_text, verdict_text, audit_line, report};
+ghost use Rattle.rc_first_model.specs.Breach.{breach};
 ghost use Rattle.rc_scenario.specs.Lines.{stopped_line, error_line, is_decision};
 
 use rc_types::{Addr, Body, Breach, Code, Fault, Message, PlanRow, ServerId};

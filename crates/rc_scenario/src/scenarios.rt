@@ -3,14 +3,14 @@
 ghost use Rattle.std.specs.Prelude.{◌≡◌};
 
 use crate::kinds::BodyKind;
-use rc_types::{Addr, Body, Event, Message, Seq, Setup};
+use rc_types::{Addr, Body, Event, Message, Seq, FirstSetup};
 use std::alloc::{AllocError, AllocFailed};
 
 /// A scenario of format 1.
 #[derive(Debug, Drop, PartialEq)]
 pub struct Scenario {
     /// The replication factor and the size of a segment.
-    pub setup: Setup,
+    pub setup: FirstSetup,
     /// The events, in order.
     pub events: Seq<ScenarioEvent>,
 }

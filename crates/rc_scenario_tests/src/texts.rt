@@ -4,7 +4,7 @@
 use rc_scenario::{
     BodyKind, Passing, ReadFault, ScenarioEvent, add_stopped, error_text, read_scenario, report_of,
 };
-use rc_types::{Addr, Body, Breach, Code, Entry, Event, Message, PlanRow, Seq, ServerId, Setup};
+use rc_types::{Addr, Body, Breach, Code, Entry, Event, Message, PlanRow, Seq, ServerId, FirstSetup};
 use std::alloc::{AllocError, Global};
 use std::test::Fail;
 
@@ -207,7 +207,7 @@ fn reads_each_kind_of_event(rt: HostRuntime) -> Result<(), Fail> {
     let text =
         "{\"format\":1,\"factor\":5,\"segment\":1024,\"events\":[{\"e\":\"start\",\"host\":63},{\"e\":\"deliver\",\"n\":4294967295},{\"e\":\"suspect\",\"id\":[0,1]},{\"e\":\"decide\",\"id\":[63,4294967295]},{\"owner\":[0,1],\"table\":4294967295,\"e\":\"create\"}]}";
     let read = again!(rt; read_scenario(alloc, text.as_bytes()));
-    let setup = Setup {
+    let setup = FirstSetup {
         factor: 5,
         segment: 1024,
     };

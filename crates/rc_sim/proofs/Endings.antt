@@ -9,16 +9,16 @@ use Rattle.rc_types.specs.declared.faults.Fault.TheVariants as fault
 use Rattle.rc_types.specs.declared.faults.Code.{Code}
 use Rattle.rc_types.specs.declared.faults.Code.TheVariants.{BadEvent, OutOfMemory}
 use Rattle.rc_types.specs.declared.limits.TheConstants.{MAX_EVENTS}
-use Rattle.rc_model.specs.Breach.{breach}
-use Rattle.rc_model.specs.Report.{report}
-use Rattle.rc_safety.proofs.Headlines.{no_breach}
+use Rattle.rc_first_model.specs.Breach.{breach}
+use Rattle.rc_first_model.specs.Report.{report}
+use Rattle.rc_first_safety.proofs.Headlines.{no_breach}
 use Rattle.rc_scenario.specs.declared.scenarios.Scenario.{Scenario}
 use Rattle.rc_scenario.specs.declared.scenarios.ScenarioEvent.{ScenarioEvent}
 use Rattle.rc_scenario.specs.Scenario.{reading}
 use Rattle.rc_scenario.specs.Lines.{stopped_line}
 use Rattle.rc_scenario.specs.Run.{scenario_run, run_within, ended_text}
 use Rattle.rc_scenario.proofs.Runs.{scenario_is_run}
-use Rattle.rc_world.specs.Happened.{Happened, replayed, sent_in}
+use Rattle.rc_first_world.specs.Happened.{Happened, replayed, sent_in}
 use Rattle.rc_sim.specs.declared.verdicts.Verdict.{Verdict}
 use Rattle.rc_sim.specs.declared.verdicts.Verdict.TheVariants.{Clean, Breach, Bad, Stopped}
 use Rattle.rc_sim.specs.declared.verdicts.SimFault.{SimFault}

@@ -7,12 +7,12 @@ use Rattle.rc_types.specs.declared.faults.Fault.{Fault}
 use Rattle.rc_types.specs.declared.faults.Fault.TheVariants.{OutOfMemory, BadEvent}
 use Rattle.rc_types.specs.declared.limits.TheConstants.{MAX_EVENTS}
 use Rattle.rc_types.specs.declared.messages.Message.{Message}
-use Rattle.rc_model.specs.World.{World, delivery, job_possible, step, is_possible}
+use Rattle.rc_first_model.specs.World.{World, delivery, job_possible, step, is_possible}
 use Rattle.rc_types.specs.declared.ids.Addr.{Addr}
 use Rattle.rc_types.specs.declared.ids.Addr.TheVariants.{Server, Coordinator, Outside}
 use Rattle.rc_scenario.specs.declared.scenarios.Passing.{Passing}
 use Rattle.rc_scenario.specs.Run.{events_left, is_due, next_due, due_from, pass}
-use Rattle.rc_world.specs.Happened.{Happened, replayed, with_events, can_happen}
+use Rattle.rc_first_world.specs.Happened.{Happened, replayed, with_events, can_happen}
 use Rattle.rc_sim.specs.Steps.{room_at}
 use Rattle.rc_sim.proofs.Steppings.{replayed_more, taken_then}
 

@@ -4,11 +4,11 @@ use Rattle.std.proofs.Math.Seq.{drop-cons}
 use Rattle.rc_types.specs.declared.events.Event.{Event}
 use Rattle.rc_types.specs.declared.faults.Fault.{Fault}
 use Rattle.rc_types.specs.declared.faults.Fault.TheVariants.{OutOfMemory, BadEvent}
-use Rattle.rc_model.specs.World.{World, step, is_possible}
+use Rattle.rc_first_model.specs.World.{World, step, is_possible}
 use Rattle.rc_scenario.specs.declared.scenarios.ScenarioEvent.{ScenarioEvent}
 use Rattle.rc_scenario.specs.declared.scenarios.ScenarioEvent.TheVariants.{Core}
 use Rattle.rc_scenario.specs.Run.{scenario_event, run_from}
-use Rattle.rc_world.specs.Happened.{Happened, replayed, with_events, can_happen}
+use Rattle.rc_first_world.specs.Happened.{Happened, replayed, with_events, can_happen}
 use Rattle.rc_sim.specs.Steps.{GoesOn, room_at, StopsIn}
 use Rattle.rc_sim.proofs.Steppings.{possible_of, replayed_more}
 use Rattle.rc_sim.proofs.Passes.{longer}

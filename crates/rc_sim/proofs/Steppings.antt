@@ -7,11 +7,11 @@ use Rattle.rc_types.specs.declared.events.Event.{Event}
 use Rattle.rc_types.specs.declared.events.Event.TheVariants as event
 use Rattle.rc_types.specs.declared.limits.TheConstants.{MAX_EVENTS}
 use Rattle.rc_types.specs.declared.messages.Message.{Message}
-use Rattle.rc_model.specs.World.{World, opening, step, is_possible, job_possible, delivery}
-use Rattle.rc_model.proofs.Worlds.{replay_from-push, noted, sent_more-step}
+use Rattle.rc_first_model.specs.World.{World, opening, step, is_possible, job_possible, delivery}
+use Rattle.rc_first_model.proofs.Worlds.{replay_from-push, noted, sent_more-step}
 use Rattle.rc_scenario.specs.declared.scenarios.Passing.{Passing}
 use Rattle.rc_scenario.specs.Run.{is_delivered, delivers}
-use Rattle.rc_world.specs.Happened.{Happened, replayed, with_events, sent_in, can_happen}
+use Rattle.rc_first_world.specs.Happened.{Happened, replayed, with_events, sent_in, can_happen}
 use Rattle.rc_sim.specs.Waiting.{marked, is_due_marked, Waits}
 use Rattle.rc_sim.specs.RunHolds.{RunHolds}
 use Rattle.rc_sim.proofs.Waitings.{mark_at, mark_length}

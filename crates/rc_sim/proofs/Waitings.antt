@@ -8,7 +8,7 @@ use Rattle.std.proofs.lemmas.Option.{slice_get_within}
 use Rattle.rc_types.specs.declared.ids.Addr.{Addr}
 use Rattle.rc_types.specs.declared.ids.Addr.TheVariants.{Outside, Coordinator, Server}
 use Rattle.rc_types.specs.declared.messages.Message.{Message}
-use Rattle.rc_model.specs.World.{World}
+use Rattle.rc_first_model.specs.World.{World}
 use Rattle.rc_scenario.specs.declared.scenarios.Passing.{Passing}
 use Rattle.rc_scenario.specs.Run.{is_delivered, next_due, due_from}
 use Rattle.rc_sim.specs.Waiting.{In, Ascends, marked, is_due_marked, is_due_by, first_due, waiting_with, Waits}

@@ -4,8 +4,8 @@ use Rattle.std.specs.Prelude.{◌≡◌, ℕ, ◌≤◌, List, length, Some, Non
 use Rattle.rc_types.specs.declared.faults.Fault.{Fault}
 use Rattle.rc_types.specs.declared.faults.Fault.TheVariants.{OutOfMemory}
 use Rattle.rc_types.specs.declared.limits.TheConstants.{MAX_EVENTS}
-use Rattle.rc_model.specs.World.{World}
-use Rattle.rc_world.specs.Happened.{Happened, replayed}
+use Rattle.rc_first_model.specs.World.{World}
+use Rattle.rc_first_world.specs.Happened.{Happened, replayed}
 use Rattle.rc_scenario.specs.declared.scenarios.ScenarioEvent.{ScenarioEvent}
 use Rattle.rc_scenario.specs.Run.{run_from}
 

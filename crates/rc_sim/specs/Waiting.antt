@@ -3,7 +3,7 @@ use Rattle.std.specs.Prelude.{◌≡◌, ◌⊎◌, ◌≤◌, ◌<◌, ℕ, ◌
 use Rattle.rc_types.specs.declared.ids.Addr.{Addr}
 use Rattle.rc_types.specs.declared.ids.Addr.TheVariants.{Outside}
 use Rattle.rc_types.specs.declared.messages.Message.{Message}
-use Rattle.rc_model.specs.World.{World}
+use Rattle.rc_first_model.specs.World.{World}
 use Rattle.rc_scenario.specs.declared.scenarios.Passing.{Passing}
 use Rattle.rc_scenario.specs.Run.{is_delivered, is_left_alone}
 

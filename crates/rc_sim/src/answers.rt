@@ -1,9 +1,9 @@
 //! What is answered to the bytes of a scenario.
 
 ghost use Rattle.std.specs.Prelude.{◌≡◌, ◌++◌, string_bytes, Ok, IfOk, IfErr};
-ghost use Rattle.rc_model.specs.Breach.{breach};
-ghost use Rattle.rc_model.specs.Report.{report};
-ghost use Rattle.rc_world.specs.Happened.{sent_in};
+ghost use Rattle.rc_first_model.specs.Breach.{breach};
+ghost use Rattle.rc_first_model.specs.Report.{report};
+ghost use Rattle.rc_first_world.specs.Happened.{sent_in};
 ghost use Rattle.rc_scenario.specs.Lines.{stopped_line, error_line};
 ghost use Rattle.rc_scenario.specs.Scenario.{reading};
 ghost use Rattle.rc_sim.specs.declared.verdicts.SimFault.TheVariants.{Memory};
@@ -14,7 +14,7 @@ use crate::runs::Run;
 use crate::verdicts::{SimFault, Verdict};
 use rc_scenario::{ReadFault, Scenario, add_stopped, error_text, read_scenario, report_of};
 use rc_types::Code;
-use rc_world::{World, audit};
+use rc_first_world::{World, audit};
 use std::alloc::{Allocator, Global};
 
 /// What is answered, and what is printed.

@@ -2,7 +2,7 @@
 
 ghost use Rattle.std.specs.Prelude.{◌≡◌, ◌≤◌, ◌<◌, ◌++◌, ◌∷◌, true, false, [], not, ℕ, length, drop, filter, OnOk, OnErr};
 ghost use Rattle.std.specs.List.{find, slice_set};
-ghost use Rattle.rc_model.specs.World.{World as WorldModel};
+ghost use Rattle.rc_first_model.specs.World.{World as WorldModel};
 ghost use Rattle.rc_scenario.specs.Run.{due_from};
 ghost use Rattle.rc_sim.specs.Waiting.{In, Ascends, marked, is_due_by, first_due, waiting_with, Waits};
 

@@ -4,14 +4,14 @@ ghost use Rattle.std.specs.Prelude.{◌≡◌, ◌⊎◌, ◌≤◌, ◌+◌, �
 ghost use Rattle.rc_types.specs.declared.faults.Fault.TheVariants.{OutOfMemory, BadEvent};
 ghost use Rattle.rc_types.specs.declared.events.Event.TheVariants.{Deliver};
 ghost use Rattle.rc_types.specs.declared.limits.TheConstants.{MAX_EVENTS};
-ghost use Rattle.rc_world.specs.Happened.{with_events, can_happen, replayed};
+ghost use Rattle.rc_first_world.specs.Happened.{with_events, can_happen, replayed};
 ghost use Rattle.rc_scenario.specs.Run.{due_from, settles, scenario_event, run_from};
 ghost use Rattle.rc_sim.specs.Steps.{GoesOn, StopsIn, RunsThrough, StopsAt};
 
 use crate::mail::Mail;
 use rc_scenario::{Passing, ScenarioEvent};
-use rc_types::{Event, Fault, Setup};
-use rc_world::World;
+use rc_types::{Event, Fault, FirstSetup};
+use rc_first_world::World;
 use std::alloc::{Allocator, Global};
 use std::marker::Model;
 
@@ -23,7 +23,7 @@ pub struct Run<A: Allocator> {
 }
 
 impl<A: Allocator> Model for Run<A> {
-    ghost use Rattle.rc_world.specs.Happened.{Happened};
+    ghost use Rattle.rc_first_world.specs.Happened.{Happened};
 
     ghost Value = { Happened };
 
@@ -37,7 +37,7 @@ impl<A: Allocator> Model for Run<A> {
 impl<A: Allocator> Run<A> {
     /// A run in which nothing has happened. Its tablets lie in memory of the second allocator. It
     /// takes no memory.
-    pub(crate) fn new(alloc: Global, setup: Setup, tablets: A) -> Run<A>
+    pub(crate) fn new(alloc: Global, setup: FirstSetup, tablets: A) -> Run<A>
         ensures { result ≡ record { setup = setup; events = [] } }
     {
         Run {

@@ -7,8 +7,33 @@ use crate::sequence::{Seq, TryClone};
 use std::alloc::Global;
 
 /// What a world is opened with.
-#[derive(Clone, Copy, Debug, PartialEq, Eq)]
+#[derive(Debug, Drop, PartialEq)]
 pub struct Setup {
+    /// How many replicas each segment has, 1 to 5, at a master whose host has no number in `factors`.
+    pub factor: u8,
+    /// How many entries a segment takes, 1 to 1,024.
+    pub segment: u16,
+    /// Whether masters free segments that have become wholly dead.
+    pub free: bool,
+    /// At the place of a host's index, how many replicas each segment of its masters has, 1 to 5.
+    pub factors: Seq<u8>,
+}
+
+impl TryClone for Setup {
+    fn try_clone(&self, alloc: Global) -> Result<Setup, Fault> {
+        let factors = self.factors.try_clone(alloc)?;
+        Ok(Setup {
+            factor: self.factor,
+            segment: self.segment,
+            free: self.free,
+            factors,
+        })
+    }
+}
+
+/// What a world of the first path is opened with: one factor for all, and nothing is freed.
+#[derive(Clone, Copy, Debug, PartialEq, Eq)]
+pub struct FirstSetup {
     /// How many replicas each segment has, 1 to 5.
     pub factor: u8,
     /// How many entries a segment takes, 1 to 1,024.

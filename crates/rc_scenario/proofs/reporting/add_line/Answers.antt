@@ -1,6 +1,6 @@
 use Rattle.std.proofs.Common.{codes}
 use Rattle.std.proofs.lemmas.Result.{on_ok_weaker}
-use Rattle.rc_model.specs.Report.{line_feed}
+use Rattle.rc_first_model.specs.Report.{line_feed}
 use Rattle.rc_scenario.proofs.Joined.{pair_line, seven_line}
 use Rattle.rc_scenario.proofs.reporting.add_line.Goals as goal
 

@@ -1,5 +1,5 @@
 use Rattle.std.proofs.Common.{◌≡◌, ◌++◌, string_bytes, drop}
-use Rattle.rc_model.specs.Report.{message_lines}
+use Rattle.rc_first_model.specs.Report.{message_lines}
 use Rattle.rc_scenario.proofs.reporting.add_messages.Given as goal
 
 -- what is added so far, and what the messages to come add

@@ -1,5 +1,5 @@
 use Rattle.std.proofs.Common.{◌≡◌, ◌++◌, string_bytes, drop}
-use Rattle.rc_model.specs.Report.{rows_text}
+use Rattle.rc_first_model.specs.Report.{rows_text}
 use Rattle.rc_scenario.proofs.reporting.add_rows.Given as goal
 
 -- what is added so far, and what the rows to come add

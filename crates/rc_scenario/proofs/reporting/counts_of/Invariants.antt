@@ -1,5 +1,5 @@
 use Rattle.std.proofs.Common.{◌≡◌, ◌+◌, ◌≤◌, drop}
-use Rattle.rc_model.specs.Report.{count_of, counts_ack, counts_refused, counts_plan, counts_grant}
+use Rattle.rc_first_model.specs.Report.{count_of, counts_ack, counts_refused, counts_plan, counts_grant}
 use Rattle.rc_scenario.proofs.reporting.counts_of.Given as goal
 
 abbrev pub invariant-loop-message : goal.invariant-loop-message

@@ -1,5 +1,5 @@
 use Rattle.std.proofs.Common.{◌≡◌, length}
-use Rattle.rc_model.specs.World.{World}
+use Rattle.rc_first_model.specs.World.{World}
 use Rattle.rc_sim.specs.Waiting.{Waits}
 use Rattle.rc_sim.proofs.mail.Mail.note.Given as goal
 

@@ -1,6 +1,6 @@
 use Rattle.std.proofs.Common.{sym, ap, ◌∙◌}
 use Rattle.rc_scenario.specs.Run.{due_from}
-use Rattle.rc_world.specs.Happened.{replayed}
+use Rattle.rc_first_world.specs.Happened.{replayed}
 use Rattle.rc_sim.proofs.runs.Run.next_due.Goals as goal
 
 pub returns-clause-due : goal.returns-clause-due

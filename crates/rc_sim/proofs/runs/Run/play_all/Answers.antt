@@ -1,5 +1,5 @@
 use Rattle.std.proofs.Common.{◌<◌, ◌+◌, ◌∙◌, length, drop, arith}
-use Rattle.rc_world.specs.Happened.{replayed}
+use Rattle.rc_first_world.specs.Happened.{replayed}
 use Rattle.rc_sim.specs.Steps.{room_at}
 use Rattle.rc_sim.proofs.Passes.{room_enough}
 use Rattle.rc_sim.proofs.Scenes.{scene_stops, dropped_at}

@@ -1,6 +1,6 @@
 use Rattle.std.proofs.Common.{◌≡◌, ◌≤◌, ℕ, length, drop}
 use Rattle.rc_scenario.specs.Run.{run_from}
-use Rattle.rc_world.specs.Happened.{replayed}
+use Rattle.rc_first_world.specs.Happened.{replayed}
 use Rattle.rc_sim.proofs.runs.Run.play_all.Given as goal
 
 -- the events so far, with room for those of the world

@@ -1,6 +1,6 @@
 use Rattle.std.proofs.Common.{◌≡◌, ◌≤◌, ◌-◌, ℕ, length}
 use Rattle.rc_scenario.specs.Run.{events_left, pass, settles}
-use Rattle.rc_world.specs.Happened.{replayed}
+use Rattle.rc_first_world.specs.Happened.{replayed}
 use Rattle.rc_sim.proofs.runs.Run.settle.Given as goal
 
 -- the pass so far, with room for its events

@@ -1,5 +1,5 @@
 use Rattle.std.proofs.Common.{sym}
-use Rattle.rc_world.specs.Happened.{replayed}
+use Rattle.rc_first_world.specs.Happened.{replayed}
 use Rattle.rc_sim.specs.RunHolds.{RunHolds}
 use Rattle.rc_sim.proofs.Steppings.{delivered_within, holds_delivered, holds_other}
 use Rattle.rc_sim.proofs.runs.Run.take.Goals as goal

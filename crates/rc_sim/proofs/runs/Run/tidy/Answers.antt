@@ -1,4 +1,4 @@
-use Rattle.rc_world.specs.Happened.{replayed}
+use Rattle.rc_first_world.specs.Happened.{replayed}
 use Rattle.rc_sim.proofs.Waitings.{tidied_as}
 use Rattle.rc_sim.proofs.runs.Run.tidy.Goals as goal
 

@@ -1,0 +1,13 @@
+pub mod Backup
+pub mod Config
+pub mod Segment
+pub mod Ownership
+pub mod Master
+pub mod Recovery
+pub mod Coordinator
+pub mod World
+pub mod History
+pub mod Breach
+pub mod Report
+pub mod FirstWrite
+pub mod Claims
