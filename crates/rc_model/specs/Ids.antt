@@ -27,3 +27,14 @@ abbrev pub is_server : ServerId → Addr → Bool
 is_server id (Server other) = same_id id other
 is_server id Coordinator = false
 is_server id Outside = false
+
+-- the list of ids in order with this one in it, once
+abbrev pub insert_id_once : ServerId → List ServerId → List ServerId
+insert_id_once id [] = id ∷ []
+insert_id_once id (other ∷ ids) =
+    if id_before id other then id ∷ other ∷ ids else (if same_id id other then other ∷ ids else other ∷ insert_id_once id ids)
+
+-- the id stands in the list
+abbrev pub has_id : ServerId → List ServerId → Bool
+has_id id [] = false
+has_id id (other ∷ ids) = same_id id other || has_id id ids

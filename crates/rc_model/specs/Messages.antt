@@ -35,3 +35,7 @@ refuses sender fault = to_outside sender (Refused (code_of fault))
 
 abbrev pub coordinator_refuses : Fault → Message
 coordinator_refuses fault = record { from = Coordinator; to = Outside; body = Refused (code_of fault) }
+
+-- from the coordinator to the outside
+abbrev pub coordinator_tells : Body → Message
+coordinator_tells body = record { from = Coordinator; to = Outside; body = body }

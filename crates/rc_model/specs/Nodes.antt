@@ -1,0 +1,167 @@
+-- The nodes: the outside, the coordinator, and each host with its backup and, where it runs, its master. What a node can be
+-- given and what it then does depend on its own state and on that work alone.
+use Rattle.std.specs.Prelude.{ℕ, ◌+◌, Bool, true, false, nat_lt, ◌&&◌, if◌then◌else◌, List, [], ◌∷◌, Option, Some, None, slice_get}
+use Rattle.rc_types.specs.declared.ids.ServerId.{ServerId}
+use Rattle.rc_types.specs.declared.ids.Addr.{Addr}
+use Rattle.rc_types.specs.declared.ids.Addr.TheVariants.{Server, Outside}
+use Rattle.rc_types.specs.declared.events.Setup.{Setup}
+use Rattle.rc_types.specs.declared.limits.TheConstants.{MAX_HOSTS}
+use Rattle.rc_types.specs.declared.messages.Message.{Message}
+use Rattle.rc_types.specs.declared.messages.Body.{Body}
+use Rattle.rc_types.specs.declared.messages.Body.TheVariants.{Write, Read, Place, Append, Close, Gather, Fetch, Free, Enlist}
+use Rattle.rc_model.specs.Ids.{is_server}
+use Rattle.rc_model.specs.Messages.{to_coordinator}
+use Rattle.rc_model.specs.Backup.{Backup, new_backup, backup_takes, restart}
+use Rattle.rc_model.specs.Master.{Master, MasterSetup, new_master}
+use Rattle.rc_model.specs.MasterStep.{master_takes, master_ticks}
+use Rattle.rc_model.specs.Coordinator.{Coordinator, suspects}
+use Rattle.rc_model.specs.Deciding.{decides}
+use Rattle.rc_model.specs.CoordinatorStep.{creates, splits, coordinator_ticks, coordinator_takes}
+
+-- what a node is given
+pub data Work : Type 0 where
+  Ask : (to : ServerId) → (body : Body) → Work
+  Take : (message : Message) → Work
+  Tick : (addr : Addr) → Work
+  Stop : (id : ServerId) → Work
+  Start : (kept : List (ServerId × ℕ)) → Work
+  Suspect : (id : ServerId) → Work
+  Decide : (id : ServerId) → Work
+  Create : (table : ℕ) → (owner : ServerId) → Work
+  Split : (table : ℕ) → (at : ℕ) → Work
+
+-- The outside: it asks servers to write and to read, and takes answers without a word
+
+abbrev pub is_for_clients : Body → Bool
+is_for_clients (Write table key value) = true
+is_for_clients (Read table key) = true
+is_for_clients _ = false
+
+abbrev pub outside_can : Work → Bool
+outside_can (Ask to body) = is_for_clients body && nat_lt to.index MAX_HOSTS
+outside_can (Take message) = true
+outside_can _ = false
+
+abbrev pub outside_sends : Work → List Message
+outside_sends (Ask to body) = record { from = Outside; to = Server to; body = body } ∷ []
+outside_sends _ = []
+
+-- The coordinator
+
+abbrev pub coordinator_can : Work → Bool
+coordinator_can (Take message) = true
+coordinator_can (Tick addr) = true
+coordinator_can (Suspect id) = true
+coordinator_can (Decide id) = true
+coordinator_can (Create table owner) = true
+coordinator_can (Split table at) = true
+coordinator_can _ = false
+
+abbrev pub coordinator_step : Coordinator → Work → Coordinator × List Message
+coordinator_step c (Take message) = coordinator_takes c message.from message.body
+coordinator_step c (Tick addr) = (c, coordinator_ticks c)
+coordinator_step c (Suspect id) = suspects c id
+coordinator_step c (Decide id) = decides c id
+coordinator_step c (Create table owner) = creates c table owner
+coordinator_step c (Split table at) = splits c table at
+coordinator_step c _ = (c, [])
+
+-- A host: its index, what its masters are made with, how often it was started, its backup, and its master where it runs
+
+pub record HostNode : Type 0 where
+  pub index : ℕ
+  pub setup : MasterSetup
+  pub generation : ℕ
+  pub backup : Backup
+  pub master : Option Master
+
+-- how many replicas each segment of a host's masters has
+abbrev pub or_number : Option ℕ → ℕ → ℕ
+or_number (Some n) other = n
+or_number None other = other
+
+abbrev pub factor_of : Setup → ℕ → ℕ
+factor_of setup index = or_number (slice_get setup.factors index) setup.factor
+
+abbrev pub master_setup : Setup → ℕ → MasterSetup
+master_setup setup index = record { factor = factor_of setup index; size = setup.segment; free = setup.free }
+
+abbrev pub new_host : ℕ → MasterSetup → HostNode
+new_host index setup = record {
+  index = index;
+  setup = setup;
+  generation = 0;
+  backup = new_backup (record { index = index; generation = 0 });
+  master = None;
+}
+
+-- the server of the host's last start
+abbrev pub server_of : HostNode → ServerId
+server_of host = record { index = host.index; generation = host.generation }
+
+abbrev pub is_some_master : Option Master → Bool
+is_some_master None = false
+is_some_master (Some master) = true
+
+abbrev pub runs : HostNode → Bool
+runs host = is_some_master host.master
+
+-- the address is that of the server that runs on the host now
+abbrev pub is_running_at : HostNode → Addr → Bool
+is_running_at host addr = runs host && is_server (server_of host) addr
+
+abbrev pub host_can : HostNode → Work → Bool
+host_can host (Take message) = true
+host_can host (Tick addr) = is_running_at host addr
+host_can host (Stop id) = is_running_at host (Server id)
+host_can host (Start kept) = nat_lt host.index MAX_HOSTS && (if runs host then false else true)
+host_can host _ = false
+
+-- the message is for the backup, and not for the master
+abbrev pub is_for_backup : Body → Bool
+is_for_backup (Place seg epoch digest entries closed) = true
+is_for_backup (Append seg offset entries) = true
+is_for_backup (Close seg len) = true
+is_for_backup (Gather attempt master) = true
+is_for_backup (Fetch attempt master seg len part) = true
+is_for_backup (Free seg) = true
+is_for_backup _ = false
+
+abbrev pub with_backup : HostNode → Backup × List Message → HostNode × List Message
+with_backup host (backup, messages) = (record host { backup = backup }, messages)
+
+abbrev pub with_master : HostNode → Master × List Message → HostNode × List Message
+with_master host (master, messages) = (record host { master = Some master }, messages)
+
+-- the running server takes a message, as a backup or as a master
+abbrev pub server_takes : HostNode → Master → Message → HostNode × List Message
+server_takes host master message =
+    if is_for_backup message.body then with_backup host (backup_takes host.backup message.from message.body)
+    else with_master host (master_takes master message.from message.body)
+
+abbrev pub takes_if_running : HostNode → Option Master → Message → HostNode × List Message
+takes_if_running host None message = (host, [])
+takes_if_running host (Some master) message =
+    if is_server (server_of host) message.to then server_takes host master message else (host, [])
+
+abbrev pub ticks_if_running : HostNode → Option Master → HostNode × List Message
+ticks_if_running host None = (host, [])
+ticks_if_running host (Some master) = with_master host (master_ticks master)
+
+-- a start gives the next generation, a new master, and the backup restarted; the server enlists
+abbrev pub starts_host : HostNode → ServerId → List (ServerId × ℕ) → HostNode × List Message
+starts_host host own kept = (
+  record host { generation = own.generation; backup = restart own kept host.backup; master = Some (new_master own host.setup) },
+  to_coordinator own Enlist ∷ [],
+)
+
+abbrev pub next_server : HostNode → ServerId
+next_server host = record { index = host.index; generation = host.generation + 1 }
+
+-- a message to an id that isn't running does nothing; a stop sends nothing, and the host keeps its replicas
+abbrev pub host_step : HostNode → Work → HostNode × List Message
+host_step host (Take message) = takes_if_running host host.master message
+host_step host (Tick addr) = ticks_if_running host host.master
+host_step host (Stop id) = (record host { master = None }, [])
+host_step host (Start kept) = starts_host host (next_server host) kept
+host_step host _ = (host, [])

@@ -1,0 +1,217 @@
+-- What a master owns, how it numbers versions, what it reads, and the parts of crashed masters' logs that it replays.
+use Rattle.std.specs.Prelude.{ℕ, ◌+◌, Bool, true, false, not, nat_eq, nat_lt, nat_le, ◌&&◌, ◌||◌, if◌then◌else◌, List, [], ◌∷◌, ◌++◌, length, map, filter, find, max, Option, Some, None, option_map, is_some}
+use Rattle.std.specs.List.{list_any, list_all}
+use Rattle.rc_types.specs.declared.ids.ServerId.{ServerId}
+use Rattle.rc_types.specs.declared.entries.Entry.{Entry}
+use Rattle.rc_types.specs.declared.rows.KeyRange.{KeyRange}
+use Rattle.rc_types.specs.declared.rows.Part.{Part}
+use Rattle.rc_types.specs.declared.kept.GrantedRange.{GrantedRange}
+use Rattle.rc_model.specs.Ids.{same_id}
+
+-- a row that a part waits for: its segment, who holds it, and its entries once they have come
+pub record PartRow : Type 0 where
+  pub seg : ℕ
+  pub holder : ServerId
+  pub came : Option (List Entry)
+
+-- a part: its rows, ascending by segment, until all have come; from then on how many entries it has; and whether its end was told
+pub record PartState : Type 0 where
+  pub part : Part
+  pub rows : List PartRow
+  pub size : ℕ
+  pub answered : Bool
+
+pub record Ownership : Type 0 where
+  pub grants : List GrantedRange
+  -- the parts, in the order in which they were begun
+  pub parts : List PartState
+  -- the entries that wait to be appended, under their new terms
+  pub replay : List Entry
+
+abbrev pub owns_nothing : Ownership
+owns_nothing = record { grants = []; parts = []; replay = [] }
+
+-- Ranges
+
+-- the range holds the point
+abbrev pub in_range : KeyRange → ℕ → ℕ → Bool
+in_range range table key = nat_eq range.table table && (nat_le range.lo key && nat_le key range.hi)
+
+-- the term of the first granted range that holds the point
+abbrev pub term_of : Ownership → ℕ → ℕ → Option ℕ
+term_of own table key = option_map (λ grant. grant.term) (find (λ grant. in_range grant.range table key) own.grants)
+
+-- the term is owned already
+abbrev pub owns_term : Ownership → ℕ → Bool
+owns_term own term = list_any (λ grant. nat_eq grant.term term) own.grants
+
+-- a range is granted under a term that isn't owned yet
+abbrev pub grant : GrantedRange → Ownership → Ownership
+grant granted own = if owns_term own granted.term then own else record own { grants = own.grants ++ granted ∷ [] }
+
+-- Versions, by the entries of the owner's log
+
+-- the entry is of this key, under this term
+abbrev pub is_of : ℕ → ℕ → ℕ → Entry → Bool
+is_of term table key entry = nat_eq entry.term term && (nat_eq entry.table table && nat_eq entry.key key)
+
+-- the greatest version of a key under a term, 0 where there is none
+abbrev pub greatest_version : ℕ → ℕ → ℕ → List Entry → ℕ
+greatest_version term table key [] = 0
+greatest_version term table key (entry ∷ entries) =
+    if is_of term table key entry then max entry.version (greatest_version term table key entries) else greatest_version term table key entries
+
+-- the version rule: one more than the greatest so far
+abbrev pub next_version : ℕ → ℕ → ℕ → List Entry → ℕ
+next_version term table key entries = greatest_version term table key entries + 1
+
+-- what a read finds: a version, 0 where there is none, and the value
+pub record Found : Type 0 where
+  pub version : ℕ
+  pub value : Option (List ℕ)
+
+-- the entry is found, unless what was found has as great a version
+abbrev pub or_greater : ℕ → ℕ → ℕ → Found → Entry → Found
+or_greater term table key found entry =
+    if is_of term table key entry && nat_lt found.version entry.version then record { version = entry.version; value = entry.value } else found
+
+abbrev pub read_from : ℕ → ℕ → ℕ → Found → List Entry → Found
+read_from term table key found [] = found
+read_from term table key found (entry ∷ entries) = read_from term table key (or_greater term table key found entry) entries
+
+-- the greatest version of a key under a term with its value, of equal versions the first in place
+abbrev pub read_of : ℕ → ℕ → ℕ → List Entry → Found
+read_of term table key entries = read_from term table key (record { version = 0; value = None }) entries
+
+-- among these entries is a greater version of this one's key under its term
+abbrev pub is_outdated : List Entry → Entry → Bool
+is_outdated entries entry = list_any (λ other. is_of entry.term entry.table entry.key other && nat_lt entry.version other.version) entries
+
+-- a segment with these entries is dead: each has a greater version among the durable entries
+abbrev pub is_dead : List Entry → List Entry → Bool
+is_dead durable entries = list_all (is_outdated durable) entries
+
+-- Parts
+
+abbrev pub has_part : Ownership → ℕ → Bool
+has_part own term = list_any (λ state. nat_eq state.part.term term) own.parts
+
+-- the term is known: a part under it was begun before, or it was granted
+abbrev pub knows_term : Ownership → ℕ → Bool
+knows_term own term = has_part own term || owns_term own term
+
+-- the rows in order of segment, those of one segment as they came
+abbrev pub insert_row : PartRow → List PartRow → List PartRow
+insert_row row [] = row ∷ []
+insert_row row (other ∷ rows) = if nat_lt other.seg row.seg then other ∷ insert_row row rows else row ∷ other ∷ rows
+
+abbrev pub rows_in_order : List PartRow → List PartRow
+rows_in_order [] = []
+rows_in_order (row ∷ rows) = insert_row row (rows_in_order rows)
+
+abbrev pub awaited_row : ℕ × ServerId → PartRow
+awaited_row name = record { seg = name.0; holder = name.1; came = None }
+
+-- a part is begun: it waits for these rows
+abbrev pub new_part : Part → List (ℕ × ServerId) → PartState
+new_part part rows = record { part = part; rows = rows_in_order (map awaited_row rows); size = 0; answered = false }
+
+abbrev pub begin_part : Part → List (ℕ × ServerId) → Ownership → Ownership
+begin_part part rows own = if knows_term own part.term then own else record own { parts = own.parts ++ new_part part rows ∷ [] }
+
+-- the row of this segment is awaited from this holder
+abbrev pub is_awaited : ℕ → ServerId → PartRow → Bool
+is_awaited seg from row = nat_eq row.seg seg && (same_id row.holder from && not (is_some row.came))
+
+-- the first such row has come
+abbrev pub with_row : ℕ → ServerId → List Entry → List PartRow → List PartRow
+with_row seg from entries [] = []
+with_row seg from entries (row ∷ rows) =
+    if is_awaited seg from row then record row { came = Some entries } ∷ rows else row ∷ with_row seg from entries rows
+
+-- a row of this part is awaited so
+abbrev pub awaits : ℕ → ℕ → ServerId → PartState → Bool
+awaits term seg from state = nat_eq state.part.term term && list_any (is_awaited seg from) state.rows
+
+-- some part awaits such a row
+abbrev pub awaits_data : ℕ → ℕ → ServerId → Ownership → Bool
+awaits_data term seg from own = list_any (awaits term seg from) own.parts
+
+abbrev pub all_came : List PartRow → Bool
+all_came rows = list_all (λ row. is_some row.came) rows
+
+abbrev pub came_entries : Option (List Entry) → List Entry
+came_entries None = []
+came_entries (Some entries) = entries
+
+-- the entries of all rows that have come, in order of segment and offset
+abbrev pub entries_that_came : List PartRow → List Entry
+entries_that_came [] = []
+entries_that_came (row ∷ rows) = came_entries row.came ++ entries_that_came rows
+
+-- the entry under another term
+abbrev pub under_term : ℕ → Entry → Entry
+under_term term entry = record entry { term = term }
+
+-- a part whose rows have all come waits for none any more
+abbrev pub joined : PartState → PartState
+joined state = if all_came state.rows then record state { rows = []; size = length (entries_that_came state.rows) } else state
+
+-- what joins the replay then
+abbrev pub joining : PartState → List Entry
+joining state = if all_came state.rows then map (under_term state.part.term) (entries_that_came state.rows) else []
+
+-- the part with this row
+abbrev pub part_with_row : ℕ → ServerId → List Entry → PartState → PartState
+part_with_row seg from entries state = record state { rows = with_row seg from entries state.rows }
+
+-- the first part that awaits the row takes it, and joins the replay at its end once it has all
+abbrev pub data_in : ℕ → ℕ → ServerId → List Entry → List PartState → List PartState
+data_in term seg from entries [] = []
+data_in term seg from entries (state ∷ states) =
+    if awaits term seg from state then joined (part_with_row seg from entries state) ∷ states
+    else state ∷ data_in term seg from entries states
+
+abbrev pub replay_in : ℕ → ℕ → ServerId → List Entry → List PartState → List Entry
+replay_in term seg from entries [] = []
+replay_in term seg from entries (state ∷ states) =
+    if awaits term seg from state then joining (part_with_row seg from entries state) else replay_in term seg from entries states
+
+abbrev pub put_data : ℕ → ℕ → ServerId → List Entry → Ownership → Ownership
+put_data term seg from entries own = record own {
+  parts = data_in term seg from entries own.parts;
+  replay = own.replay ++ replay_in term seg from entries own.parts;
+}
+
+-- the first entry of the replay is taken out of it
+abbrev pub without_first : List Entry → List Entry
+without_first [] = []
+without_first (entry ∷ entries) = entries
+
+abbrev pub after_replay : Ownership → Ownership
+after_replay own = record own { replay = without_first own.replay }
+
+-- how many of these entries are under the term
+abbrev pub count_under : ℕ → List Entry → ℕ
+count_under term entries = length (filter (λ entry. nat_eq entry.term term) entries)
+
+-- a part is complete: its rows have all come, and as many entries under its term are durable as they held
+abbrev pub is_complete : List Entry → PartState → Bool
+is_complete durable state = nat_eq (length state.rows) 0 && nat_le state.size (count_under state.part.term durable)
+
+-- a complete part whose end wasn't told yet
+abbrev pub is_to_answer : List Entry → PartState → Bool
+is_to_answer durable state = is_complete durable state && not state.answered
+
+-- the term of the first one
+abbrev pub to_answer : List Entry → Ownership → Option ℕ
+to_answer durable own = option_map (λ state. state.part.term) (find (is_to_answer durable) own.parts)
+
+-- its end is told
+abbrev pub answered_in : List Entry → List PartState → List PartState
+answered_in durable [] = []
+answered_in durable (state ∷ states) =
+    if is_to_answer durable state then record state { answered = true } ∷ states else state ∷ answered_in durable states
+
+abbrev pub after_answer : List Entry → Ownership → Ownership
+after_answer durable own = record own { parts = answered_in durable own.parts }

@@ -1,0 +1,137 @@
+-- The world: all nodes, and all messages ever sent. An event is one input, taken by one node.
+use Rattle.std.specs.Prelude.{ℕ, Bool, true, false, nat_eq, if◌then◌else◌, List, [], ◌∷◌, ◌++◌, Option, Some, None, slice_get}
+use Rattle.rc_types.specs.declared.ids.ServerId.{ServerId}
+use Rattle.rc_types.specs.declared.ids.Addr.{Addr}
+use Rattle.rc_types.specs.declared.ids.Addr.TheVariants.{Server, Coordinator as AtCoordinator, Outside}
+use Rattle.rc_types.specs.declared.events.Setup.{Setup}
+use Rattle.rc_types.specs.declared.events.Event.{Event}
+use Rattle.rc_types.specs.declared.events.Event.TheVariants as event
+use Rattle.rc_types.specs.declared.messages.Message.{Message}
+use Rattle.rc_model.specs.Tables.{put, put_id}
+use Rattle.rc_model.specs.Master.{Master, new_master}
+use Rattle.rc_model.specs.Coordinator.{Coordinator, new_coordinator}
+use Rattle.rc_model.specs.Nodes.{Work, Ask, Take, Tick, Stop, Start, Suspect, Decide, Create, Split, HostNode, new_host, master_setup, outside_can, outside_sends, coordinator_can, coordinator_step, host_can, host_step}
+
+pub record World : Type 0 where
+  pub setup : Setup
+  -- all that has happened, and all messages ever sent, each in order; a message's number is its place
+  pub events : List Event
+  pub sent : List Message
+  pub hosts : ℕ → HostNode
+  -- the last view of every master that ever ran
+  pub masters : ServerId → Master
+  pub coordinator : Coordinator
+
+abbrev pub opening : Setup → World
+opening setup = record {
+  setup = setup;
+  events = [];
+  sent = [];
+  hosts = λ index. new_host index (master_setup setup index);
+  masters = λ id. new_master id (master_setup setup id.index);
+  coordinator = new_coordinator;
+}
+
+-- Which node an event is for, and what it is given
+
+pub data NodeName : Type 0 where
+  TheOutside : NodeName
+  TheCoordinator : NodeName
+  TheHost : (index : ℕ) → NodeName
+
+abbrev pub same_node : NodeName → NodeName → Bool
+same_node TheOutside TheOutside = true
+same_node TheCoordinator TheCoordinator = true
+same_node (TheHost index) (TheHost other) = nat_eq index other
+same_node _ _ = false
+
+pub record Job : Type 0 where
+  pub node : NodeName
+  pub work : Work
+
+abbrev pub node_of : Addr → NodeName
+node_of Outside = TheOutside
+node_of AtCoordinator = TheCoordinator
+node_of (Server id) = TheHost id.index
+
+-- the delivery of a message, where it was sent
+abbrev pub delivery : Option Message → Option Job
+delivery None = None
+delivery (Some message) = Some (record { node = node_of message.to; work = Take message })
+
+-- the job of an event, given what was sent; none where it delivers what was not
+abbrev pub work_of : List Message → Event → Option Job
+work_of sent (event.Ask to body) = Some (record { node = TheOutside; work = Ask to body })
+work_of sent (event.Deliver number) = delivery (slice_get sent number)
+work_of sent (event.Tick addr) = Some (record { node = node_of addr; work = Tick addr })
+work_of sent (event.Stop id) = Some (record { node = TheHost id.index; work = Stop id })
+work_of sent (event.Start host kept) = Some (record { node = TheHost host; work = Start kept })
+work_of sent (event.Suspect id) = Some (record { node = TheCoordinator; work = Suspect id })
+work_of sent (event.Decide id) = Some (record { node = TheCoordinator; work = Decide id })
+work_of sent (event.Create table owner) = Some (record { node = TheCoordinator; work = Create table owner })
+work_of sent (event.Split table at) = Some (record { node = TheCoordinator; work = Split table at })
+
+-- whether the node can be given this now
+abbrev pub node_can : World → NodeName → Work → Bool
+node_can world TheOutside work = outside_can work
+node_can world TheCoordinator work = coordinator_can work
+node_can world (TheHost index) work = host_can (world.hosts index) work
+
+abbrev pub is_possible_job : World → Option Job → Bool
+is_possible_job world None = false
+is_possible_job world (Some job) = node_can world job.node job.work
+
+-- the event is possible in this world
+abbrev pub is_possible : World → Event → Bool
+is_possible world event = is_possible_job world (work_of world.sent event)
+
+-- The step
+
+-- the last views with that of the host's master, where it runs
+abbrev pub with_last_view : (ServerId → Master) → Option Master → ServerId → Master
+with_last_view masters None = masters
+with_last_view masters (Some master) = put_id masters master.log.own master
+
+-- a node's new state is put into place
+abbrev pub with_coordinator : World → Coordinator → World
+with_coordinator world coordinator = record world { coordinator = coordinator }
+
+abbrev pub with_host : World → ℕ → HostNode → World
+with_host world index host =
+    record world { hosts = put world.hosts index host; masters = with_last_view world.masters host.master }
+
+-- the event has happened, and these messages were sent in it
+abbrev pub happened : Event → List Message → World → World
+happened event messages world = record world { events = world.events ++ event ∷ []; sent = world.sent ++ messages }
+
+abbrev pub coordinator_done : World → Event → Coordinator × List Message → World
+coordinator_done world event (coordinator, messages) = happened event messages (with_coordinator world coordinator)
+
+abbrev pub host_done : World → Event → ℕ → HostNode × List Message → World
+host_done world event index (host, messages) = happened event messages (with_host world index host)
+
+-- one node takes its work: its state changes, and its messages are added to those sent
+abbrev pub node_done : World → Event → NodeName → Work → World
+node_done world event TheOutside work = happened event (outside_sends work) world
+node_done world event TheCoordinator work = coordinator_done world event (coordinator_step world.coordinator work)
+node_done world event (TheHost index) work = host_done world event index (host_step (world.hosts index) work)
+
+abbrev pub job_done : World → Event → Option Job → World
+job_done world event None = world
+job_done world event (Some job) = node_done world event job.node job.work
+
+-- a step; an event that isn't possible changes nothing
+abbrev pub step : World → Event → World
+step world event = if is_possible world event then job_done world event (work_of world.sent event) else world
+
+abbrev pub replay_from : World → List Event → World
+replay_from world [] = world
+replay_from world (event ∷ events) = replay_from (step world event) events
+
+-- the world that a list of events leads to
+abbrev pub replay : Setup → List Event → World
+replay setup events = replay_from (opening setup) events
+
+-- the view of a master, also of one that has stopped
+abbrev pub master_of : World → ServerId → Master
+master_of world id = world.masters id

@@ -1,0 +1,64 @@
+-- A client's write and read at a master, with their refusals in order.
+use Rattle.std.specs.Prelude.{ℕ, Bool, true, false, not, nat_lt, if◌then◌else◌, List, [], ◌∷◌, ◌++◌, length, Option, Some, None, Result, Ok, Err}
+use Rattle.rc_types.specs.declared.entries.Entry.{Entry}
+use Rattle.rc_types.specs.declared.faults.Fault.{Fault}
+use Rattle.rc_types.specs.declared.faults.Fault.TheVariants.{NotOwner, Rolling, ValueTooLong}
+use Rattle.rc_types.specs.declared.limits.TheConstants.{MAX_VALUE}
+use Rattle.rc_types.specs.declared.messages.Message.{Message}
+use Rattle.rc_types.specs.declared.messages.Body.TheVariants.{ReadOk}
+use Rattle.rc_model.specs.Messages.{to_outside, refuses}
+use Rattle.rc_model.specs.Log.{Log, entries_of, is_writing, is_full, begin_roll}
+use Rattle.rc_model.specs.Ownership.{term_of, next_version, Found, read_of}
+use Rattle.rc_model.specs.Master.{Master, with_log, durable_entries, places_head, appends_entry, dead_segments}
+
+-- a refusal changes nothing
+abbrev pub refused : Master → Fault → Master × List Message
+refused master fault = (master, refuses master.log.own fault ∷ [])
+
+-- the value is longer than a value may be
+abbrev pub is_too_long : Option (List ℕ) → Bool
+is_too_long None = false
+is_too_long (Some bytes) = nat_lt MAX_VALUE (length bytes)
+
+-- the entry of a write under a term
+abbrev pub written : Master → ℕ → ℕ → ℕ → Option (List ℕ) → Entry
+written master term table key value = record {
+  term = term;
+  table = table;
+  key = key;
+  version = next_version term table key (entries_of master.log);
+  value = value;
+}
+
+-- what a full head means to a write: a roll begins, and the client is to ask again; or why none can
+abbrev pub rolls_for_write : Master → Log × Result Bool Fault → Master × List Message
+rolls_for_write master (log, Ok began) = (with_log master log, places_head log ++ refuses log.own Rolling ∷ [])
+rolls_for_write master (log, Err fault) = refused master fault
+
+-- a write under the term of its range
+abbrev pub writes_under : Master → ℕ → ℕ → ℕ → Option (List ℕ) → Master × List Message
+writes_under master term table key value =
+    if not (is_writing master.log.phase) then refused master Rolling
+    else (if is_full master.log then rolls_for_write master (begin_roll master.known (dead_segments master) master.log)
+    else appends_entry master (written master term table key value) true)
+
+abbrev pub writes_if_owned : Master → Option ℕ → ℕ → ℕ → Option (List ℕ) → Master × List Message
+writes_if_owned master None table key value = refused master NotOwner
+writes_if_owned master (Some term) table key value = writes_under master term table key value
+
+-- a write: refused for its length, for its owner, for the phase or for a full head, in this order; else appended
+abbrev pub writes : Master → ℕ → ℕ → Option (List ℕ) → Master × List Message
+writes master table key value =
+    if is_too_long value then refused master ValueTooLong
+    else writes_if_owned master (term_of master.ownership table key) table key value
+
+abbrev pub read_answer : Master → ℕ → ℕ → Found → Master × List Message
+read_answer master table key found = (master, to_outside master.log.own (ReadOk table key found.version found.value) ∷ [])
+
+abbrev pub reads_if_owned : Master → Option ℕ → ℕ → ℕ → Master × List Message
+reads_if_owned master None table key = refused master NotOwner
+reads_if_owned master (Some term) table key = read_answer master table key (read_of term table key (durable_entries master))
+
+-- a read: the greatest durable version under the term of its range
+abbrev pub reads : Master → ℕ → ℕ → Master × List Message
+reads master table key = reads_if_owned master (term_of master.ownership table key) table key
