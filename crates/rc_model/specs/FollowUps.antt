@@ -10,7 +10,8 @@ use Rattle.rc_types.specs.declared.messages.Body.TheVariants.{WriteOk, Close, Co
 use Rattle.rc_model.specs.Messages.{to_coordinator, to_outside}
 use Rattle.rc_model.specs.Config.{all_placed}
 use Rattle.rc_model.specs.Segment.{Segment}
-use Rattle.rc_model.specs.Log.{Log, LogPlace, places_of, head_of, old_head_of, has_old_head, with_segment, numbers_to, is_closing, is_writing, is_full, begin_roll, with_shut, may_start, may_close, may_write, left_out, starts, closes_old, writes_on, durable_now}
+use Rattle.rc_model.specs.Log.{Log, LogPlace, places_of, head_of, old_head_of, has_old_head, with_segment, numbers_to, is_closing, is_writing, durable_now}
+use Rattle.rc_model.specs.Heads.{is_full, begin_roll, with_shut, may_start, may_close, may_write, left_out, starts, closes_old, writes_on}
 use Rattle.rc_model.specs.Ownership.{after_replay, to_answer, after_answer, PartState}
 use Rattle.rc_model.specs.Master.{Master, Task, with_log, durable_entries, to_ids, ids_of, to_unlost, places_head, appends_entry, dead_segments}
 

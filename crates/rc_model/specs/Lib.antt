@@ -8,6 +8,8 @@ pub mod Backup
 pub mod Config
 pub mod Segment
 pub mod Log
+pub mod Heads
+pub mod Versions
 pub mod Ownership
 pub mod Master
 pub mod Writing

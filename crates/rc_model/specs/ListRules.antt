@@ -4,7 +4,8 @@ use Rattle.rc_types.specs.declared.ids.ServerId.{ServerId}
 use Rattle.rc_types.specs.declared.faults.Fault.{Fault}
 use Rattle.rc_types.specs.declared.messages.Message.{Message}
 use Rattle.rc_model.specs.ServerList.{ServerList, newer_than, is_up}
-use Rattle.rc_model.specs.Log.{Log, numbers_to, open_first, loses}
+use Rattle.rc_model.specs.Log.{Log, numbers_to}
+use Rattle.rc_model.specs.Heads.{open_first, loses}
 use Rattle.rc_model.specs.Master.{Master, with_log, to_ids, place_of, places_head}
 
 -- what was done, and then this

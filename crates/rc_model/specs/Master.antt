@@ -10,8 +10,10 @@ use Rattle.rc_types.specs.declared.messages.Body.{Body}
 use Rattle.rc_types.specs.declared.messages.Body.TheVariants.{Place, Append}
 use Rattle.rc_model.specs.Messages.{between}
 use Rattle.rc_model.specs.ServerList.{ServerList, no_servers}
-use Rattle.rc_model.specs.Log.{Log, new_log, head_of, entries_of, appends}
-use Rattle.rc_model.specs.Ownership.{Ownership, owns_nothing, is_dead}
+use Rattle.rc_model.specs.Log.{Log, new_log, head_of, entries_of}
+use Rattle.rc_model.specs.Heads.{appends}
+use Rattle.rc_model.specs.Ownership.{Ownership, owns_nothing}
+use Rattle.rc_model.specs.Versions.{is_dead}
 
 -- a part that the master is to recover: in which attempt, of whose log, and where that log is
 pub record Task : Type 0 where

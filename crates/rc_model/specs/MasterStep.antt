@@ -12,7 +12,7 @@ use Rattle.rc_types.specs.declared.messages.Message.{Message}
 use Rattle.rc_types.specs.declared.messages.Body.{Body}
 use Rattle.rc_types.specs.declared.messages.Body.TheVariants.{Write, Read, Stored, CommitOk, Refused, Plan, Data, Own, List as ServersOf}
 use Rattle.rc_model.specs.ServerList.{from_rows}
-use Rattle.rc_model.specs.Log.{stored, commit_noted}
+use Rattle.rc_model.specs.Heads.{stored, commit_noted}
 use Rattle.rc_model.specs.Ownership.{knows_term, begin_part, put_data, grant}
 use Rattle.rc_model.specs.Master.{Master, Task, with_log}
 use Rattle.rc_model.specs.Writing.{refused, writes, reads}

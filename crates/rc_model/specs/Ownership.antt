@@ -1,5 +1,5 @@
--- What a master owns, how it numbers versions, what it reads, and the parts of crashed masters' logs that it replays.
-use Rattle.std.specs.Prelude.{ℕ, ◌+◌, Bool, true, false, not, nat_eq, nat_lt, nat_le, ◌&&◌, ◌||◌, if◌then◌else◌, List, [], ◌∷◌, ◌++◌, length, map, filter, find, max, Option, Some, None, option_map, is_some}
+-- What a master owns, and the parts of crashed masters' logs that it replays.
+use Rattle.std.specs.Prelude.{ℕ, Bool, true, false, not, nat_eq, nat_lt, nat_le, ◌&&◌, ◌||◌, if◌then◌else◌, List, [], ◌∷◌, ◌++◌, length, map, filter, find, Option, Some, None, option_map, is_some}
 use Rattle.std.specs.List.{list_any, list_all}
 use Rattle.rc_types.specs.declared.ids.ServerId.{ServerId}
 use Rattle.rc_types.specs.declared.entries.Entry.{Entry}
@@ -48,48 +48,6 @@ owns_term own term = list_any (λ grant. nat_eq grant.term term) own.grants
 -- a range is granted under a term that isn't owned yet
 abbrev pub grant : GrantedRange → Ownership → Ownership
 grant granted own = if owns_term own granted.term then own else record own { grants = own.grants ++ granted ∷ [] }
-
--- Versions, by the entries of the owner's log
-
--- the entry is of this key, under this term
-abbrev pub is_of : ℕ → ℕ → ℕ → Entry → Bool
-is_of term table key entry = nat_eq entry.term term && (nat_eq entry.table table && nat_eq entry.key key)
-
--- the greatest version of a key under a term, 0 where there is none
-abbrev pub greatest_version : ℕ → ℕ → ℕ → List Entry → ℕ
-greatest_version term table key [] = 0
-greatest_version term table key (entry ∷ entries) =
-    if is_of term table key entry then max entry.version (greatest_version term table key entries) else greatest_version term table key entries
-
--- the version rule: one more than the greatest so far
-abbrev pub next_version : ℕ → ℕ → ℕ → List Entry → ℕ
-next_version term table key entries = greatest_version term table key entries + 1
-
--- what a read finds: a version, 0 where there is none, and the value
-pub record Found : Type 0 where
-  pub version : ℕ
-  pub value : Option (List ℕ)
-
--- the entry is found, unless what was found has as great a version
-abbrev pub or_greater : ℕ → ℕ → ℕ → Found → Entry → Found
-or_greater term table key found entry =
-    if is_of term table key entry && nat_lt found.version entry.version then record { version = entry.version; value = entry.value } else found
-
-abbrev pub read_from : ℕ → ℕ → ℕ → Found → List Entry → Found
-read_from term table key found [] = found
-read_from term table key found (entry ∷ entries) = read_from term table key (or_greater term table key found entry) entries
-
--- the greatest version of a key under a term with its value, of equal versions the first in place
-abbrev pub read_of : ℕ → ℕ → ℕ → List Entry → Found
-read_of term table key entries = read_from term table key (record { version = 0; value = None }) entries
-
--- among these entries is a greater version of this one's key under its term
-abbrev pub is_outdated : List Entry → Entry → Bool
-is_outdated entries entry = list_any (λ other. is_of entry.term entry.table entry.key other && nat_lt entry.version other.version) entries
-
--- a segment with these entries is dead: each has a greater version among the durable entries
-abbrev pub is_dead : List Entry → List Entry → Bool
-is_dead durable entries = list_all (is_outdated durable) entries
 
 -- Parts
 

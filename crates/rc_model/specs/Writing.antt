@@ -7,8 +7,10 @@ use Rattle.rc_types.specs.declared.limits.TheConstants.{MAX_VALUE}
 use Rattle.rc_types.specs.declared.messages.Message.{Message}
 use Rattle.rc_types.specs.declared.messages.Body.TheVariants.{ReadOk}
 use Rattle.rc_model.specs.Messages.{to_outside, refuses}
-use Rattle.rc_model.specs.Log.{Log, entries_of, is_writing, is_full, begin_roll}
-use Rattle.rc_model.specs.Ownership.{term_of, next_version, Found, read_of}
+use Rattle.rc_model.specs.Log.{Log, entries_of, is_writing}
+use Rattle.rc_model.specs.Heads.{is_full, begin_roll}
+use Rattle.rc_model.specs.Ownership.{term_of}
+use Rattle.rc_model.specs.Versions.{next_version, Found, read_of}
 use Rattle.rc_model.specs.Master.{Master, with_log, durable_entries, places_head, appends_entry, dead_segments}
 
 -- a refusal changes nothing
