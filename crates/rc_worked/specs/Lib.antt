@@ -1,0 +1,9 @@
+pub mod Settling
+pub mod FirstPath
+pub mod Restarts
+pub mod Rolls
+pub mod Trees
+pub mod Epochs
+pub mod Recoveries
+pub mod Freeing
+pub mod Doubts

@@ -1,0 +1,11 @@
+//! Worked runs: scenarios that the definitions of the protocol compute, each to its whole report.
+#![tactic(auto)]
+
+pub mod doubts;
+pub mod epochs;
+pub mod first_path;
+pub mod freeing;
+pub mod recoveries;
+pub mod restarts;
+pub mod rolls;
+pub mod trees;
