@@ -1,1 +1,5 @@
 mod Picks
+pub mod Befores
+pub mod Members
+pub mod Said
+pub mod Headlines

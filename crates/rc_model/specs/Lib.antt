@@ -30,4 +30,5 @@ pub mod Recovered
 pub mod Owners
 pub mod Durable
 pub mod Breach
+pub mod Headline
 pub mod Report

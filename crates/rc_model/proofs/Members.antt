@@ -1,0 +1,136 @@
+-- Membership in lists, over plain variables.
+use Rattle.std.proofs.Common.{◌≡◌, ◌⊎◌, ℕ, zero, suc, ◌<◌, Bool, true, false, cond, max, List, [], ◌∷◌, ◌++◌, nat_eq, nat_lt, Option, Some, None, slice_get, refl, sym, ap, ◌∙◌, subst, inl, inr, arith}
+use Rattle.std.specs.Option.{option_to_list}
+use Rattle.std.proofs.lemmas.Bool.{eqb-true, eq-eqb, ltb-true, lt-ltb}
+use Rattle.rc_types.specs.declared.rows.PlanRow.{PlanRow}
+use Rattle.rc_model.specs.Pick.{insert_once, ascending}
+use Rattle.rc_model.specs.Recovered.{reach, is_recovered}
+use Rattle.rc_model.specs.Breach.{segments_of}
+use Rattle.rc_model.specs.Headline.{In, IsHeld}
+
+-- either result of a test
+pub either : {X : Type 0} (P : X → Type 0) (b : Bool) (x y : X) → (b ≡ true → P x) → (b ≡ false → P y) → P (cond b x y)
+either P true x y then_ else_ = then_ refl
+either P false x y then_ else_ = else_ refl
+
+pub In-left : {X : Type 0} (x : X) (xs ys : List X) → In x xs → In x (xs ++ ys)
+In-left x [] ys at = absurd at
+In-left x (y ∷ xs) ys (inl e) = inl e
+In-left x (y ∷ xs) ys (inr rest) = inr (In-left x xs ys rest)
+
+pub In-right : {X : Type 0} (x : X) (xs ys : List X) → In x ys → In x (xs ++ ys)
+In-right x [] ys at = at
+In-right x (y ∷ xs) ys at = inr (In-right x xs ys at)
+
+pub In-append : {X : Type 0} (x : X) (xs ys : List X) → In x (xs ++ ys) → In x xs ⊎ In x ys
+In-append x [] ys at = inr at
+In-append x (y ∷ xs) ys (inl e) = inl (inl e)
+In-append x (y ∷ xs) ys (inr rest) = further (In-append x xs ys rest)
+  where
+    further : In x xs ⊎ In x ys → ((x ≡ y) ⊎ In x xs) ⊎ In x ys
+    further (inl old) = inl (inr old)
+    further (inr new) = inr new
+
+-- what stands at a place is a member
+pub In-get : {X : Type 0} (xs : List X) (k : ℕ) (x : X) → slice_get xs k ≡ Some x → In x xs
+In-get [] k x e = cc
+In-get (y ∷ xs) zero x e = let same : y ≡ x = cc in inl (sym same)
+In-get (y ∷ xs) (suc k) x e = inr (In-get xs k x e)
+
+-- and a member stands at a place
+pub place_of : {X : Type 0} (xs : List X) (x : X) → In x xs → (k : ℕ) × (slice_get xs k ≡ Some x)
+place_of [] x at = absurd at
+place_of (y ∷ xs) x (inl e) = (0, ap Some (sym e))
+place_of (y ∷ xs) x (inr rest) = let found : (k : ℕ) × (slice_get xs k ≡ Some x) = place_of xs x rest in (suc found.0, found.1)
+
+-- the one of an option
+pub In-option : {X : Type 0} (x : X) (found : Option X) → In x (option_to_list found) → found ≡ Some x
+In-option x None at = absurd at
+In-option x (Some y) (inl e) = ap Some (sym e)
+In-option x (Some y) (inr rest) = absurd rest
+
+pub In-from_option : {X : Type 0} (x : X) (found : Option X) → found ≡ Some x → In x (option_to_list found)
+In-from_option x found e = subst (λ f. In x (option_to_list f)) (sym e) (inl refl)
+
+-- a member of what is gathered, with a piece that counts where the test says so
+pub In-gathered : {X : Type 0} (x : X) (b : Bool) (piece rest : List X) → In x (cond b (piece ++ rest) rest) → ((b ≡ true) × In x piece) ⊎ In x rest
+In-gathered x false piece rest at = inr at
+In-gathered x true piece rest at = by (In-append x piece rest at)
+  where
+    by : In x piece ⊎ In x rest → ((true ≡ true) × In x piece) ⊎ In x rest
+    by (inl new) = inl (refl, new)
+    by (inr old) = inr old
+
+pub In-gathered_rest : {X : Type 0} (x : X) (b : Bool) (piece rest : List X) → In x rest → In x (cond b (piece ++ rest) rest)
+In-gathered_rest x true piece rest at = In-right x piece rest at
+In-gathered_rest x false piece rest at = at
+
+pub In-gathered_piece : {X : Type 0} (x : X) (b : Bool) (piece rest : List X) → b ≡ true → In x piece → In x (cond b (piece ++ rest) rest)
+In-gathered_piece x true piece rest e at = In-left x piece rest at
+In-gathered_piece x false piece rest e at = cc
+
+-- the different numbers of a list are its numbers
+
+In-insert_once_new : (n : ℕ) (ms : List ℕ) → In n (insert_once n ms)
+In-insert_once_new n [] = inl refl
+In-insert_once_new n (m ∷ ms) =
+    either (In n) (nat_lt n m) (n ∷ m ∷ ms) (cond (nat_eq n m) (m ∷ ms) (m ∷ insert_once n ms)) (λ _. inl refl) (λ _.
+    either (In n) (nat_eq n m) (m ∷ ms) (m ∷ insert_once n ms) (λ e. inl (eqb-true n m e)) (λ _. inr (In-insert_once_new n ms)))
+
+In-insert_once_old : (k n : ℕ) (ms : List ℕ) → In k ms → In k (insert_once n ms)
+In-insert_once_old k n [] at = absurd at
+In-insert_once_old k n (m ∷ ms) (inl e) =
+    either (In k) (nat_lt n m) (n ∷ m ∷ ms) (cond (nat_eq n m) (m ∷ ms) (m ∷ insert_once n ms)) (λ _. inr (inl e)) (λ _.
+    either (In k) (nat_eq n m) (m ∷ ms) (m ∷ insert_once n ms) (λ _. inl e) (λ _. inl e))
+In-insert_once_old k n (m ∷ ms) (inr rest) =
+    either (In k) (nat_lt n m) (n ∷ m ∷ ms) (cond (nat_eq n m) (m ∷ ms) (m ∷ insert_once n ms)) (λ _. inr (inr rest)) (λ _.
+    either (In k) (nat_eq n m) (m ∷ ms) (m ∷ insert_once n ms) (λ _. inr rest) (λ _. inr (In-insert_once_old k n ms rest)))
+
+pub In-ascending : (k : ℕ) (ns : List ℕ) → In k ns → In k (ascending ns)
+In-ascending k [] at = absurd at
+In-ascending k (n ∷ ns) (inl e) = subst (λ m. In m (insert_once n (ascending ns))) (sym e) (In-insert_once_new n (ascending ns))
+In-ascending k (n ∷ ns) (inr rest) = In-insert_once_old k n (ascending ns) (In-ascending k ns rest)
+
+-- the rows reach above a place exactly where one of them holds it
+
+pub held-reaches : (rows : List PlanRow) (row : PlanRow) (s o : ℕ) → In row rows → row.seg ≡ s → o < row.len → o < reach rows s
+held-reaches [] row s o at seg below = absurd at
+held-reaches (first ∷ rows) row s o (inl e) seg below =
+    let len : row.len ≡ first.len = ap (λ (r : PlanRow). r.len) e in let same : first.seg ≡ s = sym (ap (λ (r : PlanRow). r.seg) e) ∙ seg in
+    either (λ n. o < n) (nat_eq first.seg s) (max first.len (reach rows s)) (reach rows s) (λ _. omega (arith, below, len)) (λ no. let is : nat_eq first.seg s ≡ true = eq-eqb first.seg s same in cc)
+held-reaches (first ∷ rows) row s o (inr rest) seg below =
+    let later : o < reach rows s = held-reaches rows row s o rest seg below in
+    either (λ n. o < n) (nat_eq first.seg s) (max first.len (reach rows s)) (reach rows s) (λ _. omega (arith, later)) (λ _. later)
+
+held-more : (first : PlanRow) (rows : List PlanRow) (s o : ℕ) → IsHeld rows s o → IsHeld (first ∷ rows) s o
+held-more first rows s o p = record { row = p.row; among = inr p.among; seg = p.seg; below = p.below }
+
+pub held-from_reach : (rows : List PlanRow) (s o : ℕ) → o < reach rows s → IsHeld rows s o
+held-from_reach [] s o below = absurd (none below)
+  where
+    none : o < 0 → ⊥
+    none h = omega (arith, h)
+held-from_reach (first ∷ rows) s o below = by (nat_eq first.seg s) refl (held-from_reach rows s o) below
+  where
+    which : nat_eq first.seg s ≡ true → (o < reach rows s → IsHeld rows s o) → (o < first.len) ⊎ (o < reach rows s) → IsHeld (first ∷ rows) s o
+    which same later (inl here) = record { row = first; among = inl refl; seg = eqb-true first.seg s same; below = here }
+    which same later (inr there) = held-more first rows s o (later there)
+
+    of_max : (a b : ℕ) → o < max a b → (o < a) ⊎ (o < b)
+    of_max a b h = grind arith
+
+    by : (b : Bool) → nat_eq first.seg s ≡ b → (o < reach rows s → IsHeld rows s o) → o < cond b (max first.len (reach rows s)) (reach rows s) → IsHeld (first ∷ rows) s o
+    by true same later h = which same later (of_max first.len (reach rows s) h)
+    by false same later h = held-more first rows s o (later h)
+
+pub is_recovered-held : (rows : List PlanRow) (s o : ℕ) → is_recovered rows s o ≡ true → IsHeld rows s o
+is_recovered-held rows s o e = held-from_reach rows s o (ltb-true o (reach rows s) e)
+
+pub held-is_recovered : (rows : List PlanRow) (s o : ℕ) → IsHeld rows s o → is_recovered rows s o ≡ true
+held-is_recovered rows s o p = lt-ltb o (reach rows s) (held-reaches rows p.row s o p.among p.seg p.below)
+
+-- the segment of a place that is held is one of the rows'
+pub held-segment : (rows : List PlanRow) (row : PlanRow) → In row rows → In row.seg (segments_of rows)
+held-segment [] row at = absurd at
+held-segment (first ∷ rows) row (inl e) = inl (ap (λ (r : PlanRow). r.seg) e)
+held-segment (first ∷ rows) row (inr rest) = inr (held-segment rows row rest)
