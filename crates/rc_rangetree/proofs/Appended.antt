@@ -1,5 +1,6 @@
 -- The functions of tablets at two lists, one after the other.
-use Rattle.std.proofs.Common.{◌≡◌, ℕ, ◌+◌, ◌<◌, ◌≤◌, Bool, true, false, not, cond, ◌&&◌, ◌||◌, List, [], ◌∷◌, ◌++◌, length, nat_eq, nat_lt, Option, Some, None, refl, ap, ◌∙◌, arith}
+use Rattle.std.proofs.Common.{◌≡◌, ℕ, ◌+◌, ◌<◌, ◌≤◌, Bool, true, false, not, cond, ◌&&◌, ◌||◌, List, [], ◌∷◌, ◌++◌, length, nat_eq, nat_lt, Option, Some, None, refl, sym, ap, ◌∙◌, arith}
+use Rattle.std.proofs.Math.Bool.{or_assoc}
 use Rattle.std.proofs.lemmas.Bool.{or_from, lt-ltb, le-ltb}
 use Rattle.std.proofs.lemmas.Bool.Decides.{nat_tests}
 use Rattle.rc_types.specs.declared.ids.ServerId.{ServerId}
@@ -43,17 +44,13 @@ split_at-append_right (x ∷ xs) ys table at h = split_right (holds x table at) 
 or_first : (b c d : Bool) → c ≡ d → (b || c) ≡ (b || d)
 or_first b c d h = ap (λ x. b || x) h
 
-or_regroup : (b c d : Bool) → (b || (c || d)) ≡ ((b || c) || d)
-or_regroup true c d = refl
-or_regroup false c d = refl
-
 pub has_range-append : (range : KeyRange) (xs ys : List Tablet) → has_range range (xs ++ ys) ≡ (has_range range xs || has_range range ys)
 has_range-append range [] ys = refl
-has_range-append range (x ∷ xs) ys = or_first (is_range range x) _ _ (has_range-append range xs ys) ∙ or_regroup (is_range range x) (has_range range xs) (has_range range ys)
+has_range-append range (x ∷ xs) ys = or_first (is_range range x) _ _ (has_range-append range xs ys) ∙ sym (or_assoc (is_range range x) (has_range range xs) (has_range range ys))
 
 pub has_table-append : (xs ys : List Tablet) (table : ℕ) → has_table (xs ++ ys) table ≡ (has_table xs table || has_table ys table)
 has_table-append [] ys table = refl
-has_table-append (x ∷ xs) ys table = or_first (nat_eq x.table table) _ _ (has_table-append xs ys table) ∙ or_regroup (nat_eq x.table table) (has_table xs table) (has_table ys table)
+has_table-append (x ∷ xs) ys table = or_first (nat_eq x.table table) _ _ (has_table-append xs ys table) ∙ sym (or_assoc (nat_eq x.table table) (has_table xs table) (has_table ys table))
 
 -- a tablet of exactly this range holds its first key
 is_range_holds : (range : KeyRange) (x : Tablet) → x.lo ≤ x.hi → holds x range.table range.lo ≡ false → is_range range x ≡ false

@@ -250,3 +250,6 @@ split_longer false x low high u later xs all e h = omega (arith, e h)
 pub length-split_at : (xs : List Tablet) (table at : ℕ) (u : Tablet) → tablet_of xs table at ≡ Some u → length (split_at table at xs) ≡ length xs + 1
 length-split_at [] table at u h = cc
 length-split_at (x ∷ xs) table at u h = split_longer (holds x table at) x _ _ u _ xs _ (length-split_at xs table at u) h
+
+-- how long the list of tablets is after each change
+pub ruleset lengths = (length-marked_crashed, length-assigned, length-insert_tablet, length-split_at)

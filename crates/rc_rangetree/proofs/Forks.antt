@@ -99,6 +99,11 @@ pub changed_right : (b : Bool) (new left right all changed right_changed : List 
 changed_right true new left right all changed right_changed are change e = cc
 changed_right false new left right all changed right_changed are change e = cc
 
+-- where a change adds a tablet to those of the left end, that end has one afterwards too
+pub some_left : (b : Bool) (new left changed : List Tablet) → new ≡ cond b changed left → 0 < length left → length changed ≡ length left + 1 → 0 < length new
+some_left true new left changed e some more = omega (arith, ap length e)
+some_left false new left changed e some more = omega (arith, ap length e)
+
 pub owned_both : (owner : ServerId) (before between after all left right : List Tablet) → all ≡ left ++ right → between ≡ before ++ tablets_of owner left → after ≡ between ++ tablets_of owner right → after ≡ before ++ tablets_of owner all
 owned_both owner before between after all left right are first then = cc (tablets_of-append owner left right, append_assoc before (tablets_of owner left) (tablets_of owner right))
 

@@ -1,6 +1,7 @@
 -- What holds of the list of tablets: they are in order, they do not overlap, each table that is
 -- there is covered from its first key to its last, and there are at most 1,024 of them.
 use Rattle.std.specs.Prelude.{◌≡◌, ◌+◌, ◌<◌, ◌≤◌, List, [], ◌∷◌, length}
+use Rattle.rc_types.specs.declared.limits.TheConstants.{LAST_KEY, MAX_TABLETS}
 use Rattle.rc_types.specs.declared.rows.Tablet.{Tablet}
 
 -- the second tablet comes right after the first: either their table goes on with the next key, or
@@ -8,12 +9,12 @@ use Rattle.rc_types.specs.declared.rows.Tablet.{Tablet}
 pub record Follows (tablet next : Tablet) : Type 0 where
   pub in_order : tablet.table ≤ next.table
   pub goes_on : tablet.table ≡ next.table → next.lo ≡ tablet.hi + 1
-  pub ends : tablet.table < next.table → tablet.hi ≡ 18446744073709551615
+  pub ends : tablet.table < next.table → tablet.hi ≡ LAST_KEY
   pub begins : tablet.table < next.table → next.lo ≡ 0
 
 -- each range has a key, each tablet follows the one before it, and the last has its table's last key
 abbrev pub CoversFrom : Tablet → List Tablet → Type 0
-CoversFrom tablet [] = (tablet.lo ≤ tablet.hi) × (tablet.hi ≡ 18446744073709551615)
+CoversFrom tablet [] = (tablet.lo ≤ tablet.hi) × (tablet.hi ≡ LAST_KEY)
 CoversFrom tablet (next ∷ tablets) = (tablet.lo ≤ tablet.hi) × Follows tablet next × CoversFrom next tablets
 
 -- each table that is there is covered from key 0 to 18446744073709551615, in order and without overlaps
@@ -41,4 +42,4 @@ AreInOrder (tablet ∷ tablets) = (tablet.lo ≤ tablet.hi) × LiesBeforeAll tab
 pub record AreTablets (tablets : List Tablet) : Type 0 where
   pub in_order : AreInOrder tablets
   pub covering : CoverTables tablets
-  pub few : length tablets ≤ 1024
+  pub few : length tablets ≤ MAX_TABLETS

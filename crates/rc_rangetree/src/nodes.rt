@@ -1,16 +1,20 @@
 //! The tree's nodes. A node is searched from its forks' bounds; what it stands for are its leaves.
 
-ghost use Rattle.std.specs.Prelude.{◌≡◌, ◌<◌, ◌≤◌, ◌∷◌, [], ◌++◌, length, Some, is_ok, if◌then◌else◌, IfOk, OnOk, false};
-ghost use Rattle.rc_rangetree.specs.Nodes.{leaves, IsSearchTree, HasBounds};
+ghost use Rattle.std.specs.Prelude.{◌≡◌, ℕ, ◌-◌, ◌<◌, ◌≤◌, ◌^◌, ◌∷◌, [], ◌++◌, length, slice_index, Some, Ok, is_ok, if◌then◌else◌, IfOk, OnOk, OnErr, false};
+ghost use Rattle.std.specs.List.{count_by};
+ghost use Rattle.rc_rangetree.specs.Nodes.{leaves, forks_above, node_depth, is_made, IsSearchTree, HasBounds};
+ghost use Rattle.rc_rangetree.specs.Trees.{begins_by};
 ghost use Rattle.rc_model.specs.Tablets.{holds, tablet_of, has_table, tablets_of, insert_tablet, split_at, is_range, has_range, assigned, marked_crashed, count_to_mark};
 
+use crate::limits::MAX_FORKS;
 use crate::points::Point;
+use rc_types::limits::MAX_TABLETS;
 use rc_types::{KeyRange, ServerId, Tablet};
 use std::alloc::{AllocError, Allocator};
 
 /// A tree of tablets: none, one, or those of two ends. The bound of a fork is where the first
 /// tablet on its right begins: what comes before it is on the left.
-#[derive(Drop)]
+#[derive(Debug, Drop)]
 pub enum Node<A: Allocator> {
     /// No tablet.
     Empty,
@@ -28,32 +32,48 @@ fn is_in(point: Point, tablet: &Tablet) -> bool
 }
 
 impl<A: Allocator> Node<A> {
-    /// The tablet that holds the point.
-    pub fn find(&self, point: Point) -> Option<Tablet>
-        requires { IsSearchTree self.now }
-        ensures { result ≡ tablet_of (leaves self.now) point.table point.key }
+    /// The tablet that holds the point, and how many forks the search for it passed.
+    pub fn find_counted(&self, point: Point) -> (Option<Tablet>, usize)
+        requires tree { IsSearchTree self.now }
+        requires shallow { node_depth self.now ≤ MAX_FORKS }
+        ensures found { result.0 ≡ tablet_of (leaves self.now) point.table point.key }
+        ensures counted { result.1 ≡ slice_index (forks_above self.now)
+            (count_by (begins_by point.table point.key) (leaves self.now) - 1) }
+        ensures within { result.1 ≤ node_depth self.now }
     {
         match self {
-            Node::Empty => None,
+            Node::Empty => (None, 0),
             Node::Leaf(tablet) => {
                 if is_in(point, tablet) {
-                    Some(*tablet)
+                    (Some(*tablet), 0)
                 } else {
-                    None
+                    (None, 0)
                 }
             }
             Node::Fork(bound, left, right) => {
-                if point.is_before(*bound) {
-                    left.find(point)
+                let (tablet, forks) = if point.is_before(*bound) {
+                    left.find_counted(point)
                 } else {
-                    right.find(point)
-                }
+                    right.find_counted(point)
+                };
+                (tablet, forks + 1)
             }
         }
     }
 
+    /// The greatest number of forks on a way down.
+    pub fn depth(&self) -> usize
+        requires { node_depth self.now ≤ MAX_FORKS }
+        ensures { result ≡ node_depth self.now }
+    {
+        match self {
+            Node::Empty | Node::Leaf(_) => 0,
+            Node::Fork(_, left, right) => left.depth().max(right.depth()) + 1,
+        }
+    }
+
     /// Adds the tablets to the list.
-    pub fn list_into(&self, tablets: &mut Vec<Tablet>) -> Result<(), AllocError>
+    pub fn list_into<B: Allocator>(&self, tablets: &mut Vec<Tablet, B>) -> Result<(), AllocError>
         ensures { OnOk result (tablets.new.items ≡ tablets.old.items ++ leaves self.now) }
     {
         match self {
@@ -94,13 +114,15 @@ impl<A: Allocator> Node<A> {
     }
 
     /// Marks the owner's tablets as crashed, and says how many were not marked yet.
-    #[tactic(auto, using(crate::proofs::Appended::joined))]
+    #[tactic(auto, using(crate::proofs::Appended::joined, crate::proofs::Covered::lengths))]
     pub fn mark_crashed(&mut self, owner: ServerId) -> usize
         requires bounds { HasBounds self.old }
-        requires few { length (leaves self.old) ≤ 1024 }
+        requires few { length (leaves self.old) ≤ MAX_TABLETS }
         ensures count { result ≡ count_to_mark owner (leaves self.old) }
         ensures marked { leaves self.new ≡ marked_crashed owner (leaves self.old) }
         ensures bounds { HasBounds self.new }
+        ensures forks { forks_above self.new ≡ forks_above self.old }
+        ensures depth { node_depth self.new ≡ node_depth self.old }
     {
         match self {
             Node::Empty => 0,
@@ -117,11 +139,14 @@ impl<A: Allocator> Node<A> {
     }
 
     /// Gives the tablet of exactly this range a new owner and term, and says whether there is one.
+    #[tactic(auto, using(crate::proofs::Covered::lengths))]
     pub fn assign(&mut self, range: KeyRange, owner: ServerId, term: u32) -> bool
         requires { IsSearchTree self.old }
         ensures found { result ≡ has_range range (leaves self.old) }
         ensures list { leaves self.new ≡ assigned range owner term (leaves self.old) }
         ensures bounds { HasBounds self.new }
+        ensures forks { forks_above self.new ≡ forks_above self.old }
+        ensures depth { node_depth self.new ≡ node_depth self.old }
     {
         match self {
             Node::Empty => false,
@@ -155,6 +180,7 @@ impl<A: Allocator> Node<A> {
 fn fork<A: Allocator + Clone>(alloc: &A, low: Tablet, high: Tablet) -> Result<Node<A>, AllocError>
     ensures tablets { IfOk result (λ node. leaves node ≡ low ∷ high ∷ []) }
     ensures bounds { IfOk result (λ node. HasBounds node) }
+    ensures depth { IfOk result (λ node. node_depth node ≡ 1) }
 {
     let left = Box::new(alloc.clone()?, Node::Leaf(low))?;
     let right = Box::new(alloc.clone()?, Node::Leaf(high))?;
@@ -165,59 +191,121 @@ fn fork<A: Allocator + Clone>(alloc: &A, low: Tablet, high: Tablet) -> Result<No
     Ok(Node::Fork(bound, left, right))
 }
 
+/// The tree of these tablets in which no way down is longer than it has to be. Where no memory is
+/// left for all of it, it takes none.
+fn balanced<A: Allocator + Clone>(alloc: &A, tablets: &[Tablet]) -> Result<Node<A>, AllocError>
+    ensures list { IfOk result (λ node. leaves node ≡ tablets.now) }
+    ensures bounds { IfOk result (λ node. HasBounds node) }
+    ensures depth { IfOk result (λ node.
+        (forks : ℕ) → length tablets.now ≤ 2 ^ forks → node_depth node ≤ forks) }
+{
+    match tablets {
+        [] => Ok(Node::Empty),
+        [tablet] => Ok(Node::Leaf(*tablet)),
+        _ => {
+            let middle = tablets.len() / 2;
+            let first = tablets[middle];
+            let bound = Point {
+                table: first.table,
+                key: first.lo,
+            };
+            let left = Box::new(alloc.clone()?, balanced(alloc, &tablets[..middle])?)?;
+            let right = Box::new(alloc.clone()?, balanced(alloc, &tablets[middle..])?)?;
+            Ok(Node::Fork(bound, left, right))
+        }
+    }
+}
+
 impl<A: Allocator + Clone> Node<A> {
-    /// Puts in a tablet of a table that isn't there yet.
-    pub fn insert(&mut self, alloc: &A, tablet: Tablet) -> Result<(), AllocError>
+    /// A tree of the same tablets, of which there are `count`, with room for one more fork above
+    /// any of them. Where no memory is left for all of it, it takes none.
+    fn rebuilt(&self, alloc: &A, count: usize) -> Result<Node<A>, AllocError>
+        requires few { length (leaves self.now) ≤ MAX_TABLETS }
+        ensures list { IfOk result (λ node. leaves node ≡ leaves self.now) }
+        ensures bounds { IfOk result (λ node. HasBounds node) }
+        ensures depth { IfOk result (λ node. node_depth node < MAX_FORKS) }
+    {
+        let mut tablets = Vec::with_capacity(alloc.clone()?, count)?;
+        self.list_into(&mut tablets)?;
+        balanced(alloc, tablets.as_slice())
+    }
+
+    /// Puts in a tablet of a table that isn't there yet, and says whether there was room for it: it
+    /// goes in where no way down then passes more than `room` forks.
+    #[tactic(auto, using(crate::proofs::Covered::lengths))]
+    fn insert_within(&mut self, alloc: &A, tablet: Tablet, room: usize) -> Result<bool, AllocError>
         requires tree { IsSearchTree self.old }
         requires new { has_table (leaves self.old) tablet.table ≡ false }
+        requires shallow { node_depth self.old ≤ room }
         ensures list { leaves self.new ≡
-            (if is_ok result then insert_tablet tablet (leaves self.old) else leaves self.old) }
+            (if is_made result then insert_tablet tablet (leaves self.old) else leaves self.old) }
         ensures bounds { HasBounds self.new }
+        ensures depth { node_depth self.new ≤ room }
+        ensures unchanged { is_made result ≡ false → forks_above self.new ≡ forks_above self.old }
+        ensures full { result ≡ Ok false → node_depth self.old ≡ room }
     {
         match self {
             Node::Empty => {
                 *self = Node::Leaf(tablet);
-                Ok(())
+                Ok(true)
             }
             Node::Leaf(other) => {
+                if room == 0 {
+                    return Ok(false);
+                }
                 let other = *other;
                 *self = if tablet.table < other.table {
                     fork(alloc, tablet, other)?
                 } else {
                     fork(alloc, other, tablet)?
                 };
-                Ok(())
+                Ok(true)
             }
             Node::Fork(bound, left, right) => {
                 if tablet.table < bound.table {
-                    left.insert(alloc, tablet)
+                    left.insert_within(alloc, tablet, room - 1)
                 } else {
-                    right.insert(alloc, tablet)
+                    right.insert_within(alloc, tablet, room - 1)
                 }
             }
         }
     }
 
     /// Splits this tablet, which holds the key and begins before it, so that the second part
-    /// begins at the key.
-    pub fn split(&mut self, alloc: &A, tablet: Tablet, at: u64) -> Result<(), AllocError>
+    /// begins at the key, and says whether there was room for it: it is split where no way down
+    /// then passes more than `room` forks.
+    #[tactic(auto, using(crate::proofs::Covered::lengths))]
+    fn split_within(
+        &mut self,
+        alloc: &A,
+        tablet: Tablet,
+        at: u64,
+        room: usize,
+    ) -> Result<bool, AllocError>
         requires tree { IsSearchTree self.old }
         requires found { tablet_of (leaves self.old) tablet.table at ≡ Some tablet }
         requires inside { tablet.lo < at }
+        requires shallow { node_depth self.old ≤ room }
         ensures list { leaves self.new ≡
-            (if is_ok result then split_at tablet.table at (leaves self.old) else leaves self.old) }
+            (if is_made result then split_at tablet.table at (leaves self.old) else leaves self.old) }
         ensures bounds { HasBounds self.new }
+        ensures depth { node_depth self.new ≤ room }
+        ensures unchanged { is_made result ≡ false → forks_above self.new ≡ forks_above self.old }
+        ensures full { result ≡ Ok false → node_depth self.old ≡ room }
     {
         match self {
-            Node::Empty => Ok(()),
+            Node::Empty => Ok(false),
             Node::Leaf(_) => {
+                if room == 0 {
+                    return Ok(false);
+                }
                 let low = Tablet {
                     hi: at - 1,
                     ..tablet
                 };
                 let high = Tablet { lo: at, ..tablet };
                 *self = fork(alloc, low, high)?;
-                Ok(())
+                Ok(true)
             }
             Node::Fork(bound, left, right) => {
                 let point = Point {
@@ -225,12 +313,66 @@ impl<A: Allocator + Clone> Node<A> {
                     key: at,
                 };
                 if point.is_before(*bound) {
-                    left.split(alloc, tablet, at)
+                    left.split_within(alloc, tablet, at, room - 1)
                 } else {
-                    right.split(alloc, tablet, at)
+                    right.split_within(alloc, tablet, at, room - 1)
                 }
             }
         }
+    }
+}
+
+impl<A: Allocator + Clone> Node<A> {
+    /// Puts in a tablet of a table that isn't there yet, where `count` tablets are there. Where a
+    /// way down would pass more than `MAX_FORKS` forks, the tree is built anew.
+    pub fn insert(&mut self, alloc: &A, tablet: Tablet, count: usize) -> Result<(), AllocError>
+        requires tree { IsSearchTree self.old }
+        requires new { has_table (leaves self.old) tablet.table ≡ false }
+        requires shallow { node_depth self.old ≤ MAX_FORKS }
+        requires few { length (leaves self.old) ≤ MAX_TABLETS }
+        ensures list { leaves self.new ≡
+            (if is_ok result then insert_tablet tablet (leaves self.old) else leaves self.old) }
+        ensures bounds { HasBounds self.new }
+        ensures depth { node_depth self.new ≤ MAX_FORKS }
+        ensures unchanged { OnErr result (forks_above self.new ≡ forks_above self.old) }
+    {
+        if self.insert_within(alloc, tablet, MAX_FORKS)? {
+            return Ok(());
+        }
+        let mut root = self.rebuilt(alloc, count)?;
+        root.insert_within(alloc, tablet, MAX_FORKS)?;
+        *self = root;
+        Ok(())
+    }
+
+    /// Splits this tablet, which holds the key and begins before it, so that the second part begins
+    /// at the key, where `count` tablets are there. Where a way down would pass more than
+    /// `MAX_FORKS` forks, the tree is built anew.
+    pub fn split(
+        &mut self,
+        alloc: &A,
+        tablet: Tablet,
+        at: u64,
+        count: usize,
+    ) -> Result<(), AllocError>
+        requires tree { IsSearchTree self.old }
+        requires found { tablet_of (leaves self.old) tablet.table at ≡ Some tablet }
+        requires inside { tablet.lo < at }
+        requires shallow { node_depth self.old ≤ MAX_FORKS }
+        requires few { length (leaves self.old) ≤ MAX_TABLETS }
+        ensures list { leaves self.new ≡
+            (if is_ok result then split_at tablet.table at (leaves self.old) else leaves self.old) }
+        ensures bounds { HasBounds self.new }
+        ensures depth { node_depth self.new ≤ MAX_FORKS }
+        ensures unchanged { OnErr result (forks_above self.new ≡ forks_above self.old) }
+    {
+        if self.split_within(alloc, tablet, at, MAX_FORKS)? {
+            return Ok(());
+        }
+        let mut root = self.rebuilt(alloc, count)?;
+        root.split_within(alloc, tablet, at, MAX_FORKS)?;
+        *self = root;
+        Ok(())
     }
 }
 
@@ -240,6 +382,8 @@ impl<A: Allocator> Node<A> {
         requires { HasBounds self.now }
         ensures list { IfOk result (λ copy. leaves copy ≡ leaves self.now) }
         ensures bounds { IfOk result (λ copy. HasBounds copy) }
+        ensures forks { IfOk result (λ copy. forks_above copy ≡ forks_above self.now) }
+        ensures depth { IfOk result (λ copy. node_depth copy ≡ node_depth self.now) }
     {
         match self {
             Node::Empty => Ok(Node::Empty),

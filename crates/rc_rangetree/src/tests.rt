@@ -4,7 +4,7 @@
 
 use super::*;
 use linked_list_allocator::LocalHeap;
-use rc_types::limits::{LAST_KEY, MAX_TABLETS};
+use rc_types::limits::LAST_KEY;
 use rc_types::{Fault, KeyRange, ServerId, Tablet};
 use std::alloc::Allocator;
 use std::process::Abort;
@@ -22,6 +22,9 @@ macro_rules! again {
         }
     };
 }
+
+mod full;
+mod refusals;
 
 const MIDDLE: u64 = 9_223_372_036_854_775_808;
 
@@ -192,56 +195,5 @@ fn in_a_heap(rt: HostRuntime) -> Result<(), Fail> {
         owners(&rt, &mut tree)?;
     }
     assert_eq!(rt; heap.used(), 0);
-    Ok(())
-}
-
-/// A tree of table 7 with 1,024 tablets.
-fn fill<A: Allocator + Clone>(tree: &mut RangeTree<A>) -> Result<(), Fault> {
-    tree.create(7, owner(), 1)?;
-    for at in 1..1024u64 {
-        tree.split(7, at)?;
-    }
-    Ok(())
-}
-
-#[test]
-fn full(rt: HostRuntime) -> Result<(), Fail> {
-    let heap = again!(rt; LocalHeap::new(rt.alloc(), 262_144));
-    let mut tree = RangeTree::new_in(&heap);
-    fill(&mut tree)?;
-    assert_eq!(rt; list(&rt, &tree)?.len(), MAX_TABLETS);
-    assert_eq!(rt; tree.find(7, 1022), Some(tablet(1022, 1022, false)));
-    assert_eq!(rt; tree.split(7, 5000), Err(Fault::TooManyTablets));
-    assert_eq!(rt; tree.create(8, owner(), 1), Err(Fault::TooManyTablets));
-    assert_eq!(rt; tree.create(7, owner(), 1), Err(Fault::TableExists));
-    assert_eq!(rt; tree.split(8, 5000), Err(Fault::NoTable));
-    assert_eq!(rt; tree.split(7, 1023), Err(Fault::BadSplit));
-    assert_eq!(rt; tree.mark_crashed(owner()), MAX_TABLETS);
-    assert_eq!(rt; tree.split(7, 5000), Err(Fault::Recovering));
-    Ok(())
-}
-
-#[test]
-fn small_heaps(rt: HostRuntime) -> Result<(), Fail> {
-    // Of the two boxes that a fork takes, the small heap has room for one.
-    let small = again!(rt; LocalHeap::new(rt.alloc(), 100));
-    let large = again!(rt; LocalHeap::new(rt.alloc(), 400));
-    let mut tree = RangeTree::new_in(&small);
-    tree.create(7, owner(), 1)?;
-    assert_eq!(rt; tree.split(7, 9), Err(Fault::OutOfMemory));
-    assert_eq!(rt; tree.create(8, owner(), 1), Err(Fault::OutOfMemory));
-    assert_eq!(rt; small.used(), 0);
-    let one = [tablet(0, LAST_KEY, false)];
-    assert_eq!(rt; list(&rt, &tree)?.as_slice(), one.as_slice());
-
-    let mut copy = tree.try_clone_in(&large)?;
-    copy.split(7, 9)?;
-    copy.create(8, owner(), 1)?;
-    let before = list(&rt, &copy)?;
-    assert_eq!(rt; before.len(), 3);
-    assert_eq!(rt; copy.find(7, 9), Some(tablet(9, LAST_KEY, false)));
-    assert_eq!(rt; copy.try_clone_in(&small).is_err(), true);
-    assert_eq!(rt; small.used(), 0);
-    assert_eq!(rt; list(&rt, &copy)?.as_slice(), before.as_slice());
     Ok(())
 }

@@ -1,11 +1,13 @@
 //! The tree of all tablets.
 
-ghost use Rattle.std.specs.Prelude.{◌≡◌, ◌↔◌, false, [], is_some, OnOk, OnErr, IfOk, IfErr, Ok, Err, if◌then◌else◌};
+ghost use Rattle.std.specs.Prelude.{◌≡◌, ◌≤◌, ◌↔◌, false, [], is_some, OnOk, OnErr, IfOk, IfErr, Ok, Err, if◌then◌else◌};
 ghost use Rattle.rc_types.specs.declared.faults.Fault.TheVariants.{OutOfMemory, NoTable};
 ghost use Rattle.rc_model.specs.Tablets.{tablet_of, has_table, tablets_of, with_table, marked_crashed, count_to_mark, split_at, has_range, assigned};
 ghost use Rattle.rc_rangetree.specs.Ranges.{AreTablets};
 ghost use Rattle.rc_rangetree.specs.Refusals.{Answers, create_refusal, split_refusal};
+ghost use Rattle.rc_rangetree.specs.Trees.{depth, forks_passed};
 
+use crate::limits::MAX_FORKS;
 use crate::nodes::Node;
 use crate::points::Point;
 use rc_types::limits::{LAST_KEY, MAX_TABLETS};
@@ -15,11 +17,11 @@ use std::marker::Model;
 
 /// The tablets of all tables. Contracts see the list of them, in order of table and first key: the
 /// ranges don't overlap, each table that is there is covered from its first key to its last, and
-/// there are at most 1,024 tablets.
+/// there are at most 1,024 tablets. They also see how many forks of the tree lie above each tablet:
+/// at most 20. Calls go down the tree by recursion.
 ///
-/// A call that is refused leaves the same list. Calls go down the tree by recursion; it isn't kept
-/// shallow yet, so a tree of n tablets may be n - 1 forks deep, at most 1,023.
-#[derive(Drop)]
+/// A call that is refused leaves the same tree.
+#[derive(Debug, Drop)]
 pub struct RangeTree<A: Allocator> {
     alloc: A,
     root: Node<A>,
@@ -27,14 +29,13 @@ pub struct RangeTree<A: Allocator> {
 }
 
 impl<A: Allocator> Model for RangeTree<A> {
-    ghost use Rattle.std.specs.Prelude.{List};
-    ghost use Rattle.rc_types.specs.declared.rows.Tablet.{Tablet};
+    ghost use Rattle.rc_rangetree.specs.Trees.{Tree};
 
-    ghost Value = { List Tablet };
+    ghost Value = { Tree };
 
-    ghost use Rattle.rc_rangetree.specs.Nodes.{leaves, IsTree};
+    ghost use Rattle.rc_rangetree.specs.Nodes.{tree_at, IsTree};
 
-    ghost view = { λ tree. leaves tree.root };
+    ghost view = { λ tree. tree_at tree.root };
 
     ghost invariant = { λ tree. IsTree tree.root tree.count };
 }
@@ -42,7 +43,7 @@ impl<A: Allocator> Model for RangeTree<A> {
 impl<A: Allocator + Clone> RangeTree<A> {
     /// A tree with no tablets. It takes memory of this allocator once there are two.
     pub fn new_in(alloc: A) -> Self
-        ensures { result ≡ [] }
+        ensures { result ≡ record { tablets = []; forks = [] } }
     {
         RangeTree {
             alloc,
@@ -53,21 +54,46 @@ impl<A: Allocator + Clone> RangeTree<A> {
 
     /// The tablet that holds the key. There is one for each key of a table that is there. It takes
     /// no memory.
-    #[tactic(auto, using(crate::proofs::Covered::covered))]
     pub fn find(&self, table: u32, key: u64) -> Option<Tablet>
-        ensures value { result ≡ tablet_of self.now table key }
-        ensures covered { is_some result ≡ has_table self.now table }
-        ensures are_tablets { AreTablets self.now }
+        ensures value { result ≡ tablet_of self.now.tablets table key }
+        ensures covered { is_some result ≡ has_table self.now.tablets table }
+        ensures are_tablets { AreTablets self.now.tablets }
     {
-        self.root.find(Point { table, key })
+        self.find_counted(table, key).0
+    }
+
+    /// The tablet that holds the key, and how many forks the search for it passed: those above this
+    /// tablet. Where no tablet holds the key, they are those above the last tablet that begins
+    /// before it, or above the first tablet. It takes no memory.
+    #[tactic(auto, using(crate::proofs::Covered::covered))]
+    pub fn find_counted(&self, table: u32, key: u64) -> (Option<Tablet>, usize)
+        ensures value { result.0 ≡ tablet_of self.now.tablets table key }
+        ensures covered { is_some result.0 ≡ has_table self.now.tablets table }
+        ensures counted { result.1 ≡ forks_passed table key self.now }
+        ensures within { result.1 ≤ depth self.now }
+        ensures shallow { depth self.now ≤ MAX_FORKS }
+        ensures are_tablets { AreTablets self.now.tablets }
+    {
+        self.root.find_counted(Point { table, key })
+    }
+
+    /// The greatest number of forks on the way from the root to a tablet: at most 20. It takes no
+    /// memory.
+    pub fn depth(&self) -> usize
+        ensures value { result ≡ depth self.now }
+        ensures shallow { result ≤ MAX_FORKS }
+    {
+        self.root.depth()
     }
 
     /// All tablets, in order.
     ///
-    /// Errors: F1.
+    /// # Errors
+    ///
+    /// F1 where memory is refused.
     pub fn tablets(&self, alloc: Global) -> Result<Vec<Tablet>, Fault>
-        ensures list { IfOk result (λ tablets. tablets.items ≡ self.now) }
-        ensures are_tablets { AreTablets self.now }
+        ensures list { IfOk result (λ tablets. tablets.items ≡ self.now.tablets) }
+        ensures are_tablets { AreTablets self.now.tablets }
         ensures err { IfErr result (λ e. e ≡ OutOfMemory) }
     {
         let mut tablets = Vec::with_capacity(alloc, self.count)?;
@@ -77,9 +103,11 @@ impl<A: Allocator + Clone> RangeTree<A> {
 
     /// The tablets of one owner, in order.
     ///
-    /// Errors: F1.
+    /// # Errors
+    ///
+    /// F1 where memory is refused.
     pub fn tablets_of(&self, alloc: Global, owner: ServerId) -> Result<Vec<Tablet>, Fault>
-        ensures list { IfOk result (λ tablets. tablets.items ≡ tablets_of owner self.now) }
+        ensures list { IfOk result (λ tablets. tablets.items ≡ tablets_of owner self.now.tablets) }
         ensures err { IfErr result (λ e. e ≡ OutOfMemory) }
     {
         let mut tablets = Vec::new(alloc);
@@ -89,10 +117,14 @@ impl<A: Allocator + Clone> RangeTree<A> {
 
     /// Adds a table, all of it one tablet.
     ///
-    /// Errors: F12 where the table is there, else F15 where 1,024 tablets stand, else F1.
+    /// # Errors
+    ///
+    /// F12 where the table is there, else F15 where 1,024 tablets stand, else F1 where memory is
+    /// refused.
     pub fn create(&mut self, table: u32, owner: ServerId, term: u32) -> Result<(), Fault>
-        ensures list { OnOk result (self.new ≡ with_table table owner term self.old) }
-        ensures refused { Answers (create_refusal table self.old) result }
+        ensures list { OnOk result
+            (self.new.tablets ≡ with_table table owner term self.old.tablets) }
+        ensures refused { Answers (create_refusal table self.old.tablets) result }
         ensures err { OnErr result (self.new ≡ self.old) }
     {
         if self.find(table, 0).is_some() {
@@ -109,7 +141,7 @@ impl<A: Allocator + Clone> RangeTree<A> {
             term,
             crashed: false,
         };
-        self.root.insert(&self.alloc, tablet)?;
+        self.root.insert(&self.alloc, tablet, self.count)?;
         self.count += 1;
         Ok(())
     }
@@ -117,12 +149,15 @@ impl<A: Allocator + Clone> RangeTree<A> {
     /// Splits the tablet that holds the key: it becomes two of the same owner and term, and the
     /// second begins at the key.
     ///
-    /// Errors: F13 where no tablet holds the key, else F14 where the key is the first of its tablet,
-    /// else F16 where the tablet is marked as crashed, else F15 where 1,024 tablets stand, else F1.
+    /// # Errors
+    ///
+    /// F13 where no tablet holds the key, else F14 where the key is the first of its tablet, else
+    /// F16 where the tablet is marked as crashed, else F15 where 1,024 tablets stand, else F1 where
+    /// memory is refused.
     pub fn split(&mut self, table: u32, at: u64) -> Result<(), Fault>
-        ensures list { OnOk result (self.new ≡ split_at table at self.old) }
-        ensures refused { Answers (split_refusal table at self.old) result }
-        ensures no_table { (result ≡ Err NoTable) ↔ (has_table self.old table ≡ false) }
+        ensures list { OnOk result (self.new.tablets ≡ split_at table at self.old.tablets) }
+        ensures refused { Answers (split_refusal table at self.old.tablets) result }
+        ensures no_table { (result ≡ Err NoTable) ↔ (has_table self.old.tablets table ≡ false) }
         ensures err { OnErr result (self.new ≡ self.old) }
     {
         let tablet = self.find(table, at).ok_or(Fault::NoTable)?;
@@ -135,7 +170,7 @@ impl<A: Allocator + Clone> RangeTree<A> {
         if self.count == MAX_TABLETS {
             return Err(Fault::TooManyTablets);
         }
-        self.root.split(&self.alloc, tablet, at)?;
+        self.root.split(&self.alloc, tablet, at, self.count)?;
         self.count += 1;
         Ok(())
     }
@@ -143,8 +178,9 @@ impl<A: Allocator + Clone> RangeTree<A> {
     /// Marks all tablets of an owner as crashed. The answer is how many of them were not marked
     /// before. It takes no memory.
     pub fn mark_crashed(&mut self, owner: ServerId) -> usize
-        ensures count { result ≡ count_to_mark owner self.old }
-        ensures list { self.new ≡ marked_crashed owner self.old }
+        ensures count { result ≡ count_to_mark owner self.old.tablets }
+        ensures list { self.new.tablets ≡ marked_crashed owner self.old.tablets }
+        ensures forks { self.new.forks ≡ self.old.forks }
     {
         self.root.mark_crashed(owner)
     }
@@ -152,10 +188,14 @@ impl<A: Allocator + Clone> RangeTree<A> {
     /// Gives the tablet of exactly this range a new owner and term, and takes its mark away. It
     /// takes no memory.
     ///
-    /// Errors: F13 where no tablet has exactly this range.
+    /// # Errors
+    ///
+    /// F13 where no tablet has exactly this range.
     pub fn assign(&mut self, range: KeyRange, owner: ServerId, term: u32) -> Result<(), Fault>
-        ensures list { self.new ≡ assigned range owner term self.old }
-        ensures refused { result ≡ (if has_range range self.old then Ok tt else Err NoTable) }
+        ensures list { self.new.tablets ≡ assigned range owner term self.old.tablets }
+        ensures forks { self.new.forks ≡ self.old.forks }
+        ensures refused { result ≡
+            (if has_range range self.old.tablets then Ok tt else Err NoTable) }
         ensures err { OnErr result (self.new ≡ self.old) }
     {
         if self.root.assign(range, owner, term) {
@@ -168,7 +208,9 @@ impl<A: Allocator + Clone> RangeTree<A> {
     /// The same tablets in another allocator. Where memory is refused, what was taken for the copy
     /// is given back.
     ///
-    /// Errors: F1.
+    /// # Errors
+    ///
+    /// F1 where memory is refused.
     pub fn try_clone_in<B: Allocator + Clone>(&self, alloc: B) -> Result<RangeTree<B>, Fault>
         ensures list { IfOk result (λ copy. copy ≡ self.now) }
         ensures err { IfErr result (λ e. e ≡ OutOfMemory) }
