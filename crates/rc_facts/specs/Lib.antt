@@ -1,0 +1,4 @@
+pub mod Words
+pub mod Facts
+pub mod Later
+pub mod Moves

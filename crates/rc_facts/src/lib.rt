@@ -1,0 +1,2 @@
+//! The facts that every step of the protocol keeps, and what only grows: definitions alone.
+#![tactic(auto)]
