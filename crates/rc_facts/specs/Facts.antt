@@ -19,7 +19,7 @@ use Rattle.rc_model.specs.Backup.{Held, replica_of, is_freed}
 use Rattle.rc_model.specs.Config.{told_len, told_closed}
 use Rattle.rc_model.specs.Segment.{no_segment}
 use Rattle.rc_model.specs.Log.{Log, LogPlace, places_of}
-use Rattle.rc_model.specs.Master.{Master, ids_of}
+use Rattle.rc_model.specs.Master.{Master, ids_of, new_master}
 use Rattle.rc_model.specs.Pick.{is_below, pick}
 use Rattle.rc_model.specs.Attempts.{Attempt, Decision}
 use Rattle.rc_model.specs.Coordinator.{Coordinator}
@@ -266,6 +266,9 @@ pub record GoodHost (sent : List Message) (masters : ServerId → Master) (i : �
   pub own : host.backup.own ≡ server_of host
   -- where its master runs, it is the last view of its server
   pub runs : (master : Master) → host.master ≡ Some master → masters (server_of host) ≡ master
+  -- a server that wasn't started yet has the view that it will start with
+  pub unstarted : (g : ℕ) → host.generation < g →
+      masters (record { index = i; generation = g }) ≡ new_master (record { index = i; generation = g }) host.setup
   pub held : (m : ServerId) → GoodHeld sent m (masters m).log i host.generation (host.backup.held m)
 
 -- The coordinator
