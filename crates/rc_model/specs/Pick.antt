@@ -84,27 +84,29 @@ plan_row held = record { seg = held.row.seg; holder = held.holder; len = held.ro
 abbrev pub taken_row : Pair → List (ServerId × List Row) → HeldRow → ℕ → Option HeldRow
 taken_row min replies head seg = if nat_eq seg head.row.seg then Some head else row_of min replies seg
 
+-- a segment's row before those of the others; the first segment that has none counts
+abbrev pub row_then : ℕ → Option HeldRow → Result (List PlanRow) Fault → Result (List PlanRow) Fault
+row_then seg None rest = Err (SegmentMissing seg)
+row_then seg (Some held) (Ok rows) = Ok (plan_row held ∷ rows)
+row_then seg (Some held) (Err fault) = Err fault
+
 -- a row for each of these segments, or the first one that has none
 abbrev pub taken_rows : Pair → List (ServerId × List Row) → HeldRow → List ℕ → Result (List PlanRow) Fault
 taken_rows min replies head [] = Ok []
-taken_rows min replies head (seg ∷ segs) = with_row (taken_row min replies head seg) (taken_rows min replies head segs)
-  where
-    with_row : Option HeldRow → Result (List PlanRow) Fault → Result (List PlanRow) Fault
-    with_row None rest = Err (SegmentMissing seg)
-    with_row (Some held) (Ok rows) = Ok (plan_row held ∷ rows)
-    with_row (Some held) (Err fault) = Err fault
+taken_rows min replies head (seg ∷ segs) = row_then seg (taken_row min replies head seg) (taken_rows min replies head segs)
 
 abbrev pub plan_of : ℕ → Result (List PlanRow) Fault → Result Plan Fault
 plan_of head (Ok rows) = Ok (record { head = head; rows = rows })
 plan_of head (Err fault) = Err fault
 
+-- the plan by the head row
+abbrev pub pick_by : Pair → List (ServerId × List Row) → Option HeldRow → Result Plan Fault
+pick_by min replies None = Err HeadMissing
+pick_by min replies (Some head) = plan_of head.row.seg (taken_rows min replies head (ascending head.row.digest))
+
 -- the plan: no head row, F8; a segment of its digest without a valid row, F9 of the least one
 abbrev pub pick : Pair → List (ServerId × List Row) → Result Plan Fault
-pick min replies = pick_by (head_row min replies)
-  where
-    pick_by : Option HeldRow → Result Plan Fault
-    pick_by None = Err HeadMissing
-    pick_by (Some head) = plan_of head.row.seg (taken_rows min replies head (ascending head.row.digest))
+pick min replies = pick_by min replies (head_row min replies)
 
 -- A plan is pickable from these answers, under this least pair.
 
