@@ -1,0 +1,3 @@
+mod Picked
+mod Covers
+pub mod Clauses
