@@ -220,7 +220,8 @@ impl<A: Allocator + Clone> Node<A> {
     /// A tree of the same tablets, of which there are `count`, with room for one more fork above
     /// any of them. Where no memory is left for all of it, it takes none.
     fn rebuilt(&self, alloc: &A, count: usize) -> Result<Node<A>, AllocError>
-        requires few { length (leaves self.now) ≤ MAX_TABLETS }
+        requires counted { count ≡ length (leaves self.now) }
+        requires few { count ≤ MAX_TABLETS }
         ensures list { IfOk result (λ node. leaves node ≡ leaves self.now) }
         ensures bounds { IfOk result (λ node. HasBounds node) }
         ensures depth { IfOk result (λ node. node_depth node < MAX_FORKS) }
@@ -329,7 +330,8 @@ impl<A: Allocator + Clone> Node<A> {
         requires tree { IsSearchTree self.old }
         requires new { has_table (leaves self.old) tablet.table ≡ false }
         requires shallow { node_depth self.old ≤ MAX_FORKS }
-        requires few { length (leaves self.old) ≤ MAX_TABLETS }
+        requires counted { count ≡ length (leaves self.old) }
+        requires few { count ≤ MAX_TABLETS }
         ensures list { leaves self.new ≡
             (if is_ok result then insert_tablet tablet (leaves self.old) else leaves self.old) }
         ensures bounds { HasBounds self.new }
@@ -359,7 +361,8 @@ impl<A: Allocator + Clone> Node<A> {
         requires found { tablet_of (leaves self.old) tablet.table at ≡ Some tablet }
         requires inside { tablet.lo < at }
         requires shallow { node_depth self.old ≤ MAX_FORKS }
-        requires few { length (leaves self.old) ≤ MAX_TABLETS }
+        requires counted { count ≡ length (leaves self.old) }
+        requires few { count ≤ MAX_TABLETS }
         ensures list { leaves self.new ≡
             (if is_ok result then split_at tablet.table at (leaves self.old) else leaves self.old) }
         ensures bounds { HasBounds self.new }

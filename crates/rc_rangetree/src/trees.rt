@@ -18,7 +18,9 @@ use std::marker::Model;
 /// The tablets of all tables. Contracts see the list of them, in order of table and first key: the
 /// ranges don't overlap, each table that is there is covered from its first key to its last, and
 /// there are at most 1,024 tablets. They also see how many forks of the tree lie above each tablet:
-/// at most 20. Calls go down the tree by recursion.
+/// at most 20. Calls go down the tree by recursion. A `create` or `split` that would put a tablet
+/// below one fork more builds the tree anew, in memory for a list of the tablets and a second tree,
+/// and then gives the list and the old tree back.
 ///
 /// A call that is refused leaves the same tree.
 #[derive(Debug, Drop)]
