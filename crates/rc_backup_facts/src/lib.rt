@@ -2,4 +2,4 @@
 //! are theorems on the definitions.
 #![tactic(auto)]
 
-pub mod backups;
+pub mod steps;

@@ -1,5 +1,5 @@
 use Rattle.rc_backup_facts.proofs.Backups.{moved-backup, moved-restart, quiet-none}
-use Rattle.rc_backup_facts.proofs.backups.backups_keep_the_facts.Goals as goal
+use Rattle.rc_backup_facts.proofs.steps.backups_keep_the_facts.Goals as goal
 
 pub returns : goal.returns
 returns c = record {
