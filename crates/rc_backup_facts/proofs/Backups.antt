@@ -1,10 +1,10 @@
 -- Each step of a backup keeps what holds of it, and says only what it may say.
-use Rattle.std.proofs.Common.{◌≡◌, ◌⊎◌, ℕ, ◌<◌, ◌≤◌, Bool, true, false, cond, ◌||◌, List, [], ◌∷◌, ◌++◌, length, take, filter, nat_eq, nat_lt, nat_le, Option, Some, None, refl, sym, ap, ◌∙◌, subst, inl, inr, arith}
-use Rattle.std.proofs.lemmas.Bool.{cases_eq, eqb-true, eq-eqb, or_cases}
+use Rattle.std.proofs.Common.{◌≡◌, ◌⊎◌, ℕ, ◌≤◌, Bool, true, false, cond, ◌||◌, List, [], ◌∷◌, ◌++◌, length, take, filter, nat_eq, nat_lt, nat_le, Option, Some, None, refl, sym, ap, ◌∙◌, subst, inl, inr, arith}
+use Rattle.std.proofs.lemmas.Bool.{cases_eq, eq-eqb, or_cases}
 use Rattle.std.specs.List.{list_any}
 use Rattle.rc_types.specs.declared.ids.ServerId.{ServerId}
 use Rattle.rc_types.specs.declared.ids.Addr.{Addr}
-use Rattle.rc_types.specs.declared.ids.Addr.TheVariants.{Server, Coordinator as AtCoordinator, Outside}
+use Rattle.rc_types.specs.declared.ids.Addr.TheVariants.{Server}
 use Rattle.rc_types.specs.declared.entries.Entry.{Entry}
 use Rattle.rc_types.specs.declared.rows.Row.{Row}
 use Rattle.rc_types.specs.declared.rows.Part.{Part}
@@ -12,7 +12,6 @@ use Rattle.rc_types.specs.declared.messages.Message.{Message}
 use Rattle.rc_types.specs.declared.messages.Body.{Body}
 use Rattle.rc_types.specs.declared.messages.Body.TheVariants.{Place, Append, Close, Free, Gather, Fetch, Stored, Replicas, Data}
 use Rattle.rc_model.specs.Ids.{same_id}
-use Rattle.rc_model.specs.Tables.{put_id}
 use Rattle.rc_model.specs.Messages.{between, to_coordinator}
 use Rattle.rc_model.specs.Replica.{Replica}
 use Rattle.rc_model.specs.Backup.{Backup, Held, replica_of, without_replica, replica_after, with_held, is_freed, is_refused, keeps, stores, insert_number, frees, row_of_replica, rows_of_replicas, fences, is_in_part, data_of, answers_fetch, backup_takes, restarted}
@@ -26,10 +25,9 @@ use Rattle.rc_facts.specs.Facts.{IsCopy, IsAnswer, IsStored, StillStands, GoodHe
 use Rattle.rc_facts.specs.Later.{HeldLater}
 use Rattle.rc_facts.specs.Moves.{OwnFine, BackupMoved, backup_body_said}
 use Rattle.rc_facts.proofs.Lists.{same_id-true, put_id_same, true_false}
-use Rattle.rc_facts.proofs.Copies.{More, split}
 use Rattle.rc_backup_facts.proofs.ReplicaLists.{replica_of-row, Ascending-filter, replica_of-filter, replica_of-without}
 use Rattle.rc_backup_facts.proofs.Replicas.{Changed, Stood, AllStood}
-use Rattle.rc_backup_facts.proofs.Changes.{PlaceHeard, changed-place, changed-append, changed-close}
+use Rattle.rc_backup_facts.proofs.Changes.{changed-place, changed-append, changed-close}
 use Rattle.rc_backup_facts.proofs.Told.{NoNewPlaces, NothingNewlyTold, held-told}
 use Rattle.rc_backup_facts.proofs.Storing.{held_later-refl, AllHeld, moved-kept}
 

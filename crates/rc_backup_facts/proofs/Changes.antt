@@ -1,5 +1,5 @@
 -- Each change of a replica keeps what holds of it, and raises it.
-use Rattle.std.proofs.Common.{◌≡◌, ◌⊎◌, ℕ, ◌+◌, ◌-◌, ◌<◌, ◌≤◌, Bool, true, false, cond, not, ◌&&◌, List, [], ◌∷◌, ◌++◌, length, drop, slice_get, nat_eq, nat_lt, nat_le, Option, Some, None, refl, sym, ap, ◌∙◌, subst, inl, inr, arith}
+use Rattle.std.proofs.Common.{◌≡◌, ℕ, ◌+◌, ◌-◌, ◌<◌, ◌≤◌, Bool, true, false, cond, not, ◌&&◌, List, length, drop, slice_get, nat_eq, nat_lt, nat_le, Option, Some, None, refl, sym, ap, ◌∙◌, subst, arith}
 use Rattle.std.proofs.lemmas.Bool.{eqb-true, eq-eqb, ltb-false, leb-true, and_parts}
 use Rattle.std.proofs.lemmas.List.{length-append, length-drop}
 use Rattle.rc_types.specs.declared.ids.ServerId.{ServerId}
@@ -12,12 +12,12 @@ use Rattle.rc_model.specs.Backup.{replica_after}
 use Rattle.rc_model.specs.Master.{Master}
 use Rattle.rc_model.specs.Headline.{In, HasMade}
 use Rattle.rc_model.proofs.Members.{either}
-use Rattle.rc_facts.specs.Words.{Begins, log_in, Stands, IsOpened, HasTold, HasToldClosed, IsMember, IsPlacedAt, IsOpenedAt}
-use Rattle.rc_facts.specs.Facts.{GoodMaster, IsPlace, IsAppend, IsClose, IsCopy, GoodReplica}
+use Rattle.rc_facts.specs.Words.{Begins, log_in, Stands, IsOpenedAt}
+use Rattle.rc_facts.specs.Facts.{GoodMaster, IsPlace, IsAppend, IsClose, GoodReplica}
 use Rattle.rc_facts.specs.Moves.{OwnFine}
 use Rattle.rc_facts.proofs.Lists.{true_false, get-within, get-below, begins-length, get-begins}
 use Rattle.rc_facts.proofs.Copies.{split}
-use Rattle.rc_backup_facts.proofs.Replicas.{begins-places, begins-whole, grown-places, grown-made, grown-longer, place-made, append-made, Changed, changed-some, changed-none, some-same, Stood, AllStood, AboveTold, above-whole, above-proper, placed-copy}
+use Rattle.rc_backup_facts.proofs.Replicas.{begins-places, grown-places, grown-made, grown-longer, place-made, append-made, Changed, changed-some, changed-none, some-same, AllStood, AboveTold, above-whole, above-proper, placed-copy}
 
 -- what a Place that was heard is about
 pub record PlaceHeard (sent : List Message) (m : ServerId) (master : Master) (z : ServerId) (s e : ℕ) (digest : List ℕ) (entries : List Entry) (closed : Bool) : Type 0 where

@@ -1,22 +1,20 @@
 -- What a Place, an Append and a Close make of one replica.
-use Rattle.std.proofs.Common.{◌≡◌, ◌⊎◌, ℕ, zero, suc, ◌+◌, ◌-◌, ◌<◌, ◌≤◌, Bool, true, false, cond, not, ◌&&◌, List, [], ◌∷◌, ◌++◌, length, drop, slice_get, nat_eq, nat_lt, nat_le, Option, Some, None, refl, sym, ap, ◌∙◌, subst, inl, inr, arith}
-use Rattle.std.proofs.lemmas.Bool.{eqb-true, eq-eqb, ltb-false, leb-true, le-leb, and_parts, cases_lt}
+use Rattle.std.proofs.Common.{◌≡◌, ◌⊎◌, ℕ, suc, ◌+◌, ◌-◌, ◌<◌, ◌≤◌, Bool, true, false, cond, ◌&&◌, List, [], ◌∷◌, ◌++◌, length, drop, slice_get, nat_le, Option, Some, None, refl, sym, ap, ◌∙◌, subst, inl, inr, arith}
+use Rattle.std.proofs.lemmas.Bool.{eq-eqb, le-leb}
 use Rattle.std.proofs.lemmas.List.{length-append, append-nil}
 use Rattle.rc_types.specs.declared.ids.ServerId.{ServerId}
 use Rattle.rc_types.specs.declared.entries.Entry.{Entry}
 use Rattle.rc_types.specs.declared.messages.Message.{Message}
-use Rattle.rc_types.specs.declared.messages.Body.TheVariants.{Place, Append, Close, Stored}
+use Rattle.rc_types.specs.declared.messages.Body.TheVariants.{Place, Append, Stored}
 use Rattle.rc_model.specs.Messages.{between}
-use Rattle.rc_model.specs.Replica.{Replica, grown, placed, placed_open, appended, closes, closed_at}
-use Rattle.rc_model.specs.Backup.{replica_after}
+use Rattle.rc_model.specs.Replica.{Replica, grown}
 use Rattle.rc_model.specs.Log.{Log}
 use Rattle.rc_model.specs.Master.{Master}
 use Rattle.rc_model.specs.Headline.{In, HasMade}
-use Rattle.rc_model.proofs.Members.{either}
-use Rattle.rc_facts.specs.Words.{Begins, log_in, Stands, IsOpened, HasTold, HasToldClosed, IsMember, IsPlacedAt, IsOpenedAt}
-use Rattle.rc_facts.specs.Facts.{GoodMaster, IsPlace, IsAppend, IsClose, IsTold, IsCopy, GoodReplica}
+use Rattle.rc_facts.specs.Words.{Begins, log_in, Stands, HasTold, HasToldClosed, IsMember}
+use Rattle.rc_facts.specs.Facts.{GoodMaster, IsPlace, IsCopy, GoodReplica}
 use Rattle.rc_facts.specs.Moves.{OwnFine}
-use Rattle.rc_facts.proofs.Lists.{true_false, get-append, get-drop, get-within, get-below, begins-length, get-begins}
+use Rattle.rc_facts.proofs.Lists.{get-append, get-drop, get-below, begins-length, get-begins}
 
 -- Lists
 

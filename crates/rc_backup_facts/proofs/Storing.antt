@@ -1,19 +1,16 @@
 -- What a backup stores keeps what holds of it.
-use Rattle.std.proofs.Common.{◌≡◌, ◌⊎◌, ℕ, ◌<◌, ◌≤◌, Bool, true, false, cond, ◌||◌, List, [], ◌∷◌, ◌++◌, length, Option, Some, None, refl, sym, ap, ◌∙◌, subst, inl, inr, arith}
+use Rattle.std.proofs.Common.{◌≡◌, ◌⊎◌, ℕ, ◌≤◌, Bool, true, false, List, [], ◌∷◌, ◌++◌, length, Some, refl, sym, ap, ◌∙◌, subst, inl, inr, arith}
 use Rattle.std.proofs.lemmas.Bool.{cases_eq}
 use Rattle.rc_types.specs.declared.ids.ServerId.{ServerId}
-use Rattle.rc_types.specs.declared.ids.Addr.{Addr}
 use Rattle.rc_types.specs.declared.ids.Addr.TheVariants.{Server}
 use Rattle.rc_types.specs.declared.entries.Entry.{Entry}
 use Rattle.rc_types.specs.declared.messages.Message.{Message}
-use Rattle.rc_types.specs.declared.messages.Body.{Body}
 use Rattle.rc_types.specs.declared.messages.Body.TheVariants.{Place, Stored}
 use Rattle.rc_model.specs.Ids.{same_id}
 use Rattle.rc_model.specs.Tables.{put_id}
 use Rattle.rc_model.specs.Messages.{between}
 use Rattle.rc_model.specs.Replica.{Replica}
-use Rattle.rc_model.specs.Backup.{Backup, Held, replica_of, put_replica, with_held, stored_of, is_freed, keeps}
-use Rattle.rc_model.specs.Log.{Log}
+use Rattle.rc_model.specs.Backup.{Held, replica_of, put_replica, keeps}
 use Rattle.rc_model.specs.Master.{Master}
 use Rattle.rc_model.specs.Coordinator.{Coordinator}
 use Rattle.rc_model.specs.Nodes.{HostNode, server_of}
@@ -23,7 +20,7 @@ use Rattle.rc_facts.specs.Facts.{IsTold, StillStands, GoodHeld, GoodReplica}
 use Rattle.rc_facts.specs.Later.{HeldLater}
 use Rattle.rc_facts.specs.Moves.{BackupMoved, backup_body_said}
 use Rattle.rc_facts.proofs.Lists.{same_id-true, same_id-refl, put_id_same, true_false}
-use Rattle.rc_facts.proofs.Copies.{More, split, placed-more}
+use Rattle.rc_facts.proofs.Copies.{More, placed-more}
 use Rattle.rc_backup_facts.proofs.ReplicaLists.{replica_of-put, replica_of-other, Ascending-put}
 use Rattle.rc_backup_facts.proofs.Replicas.{Changed}
 use Rattle.rc_backup_facts.proofs.Told.{NoNewPlaces, NewlyToldUpTo, replica-told, held-told, SameStored, same-stored, one-more}

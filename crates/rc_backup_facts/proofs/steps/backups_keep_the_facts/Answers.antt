@@ -1,3 +1,4 @@
+use Rattle.std.proofs.Common.{[]}
 use Rattle.rc_backup_facts.proofs.Backups.{moved-backup, moved-restart, quiet-none}
 use Rattle.rc_backup_facts.proofs.steps.backups_keep_the_facts.Goals as goal
 
