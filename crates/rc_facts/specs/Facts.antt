@@ -282,6 +282,9 @@ pub record GoodAttempt (sent : List Message) (c : Coordinator) (number : ℕ) (a
 pub record GoodCoordinator (sent : List Message) (c : Coordinator) : Type 0 where
   pub attempts : (number : ℕ) (attempt : Attempt) → IsNumbered c.attempts number attempt → GoodAttempt sent c number attempt
   pub servers : OnDifferentHosts (up_rows c.servers.rows)
+  -- a master's current attempt is there, and is for it
+  pub current_numbered : (m : ServerId) → c.current m ≤ length c.attempts
+  pub current_master : (m : ServerId) (attempt : Attempt) → IsNumbered c.attempts (c.current m) attempt → attempt.master ≡ m
 
 -- All of it
 

@@ -1,0 +1,3 @@
+mod Servers
+pub mod Attempting
+pub mod Steps
