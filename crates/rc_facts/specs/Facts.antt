@@ -96,6 +96,8 @@ pub record GoodMaster (sent : List Message) (m : ServerId) (master : Master) : T
   pub digests : (s : ℕ) → IsOpened master.log s → IsDigest sent m master.log s (master.log.segments s).digest
   -- of each host at most one id is up by its list
   pub known : OnDifferentHosts (up_rows master.known.rows)
+  -- no more places are counted than there are
+  pub durable_within : master.log.durable ≤ length (places_of master.log)
 
 -- What a master may say
 
