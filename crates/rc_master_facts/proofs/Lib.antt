@@ -1,3 +1,5 @@
 pub mod Lists
 pub mod Logs
+pub mod Tests
 pub mod LogMoves
+pub mod Places
