@@ -6,3 +6,4 @@ pub mod Places
 pub mod Safe
 pub mod Segments
 pub mod Members
+pub mod Views

@@ -28,22 +28,22 @@ use Rattle.rc_master_facts.proofs.Places.{places-later}
 pub record SegmentLater (sent : List Message) (m : ServerId) (head s : ℕ) (old new : Segment) : Type 0 where
   pub grows : Begins old.entries new.entries
   pub final : s < head → new.entries ≡ old.entries
-  pub digest : new.digest ≡ old.digest
-  pub epoch : old.config.epoch ≤ new.config.epoch
+  pub digest : s ≤ head → new.digest ≡ old.digest
+  pub epoch : s ≤ head → old.config.epoch ≤ new.config.epoch
   pub shut : old.shut ≡ true → (new.shut ≡ true) × (new.config.epoch ≡ old.config.epoch)
-  pub joined : (x : ServerId) → new.shut ≡ false → new.config.epoch ≡ old.config.epoch → In x (ids_of old.config.members) → In x (ids_of new.config.members)
-  pub shuts : (x : ServerId) → old.shut ≡ false → new.shut ≡ true → new.config.epoch ≡ old.config.epoch → In x (ids_of old.config.members) → HasToldClosed sent x m s new.config.epoch
+  pub joined : (x : ServerId) → s ≤ head → new.shut ≡ false → new.config.epoch ≡ old.config.epoch → In x (ids_of old.config.members) → In x (ids_of new.config.members)
+  pub shuts : (x : ServerId) → s ≤ head → old.shut ≡ false → new.shut ≡ true → new.config.epoch ≡ old.config.epoch → In x (ids_of old.config.members) → HasToldClosed sent x m s new.config.epoch
 
 -- a segment that stays
 later-refl : (sent : List Message) (m : ServerId) (head s : ℕ) (segment : Segment) → SegmentLater sent m head s segment segment
 later-refl sent m head s segment = record {
   grows = begins-refl segment.entries;
   final = λ below. refl;
-  digest = refl;
-  epoch = omega arith;
+  digest = λ upto. refl;
+  epoch = λ upto. omega arith;
   shut = λ e. (e, refl);
-  joined = λ x shut same at. at;
-  shuts = λ x before shut same at. true_false (sym shut ∙ before);
+  joined = λ x upto shut same at. at;
+  shuts = λ x upto before shut same at. true_false (sym shut ∙ before);
 }
 
 -- where each segment is later, the log is
@@ -52,11 +52,11 @@ log-later sent m old new head each = record {
   head = head;
   grows = λ s. (each s).grows;
   final = λ s below. (each s).final below;
-  digest = λ s above upto. (each s).digest;
-  epoch = λ s upto. (each s).epoch;
+  digest = λ s above upto. (each s).digest upto;
+  epoch = λ s upto. (each s).epoch upto;
   shut = λ s e. (each s).shut e;
-  joined = λ s x upto shut same at. (each s).joined x shut same at;
-  shuts = λ s x upto before shut same at. (each s).shuts x before shut same at;
+  joined = λ s x upto shut same at. (each s).joined x upto shut same at;
+  shuts = λ s x upto before shut same at. (each s).shuts x upto before shut same at;
 }
 
 -- the old view's count still counts safe places
@@ -118,11 +118,11 @@ steady-later : (sent sent_now : List Message) (m : ServerId) (head s : ℕ) (old
 steady-later sent sent_now m head s old new p = record {
   grows = subst (λ l. Begins old.entries l) (sym p.entries) (begins-refl old.entries);
   final = λ below. p.entries;
-  digest = p.digest;
-  epoch = omega (arith, p.epoch);
+  digest = λ upto. p.digest;
+  epoch = λ upto. omega (arith, p.epoch);
   shut = λ e. (p.shut ∙ e, p.epoch);
-  joined = λ x shut same at. subst (λ ids. In x ids) (sym (p.ids (sym p.shut ∙ shut))) at;
-  shuts = λ x before shut same at. true_false (sym shut ∙ p.shut ∙ before);
+  joined = λ x upto shut same at. subst (λ ids. In x ids) (sym (p.ids (sym p.shut ∙ shut))) at;
+  shuts = λ x upto before shut same at. true_false (sym shut ∙ p.shut ∙ before);
 }
 
 steady-good : (sent sent_now : List Message) (m : ServerId) (phase : Phase) (head s : ℕ) (old new : Segment) → More sent sent_now → SegmentSteady sent m s old new → GoodSegment sent m phase head s old
