@@ -7,3 +7,4 @@ pub mod Safe
 pub mod Segments
 pub mod Members
 pub mod Views
+pub mod Openings

@@ -35,7 +35,7 @@ pub record SegmentLater (sent : List Message) (m : ServerId) (head s : ℕ) (old
   pub shuts : (x : ServerId) → s ≤ head → old.shut ≡ false → new.shut ≡ true → new.config.epoch ≡ old.config.epoch → In x (ids_of old.config.members) → HasToldClosed sent x m s new.config.epoch
 
 -- a segment that stays
-later-refl : (sent : List Message) (m : ServerId) (head s : ℕ) (segment : Segment) → SegmentLater sent m head s segment segment
+pub later-refl : (sent : List Message) (m : ServerId) (head s : ℕ) (segment : Segment) → SegmentLater sent m head s segment segment
 later-refl sent m head s segment = record {
   grows = begins-refl segment.entries;
   final = λ below. refl;
