@@ -8,3 +8,4 @@ pub mod Segments
 pub mod Members
 pub mod Views
 pub mod Openings
+pub mod Rolling
