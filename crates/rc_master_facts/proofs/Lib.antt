@@ -9,3 +9,4 @@ pub mod Members
 pub mod Views
 pub mod Openings
 pub mod Rolling
+pub mod Hosts
