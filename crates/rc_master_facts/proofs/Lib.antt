@@ -10,3 +10,5 @@ pub mod Views
 pub mod Openings
 pub mod Rolling
 pub mod Hosts
+pub mod Writing
+pub mod Told
