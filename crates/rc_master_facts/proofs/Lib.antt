@@ -12,3 +12,4 @@ pub mod Rolling
 pub mod Hosts
 pub mod Writing
 pub mod Told
+pub mod ListRules
