@@ -1,12 +1,13 @@
 -- Members on different hosts: those that are chosen, and those after lost ones were replaced.
 use Rattle.std.proofs.Common.{◌≡◌, ◌⊎◌, ℕ, zero, suc, ◌+◌, ◌-◌, ◌%◌, ◌<◌, ◌≤◌, Bool, true, false, cond, not, nat_eq, nat_lt, ◌&&◌, ◌||◌, List, [], ◌∷◌, ◌++◌, length, take, drop, map, filter, find, Option, Some, None, refl, sym, ap, ◌∙◌, subst, inl, inr, arith}
 use Rattle.std.proofs.lemmas.Bool.{and_parts, eq-eqb}
+use Rattle.std.proofs.lemmas.List.{append-nil, append_assoc}
 use Rattle.std.specs.List.{list_any}
 use Rattle.std.specs.Option.{option_map}
 use Rattle.rc_types.specs.declared.ids.ServerId.{ServerId}
 use Rattle.rc_types.specs.declared.kept.Member.{Member}
 use Rattle.rc_model.specs.Ids.{id_before, insert_id, ids_in_order}
-use Rattle.rc_model.specs.ServerList.{ServerList, up_rows, up}
+use Rattle.rc_model.specs.ServerList.{ServerList, knows, first_rows, up_rows, up}
 use Rattle.rc_model.specs.Config.{new_member, of_other_hosts, counted_from, candidates, choose, staying, first_free, and_then, substitutes, replaced}
 use Rattle.rc_model.specs.Master.{ids_of}
 use Rattle.rc_model.specs.Headline.{In}
@@ -264,3 +265,37 @@ pub apart-substituted : (ids : List ServerId) (members : List Member) (found : L
     → OnDifferentHosts (ids_of (map (λ member. new_member member.id) (replaced members found)))
 apart-substituted ids members found p e =
     subst OnDifferentHosts (sym (ids-anew (replaced members found))) (replaced-apart ids (staying members) members found e (λ y at. at) p)
+
+-- Of rows with one id the first counts: those that are up stay on different hosts
+
+up-append : (rows others : List (ServerId × Bool)) → up_rows (rows ++ others) ≡ up_rows rows ++ up_rows others
+up-append [] others = refl
+up-append (row ∷ rows) others = by row.1 (up-append rows others)
+  where
+    by : (b : Bool) → up_rows (rows ++ others) ≡ up_rows rows ++ up_rows others
+        → cond b (row.0 ∷ up_rows (rows ++ others)) (up_rows (rows ++ others)) ≡ cond b (row.0 ∷ up_rows rows) (up_rows rows) ++ up_rows others
+    by true rec = ap (λ l. row.0 ∷ l) rec
+    by false rec = rec
+
+-- one fewer
+apart-without : (xs : List ServerId) (z : ServerId) (ys : List ServerId) → OnDifferentHosts (xs ++ z ∷ ys) → OnDifferentHosts (xs ++ ys)
+apart-without xs z ys p =
+    let second : OnDifferentHosts (z ∷ ys) = apart-second xs (z ∷ ys) p in
+    apart-join xs ys (apart-first xs (z ∷ ys) p) second.1 (λ x y at_x at_y same. apart-between xs (z ∷ ys) p x y at_x (inr at_y) same)
+
+apart-first_rows : (rows before : List (ServerId × Bool)) → OnDifferentHosts (up_rows before ++ up_rows rows) → OnDifferentHosts (up_rows (first_rows before rows))
+apart-first_rows [] before p = subst OnDifferentHosts (append-nil (up_rows before)) p
+apart-first_rows (row ∷ rows) before p =
+    either (λ l. OnDifferentHosts (up_rows l)) (knows before row.0) (first_rows before rows) (first_rows (before ++ row ∷ []) rows)
+    (λ _. apart-first_rows rows before (skip p)) (λ _. apart-first_rows rows (before ++ row ∷ []) (subst OnDifferentHosts (sym moves) p))
+  where
+    skip : OnDifferentHosts (up_rows before ++ up_rows (row ∷ rows)) → OnDifferentHosts (up_rows before ++ up_rows rows)
+    skip = either (λ l. OnDifferentHosts (up_rows before ++ l) → OnDifferentHosts (up_rows before ++ up_rows rows)) row.1 (row.0 ∷ up_rows rows) (up_rows rows)
+        (λ _ q. apart-without (up_rows before) row.0 (up_rows rows) q) (λ _ q. q)
+
+    moves : up_rows (before ++ row ∷ []) ++ up_rows rows ≡ up_rows before ++ up_rows (row ∷ rows)
+    moves = ap (λ l. l ++ up_rows rows) (up-append before (row ∷ [])) ∙ append_assoc (up_rows before) (up_rows (row ∷ [])) (up_rows rows)
+        ∙ ap (λ l. up_rows before ++ l) (sym (up-append (row ∷ []) rows))
+
+pub apart-rows : (rows : List (ServerId × Bool)) → OnDifferentHosts (up_rows rows) → OnDifferentHosts (up_rows (first_rows [] rows))
+apart-rows rows p = apart-first_rows rows [] p

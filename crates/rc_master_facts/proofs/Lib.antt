@@ -13,3 +13,4 @@ pub mod Hosts
 pub mod Writing
 pub mod Told
 pub mod ListRules
+pub mod FollowUps

@@ -36,7 +36,7 @@ use Rattle.rc_master_facts.proofs.Segments.{SegmentSteady, put-moved, steady-mov
 use Rattle.rc_master_facts.proofs.Members.{EachNoted, each-lost, ids-lost, each-replaced, each-new}
 use Rattle.rc_master_facts.proofs.Views.{GoodView, Moved, moved-then_does, still, SamePlace, each-to_ids, place-to_ids}
 use Rattle.rc_master_facts.proofs.Openings.{opens-moved}
-use Rattle.rc_master_facts.proofs.Hosts.{apart-choose, apart-substituted}
+use Rattle.rc_master_facts.proofs.Hosts.{apart-choose, apart-substituted, apart-rows}
 use Rattle.rc_master_facts.proofs.Told.{each-noted, steady-members, config-moved}
 
 -- A segment whole, closed where it is shut, is a Place of it
@@ -281,13 +281,13 @@ moved-obeys sent m master view =
     (moved-replaces_lost_of sent m (numbers_to master.log.head) master view (λ s at. (let p = numbers-In s master.log.head at in record { above = p.0; below = p.1 })))
     (λ now. moved-tries_first (sent ++ (replaces_lost_of (numbers_to master.log.head) master).1) m (replaces_lost_of (numbers_to master.log.head) master).0 now)
 
--- of rows with one id the first counts: those that are up stay on different hosts
-
-up-append : (rows others : List (ServerId × Bool)) → up_rows (rows ++ others) ≡ up_rows rows ++ up_rows others
-up-append [] others = refl
-up-append (row ∷ rows) others = by row.1 (up-append rows others)
+-- a List message, with rows of which those that are up are on different hosts
+pub moved-takes_list : (sent : List Message) (m : ServerId) (master : Master) (version : ℕ) (rows : List (ServerId × Bool)) → GoodView sent m master → OnDifferentHosts (up_rows rows)
+    → Moved sent m master (takes_list master (from_rows version rows))
+moved-takes_list sent m master version rows view apart =
+    either (λ after. Moved sent m master after) (newer_than (from_rows version rows) master.known) (obeys_list knowing) (master, [])
+    (λ _. (let done = moved-obeys sent m knowing (record { log = view.log; fine = view.fine; known = apart-rows rows apart }) in record { log = done.log; known = done.known }))
+    (λ _. still sent m master view)
   where
-    by : (b : Bool) → up_rows (rows ++ others) ≡ up_rows rows ++ up_rows others
-        → cond b (row.0 ∷ up_rows (rows ++ others)) (up_rows (rows ++ others)) ≡ cond b (row.0 ∷ up_rows rows) (up_rows rows) ++ up_rows others
-    by true rec = ap (λ l. row.0 ∷ l) rec
-    by false rec = rec
+    knowing : Master
+    knowing = record master { known = from_rows version rows }
