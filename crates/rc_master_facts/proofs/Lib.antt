@@ -14,3 +14,4 @@ pub mod Writing
 pub mod Told
 pub mod ListRules
 pub mod FollowUps
+pub mod Ticks
