@@ -15,3 +15,4 @@ pub mod Told
 pub mod ListRules
 pub mod FollowUps
 pub mod Ticks
+pub mod Steps
