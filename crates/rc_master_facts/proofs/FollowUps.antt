@@ -1,36 +1,35 @@
 -- The rules that follow up an input, one by one, and then until none applies.
-use Rattle.std.proofs.Common.{◌≡◌, ◌⊎◌, ℕ, zero, suc, ◌+◌, ◌-◌, ◌<◌, ◌≤◌, Bool, true, false, cond, not, nat_eq, nat_lt, ◌&&◌, List, [], ◌∷◌, ◌++◌, length, take, drop, map, filter, find, slice_get, Option, Some, None, Result, Ok, Err, refl, sym, ap, ◌∙◌, subst, inl, inr, arith}
+use Rattle.std.proofs.Common.{◌≡◌, ◌⊎◌, ℕ, zero, suc, ◌+◌, ◌-◌, ◌<◌, Bool, true, false, not, nat_eq, nat_lt, ◌&&◌, List, [], ◌∷◌, ◌++◌, length, take, map, slice_get, Option, Some, None, refl, sym, ap, ◌∙◌, subst, inl, inr, arith}
 use Rattle.std.proofs.lemmas.Bool.{and_parts, eqb-true, ltb-true}
-use Rattle.std.specs.List.{list_all, list_any}
+use Rattle.std.specs.List.{list_any}
 use Rattle.rc_types.specs.declared.ids.ServerId.{ServerId}
 use Rattle.rc_types.specs.declared.ids.Addr.TheVariants.{Server}
 use Rattle.rc_types.specs.declared.entries.Entry.{Entry}
 use Rattle.rc_types.specs.declared.kept.Member.{Member}
 use Rattle.rc_types.specs.declared.kept.Phase.{Phase}
 use Rattle.rc_types.specs.declared.kept.Phase.TheVariants.{Opening, Closing, Writing}
-use Rattle.rc_types.specs.declared.faults.Fault.{Fault}
 use Rattle.rc_types.specs.declared.messages.Message.{Message}
 use Rattle.rc_types.specs.declared.messages.Body.{Body}
 use Rattle.rc_types.specs.declared.messages.Body.TheVariants.{Place, WriteOk, Close, Commit, Free, Ready, Recovered}
 use Rattle.rc_model.specs.Messages.{between, to_coordinator, to_outside}
-use Rattle.rc_model.specs.Config.{Config, told_closed, is_closed, all_placed, all_closed}
+use Rattle.rc_model.specs.Config.{told_closed, is_closed, all_placed, all_closed}
 use Rattle.rc_model.specs.Segment.{Segment, is_ready, is_all_closed}
 use Rattle.rc_model.specs.Log.{Log, LogPlace, places_of, head_of, old_head_of, has_old_head, with_segment, numbers_to, is_opening, is_closing, is_writing, durable_now}
-use Rattle.rc_model.specs.Heads.{is_full, begin_roll, opens_head, next_digest, shuts, with_shut, may_start, may_close, may_write, left_out, with_freed, starts, closes_old, writes_on}
-use Rattle.rc_model.specs.Ownership.{Ownership, after_replay, to_answer, after_answer}
-use Rattle.rc_model.specs.Master.{Master, with_log, durable_entries, to_ids, ids_of, not_lost, to_unlost, places_head, appends_entry, dead_segments}
-use Rattle.rc_model.specs.FollowUps.{when, follows_start, follows_placed, close_is_due, close_marked, follows_closing, frees_segments, follows_shut, first_open, wants_commit, commits, commits_open, follows_change, write_oks, new_durable, follows_stored, rolls_for_replay, replays, follows_data, attempt_of, answers_part, follows_replay, or_rule, follow_up, marks_shut, further, followed, measure, goes_on}
+use Rattle.rc_model.specs.Heads.{is_full, begin_roll, shuts, may_start, may_close, may_write, left_out, with_freed, starts, closes_old, writes_on}
+use Rattle.rc_model.specs.Ownership.{after_replay, to_answer, after_answer}
+use Rattle.rc_model.specs.Master.{Master, with_log, durable_entries, to_ids, ids_of, not_lost, to_unlost, appends_entry, dead_segments}
+use Rattle.rc_model.specs.FollowUps.{when, follows_start, follows_placed, close_is_due, close_marked, follows_closing, frees_segments, follows_shut, first_open, wants_commit, commits, commits_open, follows_change, write_oks, new_durable, follows_stored, rolls_for_replay, replays, follows_data, attempt_of, answers_part, or_rule, follow_up, marks_shut, further, followed, measure, goes_on}
 use Rattle.rc_model.specs.Headline.{In}
 use Rattle.rc_model.proofs.Members.{either, In-append, In-get}
-use Rattle.rc_facts.specs.Words.{log_in, IsOpened, IsMember, HasToldClosed}
+use Rattle.rc_facts.specs.Words.{log_in, IsOpened, HasToldClosed}
 use Rattle.rc_facts.specs.Facts.{IsSafe}
 use Rattle.rc_facts.specs.Later.{LogLater}
 use Rattle.rc_facts.specs.Moves.{OwnFine, MasterSays}
 use Rattle.rc_master_facts.proofs.Lists.{put_same, begins-refl, true_false, get-drop, get-take, In-filter}
-use Rattle.rc_master_facts.proofs.Logs.{split, Grown, safe-grown, told_closed-more}
+use Rattle.rc_master_facts.proofs.Logs.{Grown, safe-grown, told_closed-more}
 use Rattle.rc_master_facts.proofs.Tests.{all-each, find-one, In-map}
-use Rattle.rc_master_facts.proofs.LogMoves.{GoodSegment, GoodLog, LogMoved, MoveParts, more-left, segment-more, moved-log, log_moved-then, new_places}
-use Rattle.rc_master_facts.proofs.Places.{IsOf, numbers-In, places_to-are, place-logged, durable-within}
+use Rattle.rc_master_facts.proofs.LogMoves.{GoodSegment, GoodLog, LogMoved, more-left, segment-more, moved-log, log_moved-then}
+use Rattle.rc_master_facts.proofs.Places.{numbers-In, places_to-are, place-logged, durable-within}
 use Rattle.rc_master_facts.proofs.Safe.{durable-safe}
 use Rattle.rc_master_facts.proofs.Segments.{log-later, later-refl, counted-still, within-still, put-moved, marked-moved}
 use Rattle.rc_master_facts.proofs.Views.{GoodView, Moved, moved-then, moved-quiet, view-after, still, AllQuiet, IsQuietOf, quiet-none, quiet-one, quiet-both, quiet-says, quiet-no_place, quiet-moved, each-to_ids}
@@ -109,23 +108,23 @@ ready-quiet m own is = quiet-one m (to_coordinator own Ready) (record { from = a
 does-start : (sent : List Message) (m : ServerId) (master : Master) → GoodView sent m master → Does sent m master (follows_start master)
 does-start sent m master view = does-when sent m master (may_start master.log) (with_log master (starts master.log), to_coordinator master.log.own Ready ∷ [])
     (λ e. (
-        let both = and_parts (is_opening master.log.phase) (nat_eq master.log.head 1 && is_ready (head_of master.log)) e in
-        let first : master.log.head ≡ 1 = eqb-true master.log.head 1 (and_parts (nat_eq master.log.head 1) (is_ready (head_of master.log)) both.1).0 in
-        record {
-          log = then-quiet sent m master.log (starts master.log) (to_coordinator master.log.own Ready ∷ []) view.log
-              (phase-moved sent m master.log Writing view.log view.fine (λ _. omega arith) (λ _ s above less. absurd (omega arith)) (λ quiet. absurd (quiet refl)))
-              (ready-quiet m master.log.own view.log.own);
-          known = view.known;
-        }))
+    let both = and_parts (is_opening master.log.phase) (nat_eq master.log.head 1 && is_ready (head_of master.log)) e in
+    let first : master.log.head ≡ 1 = eqb-true master.log.head 1 (and_parts (nat_eq master.log.head 1) (is_ready (head_of master.log)) both.1).0 in
+    record {
+      log = then-quiet sent m master.log (starts master.log) (to_coordinator master.log.own Ready ∷ []) view.log
+          (phase-moved sent m master.log Writing view.log view.fine (λ _. omega arith) (λ _ s above less. absurd (omega arith)) (λ quiet. absurd (quiet refl)))
+          (ready-quiet m master.log.own view.log.own);
+      known = view.known;
+    }))
 
 does-placed : (sent : List Message) (m : ServerId) (master : Master) → GoodView sent m master → Does sent m master (follows_placed master)
 does-placed sent m master view = does-when sent m master (may_close master.log) (with_log master (closes_old master.log), [])
     (λ e. (
-        let was : master.log.phase ≡ Opening = opening-is master.log.phase (and_parts (is_opening master.log.phase) (has_old_head master.log && all_placed (head_of master.log).config) e).0 in
-        record {
-          log = phase-moved sent m master.log Closing view.log view.fine (λ writing. closing_writing writing) (λ writing. closing_writing writing) (λ _. view.log.empty (λ writing. opening_writing (sym was ∙ writing)));
-          known = view.known;
-        }))
+    let was : master.log.phase ≡ Opening = opening-is master.log.phase (and_parts (is_opening master.log.phase) (has_old_head master.log && all_placed (head_of master.log).config) e).0 in
+    record {
+      log = phase-moved sent m master.log Closing view.log view.fine (λ writing. closing_writing writing) (λ writing. closing_writing writing) (λ _. view.log.empty (λ writing. opening_writing (sym was ∙ writing)));
+      known = view.known;
+    }))
   where
     closing_writing : {P : Type 0} → Closing ≡ Writing → P
     closing_writing e = cc
@@ -152,23 +151,23 @@ does-closing : (sent : List Message) (m : ServerId) (master : Master) → GoodVi
 does-closing sent m master view = does-when sent m master (close_is_due log)
     (with_log master (close_marked log), messages)
     (λ e. (
-        let second = and_parts (is_closing log.phase) (has_old_head log && ((old_head_of log).config.committed && not (old_head_of log).close_sent)) e in
-        let over = old_head-opened log (and_parts (has_old_head log) ((old_head_of log).config.committed && not (old_head_of log).close_sent) second.1).0 in
-        record {
-          log = marked-moved sent m log (log.head - 1) (record (old_head_of log) { close_sent = true }) messages view.log view.fine
-              (record { above = over.0; below = omega arith }) (record { entries = refl; digest = refl; shut = refl; config = refl })
-              (each-to_ids (MasterSays sent (sent ++ messages) m log (close_marked log)) log.own (ids_of (old_head_of log).config.members) (Close (log.head - 1) (length (old_head_of log).entries)) (λ x at. record {
-                from = ap Server view.log.own;
-                says = record {
-                  above = over.0;
-                  final = over.1;
-                  whole = sym (length-mapped (λ (one : Entry × Bool). one.0) (old_head_of log).entries)
-                      ∙ sym (ap (λ (segment : Segment). length (map (λ (one : Entry × Bool). one.0) segment.entries)) (put_same log.segments (log.head - 1) (record (old_head_of log) { close_sent = true })));
-                };
-              }))
-              (λ x t f digest entries at. close-no_place m log.own (ids_of (old_head_of log).config.members) x t f (log.head - 1) (length (old_head_of log).entries) digest entries false at);
-          known = view.known;
-        }))
+    let second = and_parts (is_closing log.phase) (has_old_head log && ((old_head_of log).config.committed && not (old_head_of log).close_sent)) e in
+    let over = old_head-opened log (and_parts (has_old_head log) ((old_head_of log).config.committed && not (old_head_of log).close_sent) second.1).0 in
+    record {
+      log = marked-moved sent m log (log.head - 1) (record (old_head_of log) { close_sent = true }) messages view.log view.fine
+          (record { above = over.0; below = omega arith }) (record { entries = refl; digest = refl; shut = refl; config = refl })
+          (each-to_ids (MasterSays sent (sent ++ messages) m log (close_marked log)) log.own (ids_of (old_head_of log).config.members) (Close (log.head - 1) (length (old_head_of log).entries)) (λ x at. record {
+            from = ap Server view.log.own;
+            says = record {
+              above = over.0;
+              final = over.1;
+              whole = sym (length-mapped (λ (one : Entry × Bool). one.0) (old_head_of log).entries)
+                  ∙ sym (ap (λ (segment : Segment). length (map (λ (one : Entry × Bool). one.0) segment.entries)) (put_same log.segments (log.head - 1) (record (old_head_of log) { close_sent = true })));
+            };
+          }))
+          (λ x t f digest entries at. close-no_place m log.own (ids_of (old_head_of log).config.members) x t f (log.head - 1) (length (old_head_of log).entries) digest entries false at);
+      known = view.known;
+    }))
   where
     log : Log
     log = master.log
@@ -183,7 +182,7 @@ freed-moved [] sent m log good fine opened = quiet-moved sent m log [] good fine
 freed-moved (s ∷ segs) sent m log good fine opened =
     let next : Log = with_segment s (record (log.segments s) { freed = true }) log in
     let first : LogMoved sent m log next [] = marked-moved sent m log s (record (log.segments s) { freed = true }) [] good fine (opened s (inl refl))
-        (record { entries = refl; digest = refl; shut = refl; config = refl }) (λ message at. absurd at) (λ x t e digest entries at. absurd at) in
+    (record { entries = refl; digest = refl; shut = refl; config = refl }) (λ message at. absurd at) (λ x t e digest entries at. absurd at) in
     log_moved-then sent m log next (with_freed segs next) [] [] good first
     (freed-moved segs (sent ++ []) m next first.good first.fine (λ t at. (let was = opened t (inr at) in record { above = was.above; below = was.below })))
 
@@ -196,21 +195,21 @@ frees-quiet m log (s ∷ segs) own = quiet-both m (to_unlost log s (Free s)) (fr
 does-shut : (sent : List Message) (m : ServerId) (master : Master) → GoodView sent m master → Does sent m master (follows_shut master)
 does-shut sent m master view = does-when sent m master (may_write log) (with_log master (writes_on log), frees_segments log (left_out log))
     (λ e. (
-        let second = and_parts (is_closing log.phase) (has_old_head log && ((old_head_of log).shut && is_ready (head_of log))) e in
-        let third = and_parts (has_old_head log) ((old_head_of log).shut && is_ready (head_of log)) second.1 in
-        let over = old_head-opened log third.0 in
-        let shut : (log.segments (log.head - 1)).shut ≡ true = (and_parts (old_head_of log).shut (is_ready (head_of log)) third.1).0 in
-        let first : LogMoved sent m log (starts log) [] = phase-moved sent m log Writing view.log view.fine (λ _. omega arith) (λ _ s above less. all_shut shut s above less) (λ quiet. absurd (quiet refl)) in
-        let freed : LogMoved (sent ++ []) m (starts log) (writes_on log) [] = freed-moved (left_out log) (sent ++ []) m (starts log) first.good first.fine
-            (λ s at. (
-                let there = (In-filter (λ seg. not (list_any (nat_eq seg) (head_of log).digest)) s (old_head_of log).digest at).0 in
-                let p = (view.log.digests (log.head - 1) (record { above = over.0; below = omega arith })).upto s there in
-                record { above = p.0; below = omega (arith, p.1) })) in
-        record {
-          log = then-quiet sent m log (writes_on log) (frees_segments log (left_out log)) view.log
-              (log_moved-then sent m log (starts log) (writes_on log) [] [] view.log first freed) (frees-quiet m log (left_out log) view.log.own);
-          known = view.known;
-        }))
+    let second = and_parts (is_closing log.phase) (has_old_head log && ((old_head_of log).shut && is_ready (head_of log))) e in
+    let third = and_parts (has_old_head log) ((old_head_of log).shut && is_ready (head_of log)) second.1 in
+    let over = old_head-opened log third.0 in
+    let shut : (log.segments (log.head - 1)).shut ≡ true = (and_parts (old_head_of log).shut (is_ready (head_of log)) third.1).0 in
+    let first : LogMoved sent m log (starts log) [] = phase-moved sent m log Writing view.log view.fine (λ _. omega arith) (λ _ s above less. all_shut shut s above less) (λ quiet. absurd (quiet refl)) in
+    let freed : LogMoved (sent ++ []) m (starts log) (writes_on log) [] = freed-moved (left_out log) (sent ++ []) m (starts log) first.good first.fine
+    (λ s at. (
+    let there = (In-filter (λ seg. not (list_any (nat_eq seg) (head_of log).digest)) s (old_head_of log).digest at).0 in
+    let p = (view.log.digests (log.head - 1) (record { above = over.0; below = omega arith })).upto s there in
+    record { above = p.0; below = omega (arith, p.1) })) in
+    record {
+      log = then-quiet sent m log (writes_on log) (frees_segments log (left_out log)) view.log
+          (log_moved-then sent m log (starts log) (writes_on log) [] [] view.log first freed) (frees-quiet m log (left_out log) view.log.own);
+      known = view.known;
+    }))
   where
     log : Log
     log = master.log
@@ -358,9 +357,9 @@ does-replays sent m master (entry ∷ entries) view writing =
     (λ _. roll-cases (λ result. Does sent m master (rolls_for_replay master result)) master.known (dead_segments master) master.log
     (λ fault. tt) (λ ids chosen. moved-opens_roll sent m master ids view writing chosen))
     (λ _. (
-        let next : Master = record master { ownership = after_replay master.ownership } in
-        let done : Moved sent m next (appends_entry next entry false) = moved-appends sent m next entry false (record { log = view.log; fine = view.fine; known = view.known }) writing in
-        record { log = done.log; known = done.known }))
+    let next : Master = record master { ownership = after_replay master.ownership } in
+    let done : Moved sent m next (appends_entry next entry false) = moved-appends sent m next entry false (record { log = view.log; fine = view.fine; known = view.known }) writing in
+    record { log = done.log; known = done.known }))
 
 does-data : (sent : List Message) (m : ServerId) (master : Master) → GoodView sent m master → Does sent m master (follows_data master)
 does-data sent m master view =

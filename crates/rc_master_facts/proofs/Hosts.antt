@@ -1,6 +1,6 @@
 -- Members on different hosts: those that are chosen, and those after lost ones were replaced.
-use Rattle.std.proofs.Common.{◌≡◌, ◌⊎◌, ℕ, zero, suc, ◌+◌, ◌-◌, ◌%◌, ◌<◌, ◌≤◌, Bool, true, false, cond, not, nat_eq, nat_lt, ◌&&◌, ◌||◌, List, [], ◌∷◌, ◌++◌, length, take, drop, map, filter, find, Option, Some, None, refl, sym, ap, ◌∙◌, subst, inl, inr, arith}
-use Rattle.std.proofs.lemmas.Bool.{and_parts, eq-eqb}
+use Rattle.std.proofs.Common.{◌≡◌, ◌⊎◌, ℕ, zero, suc, ◌-◌, ◌%◌, Bool, true, false, cond, not, nat_eq, nat_lt, List, [], ◌∷◌, ◌++◌, length, take, drop, map, filter, Option, Some, None, refl, sym, ap, ◌∙◌, subst, inl, inr}
+use Rattle.std.proofs.lemmas.Bool.{eq-eqb}
 use Rattle.std.proofs.lemmas.List.{append-nil, append_assoc}
 use Rattle.std.specs.List.{list_any}
 use Rattle.std.specs.Option.{option_map}
@@ -148,7 +148,7 @@ then-parts (Some id) others ids e = by (others id) refl e
 substitutes-each : (P : List ServerId → List Member → List ServerId → Type 0) (ids : List ServerId)
     → ((taken : List ServerId) → P taken [] [])
     → ((taken : List ServerId) (member : Member) (members : List Member) (id : ServerId) (rest : List ServerId) → member.lost ≡ true → first_free ids taken ≡ Some id → substitutes ids (id ∷ taken) members ≡ Some rest
-        → P (id ∷ taken) members rest → P taken (member ∷ members) (id ∷ rest))
+    → P (id ∷ taken) members rest → P taken (member ∷ members) (id ∷ rest))
     → ((taken : List ServerId) (member : Member) (members : List Member) (found : List ServerId) → member.lost ≡ false → substitutes ids taken members ≡ Some found → P taken members found → P taken (member ∷ members) found)
     → (taken : List ServerId) (members : List Member) (found : List ServerId) → substitutes ids taken members ≡ Some found → P taken members found
 substitutes-each P ids none lost stays taken [] found e = let same : [] ≡ found = cc in subst (λ l. P taken [] l) same (none taken)
@@ -237,14 +237,16 @@ replaced-apart ids taken members found e = substitutes-each StillApart ids
     (λ other within p. tt)
     (λ other member more id rest lost first_is rest_is rec within p.
     let still_in : (y : ServerId) → In y (staying more) → In y other = λ y at. within y (subst (λ l. In y l) (sym (staying-lost member more lost)) at) in
-    subst (λ l. OnDifferentHosts (ids_of l)) (sym (replaced-lost member more id rest lost))
-    (not_on-each id (ids_of (replaced more rest)) (λ y at same. lost_first other more id rest first_is rest_is still_in y (replaced-only ids (id ∷ other) more rest rest_is y at) same),
-    rec (λ y at. inr (still_in y at)) p.1))
+    subst (λ l. OnDifferentHosts (ids_of l)) (sym (replaced-lost member more id rest lost)) (
+      not_on-each id (ids_of (replaced more rest)) (λ y at same. lost_first other more id rest first_is rest_is still_in y (replaced-only ids (id ∷ other) more rest rest_is y at) same),
+      rec (λ y at. inr (still_in y at)) p.1,
+    ))
     (λ other member more some stays is rec within p.
     let still_in : (y : ServerId) → (y ≡ member.id) ⊎ In y (staying more) → In y other = λ y at. within y (subst (λ l. In y l) (sym (staying-stays member more stays)) at) in
-    subst (λ l. OnDifferentHosts (ids_of l)) (sym (replaced-stays member more some stays))
-    (not_on-each member.id (ids_of (replaced more some)) (λ y at same. stays_first other member more some is still_in p.0 y (replaced-only ids other more some is y at) same),
-    rec (λ y at. still_in y (inr at)) p.1)) taken members found e
+    subst (λ l. OnDifferentHosts (ids_of l)) (sym (replaced-stays member more some stays)) (
+      not_on-each member.id (ids_of (replaced more some)) (λ y at same. stays_first other member more some is still_in p.0 y (replaced-only ids other more some is y at) same),
+      rec (λ y at. still_in y (inr at)) p.1,
+    )) taken members found e
   where
     lost_first : (other : List ServerId) (more : List Member) (id : ServerId) (rest : List ServerId) → first_free ids other ≡ Some id → substitutes ids (id ∷ other) more ≡ Some rest
         → ((y : ServerId) → In y (staying more) → In y other) → (y : ServerId) → In y rest ⊎ In y (staying more) → id.index ≡ y.index → ⊥

@@ -1,39 +1,33 @@
 -- Lost members are replaced, and the first head is opened.
-use Rattle.std.proofs.Common.{◌≡◌, ◌⊎◌, ℕ, ◌+◌, ◌<◌, ◌≤◌, Bool, true, false, cond, nat_eq, nat_lt, ◌&&◌, List, [], ◌∷◌, ◌++◌, length, map, Option, Some, None, Result, Ok, Err, refl, sym, ap, ◌∙◌, subst, inl, inr, arith}
+use Rattle.std.proofs.Common.{◌≡◌, ◌⊎◌, ℕ, ◌+◌, ◌<◌, ◌≤◌, Bool, true, false, nat_eq, nat_lt, ◌&&◌, List, [], ◌∷◌, ◌++◌, length, map, Option, Some, None, Ok, Err, refl, sym, ap, ◌∙◌, subst, inl, inr, arith}
 use Rattle.std.proofs.lemmas.Bool.{and_parts, eqb-true}
-use Rattle.std.proofs.lemmas.List.{append-nil, append_assoc}
 use Rattle.rc_types.specs.declared.ids.ServerId.{ServerId}
 use Rattle.rc_types.specs.declared.ids.Addr.TheVariants.{Server}
 use Rattle.rc_types.specs.declared.entries.Entry.{Entry}
 use Rattle.rc_types.specs.declared.kept.Member.{Member}
-use Rattle.rc_types.specs.declared.kept.Phase.TheVariants.{Writing}
-use Rattle.rc_types.specs.declared.faults.Fault.{Fault}
-use Rattle.rc_types.specs.declared.faults.Fault.TheVariants.{NoBackups, EpochsExhausted}
+use Rattle.rc_types.specs.declared.faults.Fault.TheVariants.{EpochsExhausted}
 use Rattle.rc_types.specs.declared.limits.TheConstants.{LAST_EPOCH}
 use Rattle.rc_types.specs.declared.messages.Message.{Message}
 use Rattle.rc_types.specs.declared.messages.Body.TheVariants.{Place}
-use Rattle.rc_model.specs.Tables.{put}
 use Rattle.rc_model.specs.Messages.{between}
-use Rattle.rc_model.specs.ServerList.{ServerList, knows, first_rows, from_rows, newer_than, is_up, up_rows}
-use Rattle.rc_model.specs.Config.{Config, new_member, candidates, choose, lost_if_crashed, with_lost, any_lost, staying, substitutes, substitutes_for, replaced, changed, changes_to, lose, refills_with, refill}
+use Rattle.rc_model.specs.ServerList.{ServerList, from_rows, newer_than, is_up, up_rows}
+use Rattle.rc_model.specs.Config.{Config, candidates, choose, lost_if_crashed, with_lost, any_lost, substitutes_for, replaced, changed, changes_to, lose, refills_with, refill}
 use Rattle.rc_model.specs.Segment.{Segment, under_new_epoch}
 use Rattle.rc_model.specs.Log.{Log, with_segment, numbers_to}
-use Rattle.rc_model.specs.Heads.{opens_head, opened_first, open_first, with_config, opens_change, refills, loses}
-use Rattle.rc_model.specs.Master.{Master, with_log, to_ids, ids_of, place_of, places_head}
-use Rattle.rc_model.specs.ListRules.{then_does, places_segment, replaces_lost, replaces_lost_of, opens_first, tries_first, obeys_list, takes_list}
+use Rattle.rc_model.specs.Heads.{opened_first, open_first, with_config, opens_change, refills, loses}
+use Rattle.rc_model.specs.Master.{Master, with_log, to_ids, ids_of, place_of}
+use Rattle.rc_model.specs.ListRules.{places_segment, replaces_lost, replaces_lost_of, opens_first, tries_first, obeys_list, takes_list}
 use Rattle.rc_model.specs.Headline.{In}
 use Rattle.rc_model.proofs.Members.{either, In-right}
-use Rattle.rc_facts.specs.Words.{Begins, log_in, IsOpened, IsMember, OnDifferentHosts}
+use Rattle.rc_facts.specs.Words.{log_in, IsOpened, OnDifferentHosts}
 use Rattle.rc_facts.specs.Facts.{IsPlace}
-use Rattle.rc_facts.specs.Later.{IsNewPlace}
 use Rattle.rc_facts.specs.Moves.{OwnFine, MasterSays}
 use Rattle.rc_master_facts.proofs.Lists.{put_same, begins-refl, true_false}
-use Rattle.rc_master_facts.proofs.Logs.{split}
 use Rattle.rc_master_facts.proofs.Tests.{map-In}
-use Rattle.rc_master_facts.proofs.LogMoves.{GoodSegment, GoodLog, LogMoved, IsFresh, more-left}
+use Rattle.rc_master_facts.proofs.LogMoves.{GoodLog, LogMoved, IsFresh}
 use Rattle.rc_master_facts.proofs.Places.{numbers-In}
 use Rattle.rc_master_facts.proofs.Segments.{SegmentSteady, put-moved, steady-moved}
-use Rattle.rc_master_facts.proofs.Members.{EachNoted, each-lost, ids-lost, each-replaced, each-new}
+use Rattle.rc_master_facts.proofs.Members.{each-lost, ids-lost, each-replaced, each-new}
 use Rattle.rc_master_facts.proofs.Views.{GoodView, Moved, moved-then_does, still, SamePlace, each-to_ids, place-to_ids}
 use Rattle.rc_master_facts.proofs.Openings.{opens-moved}
 use Rattle.rc_master_facts.proofs.Hosts.{apart-choose, apart-substituted, apart-rows}
@@ -71,8 +65,8 @@ marked-log sent m log s servers good fine opened =
 
 refilled-log : (sent : List Message) (m : ServerId) (log : Log) (s : ℕ) (servers : ServerList) (ids : List ServerId) → GoodLog sent m log → OwnFine sent m log → IsOpened log s → (log.segments s).shut ≡ true
     → LogMoved sent m log (with_config s (record (with_lost servers (log.segments s).config) { members = replaced (with_lost servers (log.segments s).config).members ids }) log)
-        (to_ids log.own ids (place_of (with_config s (record (with_lost servers (log.segments s).config) { members = replaced (with_lost servers (log.segments s).config).members ids }) log) s
-            ((with_config s (record (with_lost servers (log.segments s).config) { members = replaced (with_lost servers (log.segments s).config).members ids }) log).segments s).shut))
+    (to_ids log.own ids (place_of (with_config s (record (with_lost servers (log.segments s).config) { members = replaced (with_lost servers (log.segments s).config).members ids }) log) s
+    ((with_config s (record (with_lost servers (log.segments s).config) { members = replaced (with_lost servers (log.segments s).config).members ids }) log).segments s).shut))
 refilled-log sent m log s servers ids good fine opened shut =
     steady-moved sent m log s new messages good fine opened steady
     (each-to_ids (MasterSays sent (sent ++ messages) m log log_now) log.own ids (place_of log_now s (log_now.segments s).shut) (λ x at. record {
@@ -86,8 +80,8 @@ refilled-log sent m log s servers ids good fine opened shut =
       );
     }))
     (λ x t e digest entries at. (
-        let place = place-to_ids m log.own ids x t e s (log_now.segments s).config.epoch digest (log_now.segments s).digest entries (log_in log_now s) false (log_now.segments s).shut at in
-        true_false (sym shut_now ∙ sym place.1.closed_is)))
+    let place = place-to_ids m log.own ids x t e s (log_now.segments s).config.epoch digest (log_now.segments s).digest entries (log_in log_now s) false (log_now.segments s).shut at in
+    true_false (sym shut_now ∙ sym place.1.closed_is)))
   where
     config : Config
     config = record (with_lost servers (log.segments s).config) { members = replaced (with_lost servers (log.segments s).config).members ids }
@@ -118,9 +112,9 @@ refilled-log sent m log s servers ids good fine opened shut =
 changed-log : (sent : List Message) (m : ServerId) (log : Log) (s : ℕ) (servers : ServerList) (ids : List ServerId) → GoodLog sent m log → OwnFine sent m log → IsOpened log s → (log.segments s).shut ≡ false
     → substitutes_for log.own servers (with_lost servers (log.segments s).config) ≡ Some ids
     → LogMoved sent m log (with_segment s (under_new_epoch (changed (with_lost servers (log.segments s).config) ids) (log.segments s)) log)
-        (to_ids log.own (map (λ member. member.id) (changed (with_lost servers (log.segments s).config) ids).members)
-            (place_of (with_segment s (under_new_epoch (changed (with_lost servers (log.segments s).config) ids) (log.segments s)) log) s
-            ((with_segment s (under_new_epoch (changed (with_lost servers (log.segments s).config) ids) (log.segments s)) log).segments s).shut))
+    (to_ids log.own (map (λ member. member.id) (changed (with_lost servers (log.segments s).config) ids).members)
+    (place_of (with_segment s (under_new_epoch (changed (with_lost servers (log.segments s).config) ids) (log.segments s)) log) s
+    ((with_segment s (under_new_epoch (changed (with_lost servers (log.segments s).config) ids) (log.segments s)) log).segments s).shut))
 changed-log sent m log s servers ids good fine opened open_now found = put-moved sent m log s new messages good fine (record {
   opened = opened;
   later = record {

@@ -1,5 +1,5 @@
 -- What a move of a master does to its log, and one move after another.
-use Rattle.std.proofs.Common.{◌≡◌, ◌⊎◌, ℕ, ◌+◌, ◌<◌, ◌≤◌, Bool, true, false, List, [], ◌∷◌, ◌++◌, length, map, slice_get, Some, refl, sym, ap, ◌∙◌, subst, inl, inr, arith}
+use Rattle.std.proofs.Common.{◌≡◌, ◌⊎◌, ℕ, ◌+◌, ◌<◌, ◌≤◌, Bool, true, false, List, [], ◌∷◌, ◌++◌, length, slice_get, Some, refl, sym, ap, ◌∙◌, subst, inl, inr, arith}
 use Rattle.std.proofs.lemmas.List.{append_assoc}
 use Rattle.rc_types.specs.declared.ids.ServerId.{ServerId}
 use Rattle.rc_types.specs.declared.ids.Addr.{Addr}
@@ -10,19 +10,19 @@ use Rattle.rc_types.specs.declared.kept.Phase.{Phase}
 use Rattle.rc_types.specs.declared.kept.Phase.TheVariants.{Writing}
 use Rattle.rc_types.specs.declared.messages.Message.{Message}
 use Rattle.rc_types.specs.declared.messages.Body.{Body}
-use Rattle.rc_types.specs.declared.messages.Body.TheVariants.{Place, Append, Close, WriteOk, ReadOk, Refused, Commit, Enlist, Ready, Fetch, Recovered, Free, Stored}
+use Rattle.rc_types.specs.declared.messages.Body.TheVariants.{Place, Append, Close, WriteOk, Stored}
 use Rattle.rc_model.specs.Messages.{between}
 use Rattle.rc_model.specs.Config.{told_len, told_closed}
 use Rattle.rc_model.specs.Segment.{Segment, no_segment}
 use Rattle.rc_model.specs.Log.{Log, LogPlace, places_of}
 use Rattle.rc_model.specs.Master.{ids_of}
 use Rattle.rc_model.specs.Headline.{In}
-use Rattle.rc_model.proofs.Members.{In-left, In-right, In-append}
+use Rattle.rc_model.proofs.Members.{In-left, In-append}
 use Rattle.rc_facts.specs.Words.{log_in, IsOpened, HasTold, HasToldClosed, IsMember, IsCommitted, OnDifferentHosts}
 use Rattle.rc_facts.specs.Facts.{IsSafe, IsDigest, IsPlace}
 use Rattle.rc_facts.specs.Later.{LogLater, IsNewPlace}
 use Rattle.rc_facts.specs.Moves.{OwnFine, MasterSays, body_said}
-use Rattle.rc_master_facts.proofs.Logs.{More, Grown, member-more, told-more, told_closed-more, committed-more, length-log, log_later-trans, log_later-refl, log_later-more, safe-grown, digest-grown, place-grown, append-grown, close-grown, write_ok-grown, own_fine-grown}
+use Rattle.rc_master_facts.proofs.Logs.{More, Grown, member-more, told-more, told_closed-more, committed-more, length-log, log_later-trans, safe-grown, digest-grown, place-grown, append-grown, close-grown, write_ok-grown, own_fine-grown}
 
 -- What holds of a log
 

@@ -1,14 +1,13 @@
 -- From one view of a master's log to a later one: what holds of the old one holds of the new.
-use Rattle.std.proofs.Common.{◌≡◌, ◌⊎◌, ℕ, ◌+◌, ◌<◌, ◌≤◌, Bool, true, false, List, [], ◌∷◌, ◌++◌, length, map, slice_get, Some, refl, sym, ap, ◌∙◌, subst, inl, inr, arith}
+use Rattle.std.proofs.Common.{◌≡◌, ◌⊎◌, ℕ, ◌+◌, ◌<◌, ◌≤◌, Bool, true, false, List, length, map, slice_get, Some, refl, sym, ap, ◌∙◌, subst, inl, inr, arith}
 use Rattle.rc_types.specs.declared.ids.ServerId.{ServerId}
 use Rattle.rc_types.specs.declared.entries.Entry.{Entry}
 use Rattle.rc_types.specs.declared.messages.Message.{Message}
 use Rattle.rc_types.specs.declared.messages.Body.TheVariants.{Place, Stored}
 use Rattle.rc_model.specs.Messages.{between}
 use Rattle.rc_model.specs.Log.{Log}
-use Rattle.rc_model.specs.Master.{ids_of}
 use Rattle.rc_model.specs.Headline.{In}
-use Rattle.rc_facts.specs.Words.{Begins, log_in, Stands, IsOpened, HasTold, HasToldClosed, IsMember, IsPlacedAt, IsCommitted}
+use Rattle.rc_facts.specs.Words.{Begins, log_in, IsOpened, HasTold, HasToldClosed, IsMember, IsPlacedAt, IsCommitted}
 use Rattle.rc_facts.specs.Facts.{IsSafe, IsOutdated, IsDead, IsDigest, IsPlace, IsAppend, IsClose, IsWriteOk, IsTold}
 use Rattle.rc_facts.specs.Later.{LogLater, IsNewPlace}
 use Rattle.rc_facts.specs.Moves.{OwnFine}
@@ -242,7 +241,7 @@ told-grown sent sent_now m old new x s e len closed grown p = record {
 -- the Places and what was told, given what is new of them
 pub own_fine-grown : (sent sent_now : List Message) (m : ServerId) (old new : Log) → Grown sent sent_now m old new → OwnFine sent m old
     → ((x : ServerId) (s e : ℕ) (digest : List ℕ) (entries : List Entry) (closed : Bool) → In (between m x (Place s e digest entries closed)) sent_now →
-        In (between m x (Place s e digest entries closed)) sent ⊎ IsPlace sent_now m new x s e digest entries closed)
+    In (between m x (Place s e digest entries closed)) sent ⊎ IsPlace sent_now m new x s e digest entries closed)
     → ((x : ServerId) (s e len : ℕ) (closed : Bool) → In (between x m (Stored s e len closed)) sent_now → In (between x m (Stored s e len closed)) sent)
     → OwnFine sent_now m new
 own_fine-grown sent sent_now m old new grown fine new_places no_stored = record {

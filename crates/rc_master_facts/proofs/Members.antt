@@ -1,6 +1,6 @@
 -- Lists of members: what is noted of them, who they are, and whose place is given to another.
-use Rattle.std.proofs.Common.{◌≡◌, ◌⊎◌, ℕ, zero, suc, ◌+◌, ◌<◌, ◌≤◌, max, Bool, true, false, cond, not, ◌&&◌, ◌||◌, List, [], ◌∷◌, ◌++◌, length, map, Option, Some, None, refl, sym, ap, ◌∙◌, subst, inl, inr, arith}
-use Rattle.std.proofs.lemmas.Bool.{and_parts, eqb-true}
+use Rattle.std.proofs.Common.{◌≡◌, ◌⊎◌, ℕ, ◌<◌, max, Bool, true, false, not, ◌||◌, List, [], ◌∷◌, map, Option, Some, None, refl, sym, ap, ◌∙◌, subst, inl, inr, arith}
+use Rattle.std.proofs.lemmas.Bool.{and_parts}
 use Rattle.rc_types.specs.declared.ids.ServerId.{ServerId}
 use Rattle.rc_types.specs.declared.kept.Member.{Member}
 use Rattle.rc_types.specs.declared.kept.Told.{Told}
@@ -9,12 +9,12 @@ use Rattle.rc_types.specs.declared.messages.Body.TheVariants.{Stored}
 use Rattle.rc_model.specs.Ids.{same_id}
 use Rattle.rc_model.specs.Messages.{between}
 use Rattle.rc_model.specs.ServerList.{ServerList, has_crashed}
-use Rattle.rc_model.specs.Config.{new_member, told_with, is_heard, told_if_heard, told_len, told_closed, is_closed, lost_if_crashed, replaced}
+use Rattle.rc_model.specs.Config.{new_member, told_with, is_heard, told_if_heard, told_len, told_closed, lost_if_crashed, replaced}
 use Rattle.rc_model.specs.Master.{ids_of, not_lost}
 use Rattle.rc_model.specs.Headline.{In}
 use Rattle.rc_model.proofs.Members.{either}
 use Rattle.rc_facts.specs.Words.{HasTold, HasToldClosed}
-use Rattle.rc_master_facts.proofs.Lists.{same_id-true, true_false, In-filter}
+use Rattle.rc_master_facts.proofs.Lists.{same_id-true, In-filter}
 use Rattle.rc_master_facts.proofs.Tests.{In-map}
 
 -- What is noted of one member was told

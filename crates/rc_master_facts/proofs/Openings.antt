@@ -1,14 +1,10 @@
 -- A head is opened.
-use Rattle.std.proofs.Common.{◌≡◌, ◌⊎◌, ℕ, ◌+◌, ◌<◌, ◌≤◌, Bool, true, false, List, [], ◌∷◌, ◌++◌, length, map, Some, refl, sym, ap, ◌∙◌, subst, inl, inr, arith}
+use Rattle.std.proofs.Common.{◌≡◌, ◌⊎◌, ℕ, ◌+◌, ◌<◌, ◌≤◌, Bool, true, false, List, [], ◌∷◌, ◌++◌, length, map, refl, sym, ap, ◌∙◌, subst, inl, inr, arith}
 use Rattle.rc_types.specs.declared.ids.ServerId.{ServerId}
-use Rattle.rc_types.specs.declared.ids.Addr.TheVariants.{Server}
 use Rattle.rc_types.specs.declared.entries.Entry.{Entry}
-use Rattle.rc_types.specs.declared.kept.Phase.{Phase}
 use Rattle.rc_types.specs.declared.kept.Phase.TheVariants.{Opening, Writing}
 use Rattle.rc_types.specs.declared.messages.Message.{Message}
-use Rattle.rc_types.specs.declared.messages.Body.{Body}
 use Rattle.rc_types.specs.declared.messages.Body.TheVariants.{Place}
-use Rattle.rc_model.specs.Tables.{put}
 use Rattle.rc_model.specs.Messages.{between}
 use Rattle.rc_model.specs.Config.{new_member}
 use Rattle.rc_model.specs.Segment.{Segment, no_segment, new_segment}
@@ -17,16 +13,15 @@ use Rattle.rc_model.specs.Heads.{opens_head}
 use Rattle.rc_model.specs.Master.{to_ids, ids_of, places_head}
 use Rattle.rc_model.specs.Headline.{In}
 use Rattle.rc_model.proofs.Members.{In-right}
-use Rattle.rc_facts.specs.Words.{Begins, log_in, IsMember, OnDifferentHosts}
-use Rattle.rc_facts.specs.Facts.{IsDead, IsDigest, IsPlace}
-use Rattle.rc_facts.specs.Later.{LogLater, IsNewPlace}
+use Rattle.rc_facts.specs.Words.{log_in, IsMember, OnDifferentHosts}
+use Rattle.rc_facts.specs.Facts.{IsDead, IsDigest}
+use Rattle.rc_facts.specs.Later.{LogLater}
 use Rattle.rc_facts.specs.Moves.{OwnFine, MasterSays}
 use Rattle.rc_master_facts.proofs.Lists.{put_each, put_same, true_false, begins-refl}
-use Rattle.rc_master_facts.proofs.Logs.{Grown, dead-grown, member-more, told-more, told_closed-more, committed-more}
+use Rattle.rc_master_facts.proofs.Logs.{dead-grown, member-more, told-more, told_closed-more, committed-more}
 use Rattle.rc_master_facts.proofs.Tests.{In-map, map-In}
-use Rattle.rc_master_facts.proofs.LogMoves.{GoodLog, GoodSegment, LogMoved, IsFresh, MoveParts, more-left, new_places, moved-log}
+use Rattle.rc_master_facts.proofs.LogMoves.{GoodLog, GoodSegment, LogMoved, IsFresh, more-left, new_places, moved-log}
 use Rattle.rc_master_facts.proofs.Segments.{SegmentLater, log-later, later-refl, counted-still, within-still}
-use Rattle.rc_master_facts.proofs.Members.{noted-new}
 use Rattle.rc_master_facts.proofs.Views.{each-to_ids, place-to_ids}
 
 not_writing : {P : Type 0} → Opening ≡ Writing → P
@@ -48,10 +43,10 @@ placed_on m log digest ids = to_ids m ids (Place (log.head + 1) 0 digest [] fals
 -- what the new head's members are sent
 placed_head : (m : ServerId) (log : Log) (digest : List ℕ) (ids : List ServerId) → log.own ≡ m → placed_on m log digest ids ≡ places_head (opens_head log digest ids)
 placed_head m log digest ids own = sym (
-  ap (λ (segment : Segment). to_ids log.own (ids_of segment.config.members) (Place (log.head + 1) segment.config.epoch segment.digest (map (λ (one : Entry × Bool). one.0) segment.entries) false))
-  (put_same log.segments (log.head + 1) (new_segment (log.head + 1) digest ids))
-  ∙ ap (λ others. to_ids log.own others (Place (log.head + 1) 0 digest [] false)) (ids-new ids)
-  ∙ ap (λ id. to_ids id ids (Place (log.head + 1) 0 digest [] false)) own)
+    ap (λ (segment : Segment). to_ids log.own (ids_of segment.config.members) (Place (log.head + 1) segment.config.epoch segment.digest (map (λ (one : Entry × Bool). one.0) segment.entries) false))
+    (put_same log.segments (log.head + 1) (new_segment (log.head + 1) digest ids))
+    ∙ ap (λ others. to_ids log.own others (Place (log.head + 1) 0 digest [] false)) (ids-new ids)
+    ∙ ap (λ id. to_ids id ids (Place (log.head + 1) 0 digest [] false)) own)
 
 opened-moved : (sent : List Message) (m : ServerId) (log : Log) (digest : List ℕ) (ids : List ServerId) → GoodLog sent m log → OwnFine sent m log
     → ((s : ℕ) → 0 < s → s < log.head → (log.segments s).shut ≡ true) → OnDifferentHosts ids → NewDigest sent m log digest

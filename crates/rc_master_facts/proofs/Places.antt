@@ -1,6 +1,6 @@
 -- The places of a log: which they are, that they only grow, and which of them are durable at a moment.
 use Rattle.std.proofs.Common.{◌≡◌, ◌⊎◌, ℕ, zero, suc, ◌+◌, ◌-◌, ◌<◌, ◌≤◌, min, Bool, true, false, cond, List, [], ◌∷◌, ◌++◌, length, map, slice_get, Some, refl, sym, ap, ◌∙◌, subst, inl, inr, arith}
-use Rattle.std.proofs.lemmas.List.{append_assoc, append-nil, map-append, length-append}
+use Rattle.std.proofs.lemmas.List.{append_assoc, map-append, length-append}
 use Rattle.rc_types.specs.declared.ids.ServerId.{ServerId}
 use Rattle.rc_types.specs.declared.entries.Entry.{Entry}
 use Rattle.rc_types.specs.declared.messages.Message.{Message}
@@ -8,11 +8,10 @@ use Rattle.rc_model.specs.Config.{durable_len}
 use Rattle.rc_model.specs.Segment.{Segment, durable_in}
 use Rattle.rc_model.specs.Log.{Log, LogPlace, places_in, places_to, places_of, numbers_to, durable_among, durable_now}
 use Rattle.rc_model.specs.Headline.{In}
-use Rattle.rc_model.proofs.Members.{either, In-left, In-right, In-append}
+use Rattle.rc_model.proofs.Members.{In-left, In-right, In-append}
 use Rattle.rc_facts.specs.Words.{Begins, log_in}
 use Rattle.rc_facts.specs.Later.{LogLater}
-use Rattle.rc_master_facts.proofs.Lists.{get-append, get-within, begins-refl, begins-trans, begins-length}
-use Rattle.rc_master_facts.proofs.Logs.{split}
+use Rattle.rc_master_facts.proofs.Lists.{get-append, get-within, begins-refl, begins-trans}
 use Rattle.rc_master_facts.proofs.Tests.{begins-cons, map-get, map-In}
 
 -- Which they are
@@ -230,8 +229,8 @@ counts segments (suc n) = by (counts segments n) (counts segments n).state (segm
         → (b : Bool) → (segments (suc n)).shut ≡ b → Counts segments (suc n)
     by c (inl (p, full)) true e =
         let sum : counted_to segments (suc n) ≡ length (places_to segments (suc n)) =
-            joined ∙ p.adds (segments (suc n) ∷ []) ∙ ap (λ k. k + one_counts (segments (suc n))) full
-            ∙ ap (λ k. length (places_to segments n) + k) (shut_counts (segments (suc n)) e []) ∙ (let z : length (places_to segments n) + (length (segments (suc n)).entries + 0) ≡ length (places_to segments n) + length (segments (suc n)).entries = omega arith in z) ∙ sym grown in
+        joined ∙ p.adds (segments (suc n) ∷ []) ∙ ap (λ k. k + one_counts (segments (suc n))) full
+        ∙ ap (λ k. length (places_to segments n) + k) (shut_counts (segments (suc n)) e []) ∙ (let z : length (places_to segments n) + (length (segments (suc n)).entries + 0) ≡ length (places_to segments n) + length (segments (suc n)).entries = omega arith in z) ∙ sym grown in
         record {
           covered = λ k place less at. cover k place (λ within there. c.covered k place (omega (arith, full)) there) (λ j is there. at_end j place p (inl e) there) at;
           within = omega (arith, sum);
@@ -239,7 +238,7 @@ counts segments (suc n) = by (counts segments n) (counts segments n).state (segm
         }
     by c (inl (p, full)) false e =
         let sum : counted_to segments (suc n) ≡ length (places_to segments n) + durable_in (segments (suc n)) =
-            joined ∙ p.adds (segments (suc n) ∷ []) ∙ ap (λ k. k + one_counts (segments (suc n))) full ∙ ap (λ k. length (places_to segments n) + k) (open_counts (segments (suc n)) e []) in
+        joined ∙ p.adds (segments (suc n) ∷ []) ∙ ap (λ k. k + one_counts (segments (suc n))) full ∙ ap (λ k. length (places_to segments n) + k) (open_counts (segments (suc n)) e []) in
         record {
           covered = λ k place less at. cover k place (λ within there. c.covered k place (omega (arith, full)) there) (λ j is there. at_end j place p (inr (past _ _ _ _ _ less sum is)) there) at;
           within = under _ _ _ _ _ sum grown (least (durable_len (segments (suc n)).config) (length (segments (suc n)).entries));

@@ -1,7 +1,7 @@
 -- Dead segments, the digest that leaves them out, and a roll.
-use Rattle.std.proofs.Common.{◌≡◌, ◌⊎◌, ℕ, ◌+◌, ◌-◌, ◌%◌, ◌<◌, ◌≤◌, Bool, true, false, cond, not, nat_eq, nat_lt, ◌&&◌, ◌||◌, List, [], ◌∷◌, ◌++◌, length, take, map, filter, slice_get, Option, Some, None, Result, Ok, Err, refl, sym, ap, ◌∙◌, subst, inl, inr, arith}
+use Rattle.std.proofs.Common.{◌≡◌, ◌⊎◌, ℕ, ◌+◌, ◌<◌, ◌≤◌, Bool, true, false, cond, not, nat_eq, nat_lt, ◌&&◌, ◌||◌, List, [], ◌∷◌, ◌++◌, filter, Option, Some, None, Result, Ok, Err, refl, sym, ap, ◌∙◌, subst, inl, inr, arith}
 use Rattle.std.proofs.lemmas.Bool.{and_parts, eqb-true, eq-eqb, ltb-true}
-use Rattle.std.specs.List.{list_all, list_any}
+use Rattle.std.specs.List.{list_any}
 use Rattle.rc_types.specs.declared.ids.ServerId.{ServerId}
 use Rattle.rc_types.specs.declared.entries.Entry.{Entry}
 use Rattle.rc_types.specs.declared.faults.Fault.{Fault}
@@ -15,10 +15,10 @@ use Rattle.rc_model.specs.Config.{choose}
 use Rattle.rc_model.specs.Log.{Log, LogPlace, head_of, places_of, entries_of, is_writing}
 use Rattle.rc_model.specs.Heads.{opens_head, next_digest, rolled, begin_roll}
 use Rattle.rc_model.specs.Versions.{is_of, is_outdated, is_dead}
-use Rattle.rc_model.specs.Master.{Master, with_log, durable_entries, is_dead_segment, dead_segments}
+use Rattle.rc_model.specs.Master.{Master, durable_entries, is_dead_segment, dead_segments}
 use Rattle.rc_model.specs.Headline.{In}
 use Rattle.rc_model.proofs.Members.{either, In-get, In-left, In-right, In-append}
-use Rattle.rc_facts.specs.Words.{log_in, IsOpened}
+use Rattle.rc_facts.specs.Words.{log_in}
 use Rattle.rc_facts.specs.Facts.{IsOutdated, IsDead, IsDigest}
 use Rattle.rc_master_facts.proofs.Lists.{In-filter, true_false}
 use Rattle.rc_master_facts.proofs.Logs.{split}

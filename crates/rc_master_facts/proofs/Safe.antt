@@ -1,21 +1,16 @@
 -- What counts as durable at a moment is safe.
-use Rattle.std.proofs.Common.{◌≡◌, ◌⊎◌, ℕ, ◌<◌, ◌≤◌, min, Bool, true, false, cond, not, ◌&&◌, List, [], ◌∷◌, length, map, slice_get, Some, refl, sym, ap, ◌∙◌, subst, inl, inr, arith}
+use Rattle.std.proofs.Common.{◌≡◌, ◌⊎◌, ℕ, ◌<◌, min, true, false, not, ◌&&◌, List, [], ◌∷◌, length, slice_get, Some, refl, sym, ◌∙◌, subst, inl, inr, arith}
 use Rattle.std.proofs.lemmas.Bool.{and_parts}
-use Rattle.std.proofs.lemmas.List.{length-map}
 use Rattle.rc_types.specs.declared.ids.ServerId.{ServerId}
-use Rattle.rc_types.specs.declared.entries.Entry.{Entry}
 use Rattle.rc_types.specs.declared.kept.Member.{Member}
 use Rattle.rc_types.specs.declared.messages.Message.{Message}
-use Rattle.rc_types.specs.declared.messages.Body.TheVariants.{Place}
-use Rattle.rc_model.specs.Messages.{between}
 use Rattle.rc_model.specs.Config.{Config, told_len, any_lost, least_told, durable_len}
 use Rattle.rc_model.specs.Segment.{Segment, durable_in}
 use Rattle.rc_model.specs.Log.{Log, LogPlace, places_of, durable_now}
-use Rattle.rc_model.specs.Master.{ids_of}
 use Rattle.rc_model.specs.Headline.{In}
 use Rattle.rc_model.proofs.Members.{either}
-use Rattle.rc_facts.specs.Words.{log_in, HasTold, HasToldClosed, IsMember}
-use Rattle.rc_facts.specs.Facts.{IsSafe, IsPlace}
+use Rattle.rc_facts.specs.Words.{log_in, HasTold, IsMember}
+use Rattle.rc_facts.specs.Facts.{IsSafe}
 use Rattle.rc_facts.specs.Moves.{OwnFine}
 use Rattle.rc_master_facts.proofs.Lists.{get-within, true_false}
 use Rattle.rc_master_facts.proofs.Logs.{split}

@@ -1,5 +1,5 @@
 -- A move that changes one segment of the log.
-use Rattle.std.proofs.Common.{◌≡◌, ◌⊎◌, ℕ, ◌+◌, ◌<◌, ◌≤◌, Bool, true, false, List, [], ◌∷◌, ◌++◌, length, map, slice_get, Some, refl, sym, ap, ◌∙◌, subst, inl, inr, arith}
+use Rattle.std.proofs.Common.{◌≡◌, ◌⊎◌, ℕ, ◌<◌, ◌≤◌, Bool, true, false, List, ◌++◌, length, map, slice_get, Some, refl, sym, ap, ◌∙◌, subst, arith}
 use Rattle.rc_types.specs.declared.ids.ServerId.{ServerId}
 use Rattle.rc_types.specs.declared.entries.Entry.{Entry}
 use Rattle.rc_types.specs.declared.kept.Member.{Member}
@@ -7,7 +7,6 @@ use Rattle.rc_types.specs.declared.kept.Phase.{Phase}
 use Rattle.rc_types.specs.declared.kept.Phase.TheVariants.{Writing}
 use Rattle.rc_types.specs.declared.messages.Message.{Message}
 use Rattle.rc_types.specs.declared.messages.Body.TheVariants.{Place}
-use Rattle.rc_model.specs.Tables.{put}
 use Rattle.rc_model.specs.Messages.{between}
 use Rattle.rc_model.specs.Config.{Config, told_len, told_closed}
 use Rattle.rc_model.specs.Segment.{Segment, no_segment}
@@ -18,10 +17,10 @@ use Rattle.rc_facts.specs.Words.{Begins, log_in, IsOpened, HasTold, HasToldClose
 use Rattle.rc_facts.specs.Facts.{IsSafe}
 use Rattle.rc_facts.specs.Later.{LogLater}
 use Rattle.rc_facts.specs.Moves.{OwnFine, MasterSays}
-use Rattle.rc_master_facts.proofs.Lists.{put_each, put_same, begins-refl, begins-length, true_false}
+use Rattle.rc_master_facts.proofs.Lists.{put_each, begins-refl, begins-length, true_false}
 use Rattle.rc_master_facts.proofs.Tests.{get-begins_back}
 use Rattle.rc_master_facts.proofs.Logs.{More, member-more, told-more, told_closed-more, committed-more}
-use Rattle.rc_master_facts.proofs.LogMoves.{GoodSegment, GoodLog, LogMoved, IsFresh, MoveParts, more-left, segment-more, moved-log}
+use Rattle.rc_master_facts.proofs.LogMoves.{GoodSegment, GoodLog, LogMoved, IsFresh, more-left, segment-more, moved-log}
 use Rattle.rc_master_facts.proofs.Places.{places-later}
 
 -- what a change of one segment keeps

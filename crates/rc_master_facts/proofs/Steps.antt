@@ -1,5 +1,5 @@
 -- Each step of a master: what a message does, what its timer does, and its start.
-use Rattle.std.proofs.Common.{◌≡◌, ◌⊎◌, ℕ, ◌+◌, ◌<◌, ◌≤◌, Bool, true, false, cond, List, [], ◌∷◌, ◌++◌, length, map, refl, sym, ap, ◌∙◌, subst, inl, inr, arith}
+use Rattle.std.proofs.Common.{◌≡◌, ℕ, Bool, true, cond, List, [], ◌∷◌, ◌++◌, map, refl, sym, inl, arith}
 use Rattle.rc_types.specs.declared.ids.ServerId.{ServerId}
 use Rattle.rc_types.specs.declared.ids.Addr.{Addr}
 use Rattle.rc_types.specs.declared.ids.Addr.TheVariants.{Server, Coordinator, Outside}
@@ -10,22 +10,22 @@ use Rattle.rc_types.specs.declared.kept.Phase.TheVariants.{Opening, Writing}
 use Rattle.rc_types.specs.declared.messages.Message.{Message}
 use Rattle.rc_types.specs.declared.messages.Body.{Body}
 use Rattle.rc_types.specs.declared.messages.Body.TheVariants.{Write, Read, Stored, CommitOk, Refused, Plan, Data, Own, List as ServersOf}
-use Rattle.rc_model.specs.Messages.{between, from_coordinator}
+use Rattle.rc_model.specs.Messages.{from_coordinator}
 use Rattle.rc_model.specs.ServerList.{up_rows}
 use Rattle.rc_model.specs.Ownership.{knows_term, begin_part, put_data, grant}
-use Rattle.rc_model.specs.Master.{Master, MasterSetup, Task, new_master}
+use Rattle.rc_model.specs.Master.{Master, Task}
 use Rattle.rc_model.specs.ListRules.{then_does}
 use Rattle.rc_model.specs.FollowUps.{goes_on}
 use Rattle.rc_model.specs.MasterTick.{fetch_of, ticks}
 use Rattle.rc_model.specs.MasterStep.{begins_task, task_of, takes_plan, says_deposed, master_takes_first, deposed_takes, master_takes, master_ticks}
 use Rattle.rc_model.specs.Headline.{In}
 use Rattle.rc_model.proofs.Members.{either}
-use Rattle.rc_facts.specs.Words.{IsMember, OnDifferentHosts}
+use Rattle.rc_facts.specs.Words.{OnDifferentHosts}
 use Rattle.rc_facts.specs.Facts.{GoodMaster}
 use Rattle.rc_facts.specs.Moves.{OwnFine, MasterMoved, MayHear}
 use Rattle.rc_master_facts.specs.Claims.{MasterTakesKeeps, MasterTicksKeeps, NewMasterIsGood}
 use Rattle.rc_master_facts.proofs.Lists.{true_false}
-use Rattle.rc_master_facts.proofs.LogMoves.{GoodSegment, GoodLog}
+use Rattle.rc_master_facts.proofs.LogMoves.{GoodLog}
 use Rattle.rc_master_facts.proofs.Views.{GoodView, Moved, moved-then_does, moved-quiet, quiet-none, still}
 use Rattle.rc_master_facts.proofs.Writing.{moved-writes, moved-reads, moved-refused}
 use Rattle.rc_master_facts.proofs.Told.{moved-stored, moved-commit}

@@ -1,5 +1,5 @@
 -- A master's timer: what it says again was right before and is now.
-use Rattle.std.proofs.Common.{◌≡◌, ◌⊎◌, ℕ, suc, ◌+◌, ◌<◌, ◌≤◌, Bool, true, false, cond, not, nat_eq, nat_lt, ◌&&◌, List, [], ◌∷◌, ◌++◌, length, drop, map, filter, slice_get, Option, Some, None, is_some, refl, sym, ap, ◌∙◌, subst, inl, inr, arith}
+use Rattle.std.proofs.Common.{◌≡◌, ◌⊎◌, ℕ, suc, ◌+◌, Bool, true, false, cond, not, nat_eq, nat_lt, ◌&&◌, List, [], ◌∷◌, ◌++◌, length, drop, map, filter, Option, Some, None, is_some, refl, sym, ap, ◌∙◌, subst, inl, inr, arith}
 use Rattle.std.proofs.lemmas.Bool.{and_parts, eqb-true}
 use Rattle.rc_types.specs.declared.ids.ServerId.{ServerId}
 use Rattle.rc_types.specs.declared.ids.Addr.{Addr}
@@ -10,10 +10,9 @@ use Rattle.rc_types.specs.declared.kept.Member.{Member}
 use Rattle.rc_types.specs.declared.kept.Told.{Told}
 use Rattle.rc_types.specs.declared.messages.Message.{Message}
 use Rattle.rc_types.specs.declared.messages.Body.{Body}
-use Rattle.rc_types.specs.declared.messages.Body.TheVariants.{Place, Append, Close, Commit, Enlist, Fetch, Ready, Recovered}
+use Rattle.rc_types.specs.declared.messages.Body.TheVariants.{Place, Append, Close, Commit, Enlist, Ready, Recovered}
 use Rattle.rc_model.specs.Messages.{between, to_coordinator}
 use Rattle.rc_model.specs.ServerList.{is_up}
-use Rattle.rc_model.specs.Segment.{Segment}
 use Rattle.rc_model.specs.Log.{Log, numbers_to, is_closing, is_writing}
 use Rattle.rc_model.specs.Ownership.{PartState}
 use Rattle.rc_model.specs.Master.{Master, Task, ids_of, place_of}
@@ -22,10 +21,9 @@ use Rattle.rc_model.specs.FollowUps.{attempt_of}
 use Rattle.rc_model.specs.MasterTick.{stood, to_remind, is_closing_old, lacking, reminds_member, reminds_members, reminds_open, reminds_shut_members, reminds_shut, awaits_commit, commits_again, has_not_come, fetch_of, fetches_again, awaits_grant, recovered_again, ready_again, reminds, ticks}
 use Rattle.rc_model.specs.Headline.{In}
 use Rattle.rc_model.proofs.Members.{either, In-append}
-use Rattle.rc_facts.specs.Words.{Stands, log_in, IsOpened, IsMember}
-use Rattle.rc_facts.specs.Moves.{OwnFine, MasterSays, body_said}
+use Rattle.rc_facts.specs.Words.{Stands, IsOpened, IsMember}
+use Rattle.rc_facts.specs.Moves.{MasterSays, body_said}
 use Rattle.rc_master_facts.proofs.Lists.{true_false, get-drop, In-filter}
-use Rattle.rc_master_facts.proofs.Logs.{split}
 use Rattle.rc_master_facts.proofs.Tests.{In-map, map-In, get-map, map-get}
 use Rattle.rc_master_facts.proofs.LogMoves.{GoodLog}
 use Rattle.rc_master_facts.proofs.Places.{numbers-In}
@@ -164,9 +162,9 @@ again-members sent sent_now m log s [] good opened open_now are message at = abs
 again-members sent sent_now m log s (member ∷ members) good opened open_now are message at =
     again-both sent sent_now m log (reminds_member log s member) (reminds_members log s members)
     (λ one there. (
-        let found = In-map (λ (body : Body). between log.own member.id body) one (lacking log s member.told) there in
-        subst (Again sent sent_now m log) (sym found.2) (again-to sent sent_now m log member.id found.0 good.own
-        (again-lacking sent sent_now m log member.id s member.told good opened open_now (are member (inl refl)) found.0 found.1))))
+    let found = In-map (λ (body : Body). between log.own member.id body) one (lacking log s member.told) there in
+    subst (Again sent sent_now m log) (sym found.2) (again-to sent sent_now m log member.id found.0 good.own
+    (again-lacking sent sent_now m log member.id s member.told good opened open_now (are member (inl refl)) found.0 found.1))))
     (again-members sent sent_now m log s members good opened open_now (λ other there. are other (inr there))) message at
 
 reminded-are : (before log : Log) (s : ℕ) (member : Member) → In member (to_remind before log s) → In member.id (ids_of (log.segments s).config.members)

@@ -1,8 +1,8 @@
 -- A master's view and its moves; messages that claim nothing.
-use Rattle.std.proofs.Common.{◌≡◌, ◌⊎◌, ℕ, ◌+◌, ◌<◌, ◌≤◌, Bool, true, false, List, [], ◌∷◌, ◌++◌, length, map, Some, refl, sym, ap, ◌∙◌, subst, inl, inr, arith}
+use Rattle.std.proofs.Common.{◌≡◌, ◌⊎◌, ℕ, Bool, false, List, [], ◌∷◌, ◌++◌, refl, sym, ap, subst, inl, inr, arith}
 use Rattle.rc_types.specs.declared.ids.ServerId.{ServerId}
 use Rattle.rc_types.specs.declared.ids.Addr.{Addr}
-use Rattle.rc_types.specs.declared.ids.Addr.TheVariants.{Server, Coordinator, Outside}
+use Rattle.rc_types.specs.declared.ids.Addr.TheVariants.{Server}
 use Rattle.rc_types.specs.declared.entries.Entry.{Entry}
 use Rattle.rc_types.specs.declared.messages.Message.{Message}
 use Rattle.rc_types.specs.declared.messages.Body.{Body}
@@ -18,7 +18,7 @@ use Rattle.rc_facts.specs.Words.{IsMember, OnDifferentHosts}
 use Rattle.rc_facts.specs.Moves.{OwnFine, MasterSays, body_said}
 use Rattle.rc_master_facts.proofs.Logs.{log_later-refl}
 use Rattle.rc_master_facts.proofs.Tests.{In-map}
-use Rattle.rc_master_facts.proofs.LogMoves.{GoodLog, LogMoved, MoveParts, IsFresh, more-left, segment-more, moved-log, log_moved-then}
+use Rattle.rc_master_facts.proofs.LogMoves.{GoodLog, LogMoved, more-left, segment-more, moved-log, log_moved-then}
 
 -- Views
 

@@ -1,5 +1,5 @@
 -- Writes and reads, and an entry that is appended.
-use Rattle.std.proofs.Common.{◌≡◌, ◌⊎◌, ℕ, zero, suc, ◌+◌, ◌<◌, ◌≤◌, Bool, true, false, cond, not, List, [], ◌∷◌, ◌++◌, length, map, slice_get, Option, Some, None, Result, Ok, Err, refl, sym, ap, ◌∙◌, subst, inl, inr, arith}
+use Rattle.std.proofs.Common.{◌≡◌, ℕ, zero, suc, ◌+◌, Bool, true, false, cond, not, List, [], ◌∷◌, ◌++◌, length, map, slice_get, Option, Some, None, refl, sym, ap, ◌∙◌, subst, arith}
 use Rattle.std.proofs.lemmas.List.{map-append}
 use Rattle.rc_types.specs.declared.ids.ServerId.{ServerId}
 use Rattle.rc_types.specs.declared.ids.Addr.TheVariants.{Server}
@@ -18,13 +18,12 @@ use Rattle.rc_model.specs.Heads.{appends, is_full, begin_roll, opens_head, next_
 use Rattle.rc_model.specs.Ownership.{term_of}
 use Rattle.rc_model.specs.Versions.{Found, read_of}
 use Rattle.rc_model.specs.Master.{Master, with_log, durable_entries, to_ids, ids_of, not_lost, places_head, appends_entry, dead_segments}
-use Rattle.rc_model.specs.Writing.{refused, is_too_long, written, rolls_for_write, writes_under, writes_if_owned, writes, read_answer, reads_if_owned, reads}
+use Rattle.rc_model.specs.Writing.{refused, is_too_long, written, rolls_for_write, writes_under, writes_if_owned, writes, reads_if_owned, reads}
 use Rattle.rc_model.specs.Headline.{In}
 use Rattle.rc_model.proofs.Members.{either}
-use Rattle.rc_facts.specs.Words.{Stands, log_in}
+use Rattle.rc_facts.specs.Words.{Stands}
 use Rattle.rc_facts.specs.Moves.{OwnFine, MasterSays}
 use Rattle.rc_master_facts.proofs.Lists.{put_same, get-end, true_false}
-use Rattle.rc_master_facts.proofs.Logs.{split}
 use Rattle.rc_master_facts.proofs.Tests.{In-map}
 use Rattle.rc_master_facts.proofs.LogMoves.{GoodSegment, GoodLog, LogMoved, more-left, segment-more}
 use Rattle.rc_master_facts.proofs.Segments.{put-moved}
@@ -136,11 +135,11 @@ moved-rolls_for_write sent m master view writing =
     roll-cases (λ result. Moved sent m master (rolls_for_write master result)) master.known (dead_segments master) master.log
     (λ fault. moved-refused sent m master fault view)
     (λ ids chosen. (
-        let log : Log = opens_head master.log (next_digest master.log (dead_segments master)) ids in
-        let done : Master × List Message = (with_log master log, places_head log) in
-        let first : Moved sent m master done = moved-opens_roll sent m master ids view writing chosen in
-        moved-then sent m master done (with_log master log, refuses log.own Rolling ∷ []) view first
-        (moved-refused (sent ++ places_head log) m (with_log master log) Rolling (view-after sent m master done first))))
+    let log : Log = opens_head master.log (next_digest master.log (dead_segments master)) ids in
+    let done : Master × List Message = (with_log master log, places_head log) in
+    let first : Moved sent m master done = moved-opens_roll sent m master ids view writing chosen in
+    moved-then sent m master done (with_log master log, refuses log.own Rolling ∷ []) view first
+    (moved-refused (sent ++ places_head log) m (with_log master log) Rolling (view-after sent m master done first))))
 
 -- A write
 
@@ -150,9 +149,9 @@ moved-writes_under sent m master term table key value view =
     (cond (is_full master.log) (rolls_for_write master (begin_roll master.known (dead_segments master) master.log)) (appends_entry master (written master term table key value) true))
     (λ _. moved-refused sent m master Rolling view)
     (λ is. (
-        let writing : master.log.phase ≡ Writing = writing-is master.log.phase (not_not (is_writing master.log.phase) is) in
-        either P (is_full master.log) (rolls_for_write master (begin_roll master.known (dead_segments master) master.log)) (appends_entry master (written master term table key value) true)
-        (λ _. moved-rolls_for_write sent m master view writing) (λ _. moved-appends sent m master (written master term table key value) true view writing)))
+    let writing : master.log.phase ≡ Writing = writing-is master.log.phase (not_not (is_writing master.log.phase) is) in
+    either P (is_full master.log) (rolls_for_write master (begin_roll master.known (dead_segments master) master.log)) (appends_entry master (written master term table key value) true)
+    (λ _. moved-rolls_for_write sent m master view writing) (λ _. moved-appends sent m master (written master term table key value) true view writing)))
   where
     P : Master × List Message → Type 0
     P after = Moved sent m master after
