@@ -2,6 +2,7 @@
 use Rattle.std.proofs.Common.{◌≡◌, ◌⊎◌, ℕ, zero, suc, ◌+◌, ◌-◌, ◌<◌, Bool, true, false, not, nat_eq, nat_lt, ◌&&◌, List, [], ◌∷◌, ◌++◌, length, take, map, slice_get, Option, Some, None, refl, sym, ap, ◌∙◌, subst, inl, inr, arith}
 use Rattle.std.proofs.lemmas.Bool.{and_parts, eqb-true, ltb-true}
 use Rattle.std.specs.List.{list_any}
+use Rattle.std.proofs.lemmas.List.{length-map}
 use Rattle.rc_types.specs.declared.ids.ServerId.{ServerId}
 use Rattle.rc_types.specs.declared.ids.Addr.TheVariants.{Server}
 use Rattle.rc_types.specs.declared.entries.Entry.{Entry}
@@ -25,7 +26,7 @@ use Rattle.rc_facts.specs.Words.{log_in, IsOpened, HasToldClosed}
 use Rattle.rc_facts.specs.Facts.{IsSafe}
 use Rattle.rc_facts.specs.Later.{LogLater}
 use Rattle.rc_facts.specs.Moves.{OwnFine, MasterSays}
-use Rattle.rc_master_facts.proofs.Lists.{put_same, begins-refl, true_false, get-drop, get-take, In-filter}
+use Rattle.rc_facts.proofs.Lists.{put_same, begins-refl, true_false, get-drop, get-take, In-filter}
 use Rattle.rc_master_facts.proofs.Logs.{Grown, safe-grown, told_closed-more}
 use Rattle.rc_master_facts.proofs.Tests.{all-each, find-one, In-map}
 use Rattle.rc_master_facts.proofs.LogMoves.{GoodSegment, GoodLog, LogMoved, more-left, segment-more, moved-log, log_moved-then}
@@ -143,10 +144,6 @@ close-no_place m own ids x s e t len digest entries closed at =
     let found = In-map (λ (id : ServerId). between own id (Close t len)) (between m x (Place s e digest entries closed)) ids at in
     let body : ◌≡◌ {A = Body} (Place s e digest entries closed) (Close t len) = ap (λ (message : Message). message.body) found.2 in cc
 
-length-mapped : {X Y : Type 0} (f : X → Y) (xs : List X) → length (map f xs) ≡ length xs
-length-mapped f [] = refl
-length-mapped f (x ∷ xs) = ap (λ n. suc n) (length-mapped f xs)
-
 does-closing : (sent : List Message) (m : ServerId) (master : Master) → GoodView sent m master → Does sent m master (follows_closing master)
 does-closing sent m master view = does-when sent m master (close_is_due log)
     (with_log master (close_marked log), messages)
@@ -161,7 +158,7 @@ does-closing sent m master view = does-when sent m master (close_is_due log)
             says = record {
               above = over.0;
               final = over.1;
-              whole = sym (length-mapped (λ (one : Entry × Bool). one.0) (old_head_of log).entries)
+              whole = sym (length-map (old_head_of log).entries (λ (one : Entry × Bool). one.0))
                   ∙ sym (ap (λ (segment : Segment). length (map (λ (one : Entry × Bool). one.0) segment.entries)) (put_same log.segments (log.head - 1) (record (old_head_of log) { close_sent = true })));
             };
           }))

@@ -13,7 +13,7 @@ use Rattle.rc_model.specs.Master.{ids_of}
 use Rattle.rc_model.specs.Headline.{In}
 use Rattle.rc_model.proofs.Members.{either, In-left, In-right, In-append}
 use Rattle.rc_facts.specs.Words.{NotOnHostOf, OnDifferentHosts}
-use Rattle.rc_master_facts.proofs.Lists.{In-filter, true_false}
+use Rattle.rc_facts.proofs.Lists.{In-filter, true_false}
 use Rattle.rc_master_facts.proofs.Tests.{any-here, find-one, In-map, map-In}
 use Rattle.rc_master_facts.proofs.LogMoves.{apart-not}
 

@@ -22,7 +22,7 @@ use Rattle.rc_model.proofs.Members.{either, In-right}
 use Rattle.rc_facts.specs.Words.{log_in, IsOpened, OnDifferentHosts}
 use Rattle.rc_facts.specs.Facts.{IsPlace}
 use Rattle.rc_facts.specs.Moves.{OwnFine, MasterSays}
-use Rattle.rc_master_facts.proofs.Lists.{put_same, begins-refl, true_false}
+use Rattle.rc_facts.proofs.Lists.{put_same, begins-refl, true_false}
 use Rattle.rc_master_facts.proofs.Tests.{map-In}
 use Rattle.rc_master_facts.proofs.LogMoves.{GoodLog, LogMoved, IsFresh}
 use Rattle.rc_master_facts.proofs.Places.{numbers-In}

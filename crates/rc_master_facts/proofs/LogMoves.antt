@@ -22,7 +22,8 @@ use Rattle.rc_facts.specs.Words.{log_in, IsOpened, HasTold, HasToldClosed, IsMem
 use Rattle.rc_facts.specs.Facts.{IsSafe, IsDigest, IsPlace}
 use Rattle.rc_facts.specs.Later.{LogLater, IsNewPlace}
 use Rattle.rc_facts.specs.Moves.{OwnFine, MasterSays, body_said}
-use Rattle.rc_master_facts.proofs.Logs.{More, Grown, member-more, told-more, told_closed-more, committed-more, length-log, log_later-trans, safe-grown, digest-grown, place-grown, append-grown, close-grown, write_ok-grown, own_fine-grown}
+use Rattle.rc_facts.proofs.Copies.{More}
+use Rattle.rc_master_facts.proofs.Logs.{Grown, member-more, told-more, told_closed-more, committed-more, length-log, log_later-trans, safe-grown, digest-grown, place-grown, append-grown, close-grown, write_ok-grown, own_fine-grown}
 
 -- What holds of a log
 

@@ -1,5 +1,5 @@
 -- From one view of a master's log to a later one: what holds of the old one holds of the new.
-use Rattle.std.proofs.Common.{◌≡◌, ◌⊎◌, ℕ, ◌+◌, ◌<◌, ◌≤◌, Bool, true, false, List, length, map, slice_get, Some, refl, sym, ap, ◌∙◌, subst, inl, inr, arith}
+use Rattle.std.proofs.Common.{◌≡◌, ◌⊎◌, ℕ, ◌+◌, ◌<◌, ◌≤◌, Bool, true, false, List, length, slice_get, Some, refl, sym, ap, ◌∙◌, subst, inl, inr, arith}
 use Rattle.rc_types.specs.declared.ids.ServerId.{ServerId}
 use Rattle.rc_types.specs.declared.entries.Entry.{Entry}
 use Rattle.rc_types.specs.declared.messages.Message.{Message}
@@ -7,15 +7,12 @@ use Rattle.rc_types.specs.declared.messages.Body.TheVariants.{Place, Stored}
 use Rattle.rc_model.specs.Messages.{between}
 use Rattle.rc_model.specs.Log.{Log}
 use Rattle.rc_model.specs.Headline.{In}
-use Rattle.rc_facts.specs.Words.{Begins, log_in, IsOpened, HasTold, HasToldClosed, IsMember, IsPlacedAt, IsCommitted}
+use Rattle.rc_facts.specs.Words.{log_in, IsOpened, HasTold, HasToldClosed, IsMember, IsPlacedAt, IsCommitted}
 use Rattle.rc_facts.specs.Facts.{IsSafe, IsOutdated, IsDead, IsDigest, IsPlace, IsAppend, IsClose, IsWriteOk, IsTold}
 use Rattle.rc_facts.specs.Later.{LogLater, IsNewPlace}
 use Rattle.rc_facts.specs.Moves.{OwnFine}
-use Rattle.rc_master_facts.proofs.Lists.{true_false, begins-length, get-begins, begins-refl, begins-trans, begins-map}
-
--- all that was sent stays sent
-abbrev pub More : List Message → List Message → Type 0
-More sent sent_now = (message : Message) → In message sent → In message sent_now
+use Rattle.rc_facts.proofs.Copies.{split, More, grows-log, final-log}
+use Rattle.rc_facts.proofs.Lists.{true_false, begins-length, get-begins, begins-refl, begins-trans}
 
 -- What was told, placed or granted stays so
 
@@ -36,13 +33,6 @@ committed-more sent sent_now m s e more (inl first) = inl first
 committed-more sent sent_now m s e more (inr granted) = inr (more _ granted)
 
 -- The log itself
-
-pub grows-log : (sent : List Message) (m : ServerId) (old new : Log) → LogLater sent m old new → (s : ℕ) → Begins (log_in old s) (log_in new s)
-grows-log sent m old new later s =
-    begins-map (λ (one : Entry × Bool). one.0) (old.segments s).entries (new.segments s).entries (later.grows s)
-
-pub final-log : (sent : List Message) (m : ServerId) (old new : Log) → LogLater sent m old new → (s : ℕ) → s < old.head → log_in new s ≡ log_in old s
-final-log sent m old new later s below = ap (map (λ (one : Entry × Bool). one.0)) (later.final s below)
 
 pub length-log : (sent : List Message) (m : ServerId) (old new : Log) → LogLater sent m old new → (s : ℕ) → length (log_in old s) ≤ length (log_in new s)
 length-log sent m old new later s = begins-length (log_in old s) (log_in new s) (grows-log sent m old new later s)
@@ -76,11 +66,6 @@ log_later-more sent sent_now m old new more later = record {
   joined = later.joined;
   shuts = λ s x upto before shut same at. told_closed-more more (later.shuts s x upto before shut same at);
 }
-
--- either value of a test
-pub split : {P : Type 0} (b : Bool) → (b ≡ true → P) → (b ≡ false → P) → P
-split true then_ else_ = then_ refl
-split false then_ else_ = else_ refl
 
 -- a number between two equal ones
 between_same : (a b c : ℕ) → a ≤ b → b ≤ c → c ≡ a → b ≡ a

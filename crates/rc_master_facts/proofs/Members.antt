@@ -14,7 +14,7 @@ use Rattle.rc_model.specs.Master.{ids_of, not_lost}
 use Rattle.rc_model.specs.Headline.{In}
 use Rattle.rc_model.proofs.Members.{either}
 use Rattle.rc_facts.specs.Words.{HasTold, HasToldClosed}
-use Rattle.rc_master_facts.proofs.Lists.{same_id-true, In-filter}
+use Rattle.rc_facts.proofs.Lists.{same_id-true, In-filter}
 use Rattle.rc_master_facts.proofs.Tests.{In-map}
 
 -- What is noted of one member was told

@@ -17,7 +17,7 @@ use Rattle.rc_facts.specs.Words.{log_in, IsMember, OnDifferentHosts}
 use Rattle.rc_facts.specs.Facts.{IsDead, IsDigest}
 use Rattle.rc_facts.specs.Later.{LogLater}
 use Rattle.rc_facts.specs.Moves.{OwnFine, MasterSays}
-use Rattle.rc_master_facts.proofs.Lists.{put_each, put_same, true_false, begins-refl}
+use Rattle.rc_facts.proofs.Lists.{put_each, put_same, true_false, begins-refl}
 use Rattle.rc_master_facts.proofs.Logs.{dead-grown, member-more, told-more, told_closed-more, committed-more}
 use Rattle.rc_master_facts.proofs.Tests.{In-map, map-In}
 use Rattle.rc_master_facts.proofs.LogMoves.{GoodLog, GoodSegment, LogMoved, IsFresh, more-left, new_places, moved-log}

@@ -11,7 +11,7 @@ use Rattle.rc_model.specs.Headline.{In}
 use Rattle.rc_model.proofs.Members.{In-left, In-right, In-append}
 use Rattle.rc_facts.specs.Words.{Begins, log_in}
 use Rattle.rc_facts.specs.Later.{LogLater}
-use Rattle.rc_master_facts.proofs.Lists.{get-append, get-within, begins-refl, begins-trans}
+use Rattle.rc_facts.proofs.Lists.{get-append, get-within, begins-refl, begins-trans}
 use Rattle.rc_master_facts.proofs.Tests.{begins-cons, map-get, map-In}
 
 -- Which they are

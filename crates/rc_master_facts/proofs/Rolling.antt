@@ -20,8 +20,8 @@ use Rattle.rc_model.specs.Headline.{In}
 use Rattle.rc_model.proofs.Members.{either, In-get, In-left, In-right, In-append}
 use Rattle.rc_facts.specs.Words.{log_in}
 use Rattle.rc_facts.specs.Facts.{IsOutdated, IsDead, IsDigest}
-use Rattle.rc_master_facts.proofs.Lists.{In-filter, true_false}
-use Rattle.rc_master_facts.proofs.Logs.{split}
+use Rattle.rc_facts.proofs.Lists.{In-filter, true_false}
+use Rattle.rc_facts.proofs.Copies.{split}
 use Rattle.rc_master_facts.proofs.Tests.{all-each, any-one, filter-In, get-map, In-take}
 use Rattle.rc_master_facts.proofs.LogMoves.{GoodLog}
 use Rattle.rc_master_facts.proofs.Places.{IsOf, places_to-are, place-logged}

@@ -12,8 +12,8 @@ use Rattle.rc_model.proofs.Members.{either}
 use Rattle.rc_facts.specs.Words.{log_in, HasTold, IsMember}
 use Rattle.rc_facts.specs.Facts.{IsSafe}
 use Rattle.rc_facts.specs.Moves.{OwnFine}
-use Rattle.rc_master_facts.proofs.Lists.{get-within, true_false}
-use Rattle.rc_master_facts.proofs.Logs.{split}
+use Rattle.rc_facts.proofs.Lists.{get-within, true_false}
+use Rattle.rc_facts.proofs.Copies.{split}
 use Rattle.rc_master_facts.proofs.Tests.{In-map}
 use Rattle.rc_master_facts.proofs.LogMoves.{GoodLog}
 use Rattle.rc_master_facts.proofs.Places.{IsOf, IsCovered, places_to-are, place-logged, durable-covered}

@@ -17,9 +17,10 @@ use Rattle.rc_facts.specs.Words.{Begins, log_in, IsOpened, HasTold, HasToldClose
 use Rattle.rc_facts.specs.Facts.{IsSafe}
 use Rattle.rc_facts.specs.Later.{LogLater}
 use Rattle.rc_facts.specs.Moves.{OwnFine, MasterSays}
-use Rattle.rc_master_facts.proofs.Lists.{put_each, begins-refl, begins-length, true_false}
+use Rattle.rc_facts.proofs.Lists.{put_each, begins-refl, begins-length, true_false}
 use Rattle.rc_master_facts.proofs.Tests.{get-begins_back}
-use Rattle.rc_master_facts.proofs.Logs.{More, member-more, told-more, told_closed-more, committed-more}
+use Rattle.rc_facts.proofs.Copies.{More}
+use Rattle.rc_master_facts.proofs.Logs.{member-more, told-more, told_closed-more, committed-more}
 use Rattle.rc_master_facts.proofs.LogMoves.{GoodSegment, GoodLog, LogMoved, IsFresh, more-left, segment-more, moved-log}
 use Rattle.rc_master_facts.proofs.Places.{places-later}
 

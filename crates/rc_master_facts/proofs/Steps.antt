@@ -24,7 +24,7 @@ use Rattle.rc_facts.specs.Words.{OnDifferentHosts}
 use Rattle.rc_facts.specs.Facts.{GoodMaster}
 use Rattle.rc_facts.specs.Moves.{OwnFine, MasterMoved, MayHear}
 use Rattle.rc_master_facts.specs.Claims.{MasterTakesKeeps, MasterTicksKeeps, NewMasterIsGood}
-use Rattle.rc_master_facts.proofs.Lists.{true_false}
+use Rattle.rc_facts.proofs.Lists.{true_false}
 use Rattle.rc_master_facts.proofs.LogMoves.{GoodLog}
 use Rattle.rc_master_facts.proofs.Views.{GoodView, Moved, moved-then_does, moved-quiet, quiet-none, still}
 use Rattle.rc_master_facts.proofs.Writing.{moved-writes, moved-reads, moved-refused}

@@ -7,7 +7,7 @@ use Rattle.std.specs.Option.{option_map}
 use Rattle.rc_model.specs.Headline.{In}
 use Rattle.rc_model.proofs.Members.{either, place_of}
 use Rattle.rc_facts.specs.Words.{Begins}
-use Rattle.rc_master_facts.proofs.Lists.{true_false, get-take, get-begins, get-below}
+use Rattle.rc_facts.proofs.Lists.{true_false, get-take, get-begins, get-below}
 
 -- where all pass a test, each does
 pub all-each : {X : Type 0} (test : X → Bool) (x : X) (xs : List X) → list_all test xs ≡ true → In x xs → test x ≡ true

@@ -1,6 +1,7 @@
 -- A master's timer: what it says again was right before and is now.
-use Rattle.std.proofs.Common.{◌≡◌, ◌⊎◌, ℕ, suc, ◌+◌, Bool, true, false, cond, not, nat_eq, nat_lt, ◌&&◌, List, [], ◌∷◌, ◌++◌, length, drop, map, filter, Option, Some, None, is_some, refl, sym, ap, ◌∙◌, subst, inl, inr, arith}
+use Rattle.std.proofs.Common.{◌≡◌, ◌⊎◌, ℕ, ◌+◌, Bool, true, false, cond, not, nat_eq, nat_lt, ◌&&◌, List, [], ◌∷◌, ◌++◌, length, drop, map, filter, Option, Some, None, is_some, refl, sym, ap, ◌∙◌, subst, inl, inr, arith}
 use Rattle.std.proofs.lemmas.Bool.{and_parts, eqb-true}
+use Rattle.std.proofs.lemmas.List.{length-map}
 use Rattle.rc_types.specs.declared.ids.ServerId.{ServerId}
 use Rattle.rc_types.specs.declared.ids.Addr.{Addr}
 use Rattle.rc_types.specs.declared.ids.Addr.TheVariants.{Server}
@@ -23,7 +24,7 @@ use Rattle.rc_model.specs.Headline.{In}
 use Rattle.rc_model.proofs.Members.{either, In-append}
 use Rattle.rc_facts.specs.Words.{Stands, IsOpened, IsMember}
 use Rattle.rc_facts.specs.Moves.{MasterSays, body_said}
-use Rattle.rc_master_facts.proofs.Lists.{true_false, get-drop, In-filter}
+use Rattle.rc_facts.proofs.Lists.{true_false, get-drop, In-filter}
 use Rattle.rc_master_facts.proofs.Tests.{In-map, map-In, get-map, map-get}
 use Rattle.rc_master_facts.proofs.LogMoves.{GoodLog}
 use Rattle.rc_master_facts.proofs.Places.{numbers-In}
@@ -109,13 +110,9 @@ again-append sent sent_now m log x s n opened = record {
     differ : {t e : ℕ} {digest : List ℕ} {entries others : List Entry} → ◌≡◌ {A = Body} (Append s n others) (Place t e digest entries false) → ⊥
     differ same = cc
 
-length-mapped : {X Y : Type 0} (f : X → Y) (xs : List X) → length (map f xs) ≡ length xs
-length-mapped f [] = refl
-length-mapped f (x ∷ xs) = ap (λ n. suc n) (length-mapped f xs)
-
 again-close : (sent sent_now : List Message) (m : ServerId) (log : Log) (x : ServerId) (s : ℕ) → IsOpened log s → s + 1 ≡ log.head → BodyAgain sent sent_now m log x (Close s (length (log.segments s).entries))
 again-close sent sent_now m log x s opened old = record {
-  says = record { above = opened.above; final = omega arith; whole = sym (length-mapped (λ (one : Entry × Bool). one.0) (log.segments s).entries) };
+  says = record { above = opened.above; final = omega arith; whole = sym (length-map (log.segments s).entries (λ (one : Entry × Bool). one.0)) };
   news = λ t e digest entries same. absurd (differ same);
 }
   where

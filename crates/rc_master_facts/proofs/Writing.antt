@@ -1,6 +1,6 @@
 -- Writes and reads, and an entry that is appended.
 use Rattle.std.proofs.Common.{◌≡◌, ℕ, zero, suc, ◌+◌, Bool, true, false, cond, not, List, [], ◌∷◌, ◌++◌, length, map, slice_get, Option, Some, None, refl, sym, ap, ◌∙◌, subst, arith}
-use Rattle.std.proofs.lemmas.List.{map-append}
+use Rattle.std.proofs.lemmas.List.{map-append, length-map}
 use Rattle.rc_types.specs.declared.ids.ServerId.{ServerId}
 use Rattle.rc_types.specs.declared.ids.Addr.TheVariants.{Server}
 use Rattle.rc_types.specs.declared.entries.Entry.{Entry}
@@ -23,7 +23,7 @@ use Rattle.rc_model.specs.Headline.{In}
 use Rattle.rc_model.proofs.Members.{either}
 use Rattle.rc_facts.specs.Words.{Stands}
 use Rattle.rc_facts.specs.Moves.{OwnFine, MasterSays}
-use Rattle.rc_master_facts.proofs.Lists.{put_same, get-end, true_false}
+use Rattle.rc_facts.proofs.Lists.{put_same, get-end, true_false}
 use Rattle.rc_master_facts.proofs.Tests.{In-map}
 use Rattle.rc_master_facts.proofs.LogMoves.{GoodSegment, GoodLog, LogMoved, more-left, segment-more}
 use Rattle.rc_master_facts.proofs.Segments.{put-moved}
@@ -34,16 +34,12 @@ use Rattle.rc_master_facts.proofs.Hosts.{apart-choose}
 
 -- An entry
 
-length-mapped : {X Y : Type 0} (f : X → Y) (xs : List X) → length (map f xs) ≡ length xs
-length-mapped f [] = refl
-length-mapped f (x ∷ xs) = ap (λ n. suc n) (length-mapped f xs)
-
 -- one more entry stands at the end
 stands-new : (entries : List (Entry × Bool)) (entry : Entry) (client : Bool) → Stands (entry ∷ []) (length entries) (map (λ (one : Entry × Bool). one.0) (entries ++ (entry, client) ∷ []))
 stands-new entries entry client zero other e =
     let fst : Entry × Bool → Entry = λ one. one.0 in
     let same : entry ≡ other = cc in
-    let len : length (map fst entries) ≡ length entries + 0 = length-mapped fst entries ∙ omega arith in
+    let len : length (map fst entries) ≡ length entries + 0 = length-map entries fst ∙ omega arith in
     subst (λ l. slice_get l (length entries + 0) ≡ Some other) (sym (map-append fst entries ((entry, client) ∷ [])))
     (subst (λ n. slice_get (map fst entries ++ entry ∷ []) n ≡ Some other) len (get-end (map fst entries) entry [] ∙ ap Some same))
 stands-new entries entry client (suc k) other e = cc

@@ -1,6 +1,5 @@
 -- What is claimed of a master: each of its steps keeps the facts, and says only what a master may say.
-use Rattle.std.specs.Prelude.{[]}
-use Rattle.std.specs.Prelude.{List}
+use Rattle.std.specs.Prelude.{List, []}
 use Rattle.rc_types.specs.declared.ids.ServerId.{ServerId}
 use Rattle.rc_types.specs.declared.ids.Addr.{Addr}
 use Rattle.rc_types.specs.declared.messages.Message.{Message}
