@@ -1,6 +1,6 @@
-//! What follows from the facts, in any world in which they hold.
+//! The facts, and what follows from them in any world.
 
-ghost use Rattle.rc_log_safety.specs.Claims.{FactsKeepWhatWasAcknowledged, FactsInventNothing};
+ghost use Rattle.rc_log_safety.specs.Claims.{FactsAlwaysHold, FactsKeepWhatWasAcknowledged, FactsInventNothing};
 
 /// Where the facts hold, each accepted recovery has every acknowledged write of its master at its
 /// place, or a greater version of its key under its term; and each recovered entry is the one that
@@ -8,4 +8,9 @@ ghost use Rattle.rc_log_safety.specs.Claims.{FactsKeepWhatWasAcknowledged, Facts
 pub fn facts_suffice()
     ensures there { FactsKeepWhatWasAcknowledged }
     ensures one_entry { FactsInventNothing }
+{}
+
+/// The facts hold after every list of events, of every setup.
+pub fn facts_hold()
+    ensures { FactsAlwaysHold }
 {}
