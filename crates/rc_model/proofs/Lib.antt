@@ -1,5 +1,9 @@
+pub mod Tests
+pub mod Ids
+pub mod Tables
 mod Picks
 pub mod Befores
 pub mod Members
 pub mod Said
 pub mod Headlines
+pub mod Replays

@@ -32,3 +32,5 @@ pub mod Durable
 pub mod Breach
 pub mod Headline
 pub mod Report
+pub mod Works
+pub mod WorldClaims
