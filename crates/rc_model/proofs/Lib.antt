@@ -1,6 +1,7 @@
 pub mod Tests
 pub mod Ids
 pub mod Tables
+pub mod Storing
 mod Picks
 pub mod Befores
 pub mod Members

@@ -34,3 +34,4 @@ pub mod Headline
 pub mod Report
 pub mod Works
 pub mod WorldClaims
+pub mod BackupClaims

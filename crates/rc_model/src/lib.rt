@@ -2,5 +2,6 @@
 //! have empty bodies, and their contracts are laws of the definitions.
 #![tactic(auto)]
 
+pub mod backups;
 pub mod laws;
 pub mod worlds;

@@ -1,0 +1,264 @@
+-- Replicas and backups.
+use Rattle.std.proofs.Common.{◌≡◌, ℕ, ◌+◌, ◌-◌, Bool, true, false, cond, not, nat_eq, nat_lt, nat_le, ◌&&◌, ◌||◌, List, [], ◌∷◌, ◌++◌, length, drop, filter, Option, Some, None, refl, sym, ap, ◌∙◌, subst, arith}
+use Rattle.std.proofs.lemmas.Bool.{and_parts, eqb-true}
+use Rattle.std.proofs.lemmas.Bool.Decides.{nat_tests}
+use Rattle.std.proofs.lemmas.List.{append-nil}
+use Rattle.rc_types.specs.declared.ids.ServerId.{ServerId}
+use Rattle.rc_types.specs.declared.ids.Addr.{Addr}
+use Rattle.rc_types.specs.declared.ids.Addr.TheVariants.{Server, Coordinator, Outside}
+use Rattle.rc_types.specs.declared.entries.Entry.{Entry}
+use Rattle.rc_types.specs.declared.messages.Message.{Message}
+use Rattle.rc_types.specs.declared.messages.Body.{Body}
+use Rattle.rc_types.specs.declared.messages.Body.TheVariants.{Place, Append, Close, Free, Gather, Fetch}
+use Rattle.rc_model.specs.Ids.{same_id}
+use Rattle.rc_model.specs.Tables.{put_id}
+use Rattle.rc_model.specs.Replica.{Replica, grown, placed, placed_open, appended, closes, closed_at}
+use Rattle.rc_model.specs.Backup.{Backup, Held, with_held, put_replica, without_replica, insert_number, is_freed, replica_of, replica_after, is_refused, keeps, stores, frees, fences, backup_takes, is_kept, stays}
+use Rattle.rc_model.specs.BackupClaims.{closing_length, is_closed_replica, is_storing}
+use Rattle.rc_model.proofs.Tests.{either, true_false}
+use Rattle.rc_model.proofs.Tables.{put_id_each, put_id-same}
+
+-- One replica
+
+-- the entries of the first are the beginning of those of the second
+abbrev pub GrowsTo : Replica → Replica → Type 0
+GrowsTo old new = (more : List Entry) × (new.entries ≡ old.entries ++ more)
+
+grows_same : (old new : Replica) → new.entries ≡ old.entries → GrowsTo old new
+grows_same old new e = ([], e ∙ sym (append-nil old.entries))
+
+placed-grows : (old : Replica) (epoch : ℕ) (sent : List Entry) (closed : Bool) → GrowsTo old (placed old epoch sent closed)
+placed-grows old epoch sent closed =
+    either (GrowsTo old) (nat_lt epoch old.epoch) old (cond old.closed (record old { epoch = epoch }) (placed_open old epoch sent closed))
+    (λ _. grows_same old old refl)
+    (λ _. either (GrowsTo old) old.closed (record old { epoch = epoch }) (placed_open old epoch sent closed)
+    (λ _. grows_same old (record old { epoch = epoch }) refl) (λ _. (drop (length old.entries - 0) sent, refl)))
+
+appended-grows : (old : Replica) (offset : ℕ) (sent : List Entry) → GrowsTo old (appended old offset sent)
+appended-grows old offset sent =
+    either (GrowsTo old) (not old.closed && nat_le offset (length old.entries)) (record old { entries = grown old.entries offset sent }) old
+    (λ _. (drop (length old.entries - offset) sent, refl)) (λ _. grows_same old old refl)
+
+closed_at-grows : (old : Replica) (len : ℕ) → GrowsTo old (closed_at old len)
+closed_at-grows old len =
+    either (GrowsTo old) (closes old len) (record old { closed = true }) old (λ _. grows_same old (record old { closed = true }) refl) (λ _. grows_same old old refl)
+
+-- what a message makes of a replica has this property, where each way of changing it gives it
+pub of_each_way : (P : Replica → Type 0) (old new : Replica) (body : Body) → replica_after (Some old) body ≡ Some new →
+    ((seg epoch : ℕ) (digest : List ℕ) (sent : List Entry) (closed : Bool) → body ≡ Place seg epoch digest sent closed → P (placed old epoch sent closed)) →
+    ((seg offset : ℕ) (sent : List Entry) → body ≡ Append seg offset sent → P (appended old offset sent)) →
+    ((seg len : ℕ) → body ≡ Close seg len → P (closed_at old len)) → P new
+of_each_way P old new (Place seg epoch digest sent closed) e place append close =
+    let same : placed old epoch sent closed ≡ new = cc in subst P same (place seg epoch digest sent closed refl)
+of_each_way P old new (Append seg offset sent) e place append close =
+    let same : appended old offset sent ≡ new = cc in subst P same (append seg offset sent refl)
+of_each_way P old new (Close seg len) e place append close =
+    let same : closed_at old len ≡ new = cc in subst P same (close seg len refl)
+of_each_way P old new _ e place append close = cc
+
+-- entries only grow
+pub replicas-grow : (old new : Replica) (body : Body) → replica_after (Some old) body ≡ Some new → GrowsTo old new
+replicas-grow old new body e =
+    of_each_way (GrowsTo old) old new body e (λ seg epoch digest sent closed _. placed-grows old epoch sent closed)
+    (λ seg offset sent _. appended-grows old offset sent) (λ seg len _. closed_at-grows old len)
+
+-- the second is closed too, with the same entries and digest
+abbrev pub StaysClosed : Replica → Replica → Type 0
+StaysClosed old new = (new.closed ≡ true) × (new.entries ≡ old.entries) × (new.digest ≡ old.digest)
+
+placed-stays : (old : Replica) (epoch : ℕ) (sent : List Entry) (closed : Bool) → old.closed ≡ true → StaysClosed old (placed old epoch sent closed)
+placed-stays old epoch sent closed is =
+    either (StaysClosed old) (nat_lt epoch old.epoch) old (cond old.closed (record old { epoch = epoch }) (placed_open old epoch sent closed))
+    (λ _. (is, refl, refl))
+    (λ _. either (StaysClosed old) old.closed (record old { epoch = epoch }) (placed_open old epoch sent closed)
+    (λ _. (is, refl, refl)) (λ isn't. true_false (sym is ∙ isn't)))
+
+appended-stays : (old : Replica) (offset : ℕ) (sent : List Entry) → old.closed ≡ true → StaysClosed old (appended old offset sent)
+appended-stays old offset sent is =
+    either (StaysClosed old) (not old.closed && nat_le offset (length old.entries)) (record old { entries = grown old.entries offset sent }) old
+    (λ both. true_false (sym (and_parts (not old.closed) (nat_le offset (length old.entries)) both).0 ∙ ap not is)) (λ _. (is, refl, refl))
+
+closed_at-stays : (old : Replica) (len : ℕ) → old.closed ≡ true → StaysClosed old (closed_at old len)
+closed_at-stays old len is =
+    either (StaysClosed old) (closes old len) (record old { closed = true }) old (λ _. (refl, refl, refl)) (λ _. (is, refl, refl))
+
+-- a closed replica stays closed, with the same entries
+pub closed-stays : (old new : Replica) (body : Body) → old.closed ≡ true → replica_after (Some old) body ≡ Some new → StaysClosed old new
+closed-stays old new body is e =
+    of_each_way (StaysClosed old) old new body e (λ seg epoch digest sent closed _. placed-stays old epoch sent closed is)
+    (λ seg offset sent _. appended-stays old offset sent is) (λ seg len _. closed_at-stays old len is)
+
+-- where it is closed it has the length at which the message closes
+abbrev ClosedWhole : Body → Replica → Type 0
+ClosedWhole body new = new.closed ≡ true → closing_length body ≡ Some (length new.entries)
+
+placed_open-whole : (old : Replica) (seg epoch : ℕ) (digest : List ℕ) (sent : List Entry) (closed : Bool) →
+    ClosedWhole (Place seg epoch digest sent closed) (placed_open old epoch sent closed)
+placed_open-whole old seg epoch digest sent true is = ap Some (sym (eqb-true (length (grown old.entries 0 sent)) (length sent) is))
+placed_open-whole old seg epoch digest sent false is = cc
+
+placed-whole : (old : Replica) (seg epoch : ℕ) (digest : List ℕ) (sent : List Entry) (closed : Bool) → old.closed ≡ false →
+    ClosedWhole (Place seg epoch digest sent closed) (placed old epoch sent closed)
+placed-whole old seg epoch digest sent closed isn't =
+    either (ClosedWhole (Place seg epoch digest sent closed)) (nat_lt epoch old.epoch) old
+    (cond old.closed (record old { epoch = epoch }) (placed_open old epoch sent closed))
+    (λ _ is. true_false (sym is ∙ isn't))
+    (λ _. either (ClosedWhole (Place seg epoch digest sent closed)) old.closed (record old { epoch = epoch }) (placed_open old epoch sent closed)
+    (λ is _. true_false (sym is ∙ isn't)) (λ _. placed_open-whole old seg epoch digest sent closed))
+
+appended-whole : (old : Replica) (seg offset : ℕ) (sent : List Entry) → old.closed ≡ false → ClosedWhole (Append seg offset sent) (appended old offset sent)
+appended-whole old seg offset sent isn't =
+    either (ClosedWhole (Append seg offset sent)) (not old.closed && nat_le offset (length old.entries))
+    (record old { entries = grown old.entries offset sent }) old (λ _ is. true_false (sym is ∙ isn't)) (λ _ is. true_false (sym is ∙ isn't))
+
+closed_at-whole : (old : Replica) (seg len : ℕ) → old.closed ≡ false → ClosedWhole (Close seg len) (closed_at old len)
+closed_at-whole old seg len isn't =
+    either (ClosedWhole (Close seg len)) (closes old len) (record old { closed = true }) old
+    (λ may _. ap Some (sym (eqb-true (length old.entries) len (and_parts (not old.closed) (nat_eq (length old.entries) len) may).1)))
+    (λ _ is. true_false (sym is ∙ isn't))
+
+-- a replica closes only at the stated length
+pub closes-whole : (before : Option Replica) (new : Replica) (body : Body) → is_closed_replica before ≡ false →
+    replica_after before body ≡ Some new → ClosedWhole body new
+closes-whole None new (Place seg epoch digest sent true) isn't e is =
+    let same : record { epoch = epoch; closed = true; digest = digest; entries = sent } ≡ new = cc in
+    ap (λ (one : Replica). Some (length one.entries)) same
+closes-whole None new (Place seg epoch digest sent false) isn't e is =
+    let same : record { epoch = epoch; closed = false; digest = digest; entries = sent } ≡ new = cc in
+    true_false (sym is ∙ sym (ap (λ (one : Replica). one.closed) same))
+closes-whole None new _ isn't e is = cc
+closes-whole (Some old) new body isn't e is =
+    of_each_way (ClosedWhole body) old new body e
+    (λ seg epoch digest sent closed b. subst (λ x. ClosedWhole x (placed old epoch sent closed)) (sym b) (placed-whole old seg epoch digest sent closed isn't))
+    (λ seg offset sent b. subst (λ x. ClosedWhole x (appended old offset sent)) (sym b) (appended-whole old seg offset sent isn't))
+    (λ seg len b. subst (λ x. ClosedWhole x (closed_at old len)) (sym b) (closed_at-whole old seg len isn't)) is
+
+-- A backup
+
+refused-nothing : (backup : Backup) (master : ServerId) (seg : ℕ) (body : Body) → (backup.held master).fenced ≡ true → stores backup master seg body ≡ (backup, [])
+refused-nothing backup master seg body fenced =
+    either (λ after. after ≡ (backup, [])) (is_refused seg (backup.held master)) (backup, [])
+    (keeps backup master seg (replica_after (replica_of seg (backup.held master).replicas) body))
+    (λ _. refl) (λ not_refused. true_false (sym (or_true (backup.held master).fenced _ fenced) ∙ not_refused))
+  where
+    or_true : (a b : Bool) → a ≡ true → a || b ≡ true
+    or_true a b e = ap (λ x. x || b) e
+
+frees-nothing : (backup : Backup) (master : ServerId) (seg : ℕ) → (backup.held master).fenced ≡ true → frees backup master seg ≡ backup
+frees-nothing backup master seg fenced = rw fenced refl
+
+-- a fenced master stores nothing and frees nothing
+pub fenced-nothing : (backup : Backup) (master : ServerId) (body : Body) → (backup.held master).fenced ≡ true → is_storing body ≡ true →
+    backup_takes backup (Server master) body ≡ (backup, [])
+fenced-nothing backup master (Place seg epoch digest entries closed) fenced is = refused-nothing backup master seg (Place seg epoch digest entries closed) fenced
+fenced-nothing backup master (Append seg offset entries) fenced is = refused-nothing backup master seg (Append seg offset entries) fenced
+fenced-nothing backup master (Close seg len) fenced is = refused-nothing backup master seg (Close seg len) fenced
+fenced-nothing backup master (Free seg) fenced is = ap (λ b. (b, [])) (frees-nothing backup master seg fenced)
+fenced-nothing backup master _ fenced is = cc
+
+-- a fenced master's replicas stay, and it stays fenced
+abbrev pub FencedStays : Held → Held → Type 0
+FencedStays old new = old.fenced ≡ true → (new.fenced ≡ true) × (new.replicas ≡ old.replicas)
+
+abbrev pub AllFencedStay : Backup → Backup → Type 0
+AllFencedStay old new = (master : ServerId) → FencedStays (old.held master) (new.held master)
+
+fenced_stay-same : (backup : Backup) → AllFencedStay backup backup
+fenced_stay-same backup master fenced = (fenced, refl)
+
+fenced_stay-held : (backup : Backup) (master : ServerId) (held : Held) → FencedStays (backup.held master) held → AllFencedStay backup (with_held master held backup)
+fenced_stay-held backup master held new =
+    put_id_each (λ other one. FencedStays (backup.held other) one) backup.held master held new (λ _ fenced. (fenced, refl))
+
+-- who isn't fenced is no fenced one
+not_fenced : {P : Type 0} (held : Held) → held.fenced ≡ false → held.fenced ≡ true → P
+not_fenced held isn't is = true_false (sym is ∙ isn't)
+
+or_left-false : (a b : Bool) → a || b ≡ false → a ≡ false
+or_left-false true b e = e
+or_left-false false b e = refl
+
+fenced_stay-keeps : (backup : Backup) (master : ServerId) (seg : ℕ) (after : Option Replica) → (backup.held master).fenced ≡ false →
+    AllFencedStay backup (keeps backup master seg after).0
+fenced_stay-keeps backup master seg None isn't = fenced_stay-same backup
+fenced_stay-keeps backup master seg (Some replica) isn't =
+    fenced_stay-held backup master (record (backup.held master) { replicas = put_replica seg replica (backup.held master).replicas })
+    (not_fenced (backup.held master) isn't)
+
+fenced_stay-stores : (backup : Backup) (master : ServerId) (seg : ℕ) (body : Body) → AllFencedStay backup (stores backup master seg body).0
+fenced_stay-stores backup master seg body =
+    either (λ after. AllFencedStay backup after.0) (is_refused seg (backup.held master)) (backup, [])
+    (keeps backup master seg (replica_after (replica_of seg (backup.held master).replicas) body))
+    (λ _. fenced_stay-same backup)
+    (λ isn't. fenced_stay-keeps backup master seg (replica_after (replica_of seg (backup.held master).replicas) body)
+    (or_left-false (backup.held master).fenced (is_freed seg (backup.held master)) isn't))
+
+fenced_stay-frees : (backup : Backup) (master : ServerId) (seg : ℕ) → AllFencedStay backup (frees backup master seg)
+fenced_stay-frees backup master seg =
+    let freed : Held = record {
+      fenced = false;
+      replicas = without_replica seg (backup.held master).replicas;
+      freed = insert_number seg (backup.held master).freed;
+    } in
+    either (AllFencedStay backup) (backup.held master).fenced backup (with_held master freed backup)
+    (λ _. fenced_stay-same backup) (λ isn't. fenced_stay-held backup master freed (not_fenced (backup.held master) isn't))
+
+-- whatever a backup takes, a fenced master's replicas stay
+pub fenced-stay : (backup : Backup) (from : Addr) (body : Body) → AllFencedStay backup (backup_takes backup from body).0
+fenced-stay backup (Server master) (Place seg epoch digest entries closed) = fenced_stay-stores backup master seg (Place seg epoch digest entries closed)
+fenced-stay backup (Server master) (Append seg offset entries) = fenced_stay-stores backup master seg (Append seg offset entries)
+fenced-stay backup (Server master) (Close seg len) = fenced_stay-stores backup master seg (Close seg len)
+fenced-stay backup (Server master) (Free seg) = fenced_stay-frees backup master seg
+fenced-stay backup (Server asker) (Fetch attempt master seg len part) = fenced_stay-same backup
+fenced-stay backup from (Gather attempt master) =
+    fenced_stay-held backup master (record (backup.held master) { fenced = true }) (λ _. (refl, refl))
+fenced-stay backup _ _ = fenced_stay-same backup
+
+-- a Gather fences
+pub gather-fences : (backup : Backup) (from : Addr) (attempt : ℕ) (master : ServerId) →
+    ((backup_takes backup from (Gather attempt master)).0.held master).fenced ≡ true
+gather-fences backup Coordinator attempt master = ap (λ (held : Held). held.fenced) (put_id-same backup.held master (record (backup.held master) { fenced = true }))
+gather-fences backup Outside attempt master = ap (λ (held : Held). held.fenced) (put_id-same backup.held master (record (backup.held master) { fenced = true }))
+gather-fences backup (Server from) attempt master = ap (λ (held : Held). held.fenced) (put_id-same backup.held master (record (backup.held master) { fenced = true }))
+
+-- Restart
+
+-- a pair by its parts
+name_pair : (one : ℕ × Replica) (seg : ℕ) (replica : Replica) → seg ≡ one.0 → one.1 ≡ replica → one ≡ (seg, replica)
+name_pair one seg replica p q j = (sym p j, q j)
+
+-- what is found and stays is found among those that stay
+pub stay-found : (test : ℕ × Replica → Bool) (replicas : List (ℕ × Replica)) (seg : ℕ) (replica : Replica) →
+    replica_of seg replicas ≡ Some replica → test (seg, replica) ≡ true → replica_of seg (filter test replicas) ≡ Some replica
+stay-found test [] seg replica e stays = cc
+stay-found test (one ∷ others) seg replica e stays =
+    by (nat_eq seg one.0) refl (test one) refl (λ found. stay-found test others seg replica found stays) e
+  where
+    by : (b : Bool) → nat_eq seg one.0 ≡ b → (t : Bool) → test one ≡ t →
+        (replica_of seg others ≡ Some replica → replica_of seg (filter test others) ≡ Some replica) →
+        cond b (Some one.1) (replica_of seg others) ≡ Some replica →
+        replica_of seg (cond t (one ∷ filter test others) (filter test others)) ≡ Some replica
+    by true same true is rec here = rw same here
+    by true same false isn't rec here =
+        let second : one.1 ≡ replica = cc in
+        true_false (sym stays ∙ (sym (ap test (name_pair one seg replica (eqb-true seg one.0 same) second)) ∙ isn't))
+    by false other true is rec rest = rw other (rec rest)
+    by false other false isn't rec rest = rec rest
+
+-- what is found among those that pass a test passes it
+pub found-stays : (test : ℕ × Replica → Bool) (replicas : List (ℕ × Replica)) (seg : ℕ) (replica : Replica) →
+    replica_of seg (filter test replicas) ≡ Some replica → test (seg, replica) ≡ true
+found-stays test [] seg replica e = cc
+found-stays test (one ∷ others) seg replica e = by (test one) refl (found-stays test others seg replica) e
+  where
+    here : (b : Bool) → nat_eq seg one.0 ≡ b → test one ≡ true →
+        (replica_of seg (filter test others) ≡ Some replica → test (seg, replica) ≡ true) →
+        cond b (Some one.1) (replica_of seg (filter test others)) ≡ Some replica → test (seg, replica) ≡ true
+    here true same is rec found =
+        let second : one.1 ≡ replica = cc in sym (ap test (name_pair one seg replica (eqb-true seg one.0 same) second)) ∙ is
+    here false other is rec rest = rec rest
+
+    by : (t : Bool) → test one ≡ t → (replica_of seg (filter test others) ≡ Some replica → test (seg, replica) ≡ true) →
+        replica_of seg (cond t (one ∷ filter test others) (filter test others)) ≡ Some replica → test (seg, replica) ≡ true
+    by true is rec found = here (nat_eq seg one.0) refl is rec found
+    by false isn't rec found = rec found

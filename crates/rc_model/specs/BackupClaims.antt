@@ -1,0 +1,82 @@
+-- What a backup should obey.
+use Rattle.std.specs.Prelude.{◌≡◌, ℕ, Bool, true, false, ◌||◌, List, [], ◌++◌, length, Option, Some, None}
+use Rattle.rc_types.specs.declared.ids.ServerId.{ServerId}
+use Rattle.rc_types.specs.declared.ids.Addr.{Addr}
+use Rattle.rc_types.specs.declared.ids.Addr.TheVariants.{Server}
+use Rattle.rc_types.specs.declared.entries.Entry.{Entry}
+use Rattle.rc_types.specs.declared.messages.Body.{Body}
+use Rattle.rc_types.specs.declared.messages.Body.TheVariants.{Place, Append, Close, Free, Gather}
+use Rattle.rc_model.specs.Replica.{Replica}
+use Rattle.rc_model.specs.Backup.{Backup, replica_of, replica_after, backup_takes, is_kept, restart}
+
+-- One replica
+
+-- its entries only grow
+abbrev pub ReplicasOnlyGrow : Type 0
+ReplicasOnlyGrow = (replica after : Replica) (body : Body) → replica_after (Some replica) body ≡ Some after →
+    (more : List Entry) × (after.entries ≡ replica.entries ++ more)
+
+-- a closed one stays closed, with the same entries and digest
+abbrev pub ClosedStaysTheSame : Type 0
+ClosedStaysTheSame = (replica after : Replica) (body : Body) → replica.closed ≡ true → replica_after (Some replica) body ≡ Some after →
+    (after.closed ≡ true) × (after.entries ≡ replica.entries) × (after.digest ≡ replica.digest)
+
+-- the length at which a message closes
+abbrev pub closing_length : Body → Option ℕ
+closing_length (Place seg epoch digest entries true) = Some (length entries)
+closing_length (Close seg len) = Some len
+closing_length _ = None
+
+abbrev pub is_closed_replica : Option Replica → Bool
+is_closed_replica None = false
+is_closed_replica (Some replica) = replica.closed
+
+-- one that isn't closed, or isn't there, closes only where it then has exactly the stated length
+abbrev pub ClosesAtTheStatedLength : Type 0
+ClosesAtTheStatedLength = (before : Option Replica) (after : Replica) (body : Body) →
+    is_closed_replica before ≡ false → replica_after before body ≡ Some after → after.closed ≡ true →
+    closing_length body ≡ Some (length after.entries)
+
+-- A backup
+
+-- the message stores, or frees
+abbrev pub is_storing : Body → Bool
+is_storing (Place seg epoch digest entries closed) = true
+is_storing (Append seg offset entries) = true
+is_storing (Close seg len) = true
+is_storing (Free seg) = true
+is_storing _ = false
+
+-- no message of a fenced master that stores or frees changes anything, or is answered
+abbrev pub FencedStoresNothing : Type 0
+FencedStoresNothing = (backup : Backup) (master : ServerId) (body : Body) →
+    (backup.held master).fenced ≡ true → is_storing body ≡ true → backup_takes backup (Server master) body ≡ (backup, [])
+
+-- whoever sends whatever, a fenced master stays fenced, and its replicas stay as they are
+abbrev pub FencedReplicasStay : Type 0
+FencedReplicasStay = (backup : Backup) (from : Addr) (body : Body) (master : ServerId) → (backup.held master).fenced ≡ true →
+    (((backup_takes backup from body).0.held master).fenced ≡ true)
+    × (((backup_takes backup from body).0.held master).replicas ≡ (backup.held master).replicas)
+
+-- no answer to a Gather is given before the master is fenced
+abbrev pub GatherFences : Type 0
+GatherFences = (backup : Backup) (from : Addr) (attempt : ℕ) (master : ServerId) →
+    ((backup_takes backup from (Gather attempt master)).0.held master).fenced ≡ true
+
+-- A restart
+
+-- a closed replica stays as it is, and an open one that is named
+abbrev pub RestartKeeps : Type 0
+RestartKeeps = (own : ServerId) (kept : List (ServerId × ℕ)) (backup : Backup) (master : ServerId) (seg : ℕ) (replica : Replica) →
+    replica_of seg (backup.held master).replicas ≡ Some replica → replica.closed || is_kept kept master seg ≡ true →
+    replica_of seg ((restart own kept backup).held master).replicas ≡ Some replica
+
+-- there are no others
+abbrev pub RestartKeepsNoOther : Type 0
+RestartKeepsNoOther = (own : ServerId) (kept : List (ServerId × ℕ)) (backup : Backup) (master : ServerId) (seg : ℕ) (replica : Replica) →
+    replica_of seg ((restart own kept backup).held master).replicas ≡ Some replica → replica.closed || is_kept kept master seg ≡ true
+
+-- nobody is fenced, and nothing is marked freed
+abbrev pub RestartFencesNobody : Type 0
+RestartFencesNobody = (own : ServerId) (kept : List (ServerId × ℕ)) (backup : Backup) (master : ServerId) →
+    (((restart own kept backup).held master).fenced ≡ false) × (((restart own kept backup).held master).freed ≡ [])

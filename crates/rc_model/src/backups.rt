@@ -1,0 +1,26 @@
+//! What backups keep.
+
+ghost use Rattle.rc_model.specs.BackupClaims.{ReplicasOnlyGrow, ClosedStaysTheSame, ClosesAtTheStatedLength, FencedStoresNothing, FencedReplicasStay, GatherFences, RestartKeeps, RestartKeepsNoOther, RestartFencesNobody};
+
+/// A replica's entries only grow; a closed one stays closed with the same entries; and one closes
+/// only where it has exactly the stated length.
+pub fn replicas_are_kept()
+    ensures grow { ReplicasOnlyGrow }
+    ensures closed { ClosedStaysTheSame }
+    ensures whole { ClosesAtTheStatedLength }
+{}
+
+/// A fenced master's replicas stay as they are, whatever comes, and nothing of it is answered; and a
+/// Gather fences.
+pub fn fences_hold()
+    ensures nothing { FencedStoresNothing }
+    ensures stay { FencedReplicasStay }
+    ensures gather { GatherFences }
+{}
+
+/// A restart keeps the closed replicas and those that are named, and no others, and fences nobody.
+pub fn restarts_keep()
+    ensures keeps { RestartKeeps }
+    ensures no_other { RestartKeepsNoOther }
+    ensures nobody { RestartFencesNobody }
+{}
