@@ -2,6 +2,9 @@ pub mod Tests
 pub mod Ids
 pub mod Tables
 pub mod Storing
+pub mod Counting
+pub mod LogParts
+pub mod Measures
 mod Picks
 pub mod Befores
 pub mod Members

@@ -1,12 +1,9 @@
 -- How a world goes on.
-use Rattle.std.proofs.Common.{◌≡◌, ℕ, ◌+◌, ◌≤◌, Bool, true, false, cond, nat_eq, List, [], ◌∷◌, ◌++◌, Option, Some, None, refl, sym, ap, ◌∙◌, arith}
+use Rattle.std.proofs.Common.{◌≡◌, ℕ, ◌≤◌, Bool, true, false, cond, nat_eq, List, [], ◌∷◌, ◌++◌, Option, Some, None, refl, sym, ap, ◌∙◌, arith}
 use Rattle.std.proofs.lemmas.Bool.{eqb-true}
 use Rattle.std.proofs.lemmas.List.{append-nil}
-use Rattle.rc_types.specs.declared.ids.ServerId.{ServerId}
 use Rattle.rc_types.specs.declared.events.Event.{Event}
-use Rattle.rc_types.specs.declared.ids.Addr.{Addr}
 use Rattle.rc_types.specs.declared.messages.Message.{Message}
-use Rattle.rc_types.specs.declared.messages.Body.{Body}
 use Rattle.rc_model.specs.Ids.{is_server}
 use Rattle.rc_model.specs.Backup.{backup_takes}
 use Rattle.rc_model.specs.Master.{Master}
@@ -184,7 +181,7 @@ generation-after host (work ∷ works) =
 pub generations-step : (world : World) (event : Event) (index : ℕ) → (world.hosts index).generation ≤ ((step world event).hosts index).generation
 generations-step world event index =
     let own : ((step world event).hosts index).generation ≡ (host_after (world.hosts index) (work_in (TheHost index) world event)).generation =
-        ap (λ (host : HostNode). host.generation) (host_step-own world event index) in
+    ap (λ (host : HostNode). host.generation) (host_step-own world event index) in
     let after : (world.hosts index).generation ≤ (host_after (world.hosts index) (work_in (TheHost index) world event)).generation =
-        generation-after (world.hosts index) (work_in (TheHost index) world event) in
+    generation-after (world.hosts index) (work_in (TheHost index) world event) in
     omega arith

@@ -1,19 +1,15 @@
 -- Replicas and backups.
-use Rattle.std.proofs.Common.{◌≡◌, ℕ, ◌+◌, ◌-◌, Bool, true, false, cond, not, nat_eq, nat_lt, nat_le, ◌&&◌, ◌||◌, List, [], ◌∷◌, ◌++◌, length, drop, filter, Option, Some, None, refl, sym, ap, ◌∙◌, subst, arith}
+use Rattle.std.proofs.Common.{◌≡◌, ℕ, ◌-◌, Bool, true, false, cond, not, nat_eq, nat_lt, nat_le, ◌&&◌, ◌||◌, List, [], ◌∷◌, ◌++◌, length, drop, filter, Option, Some, None, refl, sym, ap, ◌∙◌, subst}
 use Rattle.std.proofs.lemmas.Bool.{and_parts, eqb-true}
-use Rattle.std.proofs.lemmas.Bool.Decides.{nat_tests}
 use Rattle.std.proofs.lemmas.List.{append-nil}
 use Rattle.rc_types.specs.declared.ids.ServerId.{ServerId}
 use Rattle.rc_types.specs.declared.ids.Addr.{Addr}
 use Rattle.rc_types.specs.declared.ids.Addr.TheVariants.{Server, Coordinator, Outside}
 use Rattle.rc_types.specs.declared.entries.Entry.{Entry}
-use Rattle.rc_types.specs.declared.messages.Message.{Message}
 use Rattle.rc_types.specs.declared.messages.Body.{Body}
 use Rattle.rc_types.specs.declared.messages.Body.TheVariants.{Place, Append, Close, Free, Gather, Fetch}
-use Rattle.rc_model.specs.Ids.{same_id}
-use Rattle.rc_model.specs.Tables.{put_id}
 use Rattle.rc_model.specs.Replica.{Replica, grown, placed, placed_open, appended, closes, closed_at}
-use Rattle.rc_model.specs.Backup.{Backup, Held, with_held, put_replica, without_replica, insert_number, is_freed, replica_of, replica_after, is_refused, keeps, stores, frees, fences, backup_takes, is_kept, stays}
+use Rattle.rc_model.specs.Backup.{Backup, Held, with_held, put_replica, without_replica, insert_number, is_freed, replica_of, replica_after, is_refused, keeps, stores, frees, backup_takes, stays}
 use Rattle.rc_model.specs.BackupClaims.{closing_length, is_closed_replica, is_storing}
 use Rattle.rc_model.proofs.Tests.{either, true_false}
 use Rattle.rc_model.proofs.Tables.{put_id_each, put_id-same}

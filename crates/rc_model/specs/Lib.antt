@@ -35,3 +35,4 @@ pub mod Report
 pub mod Works
 pub mod WorldClaims
 pub mod BackupClaims
+pub mod MasterClaims

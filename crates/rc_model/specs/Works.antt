@@ -1,5 +1,5 @@
 -- What a node was given in a history: its own works, each with the message that it delivers. They determine its state.
-use Rattle.std.specs.Prelude.{Bool, true, false, if◌then◌else◌, List, [], ◌∷◌, ◌++◌, Option, Some, None}
+use Rattle.std.specs.Prelude.{if◌then◌else◌, List, [], ◌∷◌, ◌++◌, Option, Some, None}
 use Rattle.rc_types.specs.declared.events.Event.{Event}
 use Rattle.rc_model.specs.Coordinator.{Coordinator}
 use Rattle.rc_model.specs.Nodes.{Work, HostNode, coordinator_step, host_step}

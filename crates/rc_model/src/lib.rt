@@ -4,4 +4,5 @@
 
 pub mod backups;
 pub mod laws;
+pub mod masters;
 pub mod worlds;
