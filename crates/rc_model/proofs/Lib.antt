@@ -4,6 +4,8 @@ pub mod Tables
 pub mod Storing
 pub mod Counting
 pub mod LogParts
+pub mod Rules
+pub mod Phases
 pub mod Measures
 mod Picks
 pub mod Befores

@@ -36,3 +36,4 @@ pub mod Works
 pub mod WorldClaims
 pub mod BackupClaims
 pub mod MasterClaims
+pub mod HeadClaims

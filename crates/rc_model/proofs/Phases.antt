@@ -1,0 +1,150 @@
+-- Where the phase changes, what a roll opens, and how members change.
+use Rattle.std.proofs.Common.{◌≡◌, ◌⊎◌, inl, inr, ℕ, ◌+◌, ◌<◌, Bool, true, false, cond, not, ◌&&◌, ◌||◌, nat_eq, nat_lt, List, [], ◌∷◌, ◌++◌, length, map, filter, find, Option, Some, None, option_map, Result, Ok, Err, refl, sym, ap, ◌∙◌, subst, arith}
+use Rattle.std.proofs.lemmas.Bool.{and_parts}
+use Rattle.rc_types.specs.declared.ids.ServerId.{ServerId}
+use Rattle.rc_types.specs.declared.entries.Entry.{Entry}
+use Rattle.rc_types.specs.declared.faults.Fault.{Fault}
+use Rattle.rc_types.specs.declared.faults.Fault.TheVariants.{LogFull}
+use Rattle.rc_types.specs.declared.kept.Phase.{Phase}
+use Rattle.rc_types.specs.declared.kept.Phase.TheVariants.{Opening, Closing, Writing}
+use Rattle.rc_types.specs.declared.kept.Member.{Member}
+use Rattle.rc_types.specs.declared.messages.Message.{Message}
+use Rattle.rc_types.specs.declared.limits.TheConstants.{LAST_SEGMENT, LAST_EPOCH}
+use Rattle.rc_model.specs.ServerList.{ServerList}
+use Rattle.rc_model.specs.Config.{Config, all_placed, choose, new_member, changed, changes_to, replaced, with_lost, any_lost, substitutes_for, lose}
+use Rattle.rc_model.specs.Segment.{Segment, new_segment, is_ready}
+use Rattle.rc_model.specs.Log.{Log, head_of, old_head_of, has_old_head, is_opening, is_closing, is_writing, durable_now}
+use Rattle.rc_model.specs.Heads.{opens_head, next_digest, rolled, begin_roll, is_full, may_start, may_close, may_write, left_out, with_freed, writes_on}
+use Rattle.rc_model.specs.Ownership.{after_replay, to_answer}
+use Rattle.rc_model.specs.Master.{Master, with_log, durable_entries, dead_segments, appends_entry}
+use Rattle.rc_model.specs.FollowUps.{follow_up, follows_start, follows_placed, close_is_due, follows_closing, follows_shut, first_open, wants_commit, commits, commits_open, follows_change, follows_stored, rolls_for_replay, replays, follows_data, answers_part, follows_replay}
+use Rattle.rc_model.proofs.Tests.{either, true_false}
+use Rattle.rc_model.proofs.Tables.{put-same}
+use Rattle.rc_model.proofs.LogParts.{with_freed-marked}
+use Rattle.rc_model.proofs.Rules.{AllDone, done-or, done-when}
+
+-- what rules 5 to 8 leave, or a roll opens
+pub record KeepsPhase (old new : Master) : Type 0 where
+  pub phase : (new.log.phase ≡ old.log.phase) ⊎ (new.log.phase ≡ Opening)
+
+abbrev KeepsPhaseDone : Master → Master × List Message → Type 0
+KeepsPhaseDone master done = KeepsPhase master done.0
+
+keeps-change : (master : Master) (open_one : Option ℕ) → AllDone (KeepsPhaseDone master) (commits_open master open_one)
+keeps-change master None = tt
+keeps-change master (Some seg) =
+    done-when (KeepsPhaseDone master) (wants_commit (master.log.segments seg)) (commits master seg) (λ _. record { phase = inl refl })
+
+keeps-roll : (master : Master) (chosen : Option (List ServerId)) → AllDone (KeepsPhaseDone master) (rolls_for_replay master (rolled master.log (dead_segments master) chosen))
+keeps-roll master None = tt
+keeps-roll master (Some ids) = record { phase = inr refl }
+
+keeps-full : (master : Master) → AllDone (KeepsPhaseDone master) (rolls_for_replay master (begin_roll master.known (dead_segments master) master.log))
+keeps-full master =
+    either (λ answer. AllDone (KeepsPhaseDone master) (rolls_for_replay master answer)) (nat_lt master.log.head LAST_SEGMENT)
+    (rolled master.log (dead_segments master) (choose (master.log.head + 1) master.log.own master.log.factor master.known)) (master.log, Err LogFull)
+    (λ _. keeps-roll master (choose (master.log.head + 1) master.log.own master.log.factor master.known)) (λ _. tt)
+
+keeps-replay : (master : Master) (replay : List Entry) → AllDone (KeepsPhaseDone master) (replays master replay)
+keeps-replay master [] = tt
+keeps-replay master (entry ∷ entries) =
+    either (AllDone (KeepsPhaseDone master)) (is_full master.log) (rolls_for_replay master (begin_roll master.known (dead_segments master) master.log))
+    (Some (appends_entry (record master { ownership = after_replay master.ownership }) entry false))
+    (λ _. keeps-full master) (λ _. record { phase = inl refl })
+
+keeps-data : (master : Master) → AllDone (KeepsPhaseDone master) (follows_data master)
+keeps-data master =
+    either (AllDone (KeepsPhaseDone master)) (is_writing master.log.phase) (replays master master.ownership.replay) None
+    (λ _. keeps-replay master master.ownership.replay) (λ _. tt)
+
+keeps-answer : (master : Master) (term : Option ℕ) → AllDone (KeepsPhaseDone master) (answers_part master term)
+keeps-answer master None = tt
+keeps-answer master (Some term) = record { phase = inl refl }
+
+-- all rules, given what the first four do, and what follows where the phase stays or a roll opens
+by_rules : (P : Master × List Message → Type 0) (master : Master) →
+    ((done : Master × List Message) → KeepsPhaseDone master done → P done) →
+    AllDone P (follows_start master) → AllDone P (follows_placed master) → AllDone P (follows_closing master) → AllDone P (follows_shut master) →
+    AllDone P (follow_up master)
+by_rules P master keeps start placed closing shut =
+    done-or P _ _ start (done-or P _ _ placed (done-or P _ _ closing (done-or P _ _ shut
+    (done-or P _ _ (weaker _ (keeps-change master (first_open master.log)))
+    (done-or P _ _ (done-when P _ (_, _) (λ _. keeps _ (record { phase = inl refl })))
+    (done-or P _ _ (weaker _ (keeps-data master)) (weaker _ (keeps-answer master (to_answer (durable_entries master) master.ownership)))))))))
+  where
+    weaker : (done : Option (Master × List Message)) → AllDone (KeepsPhaseDone master) done → AllDone P done
+    weaker None p = tt
+    weaker (Some done) p = keeps done p
+
+freed-phase : (segs : List ℕ) (log : Log) → (with_freed segs log).phase ≡ log.phase
+freed-phase segs log = ap (λ (after : Log). after.phase) (with_freed-marked segs log)
+
+-- the phase becomes Closing only where the head is placed
+abbrev pub ClosesPlaced : Master → Master × List Message → Type 0
+ClosesPlaced master done = is_closing master.log.phase ≡ false → is_closing done.0.log.phase ≡ true → all_placed (head_of done.0.log).config ≡ true
+
+pub closes-placed : (master : Master) → AllDone (ClosesPlaced master) (follow_up master)
+closes-placed master =
+    by_rules (ClosesPlaced master) master keeps
+    (done-when (ClosesPlaced master) (may_start master.log) (_, _) (λ _ _ is. cc))
+    (done-when (ClosesPlaced master) (may_close master.log) (_, _) (λ may _ _.
+    (and_parts (has_old_head master.log) (all_placed (head_of master.log).config)
+    (and_parts (is_opening master.log.phase) (has_old_head master.log && all_placed (head_of master.log).config) may).1).1))
+    (done-when (ClosesPlaced master) (close_is_due master.log) (_, _) (λ _ isn't is. true_false (sym is ∙ isn't)))
+    (done-when (ClosesPlaced master) (may_write master.log) (_, _) (λ _ _ is.
+    let after : (writes_on master.log).phase ≡ Writing = freed-phase (left_out master.log) (record master.log { phase = Writing }) in
+    true_false (sym is ∙ ap is_closing after)))
+  where
+    keeps : (done : Master × List Message) → KeepsPhaseDone master done → ClosesPlaced master done
+    keeps done kept isn't is = by kept.phase
+      where
+        by : (done.0.log.phase ≡ master.log.phase) ⊎ (done.0.log.phase ≡ Opening) → all_placed (head_of done.0.log).config ≡ true
+        by (inl same) = true_false (sym is ∙ (ap is_closing same ∙ isn't))
+        by (inr opened) = true_false (sym is ∙ ap is_closing opened)
+
+-- the phase becomes Writing only where the head is placed and committed, and the old one shut
+abbrev pub WritesShut : Master → Master × List Message → Type 0
+WritesShut master done = is_writing master.log.phase ≡ false → is_writing done.0.log.phase ≡ true →
+    (all_placed (head_of master.log).config ≡ true) × ((head_of master.log).config.committed ≡ true)
+    × (nat_eq master.log.head 1 || (old_head_of master.log).shut ≡ true)
+
+pub writes-shut : (master : Master) → AllDone (WritesShut master) (follow_up master)
+writes-shut master =
+    by_rules (WritesShut master) master keeps
+    (done-when (WritesShut master) (may_start master.log) (_, _) (λ may _ _. start may))
+    (done-when (WritesShut master) (may_close master.log) (_, _) (λ _ _ is. cc))
+    (done-when (WritesShut master) (close_is_due master.log) (_, _) (λ _ isn't is. true_false (sym is ∙ isn't)))
+    (done-when (WritesShut master) (may_write master.log) (_, _) (λ may _ _. shut may))
+  where
+    keeps : (done : Master × List Message) → KeepsPhaseDone master done → WritesShut master done
+    keeps done kept isn't is = by kept.phase
+      where
+        by : (done.0.log.phase ≡ master.log.phase) ⊎ (done.0.log.phase ≡ Opening) → (all_placed (head_of master.log).config ≡ true) × ((head_of master.log).config.committed ≡ true)
+            × (nat_eq master.log.head 1 || (old_head_of master.log).shut ≡ true)
+        by (inl same) = true_false (sym is ∙ (ap is_writing same ∙ isn't))
+        by (inr opened) = true_false (sym is ∙ ap is_writing opened)
+
+    start : may_start master.log ≡ true → (all_placed (head_of master.log).config ≡ true) × ((head_of master.log).config.committed ≡ true)
+        × (nat_eq master.log.head 1 || (old_head_of master.log).shut ≡ true)
+    start may =
+        let first : (nat_eq master.log.head 1 ≡ true) × (is_ready (head_of master.log) ≡ true) =
+            and_parts (nat_eq master.log.head 1) (is_ready (head_of master.log))
+            (and_parts (is_opening master.log.phase) (nat_eq master.log.head 1 && is_ready (head_of master.log)) may).1 in
+        let ready : ((head_of master.log).config.committed ≡ true) × (all_placed (head_of master.log).config ≡ true) =
+            and_parts (head_of master.log).config.committed (all_placed (head_of master.log).config) first.1 in
+        (ready.1, ready.0, ap (λ b. b || (old_head_of master.log).shut) first.0)
+
+    or_true : (a b : Bool) → b ≡ true → a || b ≡ true
+    or_true true b e = refl
+    or_true false b e = e
+
+    shut : may_write master.log ≡ true → (all_placed (head_of master.log).config ≡ true) × ((head_of master.log).config.committed ≡ true)
+        × (nat_eq master.log.head 1 || (old_head_of master.log).shut ≡ true)
+    shut may =
+        let tests : ((old_head_of master.log).shut ≡ true) × (is_ready (head_of master.log) ≡ true) =
+            and_parts (old_head_of master.log).shut (is_ready (head_of master.log))
+            (and_parts (has_old_head master.log) ((old_head_of master.log).shut && is_ready (head_of master.log))
+            (and_parts (is_closing master.log.phase) (has_old_head master.log && ((old_head_of master.log).shut && is_ready (head_of master.log))) may).1).1 in
+        let ready : ((head_of master.log).config.committed ≡ true) × (all_placed (head_of master.log).config ≡ true) =
+            and_parts (head_of master.log).config.committed (all_placed (head_of master.log).config) tests.1 in
+        (ready.1, ready.0, or_true (nat_eq master.log.head 1) (old_head_of master.log).shut tests.0)

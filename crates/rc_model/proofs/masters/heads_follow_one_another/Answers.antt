@@ -1,0 +1,10 @@
+use Rattle.std.proofs.Common.{subst}
+use Rattle.rc_model.proofs.Rules.{AllDone}
+use Rattle.rc_model.proofs.Phases.{ClosesPlaced, WritesShut, closes-placed, writes-shut}
+use Rattle.rc_model.proofs.masters.heads_follow_one_another.Goals as goal
+
+pub returns-clause-closing : goal.returns-clause-closing
+returns-clause-closing c master next messages e = subst (AllDone (ClosesPlaced master)) e (closes-placed master)
+
+pub returns-clause-writing : goal.returns-clause-writing
+returns-clause-writing c master next messages e = subst (AllDone (WritesShut master)) e (writes-shut master)

@@ -1,0 +1,67 @@
+-- What a master's heads, writes and members should obey.
+use Rattle.std.specs.Prelude.{◌≡◌, ℕ, ◌+◌, ◌<◌, Bool, true, false, ◌||◌, nat_eq, List, [], ◌∷◌, ◌++◌, length, Option, Some, Result, Ok, slice_get}
+use Rattle.rc_types.specs.declared.ids.ServerId.{ServerId}
+use Rattle.rc_types.specs.declared.entries.Entry.{Entry}
+use Rattle.rc_types.specs.declared.faults.Fault.{Fault}
+use Rattle.rc_types.specs.declared.messages.Message.{Message}
+use Rattle.rc_model.specs.ServerList.{ServerList}
+use Rattle.rc_model.specs.Config.{Config, all_placed, noted, lose}
+use Rattle.rc_model.specs.Log.{Log, places_of, entries_of, head_of, old_head_of, is_closing, is_writing}
+use Rattle.rc_model.specs.Heads.{is_full, begin_roll}
+use Rattle.rc_model.specs.Ownership.{term_of}
+use Rattle.rc_model.specs.Versions.{is_of}
+use Rattle.rc_model.specs.Master.{Master, dead_segments}
+use Rattle.rc_model.specs.Writing.{is_too_long, written, writes}
+use Rattle.rc_model.specs.FollowUps.{follow_up}
+
+-- Heads
+
+-- a rule makes the phase Closing only where the new head is placed on all its members
+abbrev pub ClosesOnlyWherePlaced : Type 0
+ClosesOnlyWherePlaced = (master next : Master) (messages : List Message) → follow_up master ≡ Some (next, messages) →
+    is_closing master.log.phase ≡ false → is_closing next.log.phase ≡ true → all_placed (head_of next.log).config ≡ true
+
+-- a rule makes the phase Writing only where the head is placed on all its members under a committed epoch,
+-- and it is the first one or the old head is shut
+abbrev pub WritesOnlyWhereShut : Type 0
+WritesOnlyWhereShut = (master next : Master) (messages : List Message) → follow_up master ≡ Some (next, messages) →
+    is_writing master.log.phase ≡ false → is_writing next.log.phase ≡ true →
+    (all_placed (head_of master.log).config ≡ true) × ((head_of master.log).config.committed ≡ true)
+    × (nat_eq master.log.head 1 || (old_head_of master.log).shut ≡ true)
+
+-- a master that frees nothing opens each head with the whole digest of the one before
+abbrev pub RollsKeepTheDigest : Type 0
+RollsKeepTheDigest = (master : Master) (log : Log) (began : Bool) → master.free ≡ false →
+    begin_roll master.known (dead_segments master) master.log ≡ (log, Ok began) →
+    (head_of log).digest ≡ (head_of master.log).digest ++ (master.log.head + 1) ∷ []
+
+-- Writes
+
+-- a write's version is above all of its term and key in the log
+abbrev pub WritesAreNumberedAbove : Type 0
+WritesAreNumberedAbove = (master : Master) (term table key : ℕ) (value : Option (List ℕ)) (k : ℕ) (entry : Entry) →
+    slice_get (entries_of master.log) k ≡ Some entry → is_of term table key entry ≡ true →
+    entry.version < (written master term table key value).version
+
+-- what a write appends is what was asked, at the log's end, under the term of its range
+abbrev pub WritesAppendTheAsked : Type 0
+WritesAppendTheAsked = (master : Master) (term table key : ℕ) (value : Option (List ℕ)) → 0 < master.log.head →
+    is_too_long value ≡ false → term_of master.ownership table key ≡ Some term → is_writing master.log.phase ≡ true → is_full master.log ≡ false →
+    (version : ℕ) × (places_of (writes master table key value).0.log ≡ places_of master.log ++ record {
+      seg = master.log.head;
+      offset = length (head_of master.log).entries;
+      entry = record { term = term; table = table; key = key; version = version; value = value };
+      client = true;
+    } ∷ [])
+
+-- Members
+
+-- a change of members takes a fresh epoch, under which nothing is committed
+abbrev pub ChangesTakeAFreshEpoch : Type 0
+ChangesTakeAFreshEpoch = (own : ServerId) (servers : ServerList) (old new : Config) → lose own servers old ≡ (new, Ok true) →
+    (new.epoch ≡ old.epoch + 1) × (new.committed ≡ false) × (all_placed new ≡ true → new.members ≡ [])
+
+-- what is told under another epoch isn't noted
+abbrev pub OtherEpochsArentNoted : Type 0
+OtherEpochsArentNoted = (from : ServerId) (epoch len : ℕ) (closed : Bool) (config : Config) →
+    nat_eq epoch config.epoch ≡ false → noted from epoch len closed config ≡ config
