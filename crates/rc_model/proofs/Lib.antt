@@ -13,3 +13,6 @@ pub mod Members
 pub mod Said
 pub mod Headlines
 pub mod Replays
+pub mod Numbering
+pub mod Changes
+pub mod Granting

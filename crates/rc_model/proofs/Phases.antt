@@ -1,25 +1,20 @@
 -- Where the phase changes, what a roll opens, and how members change.
-use Rattle.std.proofs.Common.{◌≡◌, ◌⊎◌, inl, inr, ℕ, ◌+◌, ◌<◌, Bool, true, false, cond, not, ◌&&◌, ◌||◌, nat_eq, nat_lt, List, [], ◌∷◌, ◌++◌, length, map, filter, find, Option, Some, None, option_map, Result, Ok, Err, refl, sym, ap, ◌∙◌, subst, arith}
+use Rattle.std.proofs.Common.{◌≡◌, ◌⊎◌, inl, inr, ℕ, ◌+◌, Bool, true, false, ◌&&◌, ◌||◌, nat_eq, nat_lt, List, [], ◌∷◌, Option, Some, None, Err, refl, sym, ap, ◌∙◌}
 use Rattle.std.proofs.lemmas.Bool.{and_parts}
 use Rattle.rc_types.specs.declared.ids.ServerId.{ServerId}
 use Rattle.rc_types.specs.declared.entries.Entry.{Entry}
-use Rattle.rc_types.specs.declared.faults.Fault.{Fault}
 use Rattle.rc_types.specs.declared.faults.Fault.TheVariants.{LogFull}
-use Rattle.rc_types.specs.declared.kept.Phase.{Phase}
-use Rattle.rc_types.specs.declared.kept.Phase.TheVariants.{Opening, Closing, Writing}
-use Rattle.rc_types.specs.declared.kept.Member.{Member}
+use Rattle.rc_types.specs.declared.kept.Phase.TheVariants.{Opening, Writing}
 use Rattle.rc_types.specs.declared.messages.Message.{Message}
-use Rattle.rc_types.specs.declared.limits.TheConstants.{LAST_SEGMENT, LAST_EPOCH}
-use Rattle.rc_model.specs.ServerList.{ServerList}
-use Rattle.rc_model.specs.Config.{Config, all_placed, choose, new_member, changed, changes_to, replaced, with_lost, any_lost, substitutes_for, lose}
-use Rattle.rc_model.specs.Segment.{Segment, new_segment, is_ready}
-use Rattle.rc_model.specs.Log.{Log, head_of, old_head_of, has_old_head, is_opening, is_closing, is_writing, durable_now}
-use Rattle.rc_model.specs.Heads.{opens_head, next_digest, rolled, begin_roll, is_full, may_start, may_close, may_write, left_out, with_freed, writes_on}
+use Rattle.rc_types.specs.declared.limits.TheConstants.{LAST_SEGMENT}
+use Rattle.rc_model.specs.Config.{all_placed, choose}
+use Rattle.rc_model.specs.Segment.{is_ready}
+use Rattle.rc_model.specs.Log.{Log, head_of, old_head_of, has_old_head, is_opening, is_closing, is_writing}
+use Rattle.rc_model.specs.Heads.{rolled, begin_roll, is_full, may_start, may_close, may_write, left_out, with_freed, writes_on}
 use Rattle.rc_model.specs.Ownership.{after_replay, to_answer}
-use Rattle.rc_model.specs.Master.{Master, with_log, durable_entries, dead_segments, appends_entry}
-use Rattle.rc_model.specs.FollowUps.{follow_up, follows_start, follows_placed, close_is_due, follows_closing, follows_shut, first_open, wants_commit, commits, commits_open, follows_change, follows_stored, rolls_for_replay, replays, follows_data, answers_part, follows_replay}
+use Rattle.rc_model.specs.Master.{Master, durable_entries, dead_segments, appends_entry}
+use Rattle.rc_model.specs.FollowUps.{follow_up, follows_start, follows_placed, close_is_due, follows_closing, follows_shut, first_open, wants_commit, commits, commits_open, rolls_for_replay, replays, follows_data, answers_part}
 use Rattle.rc_model.proofs.Tests.{either, true_false}
-use Rattle.rc_model.proofs.Tables.{put-same}
 use Rattle.rc_model.proofs.LogParts.{with_freed-marked}
 use Rattle.rc_model.proofs.Rules.{AllDone, done-or, done-when}
 
@@ -128,10 +123,10 @@ writes-shut master =
         × (nat_eq master.log.head 1 || (old_head_of master.log).shut ≡ true)
     start may =
         let first : (nat_eq master.log.head 1 ≡ true) × (is_ready (head_of master.log) ≡ true) =
-            and_parts (nat_eq master.log.head 1) (is_ready (head_of master.log))
-            (and_parts (is_opening master.log.phase) (nat_eq master.log.head 1 && is_ready (head_of master.log)) may).1 in
+        and_parts (nat_eq master.log.head 1) (is_ready (head_of master.log))
+        (and_parts (is_opening master.log.phase) (nat_eq master.log.head 1 && is_ready (head_of master.log)) may).1 in
         let ready : ((head_of master.log).config.committed ≡ true) × (all_placed (head_of master.log).config ≡ true) =
-            and_parts (head_of master.log).config.committed (all_placed (head_of master.log).config) first.1 in
+        and_parts (head_of master.log).config.committed (all_placed (head_of master.log).config) first.1 in
         (ready.1, ready.0, ap (λ b. b || (old_head_of master.log).shut) first.0)
 
     or_true : (a b : Bool) → b ≡ true → a || b ≡ true
@@ -142,9 +137,9 @@ writes-shut master =
         × (nat_eq master.log.head 1 || (old_head_of master.log).shut ≡ true)
     shut may =
         let tests : ((old_head_of master.log).shut ≡ true) × (is_ready (head_of master.log) ≡ true) =
-            and_parts (old_head_of master.log).shut (is_ready (head_of master.log))
-            (and_parts (has_old_head master.log) ((old_head_of master.log).shut && is_ready (head_of master.log))
-            (and_parts (is_closing master.log.phase) (has_old_head master.log && ((old_head_of master.log).shut && is_ready (head_of master.log))) may).1).1 in
+        and_parts (old_head_of master.log).shut (is_ready (head_of master.log))
+        (and_parts (has_old_head master.log) ((old_head_of master.log).shut && is_ready (head_of master.log))
+        (and_parts (is_closing master.log.phase) (has_old_head master.log && ((old_head_of master.log).shut && is_ready (head_of master.log))) may).1).1 in
         let ready : ((head_of master.log).config.committed ≡ true) × (all_placed (head_of master.log).config ≡ true) =
-            and_parts (head_of master.log).config.committed (all_placed (head_of master.log).config) tests.1 in
+        and_parts (head_of master.log).config.committed (all_placed (head_of master.log).config) tests.1 in
         (ready.1, ready.0, or_true (nat_eq master.log.head 1) (old_head_of master.log).shut tests.0)

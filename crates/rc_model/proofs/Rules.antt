@@ -1,5 +1,5 @@
 -- What holds of whatever a rule did.
-use Rattle.std.proofs.Common.{◌≡◌, Bool, true, false, cond, List, Option, Some, None, refl}
+use Rattle.std.proofs.Common.{◌≡◌, Bool, true, false, List, Option, Some, None, refl}
 use Rattle.rc_types.specs.declared.messages.Message.{Message}
 use Rattle.rc_model.specs.Master.{Master}
 use Rattle.rc_model.specs.FollowUps.{when, or_rule}

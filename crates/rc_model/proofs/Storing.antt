@@ -1,6 +1,7 @@
 -- Replicas and backups.
 use Rattle.std.proofs.Common.{◌≡◌, ℕ, ◌-◌, Bool, true, false, cond, not, nat_eq, nat_lt, nat_le, ◌&&◌, ◌||◌, List, [], ◌∷◌, ◌++◌, length, drop, filter, Option, Some, None, refl, sym, ap, ◌∙◌, subst}
-use Rattle.std.proofs.lemmas.Bool.{and_parts, eqb-true}
+use Rattle.std.specs.List.{list_any}
+use Rattle.std.proofs.lemmas.Bool.{and_parts, eqb-true, eq-eqb}
 use Rattle.std.proofs.lemmas.List.{append-nil}
 use Rattle.rc_types.specs.declared.ids.ServerId.{ServerId}
 use Rattle.rc_types.specs.declared.ids.Addr.{Addr}
@@ -216,6 +217,53 @@ pub gather-fences : (backup : Backup) (from : Addr) (attempt : ℕ) (master : Se
 gather-fences backup Coordinator attempt master = ap (λ (held : Held). held.fenced) (put_id-same backup.held master (record (backup.held master) { fenced = true }))
 gather-fences backup Outside attempt master = ap (λ (held : Held). held.fenced) (put_id-same backup.held master (record (backup.held master) { fenced = true }))
 gather-fences backup (Server from) attempt master = ap (λ (held : Held). held.fenced) (put_id-same backup.held master (record (backup.held master) { fenced = true }))
+
+-- Freed segments
+
+-- a number that was put in is there
+inserted : (n : ℕ) (numbers : List ℕ) → list_any (nat_eq n) (insert_number n numbers) ≡ true
+inserted n [] = rw (eq-eqb n n refl) refl
+inserted n (m ∷ ms) = by (nat_lt n m) (nat_eq n m) refl (inserted n ms)
+  where
+    by : (less same : Bool) → nat_eq n m ≡ same → list_any (nat_eq n) (insert_number n ms) ≡ true →
+        list_any (nat_eq n) (cond less (n ∷ m ∷ ms) (cond same (m ∷ ms) (m ∷ insert_number n ms))) ≡ true
+    by true same e rec = rw (eq-eqb n n refl) refl
+    by false true e rec = rw e refl
+    by false false e rec = rw e rec
+
+-- and a replica that was taken out isn't
+taken_out : (seg : ℕ) (replicas : List (ℕ × Replica)) → replica_of seg (without_replica seg replicas) ≡ None
+taken_out seg [] = refl
+taken_out seg (one ∷ others) = by (nat_eq seg one.0) refl (taken_out seg others)
+  where
+    by : (same : Bool) → nat_eq seg one.0 ≡ same → replica_of seg (without_replica seg others) ≡ None →
+        replica_of seg (cond (not same) (one ∷ without_replica seg others) (without_replica seg others)) ≡ None
+    by true e rec = rec
+    by false e rec = rw e rec
+
+-- a freed segment is marked, and its replica is gone
+pub freed-marked : (backup : Backup) (master : ServerId) (seg : ℕ) → (backup.held master).fenced ≡ false →
+    (is_freed seg ((frees backup master seg).held master) ≡ true) × (replica_of seg ((frees backup master seg).held master).replicas ≡ None)
+freed-marked backup master seg isn't =
+    let after : Held = record {
+      fenced = false;
+      replicas = without_replica seg (backup.held master).replicas;
+      freed = insert_number seg (backup.held master).freed;
+    } in
+    let stands : (frees backup master seg).held master ≡ after =
+    ap (λ b. (cond b backup (with_held master after backup)).held master) isn't ∙ put_id-same backup.held master after in
+    (ap (is_freed seg) stands ∙ inserted seg (backup.held master).freed, ap (λ (held : Held). replica_of seg held.replicas) stands ∙ taken_out seg (backup.held master).replicas)
+
+-- nothing of a marked one is stored
+pub freed-nothing : (backup : Backup) (master : ServerId) (seg : ℕ) (body : Body) → is_freed seg (backup.held master) ≡ true → stores backup master seg body ≡ (backup, [])
+freed-nothing backup master seg body freed =
+    either (λ after. after ≡ (backup, [])) (is_refused seg (backup.held master)) (backup, [])
+    (keeps backup master seg (replica_after (replica_of seg (backup.held master).replicas) body))
+    (λ _. refl) (λ isn't. true_false (sym freed ∙ or_right-false (backup.held master).fenced (is_freed seg (backup.held master)) isn't))
+  where
+    or_right-false : (a b : Bool) → a || b ≡ false → b ≡ false
+    or_right-false true b e = cc
+    or_right-false false b e = e
 
 -- Restart
 

@@ -7,7 +7,7 @@ use Rattle.rc_types.specs.declared.entries.Entry.{Entry}
 use Rattle.rc_types.specs.declared.messages.Body.{Body}
 use Rattle.rc_types.specs.declared.messages.Body.TheVariants.{Place, Append, Close, Free, Gather}
 use Rattle.rc_model.specs.Replica.{Replica}
-use Rattle.rc_model.specs.Backup.{Backup, replica_of, replica_after, backup_takes, is_kept, restart}
+use Rattle.rc_model.specs.Backup.{Backup, replica_of, replica_after, is_freed, stores, frees, backup_takes, is_kept, restart}
 
 -- One replica
 
@@ -62,6 +62,18 @@ FencedReplicasStay = (backup : Backup) (from : Addr) (body : Body) (master : Ser
 abbrev pub GatherFences : Type 0
 GatherFences = (backup : Backup) (from : Addr) (attempt : ℕ) (master : ServerId) →
     ((backup_takes backup from (Gather attempt master)).0.held master).fenced ≡ true
+
+-- Freed segments
+
+-- unless its master is fenced, a freed segment is marked, and its replica is gone
+abbrev pub FreedIsMarked : Type 0
+FreedIsMarked = (backup : Backup) (master : ServerId) (seg : ℕ) → (backup.held master).fenced ≡ false →
+    (is_freed seg ((frees backup master seg).held master) ≡ true) × (replica_of seg ((frees backup master seg).held master).replicas ≡ None)
+
+-- and nothing of a marked one is stored or answered
+abbrev pub FreedStoresNothing : Type 0
+FreedStoresNothing = (backup : Backup) (master : ServerId) (seg : ℕ) (body : Body) →
+    is_freed seg (backup.held master) ≡ true → stores backup master seg body ≡ (backup, [])
 
 -- A restart
 

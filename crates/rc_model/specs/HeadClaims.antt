@@ -1,8 +1,8 @@
 -- What a master's heads, writes and members should obey.
-use Rattle.std.specs.Prelude.{◌≡◌, ℕ, ◌+◌, ◌<◌, Bool, true, false, ◌||◌, nat_eq, List, [], ◌∷◌, ◌++◌, length, Option, Some, Result, Ok, slice_get}
+use Rattle.std.specs.Prelude.{◌≡◌, ℕ, ◌+◌, ◌<◌, Bool, true, false, ◌||◌, nat_eq, List, [], ◌∷◌, ◌++◌, length, Option, Some, None, Ok, slice_get}
 use Rattle.rc_types.specs.declared.ids.ServerId.{ServerId}
 use Rattle.rc_types.specs.declared.entries.Entry.{Entry}
-use Rattle.rc_types.specs.declared.faults.Fault.{Fault}
+use Rattle.rc_types.specs.declared.kept.Member.{Member}
 use Rattle.rc_types.specs.declared.messages.Message.{Message}
 use Rattle.rc_model.specs.ServerList.{ServerList}
 use Rattle.rc_model.specs.Config.{Config, all_placed, noted, lose}
@@ -56,12 +56,17 @@ WritesAppendTheAsked = (master : Master) (term table key : ℕ) (value : Option 
 
 -- Members
 
--- a change of members takes a fresh epoch, under which nothing is committed
+-- a change of members takes a fresh epoch, which isn't committed
 abbrev pub ChangesTakeAFreshEpoch : Type 0
 ChangesTakeAFreshEpoch = (own : ServerId) (servers : ServerList) (old new : Config) → lose own servers old ≡ (new, Ok true) →
-    (new.epoch ≡ old.epoch + 1) × (new.committed ≡ false) × (all_placed new ≡ true → new.members ≡ [])
+    (new.epoch ≡ old.epoch + 1) × (new.committed ≡ false)
+
+-- under it nobody has told anything
+abbrev pub NothingIsToldUnderIt : Type 0
+NothingIsToldUnderIt = (own : ServerId) (servers : ServerList) (old new : Config) (k : ℕ) (member : Member) →
+    lose own servers old ≡ (new, Ok true) → slice_get new.members k ≡ Some member → (member.told ≡ None) × (member.lost ≡ false)
 
 -- what is told under another epoch isn't noted
-abbrev pub OtherEpochsArentNoted : Type 0
-OtherEpochsArentNoted = (from : ServerId) (epoch len : ℕ) (closed : Bool) (config : Config) →
+abbrev pub OtherEpochsAreNotNoted : Type 0
+OtherEpochsAreNotNoted = (from : ServerId) (epoch len : ℕ) (closed : Bool) (config : Config) →
     nat_eq epoch config.epoch ≡ false → noted from epoch len closed config ≡ config

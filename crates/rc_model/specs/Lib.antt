@@ -37,3 +37,4 @@ pub mod WorldClaims
 pub mod BackupClaims
 pub mod MasterClaims
 pub mod HeadClaims
+pub mod CoordinatorClaims

@@ -1,6 +1,6 @@
 //! What backups keep.
 
-ghost use Rattle.rc_model.specs.BackupClaims.{ReplicasOnlyGrow, ClosedStaysTheSame, ClosesAtTheStatedLength, FencedStoresNothing, FencedReplicasStay, GatherFences, RestartKeeps, RestartKeepsNoOther, RestartFencesNobody};
+ghost use Rattle.rc_model.specs.BackupClaims.{ReplicasOnlyGrow, ClosedStaysTheSame, ClosesAtTheStatedLength, FencedStoresNothing, FencedReplicasStay, GatherFences, FreedIsMarked, FreedStoresNothing, RestartKeeps, RestartKeepsNoOther, RestartFencesNobody};
 
 /// A replica's entries only grow; a closed one stays closed with the same entries; and one closes
 /// only where it has exactly the stated length.
@@ -23,4 +23,10 @@ pub fn restarts_keep()
     ensures keeps { RestartKeeps }
     ensures no_other { RestartKeepsNoOther }
     ensures nobody { RestartFencesNobody }
+{}
+
+/// A freed segment is marked and its replica goes; nothing of a marked one is stored any more.
+pub fn freed_stay_freed()
+    ensures marked { FreedIsMarked }
+    ensures nothing { FreedStoresNothing }
 {}

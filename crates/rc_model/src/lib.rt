@@ -3,6 +3,7 @@
 #![tactic(auto)]
 
 pub mod backups;
+pub mod coordinators;
 pub mod laws;
 pub mod masters;
 pub mod worlds;

@@ -1,6 +1,6 @@
 //! How a master goes on.
 
-ghost use Rattle.rc_model.specs.HeadClaims.{ClosesOnlyWherePlaced, WritesOnlyWhereShut};
+ghost use Rattle.rc_model.specs.HeadClaims.{ClosesOnlyWherePlaced, WritesOnlyWhereShut, RollsKeepTheDigest, WritesAreNumberedAbove, WritesAppendTheAsked, ChangesTakeAFreshEpoch, NothingIsToldUnderIt, OtherEpochsAreNotNoted};
 ghost use Rattle.rc_model.specs.MasterClaims.{FollowUpsLower, NoneAppliesAfterwards, ShutIsMarked};
 
 /// Each follow-up that a master makes lowers its measure.
@@ -15,4 +15,20 @@ pub fn follow_ups_end()
 pub fn heads_follow_one_another()
     ensures closing { ClosesOnlyWherePlaced }
     ensures writing { WritesOnlyWhereShut }
+    ensures digest { RollsKeepTheDigest }
+{}
+
+/// A write is numbered above all of its term and key in the log; what is appended is what was asked,
+/// under the term of its range.
+pub fn writes_are_as_asked()
+    ensures above { WritesAreNumberedAbove }
+    ensures asked { WritesAppendTheAsked }
+{}
+
+/// A change of members takes a fresh epoch, which isn't committed and under which nobody has told
+/// anything; what is told under another epoch isn't noted.
+pub fn changes_begin_afresh()
+    ensures fresh { ChangesTakeAFreshEpoch }
+    ensures untold { NothingIsToldUnderIt }
+    ensures other { OtherEpochsAreNotNoted }
 {}

@@ -1,6 +1,7 @@
 use Rattle.std.proofs.Common.{subst}
 use Rattle.rc_model.proofs.Rules.{AllDone}
 use Rattle.rc_model.proofs.Phases.{ClosesPlaced, WritesShut, closes-placed, writes-shut}
+use Rattle.rc_model.proofs.Changes.{rolls-keep}
 use Rattle.rc_model.proofs.masters.heads_follow_one_another.Goals as goal
 
 pub returns-clause-closing : goal.returns-clause-closing
@@ -8,3 +9,6 @@ returns-clause-closing c master next messages e = subst (AllDone (ClosesPlaced m
 
 pub returns-clause-writing : goal.returns-clause-writing
 returns-clause-writing c master next messages e = subst (AllDone (WritesShut master)) e (writes-shut master)
+
+pub returns-clause-digest : goal.returns-clause-digest
+returns-clause-digest c = rolls-keep

@@ -1,0 +1,91 @@
+-- How members change, and what a roll opens.
+use Rattle.std.proofs.Common.{◌≡◌, ℕ, zero, suc, ◌+◌, Bool, true, false, not, ◌||◌, nat_eq, nat_lt, List, [], ◌∷◌, ◌++◌, map, filter, Option, Some, None, Result, Ok, Err, slice_get, refl, sym, ap, ◌∙◌, subst}
+use Rattle.std.specs.List.{list_any}
+use Rattle.rc_types.specs.declared.ids.ServerId.{ServerId}
+use Rattle.rc_types.specs.declared.faults.Fault.{Fault}
+use Rattle.rc_types.specs.declared.faults.Fault.TheVariants.{EpochsExhausted, LogFull}
+use Rattle.rc_types.specs.declared.kept.Member.{Member}
+use Rattle.rc_types.specs.declared.limits.TheConstants.{LAST_SEGMENT, LAST_EPOCH}
+use Rattle.rc_model.specs.ServerList.{ServerList}
+use Rattle.rc_model.specs.Config.{Config, new_member, changed, changes_to, replaced, with_lost, any_lost, substitutes_for, lose, noted, choose}
+use Rattle.rc_model.specs.Segment.{Segment, new_segment}
+use Rattle.rc_model.specs.Log.{Log, head_of}
+use Rattle.rc_model.specs.Heads.{next_digest, rolled, begin_roll}
+use Rattle.rc_model.specs.Master.{Master, dead_segments}
+use Rattle.rc_model.proofs.Tests.{either, true_false}
+use Rattle.rc_model.proofs.Tables.{put-same}
+
+-- fresh members have told nothing
+fresh-untold : (members : List Member) (k : ℕ) (member : Member) → slice_get (map (λ (one : Member). new_member one.id) members) k ≡ Some member →
+    (member.told ≡ None) × (member.lost ≡ false)
+fresh-untold [] k member found = cc
+fresh-untold (one ∷ others) zero member found =
+    let same : new_member one.id ≡ member = cc in
+    (ap (λ (m : Member). m.told) (sym same), ap (λ (m : Member). m.lost) (sym same))
+fresh-untold (one ∷ others) (suc k) member found = fresh-untold others k member found
+
+-- a config as it is right after a change from another
+pub record Fresh (old new : Config) : Type 0 where
+  pub epoch : new.epoch ≡ old.epoch + 1
+  pub committed : new.committed ≡ false
+  pub untold : (k : ℕ) (member : Member) → slice_get new.members k ≡ Some member → (member.told ≡ None) × (member.lost ≡ false)
+
+abbrev FreshIfChanged : Config → Config × Result Bool Fault → Type 0
+FreshIfChanged old answer = answer.1 ≡ Ok true → Fresh old answer.0
+
+fresh-changed : (old marked : Config) (found : Option (List ServerId)) → marked.epoch ≡ old.epoch → FreshIfChanged old (changes_to marked found)
+fresh-changed old marked None same e = cc
+fresh-changed old marked (Some ids) same e =
+    either (FreshIfChanged old) (nat_lt marked.epoch LAST_EPOCH) (changed marked ids, Ok true) (marked, Err EpochsExhausted)
+    (λ _ _. record { epoch = ap (λ n. n + 1) same; committed = refl; untold = fresh-untold (replaced marked.members ids) }) (λ _ e. cc) e
+
+fresh-lose : (own : ServerId) (servers : ServerList) (old : Config) → FreshIfChanged old (lose own servers old)
+fresh-lose own servers old =
+    either (FreshIfChanged old) (any_lost (with_lost servers old).members)
+    (changes_to (with_lost servers old) (substitutes_for own servers (with_lost servers old))) (with_lost servers old, Ok false)
+    (λ _. fresh-changed old (with_lost servers old) (substitutes_for own servers (with_lost servers old)) refl) (λ _ e. cc)
+
+-- a change of members begins afresh
+pub lose-fresh : (own : ServerId) (servers : ServerList) (old new : Config) → lose own servers old ≡ (new, Ok true) → Fresh old new
+lose-fresh own servers old new e = subst (FreshIfChanged old) e (fresh-lose own servers old) refl
+
+-- what is told under another epoch isn't noted
+pub noted-other : (from : ServerId) (epoch len : ℕ) (closed : Bool) (config : Config) → nat_eq epoch config.epoch ≡ false → noted from epoch len closed config ≡ config
+noted-other from epoch len closed config other = rw other refl
+
+-- Digests
+
+-- with nothing dead, all stay
+all-stay : (head : ℕ) (digest : List ℕ) → filter (λ seg. nat_eq seg head || not (list_any (nat_eq seg) [])) digest ≡ digest
+all-stay head [] = refl
+all-stay head (seg ∷ digest) =
+    either (λ segs. segs ≡ seg ∷ digest) (nat_eq seg head || true) (seg ∷ filter (λ s. nat_eq s head || true) digest) (filter (λ s. nat_eq s head || true) digest)
+    (λ _. ap (λ rest. seg ∷ rest) (all-stay head digest)) (λ isn't. true_false (sym (or_true (nat_eq seg head)) ∙ isn't))
+  where
+    or_true : (b : Bool) → b || true ≡ true
+    or_true true = refl
+    or_true false = refl
+
+abbrev DigestKept : Log → Log × Result Bool Fault → Type 0
+DigestKept old answer = (began : Bool) → answer.1 ≡ Ok began → (head_of answer.0).digest ≡ (head_of old).digest ++ (old.head + 1) ∷ []
+
+kept-rolled : (old : Log) (chosen : Option (List ServerId)) → DigestKept old (rolled old [] chosen)
+kept-rolled old None began e = cc
+kept-rolled old (Some ids) began e =
+    ap (λ (s : Segment). s.digest) (put-same old.segments (old.head + 1) (new_segment (old.head + 1) (next_digest old []) ids))
+    ∙ ap (λ segs. segs ++ (old.head + 1) ∷ []) (all-stay old.head (head_of old).digest)
+
+kept-begun : (old : Log) (servers : ServerList) → DigestKept old (begin_roll servers [] old)
+kept-begun old servers =
+    either (DigestKept old) (nat_lt old.head LAST_SEGMENT) (rolled old [] (choose (old.head + 1) old.own old.factor servers)) (old, Err LogFull)
+    (λ _. kept-rolled old (choose (old.head + 1) old.own old.factor servers)) (λ _ began e. cc)
+
+-- a master that frees nothing keeps the whole digest
+pub rolls-keep : (master : Master) (log : Log) (began : Bool) → master.free ≡ false →
+    begin_roll master.known (dead_segments master) master.log ≡ (log, Ok began) →
+    (head_of log).digest ≡ (head_of master.log).digest ++ (master.log.head + 1) ∷ []
+rolls-keep master log began keeps e =
+    let none : dead_segments master ≡ [] = rw keeps refl in
+    let kept : DigestKept master.log (begin_roll master.known (dead_segments master) master.log) =
+    subst (λ dead. DigestKept master.log (begin_roll master.known dead master.log)) (sym none) (kept-begun master.log master.known) in
+    subst (DigestKept master.log) e kept began refl

@@ -1,0 +1,63 @@
+-- What the coordinator commits and grants.
+use Rattle.std.proofs.Common.{◌≡◌, ℕ, true, false, cond, List, [], ◌∷◌, Some, None, refl, ap, ◌∙◌, arith}
+use Rattle.std.proofs.lemmas.Bool.Decides.{nat_tests}
+use Rattle.rc_types.specs.declared.ids.ServerId.{ServerId}
+use Rattle.rc_types.specs.declared.ids.Pair.{Pair}
+use Rattle.rc_types.specs.declared.faults.Fault.TheVariants.{Deposed, StaleAttempt}
+use Rattle.rc_types.specs.declared.messages.Message.{Message}
+use Rattle.rc_types.specs.declared.messages.Body.TheVariants.{CommitOk}
+use Rattle.rc_model.specs.Tables.{put_id}
+use Rattle.rc_model.specs.ServerList.{is_up}
+use Rattle.rc_model.specs.Pick.{is_below}
+use Rattle.rc_model.specs.Attempts.{Attempt}
+use Rattle.rc_model.specs.Messages.{from_coordinator}
+use Rattle.rc_model.specs.Coordinator.{Coordinator, refuses_server, attempt_at, greater_of, commits_pair}
+use Rattle.rc_model.specs.Deciding.{is_current, grant_to, part_if_current, part_in, part_of_sender, grants_if_given, grants_or_repeats, takes_recovered}
+use Rattle.rc_model.proofs.Tests.{either}
+use Rattle.rc_model.proofs.Tables.{put_id_each, put_id-same}
+
+-- no pair is below itself, and of two one isn't below the other
+below-itself : (a : Pair) → is_below a a ≡ false
+below-itself a = grind (arith, nat_tests)
+
+below-turned : (a b : Pair) → is_below a b ≡ true → is_below b a ≡ false
+below-turned a b e = grind (arith, nat_tests)
+
+greater-left : (a b : Pair) → is_below (greater_of a b) a ≡ false
+greater-left a b = either (λ p. is_below p a ≡ false) (is_below a b) b a (λ e. below-turned a b e) (λ _. below-itself a)
+
+greater-right : (a b : Pair) → is_below (greater_of a b) b ≡ false
+greater-right a b = either (λ p. is_below p b ≡ false) (is_below a b) b a (λ _. below-itself b) (λ e. e)
+
+-- a least pair never falls
+pub least-rises : (c : Coordinator) (id other : ServerId) (pair : Pair) → is_below ((commits_pair c id pair).0.least other) (c.least other) ≡ false
+least-rises c id other pair =
+    either (λ (after : Coordinator × List Message). is_below (after.0.least other) (c.least other) ≡ false) (is_up c.servers id)
+    (record c { least = put_id c.least id (greater_of (c.least id) pair) }, from_coordinator id (CommitOk pair.seg pair.epoch) ∷ [])
+    (c, refuses_server id Deposed ∷ [])
+    (λ _. put_id_each (λ one least. is_below least (c.least one) ≡ false) c.least id (greater_of (c.least id) pair) (greater-left (c.least id) pair)
+    (λ one. below-itself (c.least one)) other)
+    (λ _. below-itself (c.least other))
+
+-- and is at least what is committed
+pub least-covers : (c : Coordinator) (id : ServerId) (pair : Pair) → is_up c.servers id ≡ true → is_below ((commits_pair c id pair).0.least id) pair ≡ false
+least-covers c id pair is =
+    rw is (ap (λ least. is_below least pair) (put_id-same c.least id (greater_of (c.least id) pair)) ∙ greater-right (c.least id) pair)
+
+-- who isn't up is refused
+pub commit-refused : (c : Coordinator) (id : ServerId) (pair : Pair) → is_up c.servers id ≡ false → commits_pair c id pair ≡ (c, refuses_server id Deposed ∷ [])
+commit-refused c id pair isn't = rw isn't refl
+
+pub recovered-refused : (c : Coordinator) (id : ServerId) (number term : ℕ) → is_up c.servers id ≡ false →
+    takes_recovered c id number term ≡ (c, refuses_server id Deposed ∷ [])
+recovered-refused c id number term isn't = rw isn't refl
+
+-- in a stale attempt nothing new is granted
+pub stale-refused : (c : Coordinator) (id : ServerId) (number term : ℕ) (attempt : Attempt) → is_up c.servers id ≡ true →
+    grant_to c id term ≡ None → attempt_at c number ≡ Some attempt → is_current c number attempt ≡ false →
+    takes_recovered c id number term ≡ (c, refuses_server id StaleAttempt ∷ [])
+stale-refused c id number term attempt is fresh at stale =
+    let none : part_of_sender c id number term ≡ None =
+    ap (part_if_current c id number term) at ∙ ap (λ b. cond b (part_in id term attempt.decided) None) stale in
+    ap (λ b. cond b (grants_or_repeats c id number term (grant_to c id term)) (c, refuses_server id Deposed ∷ [])) is
+    ∙ (ap (grants_or_repeats c id number term) fresh ∙ ap (grants_if_given c id number) none)
