@@ -7,3 +7,4 @@ pub mod Epochs
 pub mod Recoveries
 pub mod Freeing
 pub mod Doubts
+pub mod Shown

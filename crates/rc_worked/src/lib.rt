@@ -8,4 +8,5 @@ pub mod freeing;
 pub mod recoveries;
 pub mod restarts;
 pub mod rolls;
+pub mod shown;
 pub mod trees;

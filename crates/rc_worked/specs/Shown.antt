@@ -1,0 +1,124 @@
+-- Runs in which one rule each shows.
+use Rattle.std.specs.Prelude.{◌≡◌, ℕ, ◌-◌, true, false, List, [], ◌∷◌, ◌++◌, length, Option, Some, slice_get, codes}
+use Rattle.rc_types.specs.declared.ids.Addr.TheVariants.{Outside, Server}
+use Rattle.rc_types.specs.declared.events.Setup.{Setup}
+use Rattle.rc_types.specs.declared.messages.Message.{Message}
+use Rattle.rc_types.specs.declared.messages.Body.TheVariants.{ReadOk}
+use Rattle.rc_model.specs.World.{opening}
+use Rattle.rc_worked.specs.Settling.{Line, runs, report_of, of_eight, create, decide, deliver, id, read, settle, start, stop, suspect, write}
+
+-- three hosts and four, and table 7 of server 0.1
+abbrev pub three_hosts : List Line
+three_hosts = start 0 ∷ start 1 ∷ start 2 ∷ settle ∷ create 7 (id 0 1) ∷ settle ∷ []
+
+abbrev pub four_hosts : List Line
+four_hosts = start 0 ∷ start 1 ∷ start 2 ∷ start 3 ∷ settle ∷ create 7 (id 0 1) ∷ settle ∷ []
+
+abbrev pub own_line : List ℕ
+own_line = codes "own 0.1 term 1 table 7 from 0 to 18446744073709551615 after 0 attempt 0\n"
+
+-- the second write of a key has version 2
+abbrev pub two_writes_of_one_key : List Line
+two_writes_of_one_key =
+    three_hosts ++ write (id 0 1) 7 5 (codes "a") ∷ settle ∷ write (id 0 1) 7 5 (codes "b") ∷ settle ∷ []
+
+abbrev pub TwoWritesOfOneKeyReports : Type 0
+TwoWritesOfOneKeyReports =
+    report_of (of_eight 2) two_writes_of_one_key
+    ≡ own_line
+    ++ codes "ack 0.1 seg 1 at 0 term 1 table 7 key 5 version 1\n"
+    ++ codes "ack 0.1 seg 1 at 1 term 1 table 7 key 5 version 2\n"
+    ++ codes "messages 37\nacknowledged 2\nrefused 0\nplans 0\ngrants 1\naudit clean\n"
+
+-- what a client wrote comes back by a Read at the second owner
+abbrev pub read_at_second_owner : List Line
+read_at_second_owner =
+    four_hosts ++ write (id 0 1) 7 5 (codes "a") ∷ settle ∷ suspect (id 0 1) ∷ settle ∷ decide (id 0 1) ∷ settle ∷
+    read (id 1 1) 7 5 ∷ settle ∷ []
+
+abbrev pub last_of : List Message → Option Message
+last_of sent = slice_get sent (length sent - 1)
+
+abbrev pub ReadAtSecondOwnerAnswers : Type 0
+ReadAtSecondOwnerAnswers =
+    last_of (runs (opening (of_eight 2)) read_at_second_owner).sent
+    ≡ Some (record { from = Server (id 1 1); to = Outside; body = ReadOk 7 5 1 (Some (codes "a")) })
+
+abbrev pub ReadAtSecondOwnerReports : Type 0
+ReadAtSecondOwnerReports =
+    report_of (of_eight 2) read_at_second_owner
+    ≡ own_line
+    ++ codes "ack 0.1 seg 1 at 0 term 1 table 7 key 5 version 1\n"
+    ++ codes "plan 1 of 0.1 to 1.1 head 1 rows 1:1.1:1\n"
+    ++ codes "own 1.1 term 2 table 7 from 0 to 18446744073709551615 after 1 attempt 1\n"
+    ++ codes "read 1.1 table 7 key 5 version 1\n"
+    ++ codes "messages 79\nacknowledged 1\nrefused 0\nplans 1\ngrants 2\naudit clean\n"
+
+-- a Read before the write is stored finds nothing
+abbrev pub read_before_stored : List Line
+read_before_stored = three_hosts ++ write (id 0 1) 7 5 (codes "a") ∷ deliver 25 ∷ read (id 0 1) 7 5 ∷ deliver 28 ∷ []
+
+abbrev pub ReadBeforeStoredReports : Type 0
+ReadBeforeStoredReports =
+    report_of (of_eight 2) read_before_stored
+    ≡ own_line
+    ++ codes "read 0.1 table 7 key 5 version 0\n"
+    ++ codes "messages 30\nacknowledged 0\nrefused 0\nplans 0\ngrants 1\naudit clean\n"
+
+-- a newer generation of a host begins the recovery of the older one, that nobody suspected
+abbrev pub newer_generation : List Line
+newer_generation = three_hosts ++ stop (id 0 1) ∷ start 0 ∷ deliver 25 ∷ deliver 30 ∷ deliver 32 ∷ decide (id 0 1) ∷ []
+
+abbrev pub NewerGenerationReports : Type 0
+NewerGenerationReports =
+    report_of (of_eight 2) newer_generation
+    ≡ own_line
+    ++ codes "plan 1 of 0.1 to 1.1 head 1 rows 1:1.1:0\n"
+    ++ codes "messages 34\nacknowledged 0\nrefused 0\nplans 1\ngrants 1\naudit clean\n"
+
+-- the second attempt begins with the second ready server
+abbrev pub second_attempt : List Line
+second_attempt =
+    three_hosts ++ suspect (id 0 1) ∷ deliver 27 ∷ deliver 29 ∷ decide (id 0 1) ∷ suspect (id 0 1) ∷
+    deliver 31 ∷ deliver 33 ∷ decide (id 0 1) ∷ []
+
+abbrev pub SecondAttemptReports : Type 0
+SecondAttemptReports =
+    report_of (of_eight 2) second_attempt
+    ≡ own_line
+    ++ codes "plan 1 of 0.1 to 1.1 head 1 rows 1:1.1:0\n"
+    ++ codes "plan 2 of 0.1 to 2.1 head 1 rows 1:1.1:0\n"
+    ++ codes "messages 35\nacknowledged 0\nrefused 0\nplans 2\ngrants 1\naudit clean\n"
+
+-- what was replayed isn't told to be recovered before it is stored
+abbrev pub recovered_when_stored : List Line
+recovered_when_stored =
+    four_hosts ++ write (id 0 1) 7 5 (codes "a") ∷ settle ∷ suspect (id 0 1) ∷ deliver 44 ∷ deliver 47 ∷ decide (id 0 1) ∷
+    deliver 48 ∷ deliver 49 ∷ deliver 50 ∷ []
+
+abbrev pub RecoveredWhenStoredReports : Type 0
+RecoveredWhenStoredReports =
+    report_of (of_eight 2) recovered_when_stored
+    ≡ own_line
+    ++ codes "ack 0.1 seg 1 at 0 term 1 table 7 key 5 version 1\n"
+    ++ codes "plan 1 of 0.1 to 1.1 head 1 rows 1:1.1:1\n"
+    ++ codes "messages 53\nacknowledged 1\nrefused 0\nplans 1\ngrants 1\naudit clean\n"
+
+-- nothing is freed while the new head is being opened
+abbrev pub freed_when_writing : List Line
+freed_when_writing =
+    four_hosts ++ write (id 0 1) 7 1 (codes "a") ∷ settle ∷ write (id 0 1) 7 1 (codes "a") ∷ settle ∷
+    write (id 0 1) 7 1 (codes "a") ∷ settle ∷ write (id 0 1) 7 1 (codes "a") ∷ settle ∷
+    write (id 0 1) 7 1 (codes "a") ∷ settle ∷ write (id 0 1) 7 1 (codes "a") ∷ deliver 69 ∷ []
+
+abbrev pub FreedWhenWritingReports : Type 0
+FreedWhenWritingReports =
+    report_of (record { factor = 2; segment = 2; free = true; factors = [] }) freed_when_writing
+    ≡ own_line
+    ++ codes "ack 0.1 seg 1 at 0 term 1 table 7 key 1 version 1\n"
+    ++ codes "ack 0.1 seg 1 at 1 term 1 table 7 key 1 version 2\n"
+    ++ codes "refused 3 from 0.1 to out\n"
+    ++ codes "ack 0.1 seg 2 at 0 term 1 table 7 key 1 version 3\n"
+    ++ codes "ack 0.1 seg 2 at 1 term 1 table 7 key 1 version 4\n"
+    ++ codes "refused 3 from 0.1 to out\n"
+    ++ codes "messages 73\nacknowledged 4\nrefused 2\nplans 0\ngrants 1\naudit clean\n"

@@ -1,0 +1,39 @@
+//! Runs of `specs/Shown.antt`, in each of which one rule shows.
+
+ghost use Rattle.rc_worked.specs.Shown.{TwoWritesOfOneKeyReports, ReadAtSecondOwnerReports, ReadAtSecondOwnerAnswers, ReadBeforeStoredReports, NewerGenerationReports, SecondAttemptReports, RecoveredWhenStoredReports, FreedWhenWritingReports};
+
+/// The second write of a key has version 2.
+pub fn two_writes_of_one_key()
+    ensures { TwoWritesOfOneKeyReports }
+{}
+
+/// A client's value comes back by a Read at the second owner.
+pub fn read_at_second_owner()
+    ensures report { ReadAtSecondOwnerReports }
+    ensures answer { ReadAtSecondOwnerAnswers }
+{}
+
+/// A Read before the write is stored finds nothing.
+pub fn read_before_stored()
+    ensures { ReadBeforeStoredReports }
+{}
+
+/// A newer generation of a host begins the recovery of the older one.
+pub fn newer_generation()
+    ensures { NewerGenerationReports }
+{}
+
+/// The second attempt begins with the second ready server.
+pub fn second_attempt()
+    ensures { SecondAttemptReports }
+{}
+
+/// What was replayed isn't told to be recovered before it is stored.
+pub fn recovered_when_stored()
+    ensures { RecoveredWhenStoredReports }
+{}
+
+/// Nothing is freed while the new head is being opened.
+pub fn freed_when_writing()
+    ensures { FreedWhenWritingReports }
+{}
