@@ -104,12 +104,13 @@ RecoveredWhenStoredReports =
     ++ codes "plan 1 of 0.1 to 1.1 head 1 rows 1:1.1:1\n"
     ++ codes "messages 53\nacknowledged 1\nrefused 0\nplans 1\ngrants 1\naudit clean\n"
 
--- nothing is freed while the new head is being opened
+-- nothing is freed before the new head writes
 abbrev pub freed_when_writing : List Line
 freed_when_writing =
     four_hosts ++ write (id 0 1) 7 1 (codes "a") ∷ settle ∷ write (id 0 1) 7 1 (codes "a") ∷ settle ∷
     write (id 0 1) 7 1 (codes "a") ∷ settle ∷ write (id 0 1) 7 1 (codes "a") ∷ settle ∷
-    write (id 0 1) 7 1 (codes "a") ∷ settle ∷ write (id 0 1) 7 1 (codes "a") ∷ deliver 69 ∷ []
+    write (id 0 1) 7 1 (codes "a") ∷ settle ∷ write (id 0 1) 7 1 (codes "a") ∷
+    deliver 69 ∷ deliver 70 ∷ deliver 71 ∷ deliver 73 ∷ deliver 74 ∷ deliver 75 ∷ deliver 76 ∷ deliver 77 ∷ []
 
 abbrev pub FreedWhenWritingReports : Type 0
 FreedWhenWritingReports =
@@ -121,4 +122,4 @@ FreedWhenWritingReports =
     ++ codes "ack 0.1 seg 2 at 0 term 1 table 7 key 1 version 3\n"
     ++ codes "ack 0.1 seg 2 at 1 term 1 table 7 key 1 version 4\n"
     ++ codes "refused 3 from 0.1 to out\n"
-    ++ codes "messages 73\nacknowledged 4\nrefused 2\nplans 0\ngrants 1\naudit clean\n"
+    ++ codes "messages 79\nacknowledged 4\nrefused 2\nplans 0\ngrants 1\naudit clean\n"

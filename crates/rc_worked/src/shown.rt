@@ -33,7 +33,7 @@ pub fn recovered_when_stored()
     ensures { RecoveredWhenStoredReports }
 {}
 
-/// Nothing is freed while the new head is being opened.
+/// Nothing is freed before the new head writes.
 pub fn freed_when_writing()
     ensures { FreedWhenWritingReports }
 {}
