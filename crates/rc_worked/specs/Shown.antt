@@ -5,7 +5,7 @@ use Rattle.rc_types.specs.declared.events.Setup.{Setup}
 use Rattle.rc_types.specs.declared.messages.Message.{Message}
 use Rattle.rc_types.specs.declared.messages.Body.TheVariants.{ReadOk}
 use Rattle.rc_model.specs.World.{opening}
-use Rattle.rc_worked.specs.Settling.{Line, runs, report_of, of_eight, create, decide, deliver, id, read, settle, start, stop, suspect, write}
+use Rattle.rc_worked.specs.Settling.{Line, runs, report_of, of_eight, of_two, create, decide, deliver, id, read, settle, start, stop, suspect, write}
 
 -- three hosts and four, and table 7 of server 0.1
 abbrev pub three_hosts : List Line
@@ -123,3 +123,20 @@ FreedWhenWritingReports =
     ++ codes "ack 0.1 seg 2 at 1 term 1 table 7 key 1 version 4\n"
     ++ codes "refused 3 from 0.1 to out\n"
     ++ codes "messages 79\nacknowledged 4\nrefused 2\nplans 0\ngrants 1\naudit clean\n"
+
+-- the new head takes nothing before the old one is closed: a write that comes between is refused
+abbrev pub no_data_before_closed : List Line
+no_data_before_closed =
+    four_hosts ++ write (id 0 1) 7 1 (codes "a") ∷ settle ∷ write (id 0 1) 7 2 (codes "a") ∷ settle ∷
+    write (id 0 1) 7 3 (codes "a") ∷ deliver 47 ∷ deliver 48 ∷ deliver 49 ∷ deliver 51 ∷ deliver 52 ∷
+    write (id 0 1) 7 4 (codes "a") ∷ deliver 55 ∷ []
+
+abbrev pub NoDataBeforeClosedReports : Type 0
+NoDataBeforeClosedReports =
+    report_of of_two no_data_before_closed
+    ≡ own_line
+    ++ codes "ack 0.1 seg 1 at 0 term 1 table 7 key 1 version 1\n"
+    ++ codes "ack 0.1 seg 1 at 1 term 1 table 7 key 2 version 1\n"
+    ++ codes "refused 3 from 0.1 to out\n"
+    ++ codes "refused 3 from 0.1 to out\n"
+    ++ codes "messages 57\nacknowledged 2\nrefused 2\nplans 0\ngrants 1\naudit clean\n"

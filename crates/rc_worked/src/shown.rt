@@ -1,6 +1,6 @@
 //! Runs of `specs/Shown.antt`, in each of which one rule shows.
 
-ghost use Rattle.rc_worked.specs.Shown.{TwoWritesOfOneKeyReports, ReadAtSecondOwnerReports, ReadAtSecondOwnerAnswers, ReadBeforeStoredReports, NewerGenerationReports, SecondAttemptReports, RecoveredWhenStoredReports, FreedWhenWritingReports};
+ghost use Rattle.rc_worked.specs.Shown.{TwoWritesOfOneKeyReports, ReadAtSecondOwnerReports, ReadAtSecondOwnerAnswers, ReadBeforeStoredReports, NewerGenerationReports, SecondAttemptReports, RecoveredWhenStoredReports, FreedWhenWritingReports, NoDataBeforeClosedReports};
 
 /// The second write of a key has version 2.
 pub fn two_writes_of_one_key()
@@ -36,4 +36,9 @@ pub fn recovered_when_stored()
 /// Nothing is freed before the new head writes.
 pub fn freed_when_writing()
     ensures { FreedWhenWritingReports }
+{}
+
+/// The new head takes nothing before the old one is closed.
+pub fn no_data_before_closed()
+    ensures { NoDataBeforeClosedReports }
 {}
