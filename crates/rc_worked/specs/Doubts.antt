@@ -1,6 +1,5 @@
 -- Worked runs.
-use Rattle.std.specs.Prelude.{◌≡◌, ℕ, true, false, List, [], ◌∷◌, ◌++◌, codes}
-use Rattle.rc_types.specs.declared.events.Setup.{Setup}
+use Rattle.std.specs.Prelude.{◌≡◌, false, List, [], ◌∷◌, ◌++◌, codes}
 use Rattle.rc_worked.specs.Settling.{Line, report_of, create, decide, deliver, id, settle, settle_without_ready, settle_without_ready_and_fetch, split, start, suspect, write}
 
 abbrev pub close_to_a_lost_member : List Line

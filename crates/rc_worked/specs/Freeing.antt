@@ -1,6 +1,5 @@
 -- Worked runs.
-use Rattle.std.specs.Prelude.{◌≡◌, ℕ, true, false, List, [], ◌∷◌, ◌++◌, codes}
-use Rattle.rc_types.specs.declared.events.Setup.{Setup}
+use Rattle.std.specs.Prelude.{◌≡◌, true, List, [], ◌∷◌, ◌++◌, codes}
 use Rattle.rc_worked.specs.Settling.{Line, report_of, create, decide, deliver, id, settle, start, suspect, write}
 
 abbrev pub factors : List Line

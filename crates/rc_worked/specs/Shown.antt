@@ -1,7 +1,6 @@
 -- Runs in which one rule each shows.
-use Rattle.std.specs.Prelude.{◌≡◌, ℕ, ◌-◌, true, false, List, [], ◌∷◌, ◌++◌, length, Option, Some, slice_get, codes}
+use Rattle.std.specs.Prelude.{◌≡◌, ℕ, ◌-◌, true, List, [], ◌∷◌, ◌++◌, length, Option, Some, slice_get, codes}
 use Rattle.rc_types.specs.declared.ids.Addr.TheVariants.{Outside, Server}
-use Rattle.rc_types.specs.declared.events.Setup.{Setup}
 use Rattle.rc_types.specs.declared.messages.Message.{Message}
 use Rattle.rc_types.specs.declared.messages.Body.TheVariants.{ReadOk}
 use Rattle.rc_model.specs.World.{opening}

@@ -1,6 +1,5 @@
 -- Worked runs.
-use Rattle.std.specs.Prelude.{◌≡◌, ℕ, true, false, List, [], ◌∷◌, ◌++◌, codes}
-use Rattle.rc_types.specs.declared.events.Setup.{Setup}
+use Rattle.std.specs.Prelude.{◌≡◌, false, List, [], ◌∷◌, ◌++◌, codes}
 use Rattle.rc_worked.specs.Settling.{Line, report_of, create, id, settle, split, start}
 
 abbrev pub two_tables : List Line
