@@ -16,3 +16,4 @@ pub mod Replays
 pub mod Numbering
 pub mod Changes
 pub mod Granting
+pub mod Digests

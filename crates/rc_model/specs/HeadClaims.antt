@@ -1,5 +1,6 @@
 -- What a master's heads, writes and members should obey.
-use Rattle.std.specs.Prelude.{◌≡◌, ℕ, ◌+◌, ◌<◌, Bool, true, false, ◌||◌, nat_eq, List, [], ◌∷◌, ◌++◌, length, Option, Some, None, Ok, slice_get}
+use Rattle.std.specs.Prelude.{◌≡◌, ℕ, ◌+◌, ◌<◌, Bool, true, false, ◌||◌, nat_eq, List, [], ◌∷◌, ◌++◌, length, map, Option, Some, None, Ok, slice_get}
+use Rattle.std.specs.List.{list_any}
 use Rattle.rc_types.specs.declared.ids.ServerId.{ServerId}
 use Rattle.rc_types.specs.declared.entries.Entry.{Entry}
 use Rattle.rc_types.specs.declared.kept.Member.{Member}
@@ -10,7 +11,7 @@ use Rattle.rc_model.specs.Log.{Log, places_of, entries_of, head_of, old_head_of,
 use Rattle.rc_model.specs.Heads.{is_full, begin_roll}
 use Rattle.rc_model.specs.Ownership.{term_of}
 use Rattle.rc_model.specs.Versions.{is_of}
-use Rattle.rc_model.specs.Master.{Master, dead_segments}
+use Rattle.rc_model.specs.Master.{Master, durable_entries, is_dead_segment, dead_segments}
 use Rattle.rc_model.specs.Writing.{is_too_long, written, writes}
 use Rattle.rc_model.specs.FollowUps.{follow_up}
 
@@ -34,6 +35,20 @@ abbrev pub RollsKeepTheDigest : Type 0
 RollsKeepTheDigest = (master : Master) (log : Log) (began : Bool) → master.free ≡ false →
     begin_roll master.known (dead_segments master) master.log ≡ (log, Ok began) →
     (head_of log).digest ≡ (head_of master.log).digest ++ (master.log.head + 1) ∷ []
+
+-- a segment that the next head's digest leaves out is dead, and is not the head itself
+abbrev pub RollsLeaveOutOnlyDead : Type 0
+RollsLeaveOutOnlyDead = (master : Master) (log : Log) (began : Bool) (seg : ℕ) →
+    begin_roll master.known (dead_segments master) master.log ≡ (log, Ok began) →
+    list_any (nat_eq seg) (head_of master.log).digest ≡ true → list_any (nat_eq seg) (head_of log).digest ≡ false →
+    (is_dead_segment master seg ≡ true) × (nat_eq seg master.log.head ≡ false)
+
+-- a dead segment is shut, and each of its entries has a durable one of its key under its term with a greater version
+abbrev pub DeadIsOutdated : Type 0
+DeadIsOutdated = (master : Master) (seg k : ℕ) (entry : Entry) → is_dead_segment master seg ≡ true →
+    slice_get (map (λ one. one.0) (master.log.segments seg).entries) k ≡ Some entry →
+    ((master.log.segments seg).shut ≡ true) × ((j : ℕ) × (other : Entry) × (slice_get (durable_entries master) j ≡ Some other)
+    × (is_of entry.term entry.table entry.key other ≡ true) × (entry.version < other.version))
 
 -- Writes
 

@@ -1,6 +1,6 @@
 //! How a master goes on.
 
-ghost use Rattle.rc_model.specs.HeadClaims.{ClosesOnlyWherePlaced, WritesOnlyWhereShut, RollsKeepTheDigest, WritesAreNumberedAbove, WritesAppendTheAsked, ChangesTakeAFreshEpoch, NothingIsToldUnderIt, OtherEpochsAreNotNoted};
+ghost use Rattle.rc_model.specs.HeadClaims.{ClosesOnlyWherePlaced, WritesOnlyWhereShut, RollsKeepTheDigest, RollsLeaveOutOnlyDead, DeadIsOutdated, WritesAreNumberedAbove, WritesAppendTheAsked, ChangesTakeAFreshEpoch, NothingIsToldUnderIt, OtherEpochsAreNotNoted};
 ghost use Rattle.rc_model.specs.MasterClaims.{FollowUpsLower, NoneAppliesAfterwards, ShutIsMarked};
 
 /// Each follow-up that a master makes lowers its measure.
@@ -31,4 +31,11 @@ pub fn changes_begin_afresh()
     ensures fresh { ChangesTakeAFreshEpoch }
     ensures untold { NothingIsToldUnderIt }
     ensures other { OtherEpochsAreNotNoted }
+{}
+
+/// A roll leaves out dead segments alone, and a dead segment is shut, with a greater durable version
+/// of each of its entries.
+pub fn only_dead_are_left_out()
+    ensures left_out { RollsLeaveOutOnlyDead }
+    ensures dead { DeadIsOutdated }
 {}
