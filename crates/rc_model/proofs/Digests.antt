@@ -1,7 +1,7 @@
 -- What the digest of the next head leaves out, and when a segment is dead.
-use Rattle.std.proofs.Common.{◌≡◌, ℕ, zero, suc, ◌+◌, ◌<◌, Bool, true, false, cond, not, ◌&&◌, ◌||◌, nat_eq, nat_lt, List, [], ◌∷◌, ◌++◌, map, filter, Option, Some, None, Result, Ok, Err, slice_get, refl, sym, ap, ◌∙◌, subst, arith}
+use Rattle.std.proofs.Common.{◌≡◌, ℕ, zero, suc, ◌+◌, ◌<◌, Bool, true, false, cond, not, ◌&&◌, ◌||◌, nat_eq, nat_lt, List, [], ◌∷◌, ◌++◌, map, filter, Option, Some, None, Result, Ok, Err, slice_get, refl, sym, ap, ◌∙◌, subst}
 use Rattle.std.specs.List.{list_any, list_all}
-use Rattle.std.proofs.lemmas.Bool.{and_parts, eqb-true, eq-eqb, ltb-true}
+use Rattle.std.proofs.lemmas.Bool.{and_parts, eqb-true, ltb-true}
 use Rattle.rc_types.specs.declared.ids.ServerId.{ServerId}
 use Rattle.rc_types.specs.declared.entries.Entry.{Entry}
 use Rattle.rc_types.specs.declared.faults.Fault.{Fault}
@@ -106,7 +106,7 @@ left-dead log dead seg there gone = by (nat_eq seg log.head || not (list_any (na
     by : (b : Bool) → nat_eq seg log.head || not (list_any (nat_eq seg) dead) ≡ b → (list_any (nat_eq seg) dead ≡ true) × (nat_eq seg log.head ≡ false)
     by true stays =
         let still : list_any (nat_eq seg) (filter (λ s. nat_eq s log.head || not (list_any (nat_eq s) dead)) (head_of log).digest) ≡ true =
-            kept (λ s. nat_eq s log.head || not (list_any (nat_eq s) dead)) seg (head_of log).digest there stays in
+        kept (λ s. nat_eq s log.head || not (list_any (nat_eq s) dead)) seg (head_of log).digest there stays in
         true_false (sym (joined-left seg (filter (λ s. nat_eq s log.head || not (list_any (nat_eq s) dead)) (head_of log).digest) ((log.head + 1) ∷ []) still) ∙ gone)
     by false goes =
         let parts : (nat_eq seg log.head ≡ false) × (not (list_any (nat_eq seg) dead) ≡ false) = or_parts (nat_eq seg log.head) (not (list_any (nat_eq seg) dead)) goes in
@@ -120,7 +120,7 @@ leaves-rolled : (old : Log) (dead : List ℕ) (seg : ℕ) (chosen : Option (List
 leaves-rolled old dead seg None began e there gone = cc
 leaves-rolled old dead seg (Some ids) began e there gone =
     let digest : (head_of (rolled old dead (Some ids)).0).digest ≡ next_digest old dead =
-        ap (λ (s : Segment). s.digest) (put-same old.segments (old.head + 1) (new_segment (old.head + 1) (next_digest old dead) ids)) in
+    ap (λ (s : Segment). s.digest) (put-same old.segments (old.head + 1) (new_segment (old.head + 1) (next_digest old dead) ids)) in
     left-dead old dead seg there (ap (list_any (nat_eq seg)) (sym digest) ∙ gone)
 
 leaves-begun : (old : Log) (servers : ServerList) (dead : List ℕ) (seg : ℕ) → LeavesDead old dead seg (begin_roll servers dead old)
@@ -142,7 +142,7 @@ pub rolls-leave : (master : Master) (log : Log) (began : Bool) (seg : ℕ) → b
     (is_dead_segment master seg ≡ true) × (nat_eq seg master.log.head ≡ false)
 rolls-leave master log began seg e there gone =
     let dead : (list_any (nat_eq seg) (dead_segments master) ≡ true) × (nat_eq seg master.log.head ≡ false) =
-        subst (LeavesDead master.log (dead_segments master) seg) e (leaves-begun master.log master.known (dead_segments master) seg) began refl there gone in
+    subst (LeavesDead master.log (dead_segments master) seg) e (leaves-begun master.log master.known (dead_segments master) seg) began refl there gone in
     (listed-dead master seg dead.0, dead.1)
 
 -- Dead segments
@@ -152,9 +152,9 @@ above : (durable : List Entry) (entry : Entry) → is_outdated durable entry ≡
     (j : ℕ) × (other : Entry) × (slice_get durable j ≡ Some other) × (is_of entry.term entry.table entry.key other ≡ true) × (entry.version < other.version)
 above durable entry is =
     let one : Passes (λ (other : Entry). is_of entry.term entry.table entry.key other && nat_lt entry.version other.version) durable =
-        any-get (λ (other : Entry). is_of entry.term entry.table entry.key other && nat_lt entry.version other.version) durable is in
+    any-get (λ (other : Entry). is_of entry.term entry.table entry.key other && nat_lt entry.version other.version) durable is in
     let parts : (is_of entry.term entry.table entry.key one.one ≡ true) × (nat_lt entry.version one.one.version ≡ true) =
-        and_parts (is_of entry.term entry.table entry.key one.one) (nat_lt entry.version one.one.version) one.passes in
+    and_parts (is_of entry.term entry.table entry.key one.one) (nat_lt entry.version one.one.version) one.passes in
     (one.place, one.one, one.found, parts.0, ltb-true entry.version one.one.version parts.1)
 
 -- each entry of a dead segment is outdated by a durable one
@@ -164,6 +164,8 @@ pub dead-outdated : (master : Master) (seg k : ℕ) (entry : Entry) → is_dead_
     × (is_of entry.term entry.table entry.key other ≡ true) × (entry.version < other.version))
 dead-outdated master seg k entry dead found =
     let parts : ((master.log.segments seg).shut ≡ true) × (is_dead (durable_entries master) (map (λ one. one.0) (master.log.segments seg).entries) ≡ true) =
-        and_parts (master.log.segments seg).shut (is_dead (durable_entries master) (map (λ one. one.0) (master.log.segments seg).entries)) dead in
-    (parts.0, above (durable_entries master) entry
-    (all-get (is_outdated (durable_entries master)) (map (λ one. one.0) (master.log.segments seg).entries) k entry parts.1 found))
+    and_parts (master.log.segments seg).shut (is_dead (durable_entries master) (map (λ one. one.0) (master.log.segments seg).entries)) dead in (
+      parts.0,
+      above (durable_entries master) entry
+          (all-get (is_outdated (durable_entries master)) (map (λ one. one.0) (master.log.segments seg).entries) k entry parts.1 found),
+    )

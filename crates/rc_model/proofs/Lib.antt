@@ -17,3 +17,4 @@ pub mod Numbering
 pub mod Changes
 pub mod Granting
 pub mod Digests
+pub mod Closing

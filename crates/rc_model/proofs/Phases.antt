@@ -71,7 +71,8 @@ by_rules P master keeps start placed closing shut =
     weaker None p = tt
     weaker (Some done) p = keeps done p
 
-freed-phase : (segs : List ℕ) (log : Log) → (with_freed segs log).phase ≡ log.phase
+-- marks change no phase
+pub freed-phase : (segs : List ℕ) (log : Log) → (with_freed segs log).phase ≡ log.phase
 freed-phase segs log = ap (λ (after : Log). after.phase) (with_freed-marked segs log)
 
 -- the phase becomes Closing only where the head is placed

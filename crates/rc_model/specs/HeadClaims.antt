@@ -4,7 +4,9 @@ use Rattle.std.specs.List.{list_any}
 use Rattle.rc_types.specs.declared.ids.ServerId.{ServerId}
 use Rattle.rc_types.specs.declared.entries.Entry.{Entry}
 use Rattle.rc_types.specs.declared.kept.Member.{Member}
+use Rattle.rc_types.specs.declared.ids.Addr.{Addr}
 use Rattle.rc_types.specs.declared.messages.Message.{Message}
+use Rattle.rc_types.specs.declared.messages.Body.{Body}
 use Rattle.rc_model.specs.ServerList.{ServerList}
 use Rattle.rc_model.specs.Config.{Config, all_placed, noted, lose}
 use Rattle.rc_model.specs.Log.{Log, places_of, entries_of, head_of, old_head_of, is_closing, is_writing}
@@ -14,6 +16,7 @@ use Rattle.rc_model.specs.Versions.{is_of}
 use Rattle.rc_model.specs.Master.{Master, durable_entries, is_dead_segment, dead_segments}
 use Rattle.rc_model.specs.Writing.{is_too_long, written, writes}
 use Rattle.rc_model.specs.FollowUps.{follow_up}
+use Rattle.rc_model.specs.MasterStep.{master_takes, master_ticks}
 
 -- Heads
 
@@ -21,6 +24,15 @@ use Rattle.rc_model.specs.FollowUps.{follow_up}
 abbrev pub ClosesOnlyWherePlaced : Type 0
 ClosesOnlyWherePlaced = (master next : Master) (messages : List Message) → follow_up master ≡ Some (next, messages) →
     is_closing master.log.phase ≡ false → is_closing next.log.phase ≡ true → all_placed (head_of next.log).config ≡ true
+
+-- and so does a whole step, by a message or by the timer
+abbrev pub StepsCloseOnlyWherePlaced : Type 0
+StepsCloseOnlyWherePlaced = (master : Master) (from : Addr) (body : Body) → is_closing master.log.phase ≡ false →
+    is_closing (master_takes master from body).0.log.phase ≡ true → all_placed (head_of (master_takes master from body).0.log).config ≡ true
+
+abbrev pub TicksCloseOnlyWherePlaced : Type 0
+TicksCloseOnlyWherePlaced = (master : Master) → is_closing master.log.phase ≡ false →
+    is_closing (master_ticks master).0.log.phase ≡ true → all_placed (head_of (master_ticks master).0.log).config ≡ true
 
 -- a rule makes the phase Writing only where the head is placed on all its members under a committed epoch,
 -- and it is the first one or the old head is shut

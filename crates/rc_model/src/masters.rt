@@ -1,6 +1,6 @@
 //! How a master goes on.
 
-ghost use Rattle.rc_model.specs.HeadClaims.{ClosesOnlyWherePlaced, WritesOnlyWhereShut, RollsKeepTheDigest, RollsLeaveOutOnlyDead, DeadIsOutdated, WritesAreNumberedAbove, WritesAppendTheAsked, ChangesTakeAFreshEpoch, NothingIsToldUnderIt, OtherEpochsAreNotNoted};
+ghost use Rattle.rc_model.specs.HeadClaims.{ClosesOnlyWherePlaced, StepsCloseOnlyWherePlaced, TicksCloseOnlyWherePlaced, WritesOnlyWhereShut, RollsKeepTheDigest, RollsLeaveOutOnlyDead, DeadIsOutdated, WritesAreNumberedAbove, WritesAppendTheAsked, ChangesTakeAFreshEpoch, NothingIsToldUnderIt, OtherEpochsAreNotNoted};
 ghost use Rattle.rc_model.specs.MasterClaims.{FollowUpsLower, NoneAppliesAfterwards, ShutIsMarked};
 
 /// Each follow-up that a master makes lowers its measure.
@@ -14,6 +14,8 @@ pub fn follow_ups_end()
 /// data only once the old one is shut and its own members hold it under a committed epoch.
 pub fn heads_follow_one_another()
     ensures closing { ClosesOnlyWherePlaced }
+    ensures steps { StepsCloseOnlyWherePlaced }
+    ensures ticks { TicksCloseOnlyWherePlaced }
     ensures writing { WritesOnlyWhereShut }
     ensures digest { RollsKeepTheDigest }
 {}
