@@ -17,14 +17,12 @@ use Rattle.rc_model.specs.Owners.{is_earlier}
 abbrev pub same_numbers : List ℕ → List ℕ → Bool
 same_numbers [] [] = true
 same_numbers (n ∷ ns) (m ∷ ms) = nat_eq n m && same_numbers ns ms
-same_numbers [] (m ∷ ms) = false
-same_numbers (n ∷ ns) [] = false
+same_numbers _ _ = false
 
 abbrev pub same_value : Option (List ℕ) → Option (List ℕ) → Bool
 same_value None None = true
 same_value (Some a) (Some b) = same_numbers a b
-same_value None (Some b) = false
-same_value (Some a) None = false
+same_value _ _ = false
 
 -- the entries are the same, their values too
 abbrev pub same_entry : Entry → Entry → Bool

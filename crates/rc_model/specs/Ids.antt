@@ -2,7 +2,7 @@
 use Rattle.std.specs.Prelude.{Bool, false, nat_eq, nat_lt, ◌&&◌, ◌||◌, if◌then◌else◌, List, [], ◌∷◌}
 use Rattle.rc_types.specs.declared.ids.ServerId.{ServerId}
 use Rattle.rc_types.specs.declared.ids.Addr.{Addr}
-use Rattle.rc_types.specs.declared.ids.Addr.TheVariants.{Coordinator, Server, Outside}
+use Rattle.rc_types.specs.declared.ids.Addr.TheVariants.{Server}
 
 -- the same index and the same generation
 abbrev pub same_id : ServerId → ServerId → Bool
@@ -25,8 +25,7 @@ ids_in_order (id ∷ ids) = insert_id id (ids_in_order ids)
 -- the address is this server's
 abbrev pub is_server : ServerId → Addr → Bool
 is_server id (Server other) = same_id id other
-is_server id Coordinator = false
-is_server id Outside = false
+is_server id _ = false
 
 -- the list of ids in order with this one in it, once
 abbrev pub insert_id_once : ServerId → List ServerId → List ServerId
