@@ -1,0 +1,4 @@
+pub mod HeldLemmas
+pub mod MapLemmas
+pub mod NameLemmas
+pub mod TableLemmas

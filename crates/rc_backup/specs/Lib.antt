@@ -1,0 +1,2 @@
+pub mod BackupView
+pub mod HeldAfter

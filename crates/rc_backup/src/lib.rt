@@ -1,0 +1,10 @@
+//! One backup: what it keeps of each master's log, the masters that it has fenced, and the segments
+//! that were freed. "Backup" in `docs/PROTOCOL.md` has its rules; the words of the contracts are
+//! those of `rc_model`'s `Backup`.
+#![tactic(auto)]
+
+mod backup;
+mod held;
+mod replicas;
+
+pub use backup::Backup;
