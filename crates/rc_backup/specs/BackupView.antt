@@ -30,4 +30,5 @@ id_order a b = ordering_then (nat_cmp a.index b.index) (nat_cmp a.generation b.g
 -- the table with the first replica of a master of whom it has nothing, where there is one
 abbrev pub put_first : List (ServerId × Held) → ServerId → ℕ → Option Replica → List (ServerId × Held)
 put_first table master seg None = table
-put_first table master seg (Some replica) = insert_entry id_order table master (with_replica nothing_held seg (Some replica))
+put_first table master seg (Some replica) =
+    insert_entry id_order table master (with_replica nothing_held seg (Some replica))

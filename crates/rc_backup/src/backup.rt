@@ -3,7 +3,9 @@
 ghost use Rattle.std.specs.Prelude.{◌≡◌, ◌++◌, true, None, OnOk, OnErr, IfOk, IfErr};
 ghost use Rattle.std.specs.BTreeMap.{insert_entry};
 ghost use Rattle.rc_types.specs.declared.faults.Fault.TheVariants.{OutOfMemory};
-ghost use Rattle.rc_model.specs.Backup.{nothing_held, with_held, new_backup, stores, frees, fences, backup_takes, restart, open_names, rows_of_replicas, answers_fetch, data_of, replica_of, replica_after};
+ghost use Rattle.rc_model.specs.Backup.{nothing_held, with_held, new_backup, stores, frees, fences, backup_takes};
+ghost use Rattle.rc_model.specs.Backup.{restart, open_names, rows_of_replicas, answers_fetch, data_of};
+ghost use Rattle.rc_model.specs.Backup.{replica_of, replica_after};
 ghost use Rattle.rc_model.specs.Messages.{between};
 ghost use Rattle.rc_backup.specs.BackupView.{backup_of, id_order, put_first};
 ghost use Rattle.rc_backup.specs.HeldAfter.{next_replica, stored_after, held_without, fetched};
@@ -54,8 +56,10 @@ impl Backup {
     ///
     /// `OutOfMemory` (F1): memory was refused. Then the backup and what was sent are as before.
     pub fn step_into(&mut self, message: &Message, sent: &mut Vec<Message>) -> Result<(), Fault>
-        ensures state { OnOk result (backup_of self.new ≡ (backup_takes (backup_of self.old) message.now.from message.now.body).0) }
-        ensures sends { OnOk result (sent.new.items ≡ sent.old.items ++ (backup_takes (backup_of self.old) message.now.from message.now.body).1) }
+        ensures state { OnOk result (backup_of self.new ≡
+            (backup_takes (backup_of self.old) message.now.from message.now.body).0) }
+        ensures sends { OnOk result (sent.new.items ≡
+            sent.old.items ++ (backup_takes (backup_of self.old) message.now.from message.now.body).1) }
         ensures err { OnErr result (self.new ≡ self.old) }
         ensures unsent { OnErr result (sent.new.items ≡ sent.old.items) }
         ensures no_memory { IfErr result (λ fault. fault ≡ OutOfMemory) }
@@ -100,8 +104,10 @@ impl Backup {
     ///
     /// `OutOfMemory` (F1): memory was refused. Then the backup is as before.
     pub fn step(&mut self, message: &Message) -> Result<Vec<Message>, Fault>
-        ensures state { OnOk result (backup_of self.new ≡ (backup_takes (backup_of self.old) message.now.from message.now.body).0) }
-        ensures sends { IfOk result (λ sent. sent.items ≡ (backup_takes (backup_of self.old) message.now.from message.now.body).1) }
+        ensures state { OnOk result (backup_of self.new ≡
+            (backup_takes (backup_of self.old) message.now.from message.now.body).0) }
+        ensures sends { IfOk result (λ sent. sent.items ≡
+            (backup_takes (backup_of self.old) message.now.from message.now.body).1) }
         ensures err { OnErr result (self.new ≡ self.old) }
         ensures no_memory { IfErr result (λ fault. fault ≡ OutOfMemory) }
     {
@@ -159,7 +165,8 @@ impl Backup {
         sent: &mut Vec<Message>,
     ) -> Result<(), Fault>
         ensures state { OnOk result (backup_of self.new ≡ (stores (backup_of self.old) master seg body.now).0) }
-        ensures sends { OnOk result (sent.new.items ≡ sent.old.items ++ (stores (backup_of self.old) master seg body.now).1) }
+        ensures sends { OnOk result (sent.new.items ≡
+            sent.old.items ++ (stores (backup_of self.old) master seg body.now).1) }
         ensures err { OnErr result (self.new ≡ self.old) }
         ensures unsent { OnErr result (sent.new.items ≡ sent.old.items) }
         ensures no_memory { IfErr result (λ fault. fault ≡ OutOfMemory) }
@@ -176,7 +183,8 @@ impl Backup {
     /// replica, and gives the answer, if there is one.
     fn keep(&mut self, master: ServerId, seg: u16, body: &Body) -> Result<Option<Body>, Fault>
         ensures state { OnOk result (backup_of self.new ≡ (stores (backup_of self.old) master seg body.now).0) }
-        ensures answer { IfOk result (λ answer. answer ≡ stored_after seg (next_replica ((backup_of self.old).held master) seg body.now)) }
+        ensures answer { IfOk result (λ answer. answer ≡
+            stored_after seg (next_replica ((backup_of self.old).held master) seg body.now)) }
         ensures err { OnErr result (self.new ≡ self.old) }
         ensures no_memory { IfErr result (λ fault. fault ≡ OutOfMemory) }
     {
@@ -205,7 +213,8 @@ impl Backup {
         sent: &mut Vec<Message>,
     ) -> Result<(), Fault>
         ensures state { OnOk result (backup_of self.new ≡ (fences (backup_of self.old) attempt master).0) }
-        ensures sends { OnOk result (sent.new.items ≡ sent.old.items ++ (fences (backup_of self.old) attempt master).1) }
+        ensures sends { OnOk result (sent.new.items ≡
+            sent.old.items ++ (fences (backup_of self.old) attempt master).1) }
         ensures err { OnErr result (self.new ≡ self.old) }
         ensures unsent { OnErr result (sent.new.items ≡ sent.old.items) }
         ensures no_memory { IfErr result (λ fault. fault ≡ OutOfMemory) }
@@ -236,7 +245,8 @@ impl Backup {
 
     /// Marks the master fenced. What is kept of it stays.
     fn fence(&mut self, master: ServerId) -> Result<(), AllocError>
-        ensures ok { OnOk result (backup_of self.new ≡ with_held master (record ((backup_of self.old).held master) { fenced = true }) (backup_of self.old)) }
+        ensures ok { OnOk result (backup_of self.new ≡
+            with_held master (record ((backup_of self.old).held master) { fenced = true }) (backup_of self.old)) }
         ensures err { OnErr result (self.new ≡ self.old) }
     {
         match self.held.get_mut(&master) {
@@ -256,7 +266,9 @@ impl Backup {
         request: &Request,
         sent: &mut Vec<Message>,
     ) -> Result<(), Fault>
-        ensures sends { OnOk result (sent.new.items ≡ sent.old.items ++ answers_fetch (backup_of self.now) asker master (data_of request.now.attempt request.now.seg request.now.len request.now.part (replica_of request.now.seg ((backup_of self.now).held master).replicas))) }
+        ensures sends { OnOk result (sent.new.items ≡ sent.old.items ++ answers_fetch (backup_of self.now) asker master
+            (data_of request.now.attempt request.now.seg request.now.len request.now.part
+            (replica_of request.now.seg ((backup_of self.now).held master).replicas))) }
         ensures unsent { OnErr result (sent.new.items ≡ sent.old.items) }
         ensures no_memory { IfErr result (λ fault. fault ≡ OutOfMemory) }
     {
@@ -268,7 +280,8 @@ impl Backup {
 
     /// The answer to a Fetch, if there is one.
     fn data(&self, master: ServerId, request: &Request) -> Result<Option<Body>, Fault>
-        ensures ok { IfOk result (λ answer. answer ≡ fetched ((backup_of self.now).held master) request.now.attempt request.now.seg request.now.len request.now.part) }
+        ensures ok { IfOk result (λ answer. answer ≡ fetched ((backup_of self.now).held master)
+            request.now.attempt request.now.seg request.now.len request.now.part) }
         ensures no_memory { IfErr result (λ fault. fault ≡ OutOfMemory) }
     {
         match self.held.get(&master) {
@@ -298,7 +311,8 @@ fn keep_first(
     seg: u16,
     body: &Body,
 ) -> Result<Option<Body>, Fault>
-    ensures state { OnOk result (held.new.entries ≡ put_first held.old.entries master seg (replica_after None body.now)) }
+    ensures state { OnOk result (held.new.entries ≡
+        put_first held.old.entries master seg (replica_after None body.now)) }
     ensures answer { IfOk result (λ answer. answer ≡ stored_after seg (replica_after None body.now)) }
     ensures err { OnErr result (held.new.entries ≡ held.old.entries) }
     ensures no_memory { IfErr result (λ fault. fault ≡ OutOfMemory) }
@@ -318,7 +332,8 @@ fn free_first(
     master: ServerId,
     seg: u16,
 ) -> Result<(), AllocError>
-    ensures ok { OnOk result (held.new.entries ≡ insert_entry id_order held.old.entries master (held_without nothing_held seg)) }
+    ensures ok { OnOk result (held.new.entries ≡
+        insert_entry id_order held.old.entries master (held_without nothing_held seg)) }
     ensures err { OnErr result (held.new.entries ≡ held.old.entries) }
 {
     let mut one = Held::new(alloc);
@@ -333,7 +348,8 @@ fn fence_first(
     alloc: Global,
     master: ServerId,
 ) -> Result<(), AllocError>
-    ensures ok { OnOk result (held.new.entries ≡ insert_entry id_order held.old.entries master (record nothing_held { fenced = true })) }
+    ensures ok { OnOk result (held.new.entries ≡
+        insert_entry id_order held.old.entries master (record nothing_held { fenced = true })) }
     ensures err { OnErr result (held.new.entries ≡ held.old.entries) }
 {
     let mut one = Held::new(alloc);

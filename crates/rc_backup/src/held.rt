@@ -1,8 +1,7 @@
 //! What a backup keeps of one master: whether it is fenced, its replicas, and its freed segments.
 
-ghost use Rattle.std.specs.Prelude.{◌≡◌, ◌++◌, ◌&&◌, nat_eq, true, Some, None, OnOk, OnErr, IfOk, IfErr};
+ghost use Rattle.std.specs.Prelude.{◌≡◌, ◌++◌, true, Some, None, OnOk, OnErr, IfOk, IfErr};
 ghost use Rattle.rc_types.specs.declared.faults.Fault.TheVariants.{OutOfMemory};
-ghost use Rattle.rc_model.specs.Ids.{same_id};
 ghost use Rattle.rc_model.specs.Backup.{nothing_held, is_refused, is_kept, restarted, rows_of_replicas, open_names_of};
 ghost use Rattle.rc_backup.specs.HeldAfter.{next_replica, with_replica, stored_after, held_without, fetched};
 
@@ -114,7 +113,8 @@ impl Held {
     /// The answer to a Fetch, where the master is fenced and the replica has as many entries as are
     /// asked for. Only memory can be refused (F1).
     pub(crate) fn data(&self, alloc: Global, request: &Request) -> Result<Option<Body>, Fault>
-        ensures ok { IfOk result (λ answer. answer ≡ fetched self.now request.now.attempt request.now.seg request.now.len request.now.part) }
+        ensures ok { IfOk result (λ answer. answer ≡
+            fetched self.now request.now.attempt request.now.seg request.now.len request.now.part) }
         ensures no_memory { IfErr result (λ fault. fault ≡ OutOfMemory) }
     {
         if !self.fenced {

@@ -6,5 +6,7 @@
 mod backup;
 mod held;
 mod replicas;
+#[cfg(test)]
+mod tests;
 
 pub use backup::Backup;

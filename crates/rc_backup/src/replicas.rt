@@ -1,6 +1,6 @@
 //! What becomes of one replica by a message, and what is told of it.
 
-ghost use Rattle.std.specs.Prelude.{◌≡◌, ◌&&◌, nat_eq, nat_le, filter, take, unwrap_or, Some, None, OnOk, OnErr, IfOk, IfErr};
+ghost use Rattle.std.specs.Prelude.{◌≡◌, filter, unwrap_or, Some, None, OnOk, OnErr, IfOk, IfErr};
 ghost use Rattle.rc_types.specs.declared.faults.Fault.TheVariants.{OutOfMemory};
 ghost use Rattle.rc_model.specs.Backup.{replica_after, stored_of, row_of_replica, is_in_part};
 ghost use Rattle.rc_backup.specs.HeldAfter.{put_after, stored_after, data_from};
@@ -92,7 +92,8 @@ pub(crate) fn place_first(
     seg: u16,
     body: &Body,
 ) -> Result<Option<Body>, Fault>
-    ensures state { OnOk result (replicas.new.entries ≡ put_after replicas.old.entries seg (replica_after None body.now)) }
+    ensures state { OnOk result (replicas.new.entries ≡
+        put_after replicas.old.entries seg (replica_after None body.now)) }
     ensures answer { IfOk result (λ answer. answer ≡ stored_after seg (replica_after None body.now)) }
     ensures err { OnErr result (replicas.new.entries ≡ replicas.old.entries) }
     ensures no_memory { IfErr result (λ fault. fault ≡ OutOfMemory) }
@@ -147,7 +148,8 @@ pub(crate) fn data(
     request: &Request,
     replica: &Replica,
 ) -> Result<Option<Body>, Fault>
-    ensures ok { IfOk result (λ answer. answer ≡ data_from request.now.attempt request.now.seg request.now.len request.now.part (Some replica.now)) }
+    ensures ok { IfOk result (λ answer. answer ≡
+        data_from request.now.attempt request.now.seg request.now.len request.now.part (Some replica.now)) }
     ensures no_memory { IfErr result (λ fault. fault ≡ OutOfMemory) }
 {
     let Some(first) = replica.entries().get(..request.len) else {
