@@ -1,0 +1,69 @@
+//! The judge of a list of messages: it knows of no node, only of what was sent. What a breach is,
+//! `rc_model`'s `Breach` says as the answer of a search, and its `Headline` in words.
+#![tactic(auto)]
+
+ghost use Rattle.std.specs.Prelude.{◌≡◌, IfOk, IfErr};
+ghost use Rattle.rc_types.specs.declared.faults.Fault.TheVariants.{OutOfMemory};
+ghost use Rattle.rc_model.specs.Breach.{breach};
+
+mod bars;
+mod earlier;
+mod evidence;
+mod falling;
+mod grants;
+mod highs;
+mod invented;
+mod missing;
+mod places;
+mod recoveries;
+mod runs;
+mod senders;
+mod standing;
+mod superseded;
+mod writes;
+
+use evidence::Evidence;
+use falling::falling_version;
+use invented::invented_place;
+use missing::missing_write;
+use rc_types::{Breach, Fault, Message};
+use runs::runs_in;
+use senders::senders_in;
+use standing::standings_in;
+use std::alloc::Global;
+
+/// The first breach of the headline in these messages, or `None`: for each accepted recovery, in
+/// order, the first write that its master has acknowledged and that is not in the recovered log,
+/// where no greater version of its key under its term is there; if there is none for any recovery,
+/// the first place of a recovered log for which not exactly one entry was sent; and if there is none
+/// of these either, the first acknowledged write whose version is not above that of one that was
+/// acknowledged under an earlier ownership of its key. The messages are only read.
+///
+/// # Errors
+///
+/// `OutOfMemory` (F1): memory was refused.
+///
+/// For n messages with e entries this takes O((n + e) log (n + e)) steps and for each recovery the
+/// rows of its plan and the segments of its master that have acknowledged writes, each with a
+/// look-up; where an acknowledged place is not held by the rows, the entries and acknowledgements of
+/// the master too, but not again for the same rows. The places of a segment are gone over once,
+/// however many plans name them and however long their rows are. For each key under a term under
+/// which it was acknowledged the chain of owners before that term is gone over once.
+pub fn audit(alloc: Global, messages: &[Message]) -> Result<Option<Breach>, Fault>
+    ensures found { IfOk result (λ found. found ≡ breach messages.now) }
+    ensures err { IfErr result (λ e. e ≡ OutOfMemory) }
+{
+    let evidence = Evidence::new(alloc, messages)?;
+    let standings = standings_in(alloc, &evidence)?;
+    let senders = senders_in(alloc, messages)?;
+    let missing = missing_write(alloc, &evidence, &senders, &standings)?;
+    if missing.is_some() {
+        return Ok(missing);
+    }
+    let runs = runs_in(alloc, &evidence)?;
+    let invented = invented_place(alloc, &evidence, &runs)?;
+    if invented.is_some() {
+        return Ok(invented);
+    }
+    falling_version(alloc, messages)
+}

@@ -1,0 +1,198 @@
+//! Nothing acknowledged is missing.
+
+ghost use Rattle.std.specs.Prelude.{◌≡◌, ◌≤◌, ◌↔◌, List, ℕ, true, None, IfOk, IfErr, unwrap_or};
+ghost use Rattle.std.specs.Ordering.{nat_cmp};
+ghost use Rattle.std.specs.BTreeMap.{get};
+ghost use Rattle.rc_types.specs.declared.faults.Fault.TheVariants.{OutOfMemory};
+ghost use Rattle.rc_model.specs.Recovered.{acknowledged, all_acknowledged, accepted};
+ghost use Rattle.rc_model.specs.Breach.{is_missing as is_missing_from, missing_of};
+ghost use Rattle.rc_model.specs.Breach.{first_missing as first_missing_of};
+ghost use Rattle.rc_audit.specs.Writes.{ack_of};
+ghost use Rattle.rc_audit.specs.Recoveries.{accepted_of, HasReaches};
+ghost use Rattle.rc_types.specs.declared.messages.Message.{Message};
+ghost use Rattle.rc_audit.specs.Clean.{AreClean};
+ghost use Rattle.rc_audit.specs.Senders.{AreSenders, messages_in, sent_by};
+ghost use Rattle.rc_audit.specs.Superseded.{HasSuperseded};
+ghost use Rattle.rc_audit.specs.Standings.{kept_at, below_at, one_above, StandsFor};
+
+use crate::evidence::Evidence;
+use crate::highs::{Highs, has_above};
+use crate::recoveries::{BySegment, Recovery, number_of, reaches, recovery_in};
+use crate::senders::{Senders, Sent};
+use crate::standing::Standings;
+use crate::superseded::recovered_highs;
+use crate::writes::{AckedWrite, write_in};
+use rc_types::{Breach, Fault, PlanRow, ServerId};
+use std::alloc::Global;
+use std::collections::BTreeMap;
+
+/// Whether each of these offsets is below what is reached of its segment.
+fn is_covered(tops: &BySegment, reaches: &BySegment) -> bool
+    ensures { (result ≡ true) ↔ ((s : ℕ) →
+        one_above (get nat_cmp tops.now s) ≤ unwrap_or (get nat_cmp reaches.now s) 0) }
+{
+    for (seg, top) in tops {
+        if number_of(reaches, *seg) <= *top {
+            return false;
+        }
+    }
+    true
+}
+
+/// Whether no acknowledged write of this master is missing from what is reached.
+fn is_kept(standings: &Standings, master: ServerId, reaches: &BySegment) -> bool
+    ensures { (result ≡ true) ↔ ((kept_at standings.now master ≡ true) × ((s : ℕ) →
+        below_at standings.now master s ≤ unwrap_or (get nat_cmp reaches.now s) 0)) }
+{
+    match standings.get(&master) {
+        None => true,
+        Some(standing) => standing.all_agree && is_covered(&standing.tops, reaches),
+    }
+}
+
+/// Whether this acknowledged write of the recovery's master is missing from it.
+fn is_missing(
+    evidence: &Evidence<'_>,
+    recovery: &Recovery<'_>,
+    reaches: &BySegment,
+    highs: &Highs,
+    write: &AckedWrite,
+) -> bool
+    requires reached { HasReaches reaches.now recovery.now.rows.now }
+    requires superseded { HasSuperseded highs.now evidence.now.messages.now (accepted_of recovery.now) }
+    ensures { result ≡ is_missing_from evidence.now.messages.now
+        (accepted_of recovery.now) (ack_of write.now) }
+{
+    let is_held = write.offset < number_of(reaches, write.seg);
+    if !is_held && !has_above(highs, write.term_key(), write.version) {
+        return true;
+    }
+    !evidence.all_agree(recovery.master, write)
+}
+
+/// The first acknowledged write of the recovery's master that is missing from it.
+fn first_missing(
+    evidence: &Evidence<'_>,
+    sent: &Sent<'_>,
+    recovery: &Recovery<'_>,
+    reaches: &BySegment,
+    highs: &Highs,
+) -> Option<Breach>
+    requires reached { HasReaches reaches.now recovery.now.rows.now }
+    requires superseded { HasSuperseded highs.now evidence.now.messages.now (accepted_of recovery.now) }
+    ensures { result ≡ first_missing_of evidence.now.messages.now (accepted_of recovery.now)
+        (all_acknowledged (messages_in sent.now)) }
+{
+    for message in sent.messages.iter() {
+        let Some(write) = write_in(&message.body) else {
+            continue;
+        };
+        if is_missing(evidence, recovery, reaches, highs, &write) {
+            return Some(Breach::Missing {
+                attempt: recovery.attempt,
+                master: recovery.master,
+                seg: write.seg,
+                offset: write.offset,
+            });
+        }
+    }
+    None
+}
+
+/// The first write that is missing from this recovery, whose master sent these messages.
+fn missing_among(
+    alloc: Global,
+    evidence: &Evidence<'_>,
+    sent: &Sent<'_>,
+    recovery: &Recovery<'_>,
+    reaches: &BySegment,
+) -> Result<Option<Breach>, Fault>
+    requires reached { HasReaches reaches.now recovery.now.rows.now }
+    requires sent { messages_in sent.now ≡ sent_by recovery.now.master evidence.now.messages.now }
+    ensures found { IfOk result (λ found. found ≡
+        first_missing_of evidence.now.messages.now (accepted_of recovery.now)
+        (acknowledged evidence.now.messages.now recovery.now.master)) }
+    ensures err { IfErr result (λ e. e ≡ OutOfMemory) }
+{
+    let highs = recovered_highs(alloc, sent, recovery, reaches)?;
+    Ok(first_missing(evidence, sent, recovery, reaches, &highs))
+}
+
+/// The first write that is missing from this recovery. A recovery is mostly seen to miss nothing by
+/// the standing of its master alone; the messages of the master are gone over for one in which not
+/// each acknowledged place is.
+fn missing_from(
+    alloc: Global,
+    evidence: &Evidence<'_>,
+    senders: &Senders<'_>,
+    standings: &Standings,
+    recovery: &Recovery<'_>,
+) -> Result<Option<Breach>, Fault>
+    requires senders { AreSenders senders.now evidence.now.messages.now }
+    requires standings { StandsFor standings.now evidence.now.messages.now
+        (acknowledged evidence.now.messages.now) }
+    ensures found { IfOk result (λ found. found ≡
+        first_missing_of evidence.now.messages.now (accepted_of recovery.now)
+        (acknowledged evidence.now.messages.now recovery.now.master)) }
+    ensures err { IfErr result (λ e. e ≡ OutOfMemory) }
+{
+    let reaches = reaches(alloc, recovery.rows)?;
+    if is_kept(standings, recovery.master, &reaches) {
+        return Ok(None);
+    }
+    let Some(sent) = senders.get(&recovery.master) else {
+        return Ok(None);
+    };
+    missing_among(alloc, evidence, sent, recovery, &reaches)
+}
+
+/// The rows of a recovery that was seen to miss nothing.
+#[derive(Clone, Copy)]
+pub struct Clean<'a> {
+    /// The rows.
+    pub rows: &'a [PlanRow],
+}
+
+/// Whether these are the rows of the last recovery of this master that was seen to miss nothing.
+fn is_clean(clean: &BTreeMap<ServerId, Clean<'_>>, recovery: &Recovery<'_>) -> bool
+    ensures { result ≡ true → (sent : List Message) → AreClean clean.now sent →
+        first_missing_of sent (accepted_of recovery.now) (acknowledged sent recovery.now.master) ≡ None }
+{
+    match clean.get(&recovery.master).copied() {
+        None => false,
+        Some(clean) => clean.rows == recovery.rows,
+    }
+}
+
+/// The first write that is missing from a recovery, of the first recovery that misses one. A
+/// recovery with the rows of the one before it, of the same master, needs no second look.
+pub fn missing_write(
+    alloc: Global,
+    evidence: &Evidence<'_>,
+    senders: &Senders<'_>,
+    standings: &Standings,
+) -> Result<Option<Breach>, Fault>
+    requires senders { AreSenders senders.now evidence.now.messages.now }
+    requires standings { StandsFor standings.now evidence.now.messages.now
+        (acknowledged evidence.now.messages.now) }
+    ensures found { IfOk result (λ found. found ≡
+        missing_of evidence.now.messages.now (accepted evidence.now.messages.now)) }
+    ensures err { IfErr result (λ e. e ≡ OutOfMemory) }
+{
+    let mut clean = BTreeMap::new(alloc);
+    for message in evidence.messages {
+        let Some(recovery) = recovery_in(&message.body) else {
+            continue;
+        };
+        if is_clean(&clean, &recovery) {
+            continue;
+        }
+        let missing = missing_from(alloc, evidence, senders, standings, &recovery)?;
+        if missing.is_some() {
+            return Ok(missing);
+        }
+        let rows = recovery.rows;
+        clean.insert(recovery.master, Clean { rows })?;
+    }
+    Ok(None)
+}

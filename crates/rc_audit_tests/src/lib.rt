@@ -1,0 +1,10 @@
+//! Tests of `rc_audit`, which call what every user of it can call. They stand in a crate of their own
+//! since a crate with tests is proved twice.
+#![tactic(auto)]
+
+#[cfg(test)]
+mod lists;
+#[cfg(test)]
+mod recoveries;
+#[cfg(test)]
+mod versions;
