@@ -125,19 +125,6 @@ follows_one table key old new waited waiting grant holds p = record {
     waits_new t (inl same) = noted-waits_new old new waited waiting grant p t same
     waits_new t (inr was) = inl was
 
--- grants that do not hold it, or no grants
-pub follows_none : (table key : ℕ) (before : BTreeSet ℕ) (waiting : List ℕ) (grants : List Grant) → ((grant : Grant) → In grant grants → holds_point table key grant ≡ true → ⊥) →
-    Follows table key grants before before waiting waiting
-follows_none table key before waiting grants none = record {
-  kept = λ t e. e;
-  noted = λ grant at h. absurd (none grant at h);
-  from = λ t e. inl e;
-  waits = λ t at. at;
-  waits_new = λ t e. inl e;
-  waits_from = λ t at. inl at;
-  fewer = λ all each. omega arith;
-}
-
 -- some grants, and then others
 pub follows_both : (table key : ℕ) (one other : List Grant) (old mid new : BTreeSet ℕ) (waited between waiting : List ℕ) →
     Follows table key one old mid waited between → Follows table key other mid new between waiting → Follows table key (one ++ other) old new waited waiting
@@ -210,25 +197,6 @@ pub record Searches (grants : BTreeMap ℕ TermGrants) (table key term : ℕ) (b
   pub sound : (sent : List Message) → AreGrants grants sent → (t : ℕ) → contains nat_cmp before t ≡ true → IsEarlier sent table key t term
   pub waits : (t : ℕ) → In t waiting → (t ≡ term) ⊎ (contains nat_cmp before t ≡ true)
   pub closed : (t : ℕ) → (t ≡ term) ⊎ (contains nat_cmp before t ≡ true) → In t waiting ⊎ IsClosed grants table key before t
-
-pub search_begins : (grants : BTreeMap ℕ TermGrants) (table key term : ℕ) (before : BTreeSet ℕ) (waiting : List ℕ) → ((t : ℕ) → contains nat_cmp before t ≡ false) → waiting ≡ term ∷ [] →
-    Searches grants table key term before waiting
-search_begins grants table key term before waiting none one = record {
-  sound = λ sent are t e. absurd (clash t e);
-  waits = λ t at. waits t (subst (In t) one at);
-  closed = λ t either_. inl (subst (In t) (sym one) (inl (first t either_)));
-}
-  where
-    clash : (t : ℕ) → contains nat_cmp before t ≡ true → ⊥
-    clash t e = let f : true ≡ false = sym e ∙ none t in cc
-
-    waits : (t : ℕ) → In t (term ∷ []) → (t ≡ term) ⊎ (contains nat_cmp before t ≡ true)
-    waits t (inl same) = inl same
-    waits t (inr rest) = absurd rest
-
-    first : (t : ℕ) → (t ≡ term) ⊎ (contains nat_cmp before t ≡ true) → t ≡ term
-    first t (inl same) = same
-    first t (inr e) = absurd (clash t e)
 
 -- a term that waited is gone over
 pub search_goes_on : (grants : BTreeMap ℕ TermGrants) (table key term : ℕ) (old new : BTreeSet ℕ) (waited rest waiting : List ℕ) (later : ℕ) → waited ≡ rest ++ later ∷ [] →

@@ -34,20 +34,6 @@ same_key-true a b e =
     let key : a.key ≡ b.key = eqb-true a.key b.key two.1 in
     let whole : ◌≡◌ {A = TermKey} (record { term = a.term; table = a.table; key = a.key }) (record { term = b.term; table = b.table; key = b.key }) = cc in whole
 
--- the greatest of what was there and one more is above a version where either is
-above_more : (found : Option ℕ) (version v : ℕ) → is_above (Some (max (unwrap_or found 0) version)) v ≡ (is_above found v || nat_lt v version)
-above_more None version v = grind (arith, nat_tests)
-above_more (Some high) version v = grind (arith, nat_tests)
-
--- what the table says after one more version
-pub above_noted : (old new : BTreeMap TermKey ℕ) (key : TermKey) (version : ℕ) → NotesVersion old new key version → (q : TermKey) (v : ℕ) →
-    is_above (high_at new q) v ≡ (is_above (high_at old q) v || (same_key key q && nat_lt v version))
-above_noted old new key version p q v = ap (λ x. is_above x v) (p.each q) ∙ by (same_key key q) refl
-  where
-    by : (b : Bool) → same_key key q ≡ b → is_above (cond b (Some (max (unwrap_or (high_at old key) 0) version)) (high_at old q)) v ≡ (is_above (high_at old q) v || (b && nat_lt v version))
-    by true e = ap (λ k. is_above (Some (max (unwrap_or (high_at old k) 0) version)) v) (same_key-true key q e) ∙ above_more (high_at old q) version v
-    by false e = sym (or_false (is_above (high_at old q) v))
-
 greater_below-push : (limit : ℕ) (ack : Ack) (o : ℕ) (entries : List Entry) (entry : Entry) →
     greater_below limit ack o (entries ++ entry ∷ []) ≡ (greater_below limit ack o entries || (nat_lt (o + length entries) limit && is_greater ack entry))
 greater_below-push limit ack o [] entry =

@@ -233,6 +233,21 @@ fn append_far_out(rt: HostRuntime) -> Result<(), Fail> {
     Ok(())
 }
 
+#[test]
+fn append_at_the_last_offset(rt: HostRuntime) -> Result<(), Fail> {
+    for start in [4_294_967_295, usize::MAX] {
+        let list = again!(rt; far_alone(rt.alloc(), start));
+        assert_eq!(rt; again!(rt; audit(rt.alloc(), list.as_slice())), None);
+    }
+    Ok(())
+}
+
+/// Two entries far out in segment 1, and nothing else.
+fn far_alone(alloc: Global, start: usize) -> Result<Vec<Message>, AllocError> {
+    let far = vec![in alloc; entry(alloc, FIRST, b"a")?, entry(alloc, FIRST, b"a")?]?;
+    Ok(vec![in alloc; append_all(0, At(1, start), far)]?)
+}
+
 /// Two greater versions far out in segment 1, of which one place is recovered, and a write at
 /// another place that is not.
 fn far_entries(alloc: Global, start: usize) -> Result<Vec<Message>, AllocError> {

@@ -60,7 +60,8 @@ pub record IsOfAck (ack : Ack) (entry : Entry) : Type 0 where
 
 -- all that the master has sent for the acknowledged place is the acknowledged entry
 abbrev pub OnlyIt : List Message → ServerId → Ack → Type 0
-OnlyIt sent m ack = (entry : Entry) → HasMade sent m ack.seg ack.offset entry → IsOfAck ack entry × (entry.version ≡ ack.version)
+OnlyIt sent m ack =
+    (entry : Entry) → HasMade sent m ack.seg ack.offset entry → IsOfAck ack entry × (entry.version ≡ ack.version)
 
 -- a greater version of the acknowledged key, under its term, is in the recovered log
 pub record IsSuperseded (sent : List Message) (plan : Accepted) (ack : Ack) : Type 0 where
@@ -95,19 +96,23 @@ RisesOver sent later earlier = earlier.table ≡ later.table → earlier.key ≡
 
 -- nothing acknowledged is missing
 abbrev pub NothingIsMissing : List Message → Type 0
-NothingIsMissing sent = (plan : Accepted) → WasAccepted sent plan → (ack : Ack) → HasAcknowledged sent plan.master ack → IsThere sent plan ack
+NothingIsMissing sent =
+    (plan : Accepted) → WasAccepted sent plan → (ack : Ack) → HasAcknowledged sent plan.master ack → IsThere sent plan ack
 
 -- nor was any of it dropped because a greater version is there
 abbrev pub NothingIsDropped : List Message → Type 0
-NothingIsDropped sent = (plan : Accepted) → WasAccepted sent plan → (ack : Ack) → HasAcknowledged sent plan.master ack → IsThereItself sent plan ack
+NothingIsDropped sent =
+    (plan : Accepted) → WasAccepted sent plan → (ack : Ack) → HasAcknowledged sent plan.master ack → IsThereItself sent plan ack
 
 -- nothing recovered is invented
 abbrev pub NothingIsInvented : List Message → Type 0
-NothingIsInvented sent = (plan : Accepted) → WasAccepted sent plan → (s o : ℕ) → IsHeld plan.rows s o → IsOneEntry sent plan.master s o
+NothingIsInvented sent =
+    (plan : Accepted) → WasAccepted sent plan → (s o : ℕ) → IsHeld plan.rows s o → IsOneEntry sent plan.master s o
 
 -- versions rise over owners
 abbrev pub VersionsRise : List Message → Type 0
-VersionsRise sent = (later : Ack) → WasAcknowledged sent later → (earlier : Ack) → WasAcknowledged sent earlier → RisesOver sent later earlier
+VersionsRise sent =
+    (later : Ack) → WasAcknowledged sent later → (earlier : Ack) → WasAcknowledged sent earlier → RisesOver sent later earlier
 
 pub record Headline (sent : List Message) : Type 0 where
   pub there : NothingIsMissing sent
@@ -116,7 +121,8 @@ pub record Headline (sent : List Message) : Type 0 where
 
 -- A list of messages holds no breach exactly where the headline is true of it
 abbrev pub NoBreachIsTheHeadline : Type 0
-NoBreachIsTheHeadline = (sent : List Message) → (breach sent ≡ None) ↔ Headline sent
+NoBreachIsTheHeadline =
+    (sent : List Message) → (breach sent ≡ None) ↔ Headline sent
 
 -- Where nothing was dropped, nothing is missing
 abbrev pub NothingDroppedIsNothingMissing : Type 0
@@ -124,4 +130,5 @@ NothingDroppedIsNothingMissing = (sent : List Message) → NothingIsDropped sent
 
 -- The test of which term is the earlier one ends with what the relation says, for every list of grants
 abbrev pub TheTestSaysWhatIsBefore : Type 0
-TheTestSaysWhatIsBefore = (grants : List Granted) (earlier later : ℕ) → IsTrue (is_before grants earlier later) ↔ IsBefore grants earlier later
+TheTestSaysWhatIsBefore =
+    (grants : List Granted) (earlier later : ℕ) → IsTrue (is_before grants earlier later) ↔ IsBefore grants earlier later
