@@ -1,0 +1,13 @@
+//! The members of a segment: which backups are to keep a replica of it, under which epoch, and what
+//! they have told. A member that has crashed is lost, and another takes its place.
+#![tactic(auto)]
+
+mod choosing;
+mod config;
+mod members;
+mod replacing;
+#[cfg(test)]
+mod tests;
+
+pub use choosing::choose;
+pub use config::{Config, MAX_MEMBERS};
