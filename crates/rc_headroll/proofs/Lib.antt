@@ -1,0 +1,5 @@
+pub mod SegmentTables
+pub mod SoundLogs
+pub mod LogChanges
+pub mod LogSteps
+pub mod DurableLogs

@@ -1,0 +1,4 @@
+pub mod Losing
+pub mod LogData
+pub mod Soundness
+pub mod Freeing

@@ -1,0 +1,31 @@
+-- What the code keeps of a log: its segments stand in a list, of which the first is segment 1.
+use Rattle.std.specs.Prelude.{ℕ, zero, suc, List, length, slice_index_or}
+use Rattle.rc_types.specs.declared.ids.ServerId.{ServerId}
+use Rattle.rc_types.specs.declared.kept.Phase.{Phase}
+use Rattle.rc_model.specs.Segment.{Segment, no_segment}
+use Rattle.rc_model.specs.Log.{Log}
+
+pub record LogData : Type 0 where
+  pub own : ServerId
+  pub factor : ℕ
+  pub size : ℕ
+  pub segments : List Segment
+  pub phase : Phase
+  pub durable : ℕ
+
+-- the segment of this number; one that was never opened has none
+unfoldable pub segment_at : List Segment → ℕ → Segment
+segment_at segments zero = no_segment zero
+segment_at segments (suc place) = slice_index_or segments place (no_segment (suc place))
+
+-- the log of the definitions
+abbrev pub log_of : LogData → Log
+log_of kept = record {
+  own = kept.own;
+  factor = kept.factor;
+  size = kept.size;
+  head = length kept.segments;
+  segments = segment_at kept.segments;
+  phase = kept.phase;
+  durable = kept.durable;
+}

@@ -1,0 +1,81 @@
+//! How much of the log is durable.
+
+ghost use Rattle.std.specs.Prelude.{◌≡◌, ◌+◌, ◌*◌, ◌<◌, ◌≤◌, ℕ, true, false};
+ghost use Rattle.rc_types.specs.declared.limits.TheConstants.{MAX_SEGMENT};
+ghost use Rattle.rc_model.specs.Log.{durable_now};
+ghost use Rattle.rc_model.specs.FollowUps.{first_open};
+ghost use Rattle.rc_headroll.specs.LogData.{log_of};
+ghost use Rattle.rc_headroll.specs.Soundness.{entries_to};
+
+use crate::log::LogHead;
+
+/// The shut segments at the front of a log.
+#[derive(Clone, Copy)]
+pub(crate) struct ShutFront {
+    /// How many they are.
+    pub(crate) segments: usize,
+    /// How many entries they have.
+    pub(crate) entries: usize,
+}
+
+impl LogHead {
+    /// The shut segments at the front, up to the first open one. Those that were passed before are not
+    /// gone over again.
+    fn shut_front(&self) -> ShutFront
+        ensures known { result.segments ≤ (log_of self.now).head }
+        ensures shut { (seg : ℕ) → 0 < seg → seg ≤ result.segments → ((log_of self.now).segments seg).shut ≡ true }
+        ensures ends { result.segments < (log_of self.now).head → ((log_of self.now).segments (result.segments + 1)).shut ≡ false }
+        ensures entries { result.entries ≡ entries_to (log_of self.now).segments result.segments }
+        ensures few { result.entries ≤ MAX_SEGMENT * result.segments }
+    {
+        let mut entries = self.passed_entries;
+        for place in self.passed..self.segments.len() {
+            let segment = &self.segments[place];
+            if !segment.is_shut() {
+                return ShutFront {
+                    segments: place,
+                    entries,
+                };
+            }
+            entries += segment.len();
+        }
+        ShutFront {
+            segments: self.segments.len(),
+            entries,
+        }
+    }
+
+    /// How many places are durable at this moment: those of the shut segments at the front, and of the
+    /// first open one what all its members have.
+    pub fn durable_now(&self) -> usize
+        ensures { result ≡ durable_now (log_of self.now) }
+    {
+        let front = self.shut_front();
+        if front.segments == self.segments.len() {
+            return front.entries;
+        }
+        front.entries + self.segments[front.segments].durable_len()
+    }
+
+    /// The first segment that isn't shut.
+    pub fn first_open(&self) -> Option<u16>
+        ensures { result ≡ first_open (log_of self.now) }
+    {
+        let front = self.shut_front();
+        if front.segments == self.segments.len() {
+            return None;
+        }
+        Some(front.segments as u16 + 1)
+    }
+
+    /// What is durable at this moment is durable for good.
+    pub fn keep_durable(&mut self)
+        requires { self.old.durable ≤ durable_now (log_of self.old) }
+        ensures { log_of self.new ≡ record (log_of self.old) { durable = durable_now (log_of self.old) } }
+    {
+        let front = self.shut_front();
+        self.durable = self.durable_now();
+        self.passed = front.segments;
+        self.passed_entries = front.entries;
+    }
+}

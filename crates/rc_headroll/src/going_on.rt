@@ -1,0 +1,158 @@
+//! The log goes on: a new head is placed, the old one closed, and the new one writes.
+
+ghost use Rattle.std.specs.Prelude.{◌≡◌, true, length, filter, not, nat_eq, IfOk, All};
+ghost use Rattle.std.specs.List.{list_any};
+ghost use Rattle.rc_model.specs.Log.{is_opening, is_closing, has_segment, has_old_head, with_segment};
+ghost use Rattle.rc_model.specs.Heads.{shuts, with_shut, may_start, may_close, may_write, starts, closes_old, left_out, writes_on};
+ghost use Rattle.rc_model.specs.FollowUps.{close_is_due, close_marked};
+ghost use Rattle.rc_headroll.specs.LogData.{log_of, segment_at};
+ghost use Rattle.rc_headroll.specs.Soundness.{IsKnown};
+ghost use Rattle.rc_headroll.specs.Freeing.{freed_in};
+
+use crate::log::LogHead;
+use crate::opening::has_number;
+use crate::segment::Segment;
+use rc_types::Phase;
+use std::alloc::{AllocError, Global};
+
+impl LogHead {
+    /// Whether the old head is closed on all its members, under a committed epoch.
+    pub fn shuts(&self) -> bool
+        ensures { result ≡ shuts (log_of self.now) }
+    {
+        self.segments.len() > 1 && self.previous().is_all_closed()
+    }
+
+    /// Marks the old head shut where it is closed on all its members, under a committed epoch.
+    pub fn mark_shut(&mut self)
+        ensures { log_of self.new ≡ with_shut (log_of self.old) }
+    {
+        if self.shuts() {
+            let old = self.segments.len() - 2;
+            self.segments[old].mark_shut();
+        }
+    }
+
+    /// Whether the first head can write: it is placed on all its members.
+    pub fn may_start(&self) -> bool
+        ensures { result ≡ may_start (log_of self.now) }
+    {
+        is_opening(self.phase) && (self.segments.len() == 1 && self.newest().is_ready())
+    }
+
+    /// The first head writes.
+    pub fn start(&mut self)
+        requires { may_start (log_of self.old) ≡ true }
+        ensures { log_of self.new ≡ starts (log_of self.old) }
+    {
+        self.phase = Phase::Writing;
+    }
+
+    /// Whether the old head can be closed: the new one is placed on all its members.
+    pub fn may_close(&self) -> bool
+        ensures { result ≡ may_close (log_of self.now) }
+    {
+        is_opening(self.phase) && (self.segments.len() > 1 && self.newest().config().all_placed())
+    }
+
+    /// The old head is being closed.
+    pub fn close_old(&mut self)
+        requires { may_close (log_of self.old) ≡ true }
+        ensures { log_of self.new ≡ closes_old (log_of self.old) }
+    {
+        self.phase = Phase::Closing;
+    }
+
+    /// Whether a Close is to be sent to the old head's members: their epoch is committed, and none was
+    /// sent under it.
+    pub fn close_is_due(&self) -> bool
+        ensures { result ≡ close_is_due (log_of self.now) }
+    {
+        is_closing(self.phase)
+            && (self.segments.len() > 1
+                && (self.previous().config().is_committed() && !self.previous().is_close_sent()))
+    }
+
+    /// Marks that a Close was sent to the old head's members.
+    pub fn mark_close_sent(&mut self)
+        requires { has_old_head (log_of self.old) ≡ true }
+        ensures { log_of self.new ≡ close_marked (log_of self.old) }
+    {
+        let old = self.segments.len() - 2;
+        self.segments[old].mark_close_sent();
+    }
+
+    /// Marks that a Commit of the present epoch of a segment was sent.
+    pub fn mark_commit_sent(&mut self, seg: u16)
+        requires { has_segment (log_of self.old) seg ≡ true }
+        ensures { log_of self.new ≡ with_segment seg (record ((log_of self.old).segments seg) { commit_sent = true }) (log_of self.old) }
+    {
+        self.segments[usize::from(seg) - 1].mark_commit_sent();
+    }
+
+    /// Whether the new head can write: the old one is shut, and the new one is placed on all its
+    /// members, under a committed epoch.
+    pub fn may_write(&self) -> bool
+        ensures { result ≡ may_write (log_of self.now) }
+    {
+        is_closing(self.phase)
+            && (self.segments.len() > 1 && (self.previous().is_shut() && self.newest().is_ready()))
+    }
+
+    /// The segments that the old head's digest has and the new one's lacks.
+    pub fn left_out(&self, alloc: Global) -> Result<Vec<u16>, AllocError>
+        requires { has_old_head (log_of self.now) ≡ true }
+        ensures { IfOk result (λ segs. segs.items ≡ left_out (log_of self.now)) }
+    {
+        without(alloc, self.previous().digest(), self.newest().digest())
+    }
+
+    /// The new head writes, and the segments that its digest leaves out are freed.
+    pub fn write_on(&mut self, freed: &[u16])
+        requires may { may_write (log_of self.old) ≡ true }
+        requires left { freed.now ≡ left_out (log_of self.old) }
+        ensures { log_of self.new ≡ writes_on (log_of self.old) }
+    {
+        mark_freed(self.segments.as_mut_slice(), freed);
+        self.phase = Phase::Writing;
+    }
+}
+
+/// Those of the numbers that the others lack.
+fn without(alloc: Global, numbers: &[u16], others: &[u16]) -> Result<Vec<u16>, AllocError>
+    ensures { IfOk result (λ rest. rest.items ≡ filter (λ seg. not (list_any (nat_eq seg) others.now)) numbers.now) }
+{
+    numbers
+        .iter()
+        .copied()
+        .filter(|number| !has_number(others, *number))
+        .collect(alloc)
+}
+
+/// Marks these segments freed.
+fn mark_freed(segments: &mut [Segment], numbers: &[u16])
+    requires { All (IsKnown (length segments.old)) numbers.now }
+    ensures { segment_at segments.new ≡ freed_in numbers.now (segment_at segments.old) }
+{
+    for number in numbers {
+        segments[usize::from(*number) - 1].mark_freed();
+    }
+}
+
+fn is_opening(phase: Phase) -> bool
+    ensures { result ≡ is_opening phase }
+{
+    match phase {
+        Phase::Opening => true,
+        Phase::Closing | Phase::Writing => false,
+    }
+}
+
+fn is_closing(phase: Phase) -> bool
+    ensures { result ≡ is_closing phase }
+{
+    match phase {
+        Phase::Closing => true,
+        Phase::Opening | Phase::Writing => false,
+    }
+}

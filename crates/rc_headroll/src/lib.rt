@@ -1,0 +1,16 @@
+//! A master's log: its segments, of which the newest is the head. It says how heads are opened and
+//! rolled, where entries are appended, what members have told, and how much of the log is durable.
+//! It sends nothing.
+#![tactic(auto)]
+
+mod durable;
+mod going_on;
+mod log;
+mod opening;
+mod segment;
+mod telling;
+#[cfg(test)]
+mod tests;
+
+pub use log::LogHead;
+pub use segment::Segment;

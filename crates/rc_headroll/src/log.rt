@@ -1,0 +1,159 @@
+//! The log.
+
+ghost use Rattle.std.specs.Prelude.{◌≡◌, ◌⊎◌, ◌≤◌, ◌<◌, true, Some, None, Ok, Err, length, nat_lt, All, if◌then◌else◌, OnOk, OnErr, IfOk, IfErr};
+ghost use Rattle.std.specs.Option.{option_copied};
+
+use crate::segment::Segment;
+use rc_types::{Phase, ServerId};
+use std::alloc::Global;
+use std::marker::Model;
+
+/// A master's log: its segments, of which the newest is the head, and how much of it is durable.
+/// "The log" in `docs/PROTOCOL.md` has the rules.
+#[derive(Debug, Drop)]
+pub struct LogHead {
+    pub(crate) own: ServerId,
+    pub(crate) factor: u8,
+    pub(crate) size: u16,
+    /// All segments, of which the first is segment 1. At most the last two are not shut.
+    pub(crate) segments: Vec<Segment>,
+    pub(crate) phase: Phase,
+    pub(crate) durable: usize,
+    /// How many segments, from the first on, are shut and wholly durable: nobody goes over them again.
+    pub(crate) passed: usize,
+    /// How many entries these have.
+    pub(crate) passed_entries: usize,
+}
+
+impl Model for LogHead {
+    ghost use Rattle.rc_headroll.specs.LogData.{LogData, log_of};
+
+    ghost Value = { LogData };
+
+    ghost use Rattle.rc_headroll.specs.Soundness.{IsSound};
+
+    ghost view = { λ l. record {
+      own = l.own;
+      factor = l.factor;
+      size = l.size;
+      segments = l.segments.items;
+      phase = l.phase;
+      durable = l.durable;
+    } };
+
+    ghost invariant = { λ l. IsSound (log_of (record {
+      own = l.own;
+      factor = l.factor;
+      size = l.size;
+      segments = l.segments.items;
+      phase = l.phase;
+      durable = l.durable;
+    })) l.passed l.passed_entries };
+}
+
+impl LogHead {
+    ghost use Rattle.rc_model.specs.Log.{new_log, head_of, old_head_of, has_segment, has_old_head, is_opening, is_closing, is_writing};
+    ghost use Rattle.rc_model.specs.Heads.{is_full};
+    ghost use Rattle.rc_headroll.specs.LogData.{log_of};
+    ghost use Rattle.rc_headroll.specs.Soundness.{IsKnown};
+    ghost use Rattle.rc_types.specs.declared.limits.TheConstants.{MAX_FACTOR, MAX_SEGMENT, LAST_SEGMENT};
+
+    /// The log of this server before its first head, with `factor` replicas of each segment and
+    /// `size` entries in each. It takes no memory.
+    pub fn new(alloc: Global, own: ServerId, factor: u8, size: u16) -> LogHead
+        requires factor { factor ≤ MAX_FACTOR }
+        requires size { size ≤ MAX_SEGMENT }
+        ensures { log_of result ≡ new_log own factor size }
+    {
+        LogHead {
+            own,
+            factor,
+            size,
+            segments: Vec::new(alloc),
+            phase: Phase::Opening,
+            durable: 0,
+            passed: 0,
+            passed_entries: 0,
+        }
+    }
+
+    /// Whose log it is.
+    pub fn own(&self) -> ServerId
+        ensures { result ≡ self.now.own }
+    {
+        self.own
+    }
+
+    /// What is done with the head. Before the first head it is `Opening`.
+    pub fn phase(&self) -> Phase
+        ensures { result ≡ self.now.phase }
+    {
+        self.phase
+    }
+
+    /// The number of the newest segment, 0 before the first.
+    pub fn head(&self) -> u16
+        ensures { result ≡ (log_of self.now).head }
+    {
+        self.segments.len() as u16
+    }
+
+    /// How many places are durable, counted from the log's first one.
+    pub fn durable(&self) -> usize
+        ensures { result ≡ self.now.durable }
+    {
+        self.durable
+    }
+
+    /// The segment of this number, if there is one.
+    pub fn segment(&self, seg: u16) -> Option<&Segment>
+        ensures { option_copied result ≡ (if has_segment (log_of self.now) seg
+            then Some ((log_of self.now).segments seg) else None) }
+    {
+        if !self.has(seg) {
+            return None;
+        }
+        Some(&self.segments[usize::from(seg) - 1])
+    }
+
+    /// Whether there is a segment of this number.
+    pub(crate) fn has(&self, seg: u16) -> bool
+        ensures { result ≡ has_segment (log_of self.now) seg }
+    {
+        0 < seg && usize::from(seg) <= self.segments.len()
+    }
+
+    /// The newest segment.
+    pub fn newest(&self) -> &Segment
+        requires { 0 < (log_of self.now).head }
+        ensures newest { result.now ≡ head_of (log_of self.now) }
+        ensures known { All (IsKnown (log_of self.now).head) result.now.digest }
+    {
+        &self.segments[self.segments.len() - 1]
+    }
+
+    /// The segment before the newest one.
+    pub fn previous(&self) -> &Segment
+        requires { 1 < (log_of self.now).head }
+        ensures { result.now ≡ old_head_of (log_of self.now) }
+    {
+        &self.segments[self.segments.len() - 2]
+    }
+
+    /// Whether the head takes no further entry.
+    pub fn is_full(&self) -> bool
+        ensures { result ≡ is_full (log_of self.now) }
+    {
+        usize::from(self.size) <= self.head_len()
+    }
+
+    /// How many entries the newest segment has, 0 before the first.
+    pub(crate) fn head_len(&self) -> usize
+        ensures { result ≡ length (head_of (log_of self.now)).entries }
+    {
+        if self.segments.is_empty() {
+            return 0;
+        }
+        self.newest().len()
+    }
+}

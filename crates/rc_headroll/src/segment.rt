@@ -1,0 +1,255 @@
+//! One segment of a log, in its master's own view.
+
+ghost use Rattle.std.specs.Prelude.{◌≡◌, ◌⊎◌, ◌≤◌, Ok, Err, true, map, length, nat_eq, OnOk, OnErr, IfOk, IfErr};
+ghost use Rattle.rc_types.specs.declared.faults.Fault.TheVariants.{OutOfMemory};
+ghost use Rattle.rc_model.specs.Config.{notes, noted, committed_at};
+
+use rc_config::{Config, MAX_MEMBERS};
+use rc_serverlist::ServerList;
+use rc_types::{Entry, Fault, Member, ServerId};
+use std::alloc::{AllocError, Global};
+use std::marker::Model;
+
+/// One segment of a log: its digest, its entries, its members, and how far it has come. "Segments" in
+/// `docs/PROTOCOL.md` has the rules.
+#[derive(Debug, Drop)]
+pub struct Segment {
+    digest: Vec<u16>,
+    entries: Vec<(Entry, bool)>,
+    config: Config,
+    commit_sent: bool,
+    close_sent: bool,
+    shut: bool,
+    freed: bool,
+}
+
+impl Model for Segment {
+    ghost use Rattle.rc_model.specs.Segment.{Segment as SegmentModel};
+
+    ghost Value = { SegmentModel };
+
+    ghost view = { λ s. record {
+      digest = s.digest.items;
+      entries = s.entries.items;
+      config = s.config;
+      commit_sent = s.commit_sent;
+      close_sent = s.close_sent;
+      shut = s.shut;
+      freed = s.freed;
+    } };
+}
+
+impl Segment {
+    ghost use Rattle.rc_model.specs.Segment.{new_segment, with_entry, is_ready, is_all_closed, durable_in};
+    ghost use Rattle.rc_model.specs.FollowUps.{wants_commit};
+    ghost use Rattle.rc_model.specs.MasterTick.{awaits_commit};
+    ghost use Rattle.rc_headroll.specs.Losing.{segment_loses};
+
+    /// A segment as it is opened with this digest on these members. It takes no memory.
+    pub(crate) fn new(alloc: Global, seg: u16, digest: Vec<u16>, ids: &[ServerId]) -> Segment
+        requires { length ids.now ≤ MAX_MEMBERS }
+        ensures { result ≡ new_segment seg digest.items ids.now }
+    {
+        Segment {
+            digest,
+            entries: Vec::new(alloc),
+            config: Config::new(seg, ids),
+            commit_sent: false,
+            close_sent: false,
+            shut: false,
+            freed: false,
+        }
+    }
+
+    /// The segments that make up the log when this one is opened, ascending.
+    pub fn digest(&self) -> &[u16]
+        ensures { result.now ≡ self.now.digest }
+    {
+        self.digest.as_slice()
+    }
+
+    /// The entries in order, each with a mark whether a client wrote it.
+    pub fn entries(&self) -> &[(Entry, bool)]
+        ensures { result.now ≡ self.now.entries }
+    {
+        self.entries.as_slice()
+    }
+
+    /// How many entries there are.
+    pub fn len(&self) -> usize
+        ensures { result ≡ length self.now.entries }
+    {
+        self.entries.len()
+    }
+
+    /// Whether there is no entry.
+    pub fn is_empty(&self) -> bool
+        ensures { result ≡ nat_eq (length self.now.entries) 0 }
+    {
+        self.entries.is_empty()
+    }
+
+    /// The members, and the epoch under which they are.
+    pub fn config(&self) -> &Config
+        ensures { result.now ≡ self.now.config }
+    {
+        &self.config
+    }
+
+    /// Whether a Commit was sent under the present epoch.
+    pub fn is_commit_sent(&self) -> bool
+        ensures { result ≡ self.now.commit_sent }
+    {
+        self.commit_sent
+    }
+
+    /// Whether a Close was sent under the present epoch.
+    pub fn is_close_sent(&self) -> bool
+        ensures { result ≡ self.now.close_sent }
+    {
+        self.close_sent
+    }
+
+    /// Whether the segment was, at one moment, closed on all members of a committed epoch.
+    pub fn is_shut(&self) -> bool
+        ensures { result ≡ self.now.shut }
+    {
+        self.shut
+    }
+
+    /// Whether a newer head writes whose digest leaves this segment out.
+    pub fn is_freed(&self) -> bool
+        ensures { result ≡ self.now.freed }
+    {
+        self.freed
+    }
+
+    /// Whether it is placed on all its members, under a committed epoch.
+    pub fn is_ready(&self) -> bool
+        ensures { result ≡ is_ready self.now }
+    {
+        self.config.is_committed() && self.config.all_placed()
+    }
+
+    /// Whether it is closed on all its members, under a committed epoch.
+    pub fn is_all_closed(&self) -> bool
+        ensures { result ≡ is_all_closed self.now }
+    {
+        self.config.is_committed() && self.config.all_closed()
+    }
+
+    /// Whether it is placed on all its members under an epoch that is not committed, and no Commit of
+    /// that epoch was sent.
+    pub fn wants_commit(&self) -> bool
+        ensures { result ≡ wants_commit self.now }
+    {
+        !self.config.is_committed() && (self.config.all_placed() && !self.commit_sent)
+    }
+
+    /// Whether a Commit was sent and not answered, and the segment is placed on all its members.
+    pub fn awaits_commit(&self) -> bool
+        ensures { result ≡ awaits_commit self.now }
+    {
+        self.commit_sent && (!self.config.is_committed() && self.config.all_placed())
+    }
+
+    /// How many of its entries all members have.
+    pub fn durable_len(&self) -> usize
+        ensures { result ≡ durable_in self.now }
+    {
+        self.config.durable_len().min(self.entries.len())
+    }
+
+    /// Adds an entry at the end. Where memory is refused, the segment is as it was.
+    pub(crate) fn push(&mut self, entry: Entry, client: bool) -> Result<(), AllocError>
+        ensures ok { OnOk result (self.new ≡ with_entry entry client self.old) }
+        ensures err { OnErr result (self.new ≡ self.old) }
+    {
+        self.entries.push((entry, client))?;
+        Ok(())
+    }
+
+    /// Notes what a server has told, as the members do.
+    pub(crate) fn stored(&mut self, from: ServerId, epoch: u16, len: usize, closed: bool) -> bool
+        ensures notes { result ≡ notes from epoch self.old.config }
+        ensures noted { self.new ≡ record self.old { config = noted from epoch len closed self.old.config } }
+    {
+        self.config.stored(from, epoch, len, closed)
+    }
+
+    /// Notes that an epoch is committed.
+    pub(crate) fn committed_at(&mut self, epoch: u16)
+        ensures { self.new ≡ record self.old { config = committed_at epoch self.old.config } }
+    {
+        self.config.committed_at(epoch);
+    }
+
+    /// Marks that a Commit was sent.
+    pub(crate) fn mark_commit_sent(&mut self)
+        ensures { self.new ≡ record self.old { commit_sent = true } }
+    {
+        self.commit_sent = true;
+    }
+
+    /// Marks that a Close was sent.
+    pub(crate) fn mark_close_sent(&mut self)
+        ensures { self.new ≡ record self.old { close_sent = true } }
+    {
+        self.close_sent = true;
+    }
+
+    /// Marks the segment shut.
+    pub(crate) fn mark_shut(&mut self)
+        ensures { self.new ≡ record self.old { shut = true } }
+    {
+        self.shut = true;
+    }
+
+    /// Marks the segment freed.
+    pub(crate) fn mark_freed(&mut self)
+        ensures { self.new ≡ record self.old { freed = true } }
+    {
+        self.freed = true;
+    }
+
+    /// Replaces members that have crashed, as `LogHead::lose` says.
+    pub(crate) fn lose(
+        &mut self,
+        alloc: Global,
+        own: ServerId,
+        servers: &ServerList,
+    ) -> Result<Vec<ServerId>, Fault>
+        ensures ok { IfOk result (λ ids. segment_loses own servers.now self.old ≡ (self.new, Ok ids.items)) }
+        ensures err { IfErr result (λ fault. ((fault ≡ OutOfMemory) × (self.new ≡ self.old))
+            ⊎ (segment_loses own servers.now self.old ≡ (self.new, Err fault))) }
+    {
+        if self.shut {
+            return self.config.refill(alloc, own, servers);
+        }
+        let mut config = self.config.copy();
+        match config.lose(alloc, own, servers) {
+            Ok(true) => {
+                let ids = ids_of(alloc, config.members())?;
+                self.config = config;
+                self.commit_sent = false;
+                self.close_sent = false;
+                Ok(ids)
+            }
+            Ok(false) => {
+                self.config = config;
+                Ok(Vec::new(alloc))
+            }
+            Err(fault) => {
+                self.config = config;
+                Err(fault)
+            }
+        }
+    }
+}
+
+/// The ids of members, in their order.
+fn ids_of(alloc: Global, members: &[Member]) -> Result<Vec<ServerId>, AllocError>
+    ensures { IfOk result (λ ids. ids.items ≡ map (λ member. member.id) members.now) }
+{
+    members.iter().map(|member| member.id).collect(alloc)
+}

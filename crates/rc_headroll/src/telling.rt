@@ -1,0 +1,60 @@
+//! What members tell, and what becomes of lost ones.
+
+ghost use Rattle.std.specs.Prelude.{◌≡◌, ◌⊎◌, true, Ok, Err, IfOk, IfErr};
+ghost use Rattle.rc_types.specs.declared.faults.Fault.TheVariants.{OutOfMemory};
+ghost use Rattle.rc_model.specs.Log.{has_segment};
+ghost use Rattle.rc_model.specs.Heads.{stored, notes_stored, commit_noted, loses};
+ghost use Rattle.rc_headroll.specs.LogData.{log_of};
+
+use crate::log::LogHead;
+use rc_serverlist::ServerList;
+use rc_types::{Fault, ServerId};
+use std::alloc::Global;
+
+impl LogHead {
+    /// Notes what a server has told of a segment, as `Config::stored` does, and says whether it did.
+    /// An unknown segment changes nothing.
+    pub fn stored(&mut self, seg: u16, from: ServerId, epoch: u16, len: usize, closed: bool) -> bool
+        ensures notes { result ≡ notes_stored (log_of self.old) seg from epoch }
+        ensures noted { log_of self.new ≡ stored seg from epoch len closed (log_of self.old) }
+    {
+        if !self.has(seg) {
+            return false;
+        }
+        self.segments[usize::from(seg) - 1].stored(from, epoch, len, closed)
+    }
+
+    /// Notes that an epoch of a segment is committed. Another epoch than the present one, or an
+    /// unknown segment, changes nothing.
+    pub fn committed_at(&mut self, seg: u16, epoch: u16)
+        ensures { log_of self.new ≡ commit_noted seg epoch (log_of self.old) }
+    {
+        if self.has(seg) {
+            self.segments[usize::from(seg) - 1].committed_at(epoch);
+        }
+    }
+
+    /// Marks the members of a segment lost that the list shows crashed, and replaces the lost ones:
+    /// those of an open segment by a change of members, those of a shut one under the same epoch.
+    /// Answers who is to be sent a Place: all members after a change, the new ones of a shut segment,
+    /// else nobody.
+    ///
+    /// # Errors
+    ///
+    /// F4 exactly where not all lost members can be replaced, and for an open segment else F19 exactly
+    /// where the last epoch is in use: members are marked lost then, and nothing else has changed.
+    /// Where memory is refused (F1), nothing has changed.
+    pub fn lose(
+        &mut self,
+        alloc: Global,
+        seg: u16,
+        servers: &ServerList,
+    ) -> Result<Vec<ServerId>, Fault>
+        requires { has_segment (log_of self.old) seg ≡ true }
+        ensures ok { IfOk result (λ ids. loses servers.now seg (log_of self.old) ≡ (log_of self.new, Ok ids.items)) }
+        ensures err { IfErr result (λ fault. ((fault ≡ OutOfMemory) × (self.new ≡ self.old))
+            ⊎ (loses servers.now seg (log_of self.old) ≡ (log_of self.new, Err fault))) }
+    {
+        self.segments[usize::from(seg) - 1].lose(alloc, self.own, servers)
+    }
+}
