@@ -3,3 +3,4 @@ pub mod SoundLogs
 pub mod LogChanges
 pub mod LogSteps
 pub mod DurableLogs
+pub mod PlaceLemmas

@@ -2,3 +2,4 @@ pub mod Losing
 pub mod LogData
 pub mod Soundness
 pub mod Freeing
+pub mod Places

@@ -1,13 +1,16 @@
 //! How much of the log is durable.
 
-ghost use Rattle.std.specs.Prelude.{◌≡◌, ◌+◌, ◌*◌, ◌<◌, ◌≤◌, ℕ, true, false};
+ghost use Rattle.std.specs.Prelude.{◌≡◌, ◌+◌, ◌*◌, ◌^◌, ◌<◌, ◌≤◌, ◌++◌, ℕ, true, false, length, map, IfOk, OnOk};
 ghost use Rattle.rc_types.specs.declared.limits.TheConstants.{MAX_SEGMENT};
-ghost use Rattle.rc_model.specs.Log.{durable_now};
-ghost use Rattle.rc_model.specs.FollowUps.{first_open};
+ghost use Rattle.rc_model.specs.Log.{durable_now, places_in};
+ghost use Rattle.rc_model.specs.FollowUps.{first_open, new_durable};
 ghost use Rattle.rc_headroll.specs.LogData.{log_of};
 ghost use Rattle.rc_headroll.specs.Soundness.{entries_to};
+ghost use Rattle.rc_headroll.specs.Places.{log_place};
 
 use crate::log::LogHead;
+use rc_types::Entry;
+use std::alloc::{AllocError, Global};
 
 /// The shut segments at the front of a log.
 #[derive(Clone, Copy)]
@@ -68,6 +71,24 @@ impl LogHead {
         Some(front.segments as u16 + 1)
     }
 
+    /// The places that have become durable, in order: those that are durable at this moment, without
+    /// those that were kept before. Segments that were passed are not gone over again.
+    pub fn newly_durable(&self, alloc: Global) -> Result<Vec<Place<'_>>, AllocError>
+        ensures { IfOk result (λ places. map log_place places.items ≡ new_durable (log_of self.now)) }
+    {
+        let now = self.durable_now();
+        let mut before = self.passed_entries;
+        let mut places = Vec::new(alloc);
+        for place in self.passed..self.segments.len() {
+            let entries = self.segments[place].entries();
+            let end = now.saturating_sub(before).min(entries.len());
+            let start = self.durable.saturating_sub(before).min(end);
+            add_places(&mut places, place as u16 + 1, start, &entries[start..end])?;
+            before += entries.len();
+        }
+        Ok(places)
+    }
+
     /// What is durable at this moment is durable for good.
     pub fn keep_durable(&mut self)
         requires { self.old.durable ≤ durable_now (log_of self.old) }
@@ -78,4 +99,40 @@ impl LogHead {
         self.passed = front.segments;
         self.passed_entries = front.entries;
     }
+}
+
+/// A place of a log, and what stands there.
+#[derive(Clone, Copy)]
+pub struct Place<'a> {
+    /// The segment.
+    pub seg: u16,
+    /// How many entries of the segment stand before it.
+    pub offset: usize,
+    /// The entry.
+    pub entry: &'a Entry,
+    /// Whether a client wrote it.
+    pub client: bool,
+}
+
+/// Adds the places of a segment's entries, of which the first stands at `offset`.
+fn add_places<'a>(
+    places: &mut Vec<Place<'a>>,
+    seg: u16,
+    offset: usize,
+    entries: &'a [(Entry, bool)],
+) -> Result<(), AllocError>
+    requires { offset + length entries.now < 2 ^ 64 }
+    ensures { OnOk result (map log_place places.new.items ≡ map log_place places.old.items ++ places_in seg offset entries.now) }
+{
+    let mut at = offset;
+    for (entry, client) in entries {
+        places.push(Place {
+            seg,
+            offset: at,
+            entry,
+            client: *client,
+        })?;
+        at += 1;
+    }
+    Ok(())
 }

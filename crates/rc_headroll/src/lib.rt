@@ -12,5 +12,6 @@ mod telling;
 #[cfg(test)]
 mod tests;
 
+pub use durable::Place;
 pub use log::LogHead;
 pub use segment::Segment;
