@@ -1,10 +1,10 @@
 -- How much of a log is durable, counted from its shut segments on.
-use Rattle.std.proofs.Common.{◌≡◌, ⊎_elim, ℕ, ◌+◌, ◌-◌, ◌*◌, ◌<◌, ◌≤◌, zero, suc, Bool, true, false, cond, not, List, [], ◌∷◌, ◌++◌, length, get_or, map, find, Some, None, refl, ap, sym, ◌∙◌, subst, arith, append_assoc, add_assoc, zero-add, add-zero}
-use Rattle.std.proofs.lemmas.Bool.{cases_eq}
+use Rattle.std.proofs.Common.{◌≡◌, ⊎_elim, ℕ, ◌+◌, ◌-◌, ◌*◌, ◌<◌, ◌≤◌, zero, suc, Bool, true, false, cond, not, List, [], ◌∷◌, ◌++◌, length, get_or, map, find, Some, None, refl, ap, sym, ◌∙◌, subst, arith, append_assoc, add_assoc, zero-add, add-zero, ltb, leb}
+use Rattle.std.proofs.lemmas.Bool.{cases_eq, and_from, lt-ltb, le-leb}
 use Rattle.std.proofs.lemmas.List.{map-append, append-nil}
 use Rattle.rc_types.specs.declared.limits.TheConstants.{MAX_SEGMENT}
 use Rattle.rc_model.specs.Segment.{Segment, durable_in}
-use Rattle.rc_model.specs.Log.{Log, numbers_to, durable_among, durable_now}
+use Rattle.rc_model.specs.Log.{Log, has_segment, numbers_to, durable_among, durable_now}
 use Rattle.rc_model.specs.FollowUps.{first_open}
 use Rattle.rc_headroll.specs.LogData.{LogData, segment_at, log_of}
 use Rattle.rc_headroll.specs.Soundness.{IsSound, IsSoundSegment, entries_to}
@@ -135,3 +135,7 @@ pub sound_segment-read : (kept : LogData) (passed entries place : ℕ) (x : Segm
 sound_segment-read kept passed entries place x sound inside read =
     let is : x ≡ segment_at kept.segments (place + 1) = segment_at-read kept.segments (place + 1) place x (omega arith) inside read in
     subst (IsSoundSegment kept.size (length kept.segments)) (sym is) (sound.each (place + 1) (omega arith) (omega arith))
+
+-- the first open segment is one of the log
+pub has-from_below : (log : Log) (p : ℕ) → p < log.head → has_segment log (p + 1) ≡ true
+has-from_below log p below = and_from (ltb 0 (p + 1)) (leb (p + 1) log.head) (lt-ltb 0 (p + 1) (omega arith)) (le-leb (p + 1) log.head (omega arith))

@@ -1,20 +1,20 @@
 -- The log goes on: what the code does to the old head and to freed segments is done to the log.
-use Rattle.std.proofs.Common.{◌≡◌, ℕ, ◌+◌, ◌-◌, ◌<◌, true, false, ◌&&◌, not, eqb, List, [], ◌∷◌, length, get_or, set, refl, ap, sym, ◌∙◌, arith}
+use Rattle.std.proofs.Common.{◌≡◌, ℕ, ◌+◌, ◌-◌, ◌<◌, true, false, ◌&&◌, not, eqb, List, [], ◌∷◌, length, get_or, set, refl, ap, sym, ◌∙◌, arith, Bool, filter}
 use Rattle.std.specs.List.{All, list_any}
 use Rattle.std.proofs.lemmas.Bool.{cond-true, and_parts, ltb-true, false≢true, eqb-true}
 use Rattle.std.proofs.lemmas.List.Elements.{All-filter}
 use Rattle.rc_types.specs.declared.kept.Phase.{Phase}
 use Rattle.rc_types.specs.declared.kept.Phase.TheVariants.{Opening, Closing, Writing}
-use Rattle.rc_model.specs.Segment.{Segment, is_all_closed, is_ready}
+use Rattle.rc_model.specs.Segment.{Segment, no_segment, is_all_closed, is_ready}
 use Rattle.rc_model.specs.Config.{all_placed}
 use Rattle.rc_model.specs.Tables.{put}
 use Rattle.rc_model.specs.Log.{Log, head_of, old_head_of, has_old_head, has_segment, with_segment, is_opening, is_closing, is_writing}
 use Rattle.rc_model.specs.Heads.{shuts, with_shut, may_start, may_close, may_write, starts, closes_old, writes_on, left_out, with_freed}
-use Rattle.rc_model.specs.FollowUps.{close_marked}
+use Rattle.rc_model.specs.FollowUps.{close_is_due, close_marked}
 use Rattle.rc_headroll.specs.LogData.{LogData, segment_at, log_of}
 use Rattle.rc_headroll.specs.Soundness.{IsKnown, IsSound}
 use Rattle.rc_headroll.specs.Freeing.{freed_in}
-use Rattle.rc_headroll.proofs.SegmentTables.{segment_at-set, segment_at-read}
+use Rattle.rc_headroll.proofs.SegmentTables.{segment_at-set, segment_at-read, segment_at-zero}
 use Rattle.rc_headroll.proofs.SoundLogs.{sound-put, sound-shut, sound-starts, sound-closes, sound-writes}
 use Rattle.rc_headroll.proofs.LogChanges.{log_of-change, seg_place}
 
@@ -26,6 +26,18 @@ shuts-parts log e = ltb-true 1 log.head (and_parts (has_old_head log) (is_all_cl
 pub may_start-parts : (log : Log) → may_start log ≡ true → log.head ≡ 1
 may_start-parts log e =
     eqb-true log.head 1 (and_parts (eqb log.head 1) (is_ready (head_of log)) (and_parts (is_opening log.phase) (eqb log.head 1 && is_ready (head_of log)) e).1).0
+
+pub close_is_due-parts : (log : Log) → close_is_due log ≡ true → 1 < log.head
+close_is_due-parts log e =
+    let due : Bool = (old_head_of log).config.committed && not (old_head_of log).close_sent in
+    ltb-true 1 log.head (and_parts (has_old_head log) due (and_parts (is_closing log.phase) (has_old_head log && due) e).1).0
+
+-- where there is no old head, nothing is left out
+pub left_out-none : (kept : LogData) → length kept.segments < 2 → left_out (log_of kept) ≡ []
+left_out-none kept few =
+    let none : length kept.segments - 1 ≡ 0 = omega arith in
+    let old : segment_at kept.segments (length kept.segments - 1) ≡ no_segment 0 = ap (segment_at kept.segments) none ∙ segment_at-zero kept.segments in
+    ap (λ (s : Segment). filter (λ seg. not (list_any (eqb seg) (head_of (log_of kept)).digest)) s.digest) old
 
 -- a phase isn't two
 not-writing_opening : (phase : Phase) → is_opening phase ≡ true → is_writing phase ≡ false

@@ -1,8 +1,8 @@
 //! How much of the log is durable.
 
-ghost use Rattle.std.specs.Prelude.{◌≡◌, ◌+◌, ◌*◌, ◌^◌, ◌<◌, ◌≤◌, ◌++◌, ℕ, true, false, length, map, IfOk, OnOk};
+ghost use Rattle.std.specs.Prelude.{◌≡◌, ◌+◌, ◌*◌, ◌^◌, ◌<◌, ◌≤◌, ◌++◌, ℕ, true, false, length, map, IfOk, IfSome, OnOk};
 ghost use Rattle.rc_types.specs.declared.limits.TheConstants.{MAX_SEGMENT};
-ghost use Rattle.rc_model.specs.Log.{durable_now, places_in};
+ghost use Rattle.rc_model.specs.Log.{durable_now, has_segment, places_in};
 ghost use Rattle.rc_model.specs.FollowUps.{first_open, new_durable};
 ghost use Rattle.rc_headroll.specs.LogData.{log_of};
 ghost use Rattle.rc_headroll.specs.Soundness.{entries_to};
@@ -62,7 +62,8 @@ impl LogHead {
 
     /// The first segment that isn't shut.
     pub fn first_open(&self) -> Option<u16>
-        ensures { result ≡ first_open (log_of self.now) }
+        ensures first { result ≡ first_open (log_of self.now) }
+        ensures known { IfSome result (λ seg. has_segment (log_of self.now) seg ≡ true) }
     {
         let front = self.shut_front();
         if front.segments == self.segments.len() {

@@ -75,7 +75,7 @@ impl LogHead {
 
     /// Marks that a Close was sent to the old head's members.
     pub fn mark_close_sent(&mut self)
-        requires { has_old_head (log_of self.old) ≡ true }
+        requires { close_is_due (log_of self.old) ≡ true }
         ensures { log_of self.new ≡ close_marked (log_of self.old) }
     {
         let old = self.segments.len() - 2;
@@ -101,9 +101,11 @@ impl LogHead {
 
     /// The segments that the old head's digest has and the new one's lacks.
     pub fn left_out(&self, alloc: Global) -> Result<Vec<u16>, AllocError>
-        requires { has_old_head (log_of self.now) ≡ true }
         ensures { IfOk result (λ segs. segs.items ≡ left_out (log_of self.now)) }
     {
+        if self.segments.len() < 2 {
+            return Ok(Vec::new(alloc));
+        }
         without(alloc, self.previous().digest(), self.newest().digest())
     }
 

@@ -91,6 +91,16 @@ impl LogHead {
         self.phase
     }
 
+    /// Whether the head takes entries, if it has room.
+    pub fn is_writing(&self) -> bool
+        ensures { result ≡ is_writing self.now.phase }
+    {
+        match self.phase {
+            Phase::Writing => true,
+            Phase::Opening | Phase::Closing => false,
+        }
+    }
+
     /// The number of the newest segment, 0 before the first.
     pub fn head(&self) -> u16
         ensures { result ≡ (log_of self.now).head }
@@ -117,7 +127,7 @@ impl LogHead {
     }
 
     /// Whether there is a segment of this number.
-    pub(crate) fn has(&self, seg: u16) -> bool
+    pub fn has(&self, seg: u16) -> bool
         ensures { result ≡ has_segment (log_of self.now) seg }
     {
         0 < seg && usize::from(seg) <= self.segments.len()

@@ -23,7 +23,7 @@ impl LogHead {
     pub fn append_fault(&self) -> Option<Fault>
         ensures { result ≡ append_fault (log_of self.now) }
     {
-        if !is_writing(self.phase) {
+        if !self.is_writing() {
             return Some(Fault::Rolling);
         }
         if !self.is_full() {
@@ -173,16 +173,6 @@ impl LogHead {
         self.segments.push(head)?;
         self.phase = Phase::Opening;
         Ok(())
-    }
-}
-
-/// Whether the head takes entries.
-pub(crate) fn is_writing(phase: Phase) -> bool
-    ensures { result ≡ is_writing phase }
-{
-    match phase {
-        Phase::Writing => true,
-        Phase::Opening | Phase::Closing => false,
     }
 }
 
