@@ -1,0 +1,99 @@
+-- The tables beside the notes, with one more entry, and with more of them durable.
+use Rattle.std.proofs.Common.{◌≡◌, ℕ, ◌+◌, ◌-◌, ◌≤◌, cond, nat_eq, List, [], ◌∷◌, ◌++◌, length, take, drop, sym, ap, ◌∙◌, refl, arith, length-append, length-take, zero, suc}
+use Rattle.std.proofs.lemmas.List.{take-append-le}
+use Rattle.std.specs.Prelude.{slice_index_or}
+use Rattle.std.specs.Option.{IsSome}
+use Rattle.indexmap.specs.IndexMap.{get}
+use Rattle.rc_types.specs.declared.entries.Entry.{Entry}
+use Rattle.rc_model.specs.Versions.{is_of}
+use Rattle.rc_model.specs.Ownership.{count_under}
+use Rattle.rc_ownership.specs.declared.highs.Slot.{Slot}
+use Rattle.rc_ownership.specs.Counts.{CountTable, count_in, AreKnown}
+use Rattle.rc_ownership.specs.Highs.{with_high}
+use Rattle.rc_ownership.specs.Slots.{HighTable, highs_in, same_slot, slot_of}
+use Rattle.rc_ownership.specs.Notes.{AreTablesOf}
+use Rattle.rc_ownership.proofs.RecordHighs.{highs_of-push}
+use Rattle.rc_ownership.proofs.Under.{count_under-append, count_under-le}
+
+-- an entry is of a slot where the slot is its own
+same_slot-is_of : (entry : Entry) (slot : Slot) → same_slot (slot_of entry) slot ≡ is_of slot.term slot.table slot.key entry
+same_slot-is_of entry slot = refl
+
+known-push : (old new : CountTable) (noted : List Entry) (entry : Entry) → AreKnown old noted →
+    ((term : ℕ) → IsSome (get nat_eq old term) → IsSome (get nat_eq new term)) → IsSome (get nat_eq new entry.term) → AreKnown new (noted ++ entry ∷ [])
+known-push old new [] entry known kept here zero other within = here
+known-push old new [] entry known kept here (suc place) other within = absurd (omega arith)
+known-push old new (first ∷ noted) entry known kept here zero other within = kept first.term (known 0 other (omega arith))
+known-push old new (first ∷ noted) entry known kept here (suc place) other within =
+    known-push old new noted entry (λ p o w. known (suc p) o (omega arith)) kept here place other (omega arith)
+
+-- one more entry
+pub tables-push : {A : Type 0} (noted : List Entry) (durable : ℕ) (highs new_highs : HighTable A) (counts new_counts : CountTable) (entry : Entry) →
+    AreTablesOf noted durable highs counts →
+    ((other : Slot) → highs_in new_highs other ≡ cond (same_slot (slot_of entry) other) (with_high (length noted) entry.version (highs_in highs other)) (highs_in highs other)) →
+    IsSome (get nat_eq new_counts entry.term) → ((other : ℕ) → count_in new_counts other ≡ count_in counts other) →
+    ((other : ℕ) → IsSome (get nat_eq counts other) → IsSome (get nat_eq new_counts other)) →
+    AreTablesOf (noted ++ entry ∷ []) durable new_highs new_counts
+tables-push noted durable highs new_highs counts new_counts entry tables added known same kept = record {
+  within = omega (arith, length-append noted (entry ∷ []), tables.within);
+  highs_are = λ slot.
+      added slot
+      ∙ ap (λ list. cond (same_slot (slot_of entry) slot) (with_high (length noted) entry.version list) list) (tables.highs_are slot)
+      ∙ sym (highs_of-push slot.term slot.table slot.key noted entry);
+  counts_are = λ term. same term ∙ tables.counts_are term ∙ ap (count_under term) (sym (take-append-le durable noted (entry ∷ []) tables.within));
+  known = known-push counts new_counts noted entry tables.known kept known;
+}
+
+take_empty : (n : ℕ) → take n [] ≡ let none : List Entry = [] in none
+take_empty zero = refl
+take_empty (suc n) = refl
+
+moved : (one other : ℕ) → suc (one + other) ≡ suc one + other
+moved one other = omega arith
+
+take_add : (noted : List Entry) (one other : ℕ) → take one noted ++ take other (drop one noted) ≡ take (one + other) noted
+take_add noted zero other = ap (λ n. take n noted) (omega arith)
+take_add [] (suc one) other = take_empty other ∙ sym (take_empty (suc one + other))
+take_add (entry ∷ noted) (suc one) other = ap (λ es. entry ∷ es) (take_add noted one other) ∙ ap (λ n. take n (entry ∷ noted)) (moved one other)
+
+take_between : (noted : List Entry) (durable count : ℕ) → durable ≤ count → take durable noted ++ take (count - durable) (drop durable noted) ≡ take count noted
+take_between noted durable count risen = take_add noted durable (count - durable) ∙ ap (λ n. take n noted) (omega arith)
+
+-- more durable entries
+pub tables-durable : {A : Type 0} (noted : List Entry) (durable count : ℕ) (highs : HighTable A) (counts new_counts : CountTable) →
+    AreTablesOf noted durable highs counts → durable ≤ count → count ≤ length noted →
+    ((term : ℕ) → count_in new_counts term ≡ count_in counts term + count_under term (take (count - durable) (drop durable noted))) →
+    ((term : ℕ) → IsSome (get nat_eq counts term) → IsSome (get nat_eq new_counts term)) →
+    AreTablesOf noted count highs new_counts
+tables-durable noted durable count highs counts new_counts tables risen within counted kept = record {
+  within = within;
+  highs_are = tables.highs_are;
+  counts_are = λ term.
+      counted term
+      ∙ ap (λ n. n + count_under term (take (count - durable) (drop durable noted))) (tables.counts_are term)
+      ∙ sym (count_under-append term (take durable noted) (take (count - durable) (drop durable noted)))
+      ∙ ap (count_under term) (take_between noted durable count risen);
+  known = λ place other w. kept (slice_index_or noted place other).term (tables.known place other w);
+}
+
+-- room for the counts of those that become durable
+pub counts_fit : {A : Type 0} (noted : List Entry) (durable count : ℕ) (highs : HighTable A) (counts : CountTable) →
+    AreTablesOf noted durable highs counts → durable ≤ count → (term : ℕ) → count_in counts term + length (take (count - durable) (drop durable noted)) ≤ count
+counts_fit noted durable count highs counts tables risen term =
+    omega (arith, tables.counts_are term, count_under-le term noted durable, length-take (count - durable) (drop durable noted))
+
+-- fewer durable entries
+pub tables-undurable : {A : Type 0} (noted : List Entry) (durable count : ℕ) (highs : HighTable A) (counts new_counts : CountTable) →
+    AreTablesOf noted durable highs counts → count ≤ durable →
+    ((term : ℕ) → count_in new_counts term ≡ count_in counts term - count_under term (take (durable - count) (drop count noted))) →
+    ((term : ℕ) → IsSome (get nat_eq counts term) → IsSome (get nat_eq new_counts term)) →
+    AreTablesOf noted count highs new_counts
+tables-undurable noted durable count highs counts new_counts tables fallen counted kept = record {
+  within = omega (arith, tables.within);
+  highs_are = tables.highs_are;
+  counts_are = λ term.
+      let whole : count_under term (take count noted) + count_under term (take (durable - count) (drop count noted)) ≡ count_under term (take durable noted) =
+      sym (count_under-append term (take count noted) (take (durable - count) (drop count noted))) ∙ ap (count_under term) (take_between noted count durable fallen) in
+      omega (arith, counted term, tables.counts_are term, whole);
+  known = λ place other w. kept (slice_index_or noted place other).term (tables.known place other w);
+}

@@ -1,0 +1,7 @@
+pub mod Bounds
+pub mod Counts
+pub mod Grants
+pub mod Highs
+pub mod Owner
+pub mod Slots
+pub mod Notes

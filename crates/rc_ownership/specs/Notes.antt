@@ -1,0 +1,20 @@
+-- The notes of a log, and the tables beside them.
+use Rattle.std.specs.Prelude.{◌≡◌, ℕ, ◌≤◌, List, length, take}
+use Rattle.rc_types.specs.declared.entries.Entry.{Entry}
+use Rattle.rc_model.specs.Ownership.{count_under}
+use Rattle.rc_ownership.specs.declared.highs.Slot.{Slot}
+use Rattle.rc_ownership.specs.Counts.{CountTable, count_in, AreKnown}
+use Rattle.rc_ownership.specs.Highs.{highs_of}
+use Rattle.rc_ownership.specs.Slots.{HighTable, highs_in}
+
+-- the entries that were noted, and how many of them, from the first on, are durable
+pub record Noted : Type 0 where
+  pub noted : List Entry
+  pub durable : ℕ
+
+-- the tables are those of the entries
+pub record AreTablesOf {A : Type 0} (noted : List Entry) (durable : ℕ) (highs : HighTable A) (counts : CountTable) : Type 0 where
+  pub within : durable ≤ length noted
+  pub highs_are : (slot : Slot) → highs_in highs slot ≡ highs_of slot.term slot.table slot.key noted
+  pub counts_are : (term : ℕ) → count_in counts term ≡ count_under term (take durable noted)
+  pub known : AreKnown counts noted

@@ -1,0 +1,59 @@
+//! How many durable entries each term has.
+
+ghost use Rattle.std.specs.Prelude.{◌≡◌, ℕ, ◌+◌, ◌-◌, ◌^◌, ◌<◌, nat_eq, length, OnOk};
+ghost use Rattle.std.specs.Option.{IsSome};
+ghost use Rattle.indexmap.specs.IndexMap.{get};
+ghost use Rattle.rc_model.specs.Ownership.{count_under};
+ghost use Rattle.rc_ownership.specs.Counts.{count_in, AreKnown};
+
+use indexmap::IndexMap;
+use rc_types::Entry;
+use std::alloc::AllocError;
+
+/// How many durable entries a term has.
+pub(crate) fn count_in(counts: &IndexMap<u32, usize>, term: u32) -> usize
+    ensures { result ≡ count_in counts.now term }
+{
+    match counts.get(&term) {
+        Some(count) => *count,
+        None => 0,
+    }
+}
+
+/// Makes room for a term's count, so that it can be raised without memory.
+pub(crate) fn know_term(counts: &mut IndexMap<u32, usize>, term: u32) -> Result<(), AllocError>
+    ensures known { OnOk result (IsSome (get nat_eq counts.new term)) }
+    ensures same { (other : ℕ) → count_in counts.new other ≡ count_in counts.old other }
+    ensures kept { (other : ℕ) → IsSome (get nat_eq counts.old other) → IsSome (get nat_eq counts.new other) }
+{
+    if !counts.contains_key(&term) {
+        counts.insert(term, 0)?;
+    }
+    Ok(())
+}
+
+/// Raises the counts of the entries' terms.
+pub(crate) fn count_up(counts: &mut IndexMap<u32, usize>, entries: &[Entry])
+    requires known { AreKnown counts.old entries.now }
+    requires room { (term : ℕ) → count_in counts.old term + length entries.now < 2 ^ 64 }
+    ensures counted { (term : ℕ) → count_in counts.new term ≡ count_in counts.old term + count_under term entries.now }
+    ensures kept { (term : ℕ) → IsSome (get nat_eq counts.old term) → IsSome (get nat_eq counts.new term) }
+{
+    for entry in entries {
+        if let Some(count) = counts.get_mut(&entry.term) {
+            *count += 1;
+        }
+    }
+}
+
+/// Lowers the counts of the entries' terms.
+pub(crate) fn count_down(counts: &mut IndexMap<u32, usize>, entries: &[Entry])
+    ensures counted { (term : ℕ) → count_in counts.new term ≡ count_in counts.old term - count_under term entries.now }
+    ensures kept { (term : ℕ) → IsSome (get nat_eq counts.old term) → IsSome (get nat_eq counts.new term) }
+{
+    for entry in entries {
+        if let Some(count) = counts.get_mut(&entry.term) {
+            *count = count.saturating_sub(1);
+        }
+    }
+}

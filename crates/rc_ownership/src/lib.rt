@@ -1,0 +1,14 @@
+//! What a master owns: the ranges granted to it, the notes of its log by which it numbers versions
+//! and reads, and the parts of crashed masters' logs that it replays. The words of the contracts are
+//! those of `rc_model`'s `Ownership` and `Versions`.
+#![tactic(auto)]
+
+mod bounds;
+mod counts;
+mod grants;
+mod highs;
+mod notes;
+mod ownership;
+mod pieces;
+
+pub use ownership::Ownership;

@@ -1,0 +1,176 @@
+//! The notes of a log: its entries as they were appended, how many of them are durable, and the
+//! tables by which versions are numbered and read without a walk over them.
+
+ghost use Rattle.std.specs.Prelude.{◌≡◌, ℕ, ◌+◌, ◌^◌, ◌<◌, ◌≤◌, ◌++◌, ◌∷◌, [], length, take, slice_get, OnOk, OnErr, IfOk, IfErr};
+ghost use Rattle.std.specs.Option.{option_copied};
+ghost use Rattle.rc_types.specs.declared.faults.Fault.TheVariants.{OutOfMemory};
+
+use crate::counts;
+use crate::highs::{self, Slot};
+use indexmap::IndexMap;
+use rc_types::{Entry, Fault, Seq, TryClone};
+use std::alloc::Global;
+use std::marker::Model;
+
+/// The noted entries, how many of them are durable, the record highs of each slot, and how many
+/// durable entries each term has.
+#[derive(Drop)]
+pub(crate) struct Notes {
+    noted: Vec<Entry>,
+    durable: usize,
+    highs: IndexMap<Slot, Vec<(usize, u64)>>,
+    counts: IndexMap<u32, usize>,
+}
+
+impl Model for Notes {
+    ghost use Rattle.rc_ownership.specs.Notes.{Noted, AreTablesOf};
+
+    ghost Value = { Noted };
+
+    ghost view = { λ s. record { noted = s.noted.items; durable = s.durable } };
+
+    ghost invariant = { λ s. AreTablesOf s.noted.items s.durable s.highs s.counts };
+}
+
+impl Notes {
+    ghost use Rattle.rc_model.specs.Ownership.{count_under};
+    ghost use Rattle.rc_model.specs.Versions.{next_version, greatest_version, read_of, is_outdated, is_dead};
+    ghost use Rattle.rc_ownership.specs.Highs.{highs_of};
+
+    /// No notes. It takes no memory until an entry is noted.
+    pub(crate) fn new(alloc: Global) -> Notes
+        ensures { result ≡ record { noted = []; durable = 0 } }
+    {
+        Notes {
+            noted: Vec::new(alloc),
+            durable: 0,
+            highs: IndexMap::new(alloc),
+            counts: IndexMap::new(alloc),
+        }
+    }
+
+    /// Notes an entry after the others. Only memory can be refused (F1).
+    pub(crate) fn note(&mut self, alloc: Global, entry: &Entry) -> Result<(), Fault>
+        ensures ok { OnOk result (self.new ≡ record self.old { noted = self.old.noted ++ entry.now ∷ [] }) }
+        ensures err { OnErr result (self.new ≡ self.old) }
+        ensures no_memory { IfErr result (λ fault. fault ≡ OutOfMemory) }
+    {
+        let copy = entry.try_clone(alloc)?;
+        self.noted.reserve(1)?;
+        counts::know_term(&mut self.counts, entry.term)?;
+        let slot = highs::slot_of(entry);
+        highs::add_high(
+            alloc,
+            &mut self.highs,
+            slot,
+            self.noted.len(),
+            entry.version,
+        )?;
+        self.noted.push(copy).unwrap();
+        Ok(())
+    }
+
+    /// Says that the first `count` noted entries are durable.
+    pub(crate) fn set_durable(&mut self, count: usize)
+        requires { count ≤ length self.old.noted }
+        ensures { self.new ≡ record self.old { durable = count } }
+    {
+        if count < self.durable {
+            self.lower_durable(count);
+        } else {
+            self.raise_durable(count);
+        }
+    }
+
+    fn raise_durable(&mut self, count: usize)
+        requires within { count ≤ length self.old.noted }
+        requires risen { self.old.durable ≤ count }
+        ensures { self.new ≡ record self.old { durable = count } }
+    {
+        let newly = &self.noted.as_slice()[self.durable..count];
+        counts::count_up(&mut self.counts, newly);
+        self.durable = count;
+    }
+
+    fn lower_durable(&mut self, count: usize)
+        requires { count ≤ self.old.durable }
+        ensures { self.new ≡ record self.old { durable = count } }
+    {
+        let no_longer = &self.noted.as_slice()[count..self.durable];
+        counts::count_down(&mut self.counts, no_longer);
+        self.durable = count;
+    }
+
+    /// The durable entry at a place, if there is one.
+    fn durable_entry(&self, place: usize) -> Option<&Entry>
+        ensures { option_copied result ≡ slice_get (take self.now.durable self.now.noted) place }
+    {
+        let durable = &self.noted.as_slice()[..self.durable];
+        durable.get(place)
+    }
+
+    /// The record highs of a key under a term.
+    pub(crate) fn highs(&self, term: u32, table: u32, key: u64) -> &[(usize, u64)]
+        ensures { result.now ≡ highs_of term table key self.now.noted }
+    {
+        highs::highs_in(&self.highs, Slot { term, table, key })
+    }
+
+    /// The record highs of a key under a term that are durable.
+    fn durable_highs(&self, term: u32, table: u32, key: u64) -> &[(usize, u64)]
+        ensures { result.now ≡ highs_of term table key (take self.now.durable self.now.noted) }
+    {
+        highs::below(self.highs(term, table, key), self.durable)
+    }
+
+    /// The greatest version of a key under a term, 0 where there is none.
+    pub(crate) fn greatest_version(&self, term: u32, table: u32, key: u64) -> u64
+        ensures { result ≡ greatest_version term table key self.now.noted }
+    {
+        highs::last_version(self.highs(term, table, key))
+    }
+
+    /// The greatest durable version of a key under a term with its value, of equal versions the
+    /// first in place; version 0 and no value where there is none. Only memory can be refused (F1).
+    pub(crate) fn read(
+        &self,
+        alloc: Global,
+        term: u32,
+        table: u32,
+        key: u64,
+    ) -> Result<(u64, Option<Seq<u8>>), Fault>
+        ensures ok { IfOk result (λ found. read_of term table key (take self.now.durable self.now.noted) ≡ record { version = found.0; value = found.1 }) }
+        ensures no_memory { IfErr result (λ fault. fault ≡ OutOfMemory) }
+    {
+        let Some((place, version)) = self.durable_highs(term, table, key).last() else {
+            return Ok((0, None));
+        };
+        let Some(entry) = self.durable_entry(*place) else {
+            return Ok((0, None));
+        };
+        let value = entry.value.try_clone(alloc)?;
+        Ok((*version, value))
+    }
+
+    /// Whether a durable entry has a greater version of the entry's key under its term.
+    fn is_outdated(&self, entry: &Entry) -> bool
+        ensures { result ≡ is_outdated (take self.now.durable self.now.noted) entry.now }
+    {
+        let highs = self.durable_highs(entry.term, entry.table, entry.key);
+        entry.version < highs::last_version(highs)
+    }
+
+    /// Whether each of the entries is outdated by a durable one.
+    pub(crate) fn is_dead(&self, entries: &[Entry]) -> bool
+        ensures { result ≡ is_dead (take self.now.durable self.now.noted) entries.now }
+    {
+        entries.iter().all(|entry| self.is_outdated(entry))
+    }
+
+    /// How many durable entries are under a term.
+    pub(crate) fn count_durable(&self, term: u32) -> usize
+        ensures { result ≡ count_under term (take self.now.durable self.now.noted) }
+    {
+        counts::count_in(&self.counts, term)
+    }
+}

@@ -1,0 +1,152 @@
+//! What a master owns, in one value.
+
+ghost use Rattle.std.specs.Prelude.{◌≡◌, ◌<◌, ◌≤◌, ◌+◌, ◌^◌, ◌++◌, ◌∷◌, [], length, nat_eq, nat_lt, OnOk, OnErr, IfOk, IfErr};
+ghost use Rattle.rc_types.specs.declared.faults.Fault.TheVariants.{OutOfMemory};
+ghost use Rattle.rc_model.specs.Ownership.{owns_nothing};
+ghost use Rattle.rc_model.specs.Ownership as owning;
+ghost use Rattle.rc_model.specs.Versions as versions;
+ghost use Rattle.rc_ownership.specs.Highs.{highs_of};
+ghost use Rattle.rc_ownership.specs.Owner.{durable_of};
+
+use crate::grants::Grants;
+use crate::notes::Notes;
+use rc_types::{Entry, Fault, KeyRange, Seq};
+use std::alloc::Global;
+use std::marker::Model;
+
+/// The ranges that a master was granted, the notes of its log, and the parts of crashed masters'
+/// logs that it fetches and replays.
+#[derive(Drop)]
+pub struct Ownership {
+    grants: Grants,
+    notes: Notes,
+}
+
+impl Model for Ownership {
+    ghost use Rattle.rc_model.specs.Ownership.{owns_nothing};
+    ghost use Rattle.rc_ownership.specs.Owner.{Owner};
+
+    ghost Value = { Owner };
+
+    ghost view = { λ s. record { own = record owns_nothing { grants = s.grants }; noted = s.notes.noted; durable = s.notes.durable } };
+}
+
+impl Ownership {
+    /// What a new master owns: nothing. It takes no memory until something is taken in.
+    pub fn new(alloc: Global) -> Ownership
+        ensures { result ≡ record { own = owns_nothing; noted = []; durable = 0 } }
+    {
+        Ownership {
+            grants: Grants::new(alloc),
+            notes: Notes::new(alloc),
+        }
+    }
+
+    /// Takes a granted range, unless one was granted under its term before.
+    ///
+    /// # Errors
+    ///
+    /// - `OutOfMemory` (F1): memory was refused; nothing has changed.
+    pub fn grant(&mut self, range: KeyRange, term: u32) -> Result<(), Fault>
+        ensures ok { OnOk result (self.new ≡ record self.old { own = owning.grant (record { range = range; term = term }) self.old.own }) }
+        ensures err { OnErr result (self.new ≡ self.old) }
+        ensures no_memory { IfErr result (λ fault. fault ≡ OutOfMemory) }
+    {
+        self.grants.grant(range, term)?;
+        Ok(())
+    }
+
+    /// The term of the first granted range that holds the point: by one look-up in an ordered table.
+    pub fn term_of(&self, table: u32, key: u64) -> Option<u32>
+        ensures { result ≡ owning.term_of self.now.own table key }
+    {
+        self.grants.term_of(table, key)
+    }
+
+    /// Whether a range was granted under the term.
+    pub fn owns_term(&self, term: u32) -> bool
+        ensures { result ≡ owning.owns_term self.now.own term }
+    {
+        self.grants.owns_term(term)
+    }
+
+    /// Whether any range was granted.
+    pub fn has_grants(&self) -> bool
+        ensures { result ≡ nat_lt 0 (length self.now.own.grants) }
+    {
+        !self.grants.is_empty()
+    }
+
+    /// Notes an entry that was appended to the log, after those noted before.
+    ///
+    /// # Errors
+    ///
+    /// - `OutOfMemory` (F1): memory was refused; nothing has changed.
+    pub fn note(&mut self, alloc: Global, entry: &Entry) -> Result<(), Fault>
+        ensures ok { OnOk result (self.new ≡ record self.old { noted = self.old.noted ++ entry.now ∷ [] }) }
+        ensures err { OnErr result (self.new ≡ self.old) }
+        ensures no_memory { IfErr result (λ fault. fault ≡ OutOfMemory) }
+    {
+        self.notes.note(alloc, entry)
+    }
+
+    /// Says that the first `count` noted entries are durable. It goes through those between the old
+    /// count and the new one.
+    pub fn set_durable(&mut self, count: usize)
+        requires { count ≤ length self.old.noted }
+        ensures { self.new ≡ record self.old { durable = count } }
+    {
+        self.notes.set_durable(count);
+    }
+
+    /// The record highs of a key under a term: the place, from 0, and the version of each noted entry
+    /// whose version is above 0 and above all earlier ones of that key and term.
+    pub fn highs(&self, term: u32, table: u32, key: u64) -> &[(usize, u64)]
+        ensures { result.now ≡ highs_of term table key self.now.noted }
+    {
+        self.notes.highs(term, table, key)
+    }
+
+    /// Whether there is a version above all noted ones of a key under a term.
+    pub fn has_next_version(&self, term: u32, table: u32, key: u64) -> bool
+        ensures { result ≡ nat_lt (versions.next_version term table key self.now.noted) (2 ^ 64) }
+    {
+        self.notes.greatest_version(term, table, key) < u64::MAX
+    }
+
+    /// The version that the next write of a key under a term gets: one more than the greatest noted
+    /// one, or 1.
+    pub fn next_version(&self, term: u32, table: u32, key: u64) -> u64
+        requires { versions.next_version term table key self.now.noted < 2 ^ 64 }
+        ensures { result ≡ versions.next_version term table key self.now.noted }
+    {
+        self.notes.greatest_version(term, table, key) + 1
+    }
+
+    /// The greatest durable version of a key under a term with its value, of equal versions the first
+    /// in place; version 0 and no value where there is none.
+    ///
+    /// # Errors
+    ///
+    /// - `OutOfMemory` (F1): the memory for the value was refused.
+    pub fn read(
+        &self,
+        alloc: Global,
+        term: u32,
+        table: u32,
+        key: u64,
+    ) -> Result<(u64, Option<Seq<u8>>), Fault>
+        ensures ok { IfOk result (λ found. versions.read_of term table key (durable_of self.now) ≡ record { version = found.0; value = found.1 }) }
+        ensures no_memory { IfErr result (λ fault. fault ≡ OutOfMemory) }
+    {
+        self.notes.read(alloc, term, table, key)
+    }
+
+    /// Whether each of these entries has a greater version of its key under its term among the
+    /// durable ones.
+    pub fn is_dead(&self, entries: &[Entry]) -> bool
+        ensures { result ≡ versions.is_dead (durable_of self.now) entries.now }
+    {
+        self.notes.is_dead(entries)
+    }
+}
