@@ -1,7 +1,11 @@
 pub mod Granted
 pub mod HighTables
 pub mod NoteTables
+pub mod PartRows
+pub mod PartTables
 pub mod Reading
 pub mod RecordHighs
+pub mod RowOrder
 pub mod Saying
 pub mod Under
+pub mod Waiting

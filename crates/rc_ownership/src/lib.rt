@@ -9,6 +9,12 @@ mod grants;
 mod highs;
 mod notes;
 mod ownership;
+mod part;
+mod parts;
 mod pieces;
+mod replay;
+mod rows;
+#[cfg(test)]
+mod tests;
 
 pub use ownership::Ownership;

@@ -70,6 +70,13 @@ impl Notes {
         Ok(())
     }
 
+    /// How many entries were noted.
+    pub(crate) fn len(&self) -> usize
+        ensures { result ≡ length self.now.noted }
+    {
+        self.noted.len()
+    }
+
     /// Says that the first `count` noted entries are durable.
     pub(crate) fn set_durable(&mut self, count: usize)
         requires { count ≤ length self.old.noted }

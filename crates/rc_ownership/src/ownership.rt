@@ -1,16 +1,18 @@
 //! What a master owns, in one value.
 
-ghost use Rattle.std.specs.Prelude.{◌≡◌, ◌<◌, ◌≤◌, ◌+◌, ◌^◌, ◌++◌, ◌∷◌, [], length, nat_eq, nat_lt, OnOk, OnErr, IfOk, IfErr};
+ghost use Rattle.std.specs.Prelude.{◌≡◌, ◌<◌, ◌≤◌, ◌+◌, ◌^◌, ◌++◌, ◌∷◌, [], length, not, nat_eq, nat_lt, slice_get, OnOk, OnErr, IfOk, IfErr};
 ghost use Rattle.rc_types.specs.declared.faults.Fault.TheVariants.{OutOfMemory};
 ghost use Rattle.rc_model.specs.Ownership.{owns_nothing};
 ghost use Rattle.rc_model.specs.Ownership as owning;
 ghost use Rattle.rc_model.specs.Versions as versions;
 ghost use Rattle.rc_ownership.specs.Highs.{highs_of};
 ghost use Rattle.rc_ownership.specs.Owner.{durable_of};
+ghost use Rattle.rc_ownership.specs.Parts.{awaiting_grant};
 
 use crate::grants::Grants;
 use crate::notes::Notes;
-use rc_types::{Entry, Fault, KeyRange, Seq};
+use crate::parts::Parts;
+use rc_types::{Entry, Fault, KeyRange, Part, Seq, ServerId};
 use std::alloc::Global;
 use std::marker::Model;
 
@@ -20,15 +22,15 @@ use std::marker::Model;
 pub struct Ownership {
     grants: Grants,
     notes: Notes,
+    parts: Parts,
 }
 
 impl Model for Ownership {
-    ghost use Rattle.rc_model.specs.Ownership.{owns_nothing};
     ghost use Rattle.rc_ownership.specs.Owner.{Owner};
 
     ghost Value = { Owner };
 
-    ghost view = { λ s. record { own = record owns_nothing { grants = s.grants }; noted = s.notes.noted; durable = s.notes.durable } };
+    ghost view = { λ s. record { own = record { grants = s.grants; parts = s.parts.parts; replay = s.parts.replay }; noted = s.notes.noted; durable = s.notes.durable } };
 }
 
 impl Ownership {
@@ -39,6 +41,7 @@ impl Ownership {
         Ownership {
             grants: Grants::new(alloc),
             notes: Notes::new(alloc),
+            parts: Parts::new(alloc),
         }
     }
 
@@ -88,6 +91,13 @@ impl Ownership {
         ensures no_memory { IfErr result (λ fault. fault ≡ OutOfMemory) }
     {
         self.notes.note(alloc, entry)
+    }
+
+    /// How many entries were noted.
+    pub fn count_noted(&self) -> usize
+        ensures { result ≡ length self.now.noted }
+    {
+        self.notes.len()
     }
 
     /// Says that the first `count` noted entries are durable. It goes through those between the old
@@ -148,5 +158,109 @@ impl Ownership {
         ensures { result ≡ versions.is_dead (durable_of self.now) entries.now }
     {
         self.notes.is_dead(entries)
+    }
+
+    /// Whether the term is known: a part under it was begun, or a range was granted.
+    pub fn knows_term(&self, term: u32) -> bool
+        ensures { result ≡ owning.knows_term self.now.own term }
+    {
+        self.parts.has_part(term) || self.grants.owns_term(term)
+    }
+
+    /// Begins a part: it waits for these rows, each a segment and the backup that holds it. The answer
+    /// is `false`, and nothing changes, where its term is known.
+    ///
+    /// # Errors
+    ///
+    /// - `OutOfMemory` (F1): memory was refused; nothing has changed.
+    pub fn begin_part(
+        &mut self,
+        alloc: Global,
+        part: Part,
+        rows: &[(u16, ServerId)],
+    ) -> Result<bool, Fault>
+        ensures begun { IfOk result (λ begun. begun ≡ not (owning.knows_term self.old.own part.term)) }
+        ensures ok { OnOk result (self.new ≡ record self.old { own = owning.begin_part part rows.now self.old.own }) }
+        ensures err { OnErr result (self.new ≡ self.old) }
+        ensures no_memory { IfErr result (λ fault. fault ≡ OutOfMemory) }
+    {
+        if self.knows_term(part.term) {
+            return Ok(false);
+        }
+        self.parts.begin(alloc, part, rows)?;
+        Ok(true)
+    }
+
+    /// Whether a part under this term awaits this segment's row from this backup.
+    pub fn awaits_data(&self, term: u32, seg: u16, from: ServerId) -> bool
+        ensures { result ≡ owning.awaits_data term seg from self.now.own }
+    {
+        self.parts.awaits_data(term, seg, from)
+    }
+
+    /// Takes the entries of an awaited row. Once all rows of a part have come, its entries, in order of
+    /// segment and offset and under its term, join those that wait to be appended, at their end. The
+    /// answer is `false`, and nothing changes, where no such row is awaited.
+    ///
+    /// # Errors
+    ///
+    /// - `OutOfMemory` (F1): memory was refused; nothing has changed.
+    pub fn put_data(
+        &mut self,
+        alloc: Global,
+        term: u32,
+        seg: u16,
+        from: ServerId,
+        entries: &[Entry],
+    ) -> Result<bool, Fault>
+        ensures put { IfOk result (λ put. put ≡ owning.awaits_data term seg from self.old.own) }
+        ensures ok { OnOk result (self.new ≡ record self.old { own = owning.put_data term seg from entries.now self.old.own }) }
+        ensures err { OnErr result (self.new ≡ self.old) }
+        ensures no_memory { IfErr result (λ fault. fault ≡ OutOfMemory) }
+    {
+        if !self.awaits_data(term, seg, from) {
+            return Ok(false);
+        }
+        self.parts.put_data(alloc, term, seg, from, entries)?;
+        Ok(true)
+    }
+
+    /// Whether an entry waits to be appended.
+    pub fn has_replay(&self) -> bool
+        ensures { result ≡ nat_lt 0 (length self.now.own.replay) }
+    {
+        self.parts.has_replay()
+    }
+
+    /// Moves the first entry that waits out, under the term of its part.
+    pub fn next_replay(&mut self) -> Option<Entry>
+        ensures first { result ≡ slice_get self.old.own.replay 0 }
+        ensures rest { self.new ≡ record self.old { own = owning.after_replay self.old.own } }
+    {
+        self.parts.next_replay()
+    }
+
+    /// The term of the first begun part that is complete and whose end wasn't told: its rows have all
+    /// come, and as many entries under its term are durable as they held. Its end counts as told from
+    /// now on.
+    pub fn complete(&mut self) -> Option<u32>
+        ensures term { result ≡ owning.to_answer (durable_of self.old) self.old.own }
+        ensures answered { self.new ≡ record self.old { own = owning.after_answer (durable_of self.old) self.old.own } }
+    {
+        self.parts.complete(&self.notes)
+    }
+
+    /// The terms of the complete parts that aren't granted yet, in the order in which the parts were
+    /// begun: the end of each is told again when the timer goes off.
+    ///
+    /// # Errors
+    ///
+    /// - `OutOfMemory` (F1): the memory for the list was refused.
+    pub fn awaiting_grant(&self, alloc: Global) -> Result<Vec<u32>, Fault>
+        ensures ok { IfOk result (λ terms. terms.items ≡ awaiting_grant (durable_of self.now) self.now.own self.now.own.parts) }
+        ensures no_memory { IfErr result (λ fault. fault ≡ OutOfMemory) }
+    {
+        let terms = self.parts.awaiting_grant(alloc, &self.notes, &self.grants)?;
+        Ok(terms)
     }
 }
