@@ -1,8 +1,8 @@
 -- The rows of a part once one more has come, and what is counted of them.
-use Rattle.std.proofs.Common.{◌≡◌, ℕ, ◌+◌, ◌-◌, ◌<◌, ◌≤◌, Bool, true, false, cond, not, ◌||◌, ◌&&◌, nat_eq, nat_lt, is_some, Option, Some, None, position, map, List, [], ◌∷◌, ◌++◌, length, length-append, filter, zero, suc, sym, ap, subst, ◌∙◌, refl, arith, true≢false}
+use Rattle.std.proofs.Common.{◌≡◌, ℕ, ◌+◌, ◌-◌, ◌<◌, Bool, true, false, cond, not, ◌||◌, ◌&&◌, nat_eq, nat_lt, is_some, Option, Some, None, position, map, List, [], ◌∷◌, ◌++◌, length, length-append, filter, suc, sym, ap, subst, ◌∙◌, refl, arith, true≢false}
 use Rattle.std.proofs.lemmas.Bool.Decides.{nat_tests}
 use Rattle.std.specs.Prelude.{slice_index_or, slice_set}
-use Rattle.std.specs.List.{list_any, list_all, position_or_len}
+use Rattle.std.specs.List.{list_any, position_or_len}
 use Rattle.rc_types.specs.declared.ids.ServerId.{ServerId}
 use Rattle.rc_types.specs.declared.rows.Part.{Part}
 use Rattle.rc_types.specs.declared.entries.Entry.{Entry}
@@ -103,10 +103,12 @@ missing-with_row seg from entries (row ∷ rows) some = by (is_awaited seg from 
         length (cond b (row ∷ filter (λ one. not (is_some one.came)) rows) (filter (λ one. not (is_some one.came)) rows)) ≡ cond b (n + 1) n
     counted true n h = omega (arith, h)
     counted false n h = h
+
     kept : (b : Bool) (more : List PartRow) → length (cond b (row ∷ filter (λ one. not (is_some one.came)) more) (filter (λ one. not (is_some one.came)) more)) + 1
         ≡ cond b (count_missing more + 1 + 1) (count_missing more + 1)
     kept true more = omega arith
     kept false more = refl
+
     by : (b : Bool) → (b ≡ true → row.came ≡ None) → (b || list_any (is_awaited seg from) rows) ≡ true →
         (list_any (is_awaited seg from) rows ≡ true → count_missing rows ≡ count_missing (with_row seg from entries rows) + 1) →
         count_missing (row ∷ rows) ≡ count_missing (cond b (record row { came = Some entries } ∷ rows) (row ∷ with_row seg from entries rows)) + 1
@@ -215,7 +217,7 @@ part_put seg from entries part rows after count more answered now is put some =
     let still : 0 < length (with_row seg from entries rows) = omega (arith, length-with_row seg from entries rows) in
     ap (λ r. let state : PartState = record { part = part; rows = r; size = size_of r more; answered = answered } in state) put
     ∙ ap (λ n. let state : PartState = record { part = part; rows = with_row seg from entries rows; size = n; answered = answered } in state)
-        (size_of-some (with_row seg from entries rows) more still ∙ sym (size_of-some rows count there))
+    (size_of-some (with_row seg from entries rows) more still ∙ sym (size_of-some rows count there))
     ∙ ap (part_with_row seg from entries) is
 
 pub part_not_put : (seg : ℕ) (from : ServerId) (entries : List Entry) (now : PartState) → list_any (is_awaited seg from) now.rows ≡ false → now ≡ part_with_row seg from entries now

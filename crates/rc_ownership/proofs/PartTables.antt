@@ -10,7 +10,7 @@ use Rattle.indexmap.specs.IndexMap.{IndexMap, insert_entry}
 use Rattle.indexmap.proofs.CallerLemmas.{insert_entry-new}
 use Rattle.rc_types.specs.declared.ids.ServerId.{ServerId}
 use Rattle.rc_types.specs.declared.entries.Entry.{Entry}
-use Rattle.rc_model.specs.Ownership.{Ownership, PartState, put_data, has_part, is_awaited, awaits, awaits_data, joined, joining, part_with_row, data_in, replay_in, is_to_answer, answered_in}
+use Rattle.rc_model.specs.Ownership.{Ownership, PartState, put_data, is_awaited, awaits, awaits_data, joined, joining, part_with_row, data_in, replay_in, is_to_answer, answered_in}
 use Rattle.rc_ownership.specs.Parts.{HasNone, AreUnderTheirTerms, parts_in}
 
 flip : (one other : ℕ) → nat_eq one other ≡ nat_eq other one
@@ -38,14 +38,15 @@ awaits-lookup (entry ∷ entries) term seg from h =
     or_false : (b c : Bool) → c ≡ false → (b || c) ≡ b
     or_false true c h = refl
     or_false false c h = h
+
     by : (b : Bool) → nat_eq term entry.0 ≡ b →
         list_any (awaits term seg from) (parts_in entries) ≡ option_map_or (λ part. list_any (is_awaited seg from) part.rows) (lookup (nat_eq term) entries) false →
         ((b && list_any (is_awaited seg from) entry.1.rows) || list_any (awaits term seg from) (parts_in entries))
         ≡ option_map_or (λ part. list_any (is_awaited seg from) part.rows) (cond b (Some entry.1) (lookup (nat_eq term) entries)) false
     by true is later =
         or_false (list_any (is_awaited seg from) entry.1.rows) (list_any (awaits term seg from) (parts_in entries))
-            (later ∙ ap (λ o. option_map_or (λ part. list_any (is_awaited seg from) part.rows) o false)
-                (absent term entries (subst (λ key. HasNone key entries) (sym (same term entry.0 is)) h.1)))
+        (later ∙ ap (λ o. option_map_or (λ part. list_any (is_awaited seg from) part.rows) o false)
+        (absent term entries (subst (λ key. HasNone key entries) (sym (same term entry.0 is)) h.1)))
     by false is later = later
 
 -- the part under the term takes the row
@@ -56,18 +57,18 @@ data_in-set [] term seg from came state h found some = refl
 data_in-set (entry ∷ entries) term seg from came state h found some =
     by (nat_eq term entry.0) found (data_in-set entries term seg from came state h.2)
     ∙ ap (λ b. cond (b && list_any (is_awaited seg from) entry.1.rows) (joined (part_with_row seg from came entry.1) ∷ parts_in entries) (entry.1 ∷ data_in term seg from came (parts_in entries)))
-        (sym (under term entry h.0))
+    (sym (under term entry h.0))
   where
     by : (b : Bool) → cond b (Some entry.1) (lookup (nat_eq term) entries) ≡ Some state →
         (lookup (nat_eq term) entries ≡ Some state → list_any (is_awaited seg from) state.rows ≡ true →
-            parts_in (set_value (nat_eq term) entries (joined (part_with_row seg from came state))) ≡ data_in term seg from came (parts_in entries)) →
+        parts_in (set_value (nat_eq term) entries (joined (part_with_row seg from came state))) ≡ data_in term seg from came (parts_in entries)) →
         parts_in (cond b ((entry.0, joined (part_with_row seg from came state)) ∷ entries) (entry ∷ set_value (nat_eq term) entries (joined (part_with_row seg from came state))))
         ≡ cond (b && list_any (is_awaited seg from) entry.1.rows) (joined (part_with_row seg from came entry.1) ∷ parts_in entries) (entry.1 ∷ data_in term seg from came (parts_in entries))
     by true is later =
         let it : state ≡ entry.1 = cc in
         ap (λ part. joined (part_with_row seg from came part) ∷ parts_in entries) it
         ∙ ap (λ b. cond b (joined (part_with_row seg from came entry.1) ∷ parts_in entries) (entry.1 ∷ data_in term seg from came (parts_in entries)))
-            (sym (ap (λ part. list_any (is_awaited seg from) part.rows) (sym it) ∙ some))
+        (sym (ap (λ part. list_any (is_awaited seg from) part.rows) (sym it) ∙ some))
     by false is later = ap (λ parts. entry.1 ∷ parts) (later is some)
 
 -- and joins the replay once it has all
@@ -78,18 +79,18 @@ replay_in-set [] term seg from came state h found some = absurd (cc)
 replay_in-set (entry ∷ entries) term seg from came state h found some =
     by (nat_eq term entry.0) found (replay_in-set entries term seg from came state h.2)
     ∙ ap (λ b. cond (b && list_any (is_awaited seg from) entry.1.rows) (joining (part_with_row seg from came entry.1)) (replay_in term seg from came (parts_in entries)))
-        (sym (under term entry h.0))
+    (sym (under term entry h.0))
   where
     by : (b : Bool) → cond b (Some entry.1) (lookup (nat_eq term) entries) ≡ Some state →
         (lookup (nat_eq term) entries ≡ Some state → list_any (is_awaited seg from) state.rows ≡ true →
-            joining (part_with_row seg from came state) ≡ replay_in term seg from came (parts_in entries)) →
+        joining (part_with_row seg from came state) ≡ replay_in term seg from came (parts_in entries)) →
         joining (part_with_row seg from came state)
         ≡ cond (b && list_any (is_awaited seg from) entry.1.rows) (joining (part_with_row seg from came entry.1)) (replay_in term seg from came (parts_in entries))
     by true is later =
         let it : state ≡ entry.1 = cc in
         ap (λ part. joining (part_with_row seg from came part)) it
         ∙ ap (λ b. cond b (joining (part_with_row seg from came entry.1)) (replay_in term seg from came (parts_in entries)))
-            (sym (ap (λ part. list_any (is_awaited seg from) part.rows) (sym it) ∙ some))
+        (sym (ap (λ part. list_any (is_awaited seg from) part.rows) (sym it) ∙ some))
     by false is later = later is some
 
 -- Writes
@@ -162,7 +163,7 @@ pub under-insert : {S : Type 0} (old new : IndexMap ℕ PartState S) (term : ℕ
     list_any (λ one. nat_eq one.part.term term) (parts_in old.entries) ≡ false → new.entries ≡ insert_entry nat_eq old.entries term state → term ≡ state.part.term → AreUnderTheirTerms new.entries
 under-insert old new term state h none inserted named =
     subst AreUnderTheirTerms (sym (inserted-last old new term state h none inserted))
-        (under-push term old.entries state h (none_found (lookup (nat_eq term) old.entries) (has_part-lookup old.entries term h ∙ none)) named)
+    (under-push term old.entries state h (none_found (lookup (nat_eq term) old.entries) (has_part-lookup old.entries term h ∙ none)) named)
 
 pub parts_in-insert : {S : Type 0} (old new : IndexMap ℕ PartState S) (term : ℕ) (state : PartState) → AreUnderTheirTerms old.entries →
     list_any (λ one. nat_eq one.part.term term) (parts_in old.entries) ≡ false → new.entries ≡ insert_entry nat_eq old.entries term state →
@@ -228,12 +229,14 @@ answered_in-set durable (entry ∷ entries) term state h found named =
   where
     itself : (n : ℕ) → nat_eq n n ≡ true
     itself n = grind (arith, nat_tests)
+
     some≢none : Some state ≡ None → ⊥
     some≢none e = cc
+
     by : (b here : Bool) → cond here (Some entry.1) (lookup (nat_eq term) entries) ≡ Some state → nat_eq term entry.0 ≡ here →
         cond b (Some entry.1) (find (is_to_answer durable) (parts_in entries)) ≡ Some state →
         (find (is_to_answer durable) (parts_in entries) ≡ Some state → state.part.term ≡ term →
-            parts_in (set_value (nat_eq term) entries (record state { answered = true })) ≡ answered_in durable (parts_in entries)) →
+        parts_in (set_value (nat_eq term) entries (record state { answered = true })) ≡ answered_in durable (parts_in entries)) →
         parts_in (cond here ((entry.0, record state { answered = true }) ∷ entries) (entry ∷ set_value (nat_eq term) entries (record state { answered = true })))
         ≡ cond b (record entry.1 { answered = true } ∷ parts_in entries) (entry.1 ∷ answered_in durable (parts_in entries))
     by true true looked at is later =
@@ -279,7 +282,7 @@ pub put_data-none : (term seg : ℕ) (from : ServerId) (came : List Entry) (own 
 put_data-none term seg from came own none =
     ap (λ parts. let held : Ownership = record own { parts = parts } in held) (sym (data_in-none term seg from came own.parts none))
     ∙ ap (λ replay. let held : Ownership = record own { parts = data_in term seg from came own.parts; replay = replay } in held)
-        (sym (append-nil own.replay) ∙ ap (λ more. own.replay ++ more) (sym (replay_in-none term seg from came own.parts none)))
+    (sym (append-nil own.replay) ∙ ap (λ more. own.replay ++ more) (sym (replay_in-none term seg from came own.parts none)))
 
 pub unmapped : (found : Option PartState) → option_map (λ state. state.part.term) found ≡ None → found ≡ None
 unmapped None h = refl

@@ -1,7 +1,6 @@
 -- The entries that wait, once a part has joined them.
-use Rattle.std.proofs.Common.{◌≡◌, ℕ, ◌+◌, ◌<◌, ◌≤◌, List, [], ◌∷◌, ◌++◌, map, length, append_assoc, length-append, sym, ap, subst, ◌∙◌, refl, arith, suc, not, nat_eq, nat_lt}
+use Rattle.std.proofs.Common.{◌≡◌, ℕ, ◌<◌, List, [], ◌∷◌, ◌++◌, map, length, append_assoc, length-append, sym, ap, subst, ◌∙◌, refl, arith, suc, not, nat_eq, nat_lt}
 use Rattle.std.proofs.lemmas.Bool.Decides.{nat_tests}
-use Rattle.std.specs.List.{flat_map}
 use Rattle.std.proofs.lemmas.List.{append-nil}
 use Rattle.rc_types.specs.declared.entries.Entry.{Entry}
 use Rattle.rc_model.specs.Ownership.{PartRow, under_term, came_entries, entries_that_came}
@@ -36,7 +35,7 @@ pub join-none_empty : (old new : List (List Entry)) (term : ℕ) (rows held : Li
     0 < length (entries_that_came held) → NoneIsEmpty old → NoneIsEmpty new
 join-none_empty old new term rows held is same_rows more none =
     let there : 0 < length (map (under_term term) (entries_in rows)) =
-        omega (arith, length_under term (entries_in rows), ap length (entries_in-is rows), ap (λ r. length (entries_that_came r)) same_rows) in
+    omega (arith, length_under term (entries_in rows), ap length (entries_in-is rows), ap (λ r. length (entries_that_came r)) same_rows) in
     subst NoneIsEmpty (sym is) (none_empty-push old (map (under_term term) (entries_in rows)) none there)
 
 -- an entry waits where a part does

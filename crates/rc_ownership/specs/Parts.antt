@@ -1,5 +1,5 @@
 -- The parts as they are kept: what is counted beside their rows, and the queue of those whose rows have all come.
-use Rattle.std.specs.Prelude.{◌≡◌, ℕ, ◌<◌, nat_eq, false, not, ◌&&◌, List, [], ◌∷◌, ◌++◌, length, map, filter, is_some}
+use Rattle.std.specs.Prelude.{◌≡◌, ℕ, ◌<◌, nat_eq, false, not, ◌&&◌, List, [], ◌∷◌, length, map, filter, is_some}
 use Rattle.std.specs.List.{flat_map}
 use Rattle.rc_types.specs.declared.entries.Entry.{Entry}
 use Rattle.rc_model.specs.Ownership.{Ownership, owns_nothing, PartRow, PartState, entries_that_came, came_entries, is_complete, owns_term}

@@ -14,7 +14,5 @@ mod parts;
 mod pieces;
 mod replay;
 mod rows;
-#[cfg(test)]
-mod tests;
 
 pub use ownership::Ownership;

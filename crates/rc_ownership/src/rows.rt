@@ -78,11 +78,7 @@ fn place_of(rows: &VecDeque<FetchedRow>, seg: u16) -> Option<usize>
 }
 
 /// Puts a row before the first whose segment doesn't come before its own.
-fn insert_row(
-    rows: &mut VecDeque<FetchedRow>,
-    seg: u16,
-    holder: ServerId,
-) -> Result<(), AllocError>
+fn insert_row(rows: &mut VecDeque<FetchedRow>, seg: u16, holder: ServerId) -> Result<(), AllocError>
     ensures { OnOk result (rows.new.items ≡ insert_row (awaited_row (seg, holder)) rows.old.items) }
 {
     let place = place_of(rows, seg).unwrap_or(rows.len());
@@ -107,11 +103,7 @@ pub(crate) fn rows_in_order(
 }
 
 /// The place of the first row of this segment that is awaited from this backup.
-pub(crate) fn awaited_place(
-    rows: &VecDeque<FetchedRow>,
-    seg: u16,
-    from: ServerId,
-) -> Option<usize>
+pub(crate) fn awaited_place(rows: &VecDeque<FetchedRow>, seg: u16, from: ServerId) -> Option<usize>
     ensures { result ≡ position (is_awaited seg from) rows.now.items }
 {
     rows.iter().position(|row| row.is_awaited(seg, from))

@@ -1,4 +1,4 @@
-use Rattle.std.proofs.Common.{◌≡◌, ◌+◌, ◌-◌, true, false, Some, length, sym, ap, subst, ◌∙◌, arith}
+use Rattle.std.proofs.Common.{◌-◌, sym, ap, subst, ◌∙◌, arith}
 use Rattle.std.specs.List.{list_any}
 use Rattle.rc_model.specs.Ownership.{is_awaited}
 use Rattle.rc_ownership.specs.Parts.{AreCounted}
@@ -21,7 +21,7 @@ invariant_of-self c =
     let rows = c.self.inside.rows.items in
     let some = any-place (is_awaited c.args.seg c.args.from) rows c.awaited_place.result c.in-Some.place c.awaited_place.ensures c.in-Some.is in
     let put = put_at c.args.seg c.args.from c.args.entries.now c.in_ok-came.came rows c.awaited_place.result c.in-Some.place c.index_mut.result.now c.fill.new.self
-        c.awaited_place.ensures c.in-Some.is c.index_mut.ensures.value c.fill.ensures c.in_ok-came.ensures.ok in
+    c.awaited_place.ensures c.in-Some.is c.index_mut.ensures.value c.fill.ensures c.in_ok-came.ensures.ok in
     subst (λ after. AreCounted after (c.self.inside.missing - 1) c.in-Some-checked_add.count) (sym put)
     (subst (AreCounted _ (c.self.inside.missing - 1)) (sym c.in-Some-checked_add.ensures.1)
     (counted-with_row c.args.seg c.args.from c.args.entries.now rows c.self.inside.missing c.self.inside.count some c.self.invariant))
@@ -31,6 +31,6 @@ returns-clause-ok c =
     let rows = c.self.inside.rows.items in
     let some = any-place (is_awaited c.args.seg c.args.from) rows c.awaited_place.result c.in-Some.place c.awaited_place.ensures c.in-Some.is in
     let put = put_at c.args.seg c.args.from c.args.entries.now c.in_ok-came.came rows c.awaited_place.result c.in-Some.place c.index_mut.result.now c.fill.new.self
-        c.awaited_place.ensures c.in-Some.is c.index_mut.ensures.value c.fill.ensures c.in_ok-came.ensures.ok in
+    c.awaited_place.ensures c.in-Some.is c.index_mut.ensures.value c.fill.ensures c.in_ok-came.ensures.ok in
     part_put c.args.seg c.args.from c.args.entries.now c.self.inside.part rows _ c.self.inside.count c.in-Some-checked_add.count c.self.inside.answered c.args.self.now
-        c.self.view_is put some
+    c.self.view_is put some

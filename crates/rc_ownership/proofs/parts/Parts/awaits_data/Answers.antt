@@ -1,7 +1,7 @@
-use Rattle.std.proofs.Common.{◌≡◌, false, Option, ap, sym, ◌∙◌}
+use Rattle.std.proofs.Common.{false, ap, sym, ◌∙◌}
 use Rattle.std.specs.List.{list_any}
 use Rattle.std.specs.Option.{option_map_or}
-use Rattle.rc_model.specs.Ownership.{PartState, is_awaited, awaits_data}
+use Rattle.rc_model.specs.Ownership.{is_awaited, awaits_data}
 use Rattle.rc_ownership.specs.Parts.{who_fetched}
 use Rattle.rc_ownership.proofs.PartTables.{awaits-lookup}
 use Rattle.rc_ownership.proofs.parts.Parts.awaits_data.Goals as goal

@@ -1,7 +1,7 @@
 //! Grants, notes and parts, against values from outside. Where memory is refused, a test says so by a
 //! line `refused` and makes the same call again: `scripts/refuse-allocations` counts on it.
 
-use super::*;
+use rc_ownership::Ownership;
 use rc_types::{Entry, Fault, KeyRange, Part, Seq, ServerId};
 use std::alloc::{AllocError, Global};
 use std::process::Abort;
