@@ -1,0 +1,4 @@
+pub mod TableLemmas
+pub mod TabletLemmas
+pub mod PlanLemmas
+pub mod RuleLemmas

@@ -1,0 +1,10 @@
+use Rattle.std.proofs.Common.{◌∙◌, ap}
+use Rattle.rc_model.specs.Tables.{put_id}
+use Rattle.rc_coordinator.specs.Numbers.{pair_in}
+use Rattle.rc_coordinator.proofs.TableLemmas.{pair_in-inserted}
+use Rattle.rc_coordinator.proofs.least.raise.Goals as goal
+
+pub returns-clause-ok : goal.returns-clause-ok
+returns-clause-ok c =
+    let is = pair_in-inserted c.args.least.now c.insert.new.self c.args.master _ c.in_ok-insert.ensures.updates in
+    cc (is)

@@ -1,0 +1,241 @@
+//! The attempts to recover crashed masters, with the answers of the backups and what was decided.
+
+ghost use Rattle.std.specs.Prelude.{◌≡◌, ◌+◌, ◌-◌, ◌^◌, ◌<◌, ◌++◌, ◌∷◌, [], nat_eq, if◌then◌else◌, length, slice_get, Some, OnOk, OnErr, IfErr};
+ghost use Rattle.std.specs.Option.{option_copied};
+ghost use Rattle.rc_types.specs.declared.faults.Fault.TheVariants.{OutOfMemory};
+ghost use Rattle.rc_types.specs.declared.messages.Body.TheVariants.{Gather};
+ghost use Rattle.rc_model.specs.Tables.{put_id};
+ghost use Rattle.rc_model.specs.Messages.{to_each};
+ghost use Rattle.rc_model.specs.ServerList.{up};
+ghost use Rattle.rc_model.specs.Attempts.{new_attempt, has_answered, is_gathering};
+ghost use Rattle.rc_model.specs.Deciding.{part_in};
+ghost use Rattle.rc_coordinator.specs.Numbers.{number_in};
+
+use crate::notices;
+use indexmap::IndexMap;
+use rc_serverlist::ServerList;
+use rc_types::{Fault, Message, Part, Plan, Row, Seq, ServerId};
+use std::alloc::Global;
+use std::marker::Model;
+
+/// A part of a recovery, and the master that recovers it.
+#[derive(Drop)]
+pub(crate) struct GivenPart {
+    pub(crate) to: ServerId,
+    pub(crate) part: Part,
+}
+
+impl Model for GivenPart {
+    ghost use Rattle.rc_model.specs.Attempts.{GivenPart as Given};
+
+    ghost Value = { Given };
+
+    ghost view = { λ g. record { to = g.to; part = g.part } };
+}
+
+/// What was decided on an attempt: where the log is, and who recovers which part.
+#[derive(Drop)]
+pub(crate) struct Decision {
+    pub(crate) plan: Plan,
+    pub(crate) parts: Vec<GivenPart>,
+}
+
+impl Model for Decision {
+    ghost use Rattle.rc_model.specs.Attempts.{Decision as Decided};
+
+    ghost Value = { Decided };
+
+    ghost view = { λ d. record { plan = d.plan; parts = d.parts.items } };
+}
+
+impl Decision {
+    /// The part of this term among those of this recovery master.
+    pub(crate) fn part_in(&self, id: ServerId, term: u32) -> Option<Part>
+        ensures { result ≡ part_in id term (Some self.now) }
+    {
+        for given in &self.parts {
+            if id == given.to && given.part.term == term {
+                return Some(given.part);
+            }
+        }
+        None
+    }
+
+    /// The parts, in the order in which they were given.
+    pub(crate) fn parts(&self) -> &[GivenPart]
+        ensures { result.now ≡ self.now.parts }
+    {
+        self.parts.as_slice()
+    }
+
+    /// How many parts there are.
+    pub(crate) fn parts_len(&self) -> usize
+        ensures { result ≡ length self.now.parts }
+    {
+        self.parts.len()
+    }
+}
+
+/// An attempt to recover a crashed master: the answers of the backups, in the order of their
+/// coming, and the decision, once it is made.
+#[derive(Drop)]
+pub(crate) struct Attempt {
+    pub(crate) master: ServerId,
+    pub(crate) replies: Vec<(ServerId, Seq<Row>)>,
+    pub(crate) decided: Option<Decision>,
+}
+
+impl Model for Attempt {
+    ghost use Rattle.rc_model.specs.Attempts.{Attempt as Attempted};
+
+    ghost Value = { Attempted };
+
+    ghost view = { λ a. record { master = a.master; replies = a.replies.items; decided = a.decided } };
+}
+
+impl Attempt {
+    /// An attempt that nobody has answered. It takes no memory.
+    pub(crate) fn new(alloc: Global, master: ServerId) -> Attempt
+        ensures { result ≡ new_attempt master }
+    {
+        Attempt {
+            master,
+            replies: Vec::new(alloc),
+            decided: None,
+        }
+    }
+
+    /// The crashed master.
+    pub(crate) fn master(&self) -> ServerId
+        ensures { result ≡ self.now.master }
+    {
+        self.master
+    }
+
+    /// The answers, in the order of their coming.
+    pub(crate) fn replies(&self) -> &[(ServerId, Seq<Row>)]
+        ensures { result.now ≡ self.now.replies }
+    {
+        self.replies.as_slice()
+    }
+
+    /// Whether nothing has been decided yet.
+    pub(crate) fn is_gathering(&self) -> bool
+        ensures { result ≡ is_gathering self.now }
+    {
+        self.decided.is_none()
+    }
+
+    /// The part of this term that was given to this recovery master.
+    pub(crate) fn part_in(&self, id: ServerId, term: u32) -> Option<Part>
+        ensures { result ≡ part_in id term self.now.decided }
+    {
+        match &self.decided {
+            Some(decision) => decision.part_in(id, term),
+            None => None,
+        }
+    }
+
+    /// What was decided, once it is.
+    pub(crate) fn decided(&self) -> Option<&Decision>
+        ensures { option_copied result ≡ self.now.decided }
+    {
+        self.decided.as_ref()
+    }
+
+    /// Whether the backup has answered.
+    pub(crate) fn has_answered(&self, from: ServerId) -> bool
+        ensures { result ≡ has_answered from self.now.replies }
+    {
+        self.replies.iter().any(|reply| from == reply.0)
+    }
+
+    /// Keeps an answer. Only memory can be refused (F1), and then the attempt is as it was.
+    pub(crate) fn keep(&mut self, from: ServerId, rows: Seq<Row>) -> Result<(), Fault>
+        ensures ok { OnOk result (self.new ≡ record self.old { replies = self.old.replies ++ (from, rows) ∷ [] }) }
+        ensures err { OnErr result (self.new ≡ self.old) }
+        ensures no_memory { IfErr result (λ fault. fault ≡ OutOfMemory) }
+    {
+        self.replies.push((from, rows))?;
+        Ok(())
+    }
+
+    /// Keeps the decision.
+    pub(crate) fn decide(&mut self, decision: Decision)
+        ensures { self.new ≡ record self.old { decided = Some decision } }
+    {
+        self.decided = Some(decision);
+    }
+}
+
+/// All attempts so far, of which that of number k stands at place k - 1, and of each master the
+/// number of its current one.
+#[derive(Drop)]
+pub(crate) struct Recoveries {
+    pub(crate) attempts: Vec<Attempt>,
+    pub(crate) current: IndexMap<ServerId, u32>,
+}
+
+impl Recoveries {
+    /// No attempt. It takes no memory.
+    pub(crate) fn new(alloc: Global) -> Recoveries
+        ensures attempts { result.attempts.items ≡ [] }
+        ensures current { number_in result.current ≡ (λ _. 0) }
+    {
+        Recoveries {
+            attempts: Vec::new(alloc),
+            current: IndexMap::new(alloc),
+        }
+    }
+
+    /// The number of the master's current attempt, and 0 if it has none.
+    pub(crate) fn current_number(&self, master: ServerId) -> u32
+        ensures { result ≡ number_in self.now.current master }
+    {
+        match self.current.get(&master) {
+            Some(number) => *number,
+            None => 0,
+        }
+    }
+
+    /// The attempt of this number.
+    pub(crate) fn attempt(&self, number: u32) -> Option<&Attempt>
+        ensures { option_copied result ≡ (if nat_eq number 0 then None else slice_get self.now.attempts.items (number - 1)) }
+    {
+        match number {
+            0 => None,
+            _ => self.attempts.get(number as usize - 1),
+        }
+    }
+
+    /// Begins an attempt, which becomes the master's current one, and adds to those sent these
+    /// messages and then a Gather to every server that is up. Only memory can be refused (F1), and
+    /// then nothing has changed.
+    pub(crate) fn begin(
+        &mut self,
+        alloc: Global,
+        servers: &ServerList,
+        master: ServerId,
+        messages: Vec<Message>,
+        sent: &mut Vec<Message>,
+    ) -> Result<(), Fault>
+        requires { length self.old.attempts.items < 2 ^ 32 - 1 }
+        ensures attempts { OnOk result (self.new.attempts.items ≡ self.old.attempts.items ++ new_attempt master ∷ []) }
+        ensures current { OnOk result (number_in self.new.current ≡ put_id (number_in self.old.current) master (length self.old.attempts.items + 1)) }
+        ensures sends { OnOk result (sent.new.items ≡ sent.old.items ++ (messages.items ++ to_each (up servers.now) (Gather (length self.old.attempts.items + 1) master))) }
+        ensures attempts_stay { OnErr result (self.new.attempts.items ≡ self.old.attempts.items) }
+        ensures current_stays { OnErr result (number_in self.new.current ≡ number_in self.old.current) }
+        ensures unsent { OnErr result (sent.new.items ≡ sent.old.items) }
+        ensures no_memory { IfErr result (λ fault. fault ≡ OutOfMemory) }
+    {
+        let number = self.attempts.len() as u32 + 1;
+        let mut messages = messages;
+        notices::add_gathers(alloc, servers, number, master, &mut messages)?;
+        self.attempts.reserve(1)?;
+        sent.reserve(messages.len())?;
+        self.current.insert(master, number)?;
+        self.attempts.push(Attempt::new(alloc, master)).unwrap();
+        sent.append(&mut messages).unwrap();
+        Ok(())
+    }
+}

@@ -1,0 +1,15 @@
+//! The coordinator: it keeps the list of servers, the owner of each tablet, the least pair of each
+//! master, and the recoveries of crashed masters. "Coordinator" in `docs/PROTOCOL.md` has its rules;
+//! the words of the contracts are those of `rc_model`'s `Coordinator`, `Attempts`, `Deciding` and
+//! `CoordinatorStep`.
+#![tactic(auto)]
+
+mod attempts;
+mod coordinator;
+mod grants;
+mod least;
+mod notices;
+mod plans;
+
+
+pub use coordinator::Coordinator;
