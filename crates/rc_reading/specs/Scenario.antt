@@ -1,0 +1,146 @@
+-- What a JSON value says as a scenario, and which place of it is wrong.
+use Rattle.std.specs.Prelude.{ℕ, ◌+◌, false, nat_eq, nat_le, ◌&&◌, if◌then◌else◌, List, [], ◌∷◌, length, Option, Some, None, option_map, option_and_then, Result, Ok, Err, codes}
+use Rattle.std.specs.Str.{is_utf8}
+use Rattle.rc_types.specs.declared.events.Setup.{Setup}
+use Rattle.rc_types.specs.declared.events.Event.{Event}
+use Rattle.rc_types.specs.declared.events.Event.TheVariants as event
+use Rattle.rc_types.specs.declared.messages.Body.TheVariants as body
+use Rattle.rc_types.specs.declared.limits.TheConstants.{MAX_SEGMENT}
+use Rattle.serde_json.specs.Data.{Data}
+use Rattle.serde_json.specs.Find.{as_bool}
+use Rattle.serde_json.specs.Read.{read}
+use Rattle.rc_reading.specs.declared.limits.TheConstants.{MOST_BYTES}
+use Rattle.rc_reading.specs.declared.names.EventName.{EventName}
+use Rattle.rc_reading.specs.declared.names.EventName.TheVariants as name
+use Rattle.rc_reading.specs.declared.scenarios.Scenario.{Scenario}
+use Rattle.rc_reading.specs.declared.scenarios.ScenarioEvent.{ScenarioEvent}
+use Rattle.rc_reading.specs.declared.scenarios.ScenarioEvent.TheVariants.{Start, Stop, Suspect, Decide, Tick, Write, Read, Deliver, Create, Split, Settle}
+use Rattle.rc_reading.specs.Kinds.{no_kinds}
+use Rattle.rc_reading.specs.Hosts.{no_hosts}
+use Rattle.rc_reading.specs.Names.{start_members, id_members, write_members, read_members, deliver_members, settle_members, create_members, split_members, first_members, second_members}
+use Rattle.rc_reading.specs.Values.{only, field, optional, given2, given3, given4, whole, list_of, host_of, factor_of, table_of, key_of, message_of, id_of, addr_of, kept_of, kinds_of, hosts_of, factors_of, written, event_name}
+
+-- The event of the world that an event of a scenario is
+
+abbrev pub core_event : ScenarioEvent → Option Event
+core_event (Start host kept) = Some (event.Start host kept)
+core_event (Stop id) = Some (event.Stop id)
+core_event (Suspect id) = Some (event.Suspect id)
+core_event (Decide id) = Some (event.Decide id)
+core_event (Tick addr) = Some (event.Tick addr)
+core_event (Write to table key value) = Some (event.Ask to (body.Write table key value))
+core_event (Read to table key) = Some (event.Ask to (body.Read table key))
+core_event (Deliver n) = Some (event.Deliver n)
+core_event (Create table owner) = Some (event.Create table owner)
+core_event (Split table at) = Some (event.Split table at)
+core_event (Settle kinds hosts) = None
+
+-- The events, by the name that stands at `e`. Each has exactly its members.
+
+-- without `kept`, nothing is kept
+abbrev pub start_of : Data → Option ScenarioEvent
+start_of d = only start_members d (given2 Start (field (codes "host") host_of d) (optional [] (codes "kept") kept_of d))
+
+abbrev pub stop_of : Data → Option ScenarioEvent
+stop_of d = only id_members d (option_map Stop (field (codes "id") id_of d))
+
+abbrev pub suspect_of : Data → Option ScenarioEvent
+suspect_of d = only id_members d (option_map Suspect (field (codes "id") id_of d))
+
+abbrev pub decide_of : Data → Option ScenarioEvent
+decide_of d = only id_members d (option_map Decide (field (codes "id") id_of d))
+
+abbrev pub tick_of : Data → Option ScenarioEvent
+tick_of d = only id_members d (option_map Tick (field (codes "id") addr_of d))
+
+abbrev pub write_of : Data → Option ScenarioEvent
+write_of d = only write_members d (given4 Write (field (codes "to") id_of d) (field (codes "table") table_of d) (field (codes "key") key_of d) (field (codes "value") written d))
+
+abbrev pub read_of : Data → Option ScenarioEvent
+read_of d = only read_members d (given3 Read (field (codes "to") id_of d) (field (codes "table") table_of d) (field (codes "key") key_of d))
+
+abbrev pub deliver_of : Data → Option ScenarioEvent
+deliver_of d = only deliver_members d (option_map Deliver (field (codes "n") message_of d))
+
+-- both lists may be left out
+abbrev pub settle_of : Data → Option ScenarioEvent
+settle_of d = only settle_members d (given2 Settle (optional no_kinds (codes "kinds") kinds_of d) (optional no_hosts (codes "hosts") hosts_of d))
+
+abbrev pub create_of : Data → Option ScenarioEvent
+create_of d = only create_members d (given2 Create (field (codes "table") table_of d) (field (codes "owner") id_of d))
+
+abbrev pub split_of : Data → Option ScenarioEvent
+split_of d = only split_members d (given2 Split (field (codes "table") table_of d) (field (codes "at") key_of d))
+
+abbrev pub event_by : EventName → Data → Option ScenarioEvent
+event_by name.Start d = start_of d
+event_by name.Stop d = stop_of d
+event_by name.Suspect d = suspect_of d
+event_by name.Decide d = decide_of d
+event_by name.Tick d = tick_of d
+event_by name.Write d = write_of d
+event_by name.Read d = read_of d
+event_by name.Deliver d = deliver_of d
+event_by name.Settle d = settle_of d
+event_by name.Create d = create_of d
+event_by name.Split d = split_of d
+
+unfoldable pub event_of : Data → Option ScenarioEvent
+event_of d = option_and_then (λ name. event_by name d) (field (codes "e") event_name d)
+
+-- The scenario, or the place that is wrong
+
+-- the least event that is wrong counts
+abbrev pub one_event_more : ℕ → Option ScenarioEvent → Result (List ScenarioEvent) ℕ → Result (List ScenarioEvent) ℕ
+one_event_more place None rest = Err place
+one_event_more place (Some event) (Ok events) = Ok (event ∷ events)
+one_event_more place (Some event) (Err later) = Err later
+
+-- the events, of which the first has this place
+abbrev pub events_of : ℕ → List Data → Result (List ScenarioEvent) ℕ
+events_of place [] = Ok []
+events_of place (d ∷ ds) = one_event_more place (event_of d) (events_of (place + 1) ds)
+
+abbrev pub segment_of : Data → Option ℕ
+segment_of = whole 1 MAX_SEGMENT
+
+-- the members of format 1 that aren't its events: one factor for all, and nothing is freed
+abbrev pub first_setup : Data → Option Setup
+first_setup d = only first_members d (given2 (λ factor segment. record { factor = factor; segment = segment; free = false; factors = [] })
+    (field (codes "factor") factor_of d) (field (codes "segment") segment_of d))
+
+-- those of format 2
+abbrev pub second_setup : Data → Option Setup
+second_setup d = only second_members d (given4 (λ factor segment free factors. record { factor = factor; segment = segment; free = free; factors = factors })
+    (field (codes "factor") factor_of d) (field (codes "segment") segment_of d) (field (codes "free") as_bool d) (field (codes "factors") factors_of d))
+
+abbrev pub setup_by : ℕ → Data → Option Setup
+setup_by format d = if nat_eq format 1 then first_setup d else second_setup d
+
+abbrev pub setup_of : Data → Option Setup
+setup_of d = option_and_then (λ format. setup_by format d) (field (codes "format") (whole 1 2) d)
+
+abbrev pub with_events : Setup → Result (List ScenarioEvent) ℕ → Result Scenario ℕ
+with_events setup (Ok events) = Ok (record { setup = setup; events = events })
+with_events setup (Err place) = Err place
+
+abbrev pub scenario_in : Option Setup → Option (List Data) → Result Scenario ℕ
+scenario_in (Some setup) (Some ds) = with_events setup (events_of 2 ds)
+scenario_in (Some setup) None = Err 1
+scenario_in None ds = Err 1
+
+abbrev pub scenario_of : Data → Result Scenario ℕ
+scenario_of d = scenario_in (setup_of d) (field (codes "events") list_of d)
+
+-- What bytes say
+
+-- the value that the bytes are, if they are a JSON text that is not too long
+abbrev pub value_in : List ℕ → Option Data
+value_in bytes = if nat_le (length bytes) MOST_BYTES && is_utf8 bytes then read bytes else None
+
+abbrev pub of_value : Option Data → Result Scenario ℕ
+of_value None = Err 0
+of_value (Some d) = scenario_of d
+
+abbrev pub reading : List ℕ → Result Scenario ℕ
+reading bytes = of_value (value_in bytes)
