@@ -1,3 +1,11 @@
-pub mod Views
 pub mod Bytes
 pub mod Each
+pub mod Turns
+pub mod Passing
+pub mod Firsts
+pub mod PairsFound
+pub mod Folds
+pub mod Puts
+pub mod Noted
+pub mod TopNoted
+pub mod Texts

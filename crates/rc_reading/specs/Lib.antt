@@ -4,3 +4,9 @@ pub mod Hosts
 pub mod Names
 pub mod Values
 pub mod Scenario
+pub mod Ahead
+pub mod Said
+pub mod Pairs
+pub mod Lists
+pub mod Fields
+pub mod Whole

@@ -134,13 +134,17 @@ scenario_of d = scenario_in (setup_of d) (field (codes "events") list_of d)
 
 -- What bytes say
 
--- the value that the bytes are, if they are a JSON text that is not too long
-abbrev pub value_in : List ℕ → Option Data
-value_in bytes = if nat_le (length bytes) MOST_BYTES && is_utf8 bytes then read bytes else None
-
 abbrev pub of_value : Option Data → Result Scenario ℕ
 of_value None = Err 0
 of_value (Some d) = scenario_of d
+
+-- a text, by the value that it is
+abbrev pub of_text : List ℕ → Result Scenario ℕ
+of_text text = of_value (read text)
+
+-- the value that the bytes are, if they are a JSON text that is not too long
+abbrev pub value_in : List ℕ → Option Data
+value_in bytes = if nat_le (length bytes) MOST_BYTES && is_utf8 bytes then read bytes else None
 
 abbrev pub reading : List ℕ → Result Scenario ℕ
 reading bytes = of_value (value_in bytes)

@@ -1,13 +1,20 @@
 //! Scenarios of both formats, as they are read from their bytes.
 #![tactic(auto)]
 
+mod fields;
 mod hosts;
 mod kinds;
 pub mod limits;
+mod lists;
 mod names;
+mod numbers;
+mod pairs;
 mod reading;
 mod scenarios;
-mod values;
+mod simple;
+mod tokens;
+mod wanted;
+mod whole;
 
 pub use hosts::Hosts;
 pub use kinds::{Kind, Kinds};

@@ -5,6 +5,7 @@ ghost use Rattle.rc_reading.specs.Scenario.{core_event};
 
 use crate::hosts::Hosts;
 use crate::kinds::Kinds;
+use json::Invalid;
 use rc_types::{Addr, Body, Event, Fault, Seq, ServerId, Setup, TryClone};
 use std::alloc::{AllocError, AllocFailed, Global};
 use thiserror::Error;
@@ -152,5 +153,16 @@ impl<T: Drop> From<AllocFailed<T>> for ReadFault {
 
     fn from(_: AllocFailed<T>) -> ReadFault {
         ReadFault::OutOfMemory
+    }
+}
+
+/// What is no JSON text is wrong at place 0.
+impl From<Invalid> for ReadFault {
+    ghost use Rattle.rc_reading.specs.declared.scenarios.ReadFault.TheVariants.{BadScenario};
+
+    ghost from_gives = { λ _ e. e ≡ BadScenario 0 };
+
+    fn from(_: Invalid) -> ReadFault {
+        ReadFault::BadScenario(0)
     }
 }

@@ -1,5 +1,25 @@
-use Rattle.rc_reading.proofs.Bytes.{value_has_bytes}
+use Rattle.std.proofs.Common.{◌≡◌, ◌≤◌, length, Err, ap, ◌∙◌, sym, arith}
+use Rattle.std.proofs.lemmas.Result.{IfOk-weaker}
+use Rattle.std.specs.Str.{IsUtf8}
+use Rattle.rc_reading.specs.declared.limits.TheConstants.{MOST_BYTES}
+use Rattle.rc_reading.specs.Scenario.{reading, of_text}
+use Rattle.rc_reading.proofs.Bytes.{of_text_read, no_text, too_long, nothing_read}
 use Rattle.rc_reading.proofs.reading.read_scenario.Goals as goal
 
-pub returns-clause-memory : goal.returns-clause-memory
-returns-clause-memory c _ = value_has_bytes c.args.bytes.now _ c.in_ok-value.ensures.ok
+pub returns-then-is_empty-clause-bad : goal.returns-then-is_empty-clause-bad
+returns-then-is_empty-clause-bad c place is = nothing_read c.args.bytes.now (grind arith) ∙ ap Err (cc)
+
+pub returns-then-bytes-gt-MOST_BYTES-clause-bad : goal.returns-then-bytes-gt-MOST_BYTES-clause-bad
+returns-then-bytes-gt-MOST_BYTES-clause-bad c place is = too_long c.args.bytes.now (omega arith) ∙ ap Err (cc)
+
+pub returns-in-Ok-clause-ok : goal.returns-in-Ok-clause-ok
+returns-in-Ok-clause-ok c =
+    let same = of_text_read c.args.bytes.now (omega arith) c.in-Ok.ensures.cases.1 in
+    IfOk-weaker c.read_text.result _ _ (λ s e. same ∙ ap of_text (sym c.in-Ok.ensures.cases.0) ∙ e) c.read_text.ensures.ok
+
+pub returns-in-Ok-clause-bad : goal.returns-in-Ok-clause-bad
+returns-in-Ok-clause-bad c place is =
+    of_text_read c.args.bytes.now (omega arith) c.in-Ok.ensures.cases.1 ∙ ap of_text (sym c.in-Ok.ensures.cases.0) ∙ c.read_text.ensures.bad place is
+
+pub returns-in-Err-clause-bad : goal.returns-in-Err-clause-bad
+returns-in-Err-clause-bad c place is = no_text c.args.bytes.now (omega arith) (λ text. c.in-Err.ensures.cases.0 text) ∙ ap Err (cc)

@@ -1,0 +1,164 @@
+-- The fields of an event after one more member.
+use Rattle.std.proofs.Common.{◌≡◌, ℕ, ◌-◌, ◌<◌, List, [], ◌∷◌, Bool, true, false, ◌&&◌, if◌then◌else◌, codes, Option, Some, None, option_map, option_and_then, bytes_eq, refl, sym, ap, ◌∙◌}
+use Rattle.std.proofs.lemmas.Slice.Eq.{bytes_eq-Decides}
+use Rattle.json.specs.Token.{Token}
+use Rattle.serde_json.specs.Data.{Data, null, boolean, number, string, array, object, Members, no_members, put}
+use Rattle.serde_json.specs.Find.{get, as_object}
+use Rattle.rc_types.specs.declared.ids.ServerId.{ServerId}
+use Rattle.rc_types.specs.declared.ids.Addr.TheVariants.{Coordinator, Server}
+use Rattle.rc_reading.specs.declared.fields.Fields.{Fields}
+use Rattle.rc_reading.specs.declared.names.EventName.{EventName}
+use Rattle.rc_reading.specs.declared.names.EventName.TheVariants as event
+use Rattle.rc_reading.specs.declared.scenarios.ScenarioEvent.TheVariants.{Stop, Suspect, Decide}
+use Rattle.rc_reading.specs.Kinds.{no_kinds}
+use Rattle.rc_reading.specs.Hosts.{no_hosts}
+use Rattle.rc_reading.specs.Names.{start_members, id_members, write_members, read_members, deliver_members, settle_members, create_members, split_members}
+use Rattle.rc_reading.specs.Values.{is_one_of, only, field, has_only, host_of, table_of, key_of, message_of, id_of, addr_of, addr_in, kept_of, kinds_of, hosts_of, written, event_name}
+use Rattle.rc_reading.specs.Scenario.{event_of, event_by}
+use Rattle.rc_reading.specs.Fields.{member_named, noted, fields_of, server_in, event_from, event_in}
+use Rattle.rc_reading.specs.Ahead.{told, says, members_at}
+use Rattle.rc_reading.proofs.Turns.{told_of, says_some, opened_object}
+use Rattle.rc_reading.proofs.Puts.{field_put, optional_put, only_put, either}
+
+-- the same, by the texts of the names
+abbrev expanded : List ℕ → Data → Fields → Fields
+expanded k d f = record {
+  only = record {
+    start = is_one_of start_members k && f.only.start;
+    id = is_one_of id_members k && f.only.id;
+    write = is_one_of write_members k && f.only.write;
+    read = is_one_of read_members k && f.only.read;
+    deliver = is_one_of deliver_members k && f.only.deliver;
+    settle = is_one_of settle_members k && f.only.settle;
+    create = is_one_of create_members k && f.only.create;
+    split = is_one_of split_members k && f.only.split;
+  };
+  event = if bytes_eq k (codes "e") then event_name d else f.event;
+  host = if bytes_eq k (codes "host") then host_of d else f.host;
+  kept = if bytes_eq k (codes "kept") then kept_of d else f.kept;
+  addr = if bytes_eq k (codes "id") then addr_of d else f.addr;
+  to = if bytes_eq k (codes "to") then id_of d else f.to;
+  table = if bytes_eq k (codes "table") then table_of d else f.table;
+  key = if bytes_eq k (codes "key") then key_of d else f.key;
+  value = if bytes_eq k (codes "value") then written d else f.value;
+  number = if bytes_eq k (codes "n") then message_of d else f.number;
+  kinds = if bytes_eq k (codes "kinds") then kinds_of d else f.kinds;
+  hosts = if bytes_eq k (codes "hosts") then hosts_of d else f.hosts;
+  owner = if bytes_eq k (codes "owner") then id_of d else f.owner;
+  at = if bytes_eq k (codes "at") then key_of d else f.at;
+}
+
+put_expanded : (k : List ℕ) (d : Data) (ms : Members) → fields_of (object (put k d ms)) ≡ expanded k d (fields_of (object ms))
+put_expanded k d ms =
+    rw (
+      only_put start_members k d ms,
+      only_put id_members k d ms,
+      only_put write_members k d ms,
+      only_put read_members k d ms,
+      only_put deliver_members k d ms,
+      only_put settle_members k d ms,
+      only_put create_members k d ms,
+      only_put split_members k d ms,
+      field_put (codes "e") event_name k d ms,
+      field_put (codes "host") host_of k d ms,
+      optional_put [] (codes "kept") kept_of k d ms,
+      field_put (codes "id") addr_of k d ms,
+      field_put (codes "to") id_of k d ms,
+      field_put (codes "table") table_of k d ms,
+      field_put (codes "key") key_of k d ms,
+      field_put (codes "value") written k d ms,
+      field_put (codes "n") message_of k d ms,
+      optional_put no_kinds (codes "kinds") kinds_of k d ms,
+      optional_put no_hosts (codes "hosts") hosts_of k d ms,
+      field_put (codes "owner") id_of k d ms,
+      field_put (codes "at") key_of k d ms,
+    )
+    refl
+
+module _ (k : List ℕ) (d : Data) (f : Fields) where
+  by : (name : List ℕ) → bytes_eq k name ≡ true → expanded name d f ≡ noted (member_named name) d f → expanded k d f ≡ noted (member_named k) d f
+  by name is known = let same : k ≡ name = (bytes_eq-Decides k name).0 is in rw same known
+
+  expanded_noted : expanded k d f ≡ noted (member_named k) d f
+  expanded_noted =
+      either (bytes_eq k (codes "e")) (λ is. by (codes "e") is refl) (λ n1.
+      either (bytes_eq k (codes "host")) (λ is. by (codes "host") is refl) (λ n2.
+      either (bytes_eq k (codes "kept")) (λ is. by (codes "kept") is refl) (λ n3.
+      either (bytes_eq k (codes "id")) (λ is. by (codes "id") is refl) (λ n4.
+      either (bytes_eq k (codes "to")) (λ is. by (codes "to") is refl) (λ n5.
+      either (bytes_eq k (codes "table")) (λ is. by (codes "table") is refl) (λ n6.
+      either (bytes_eq k (codes "key")) (λ is. by (codes "key") is refl) (λ n7.
+      either (bytes_eq k (codes "value")) (λ is. by (codes "value") is refl) (λ n8.
+      either (bytes_eq k (codes "n")) (λ is. by (codes "n") is refl) (λ n9.
+      either (bytes_eq k (codes "kinds")) (λ is. by (codes "kinds") is refl) (λ n10.
+      either (bytes_eq k (codes "hosts")) (λ is. by (codes "hosts") is refl) (λ n11.
+      either (bytes_eq k (codes "owner")) (λ is. by (codes "owner") is refl) (λ n12.
+      either (bytes_eq k (codes "at")) (λ is. by (codes "at") is refl) (λ n13.
+      rw (n1, n2, n3, n4, n5, n6, n7, n8, n9, n10, n11, n12, n13) refl)))))))))))))
+
+pub put_noted : (k : List ℕ) (d : Data) (ms : Members) → fields_of (object (put k d ms)) ≡ noted (member_named k) d (fields_of (object ms))
+put_noted k d ms = put_expanded k d ms ∙ expanded_noted k d (fields_of (object ms))
+
+-- ---- the event that the fields say
+
+letter_is_none : (b : Bool) → None ≡ server_in (if b then Some Coordinator else None)
+letter_is_none true = refl
+letter_is_none false = refl
+
+id_is : (o : Option ServerId) → o ≡ server_in (option_map Server o)
+id_is None = refl
+id_is (Some id) = refl
+
+server_of : (d : Data) → id_of d ≡ server_in (addr_of d)
+server_of null = refl
+server_of (boolean b) = refl
+server_of (number n) = refl
+server_of (string s) = letter_is_none (bytes_eq s (codes "c"))
+server_of (array ds) = id_is (id_of (array ds))
+server_of (object ms) = refl
+
+server_at : (o : Option Data) → option_and_then id_of o ≡ server_in (option_and_then addr_of o)
+server_at None = refl
+server_at (Some d) = server_of d
+
+by_name : (name : EventName) (d : Data) → event_by name d ≡ event_from name (fields_of d)
+by_name event.Start d = refl
+by_name event.Stop d = ap (λ o. only id_members d (option_map Stop o)) (server_at (get (codes "id") d))
+by_name event.Suspect d = ap (λ o. only id_members d (option_map Suspect o)) (server_at (get (codes "id") d))
+by_name event.Decide d = ap (λ o. only id_members d (option_map Decide o)) (server_at (get (codes "id") d))
+by_name event.Tick d = refl
+by_name event.Write d = refl
+by_name event.Read d = refl
+by_name event.Deliver d = refl
+by_name event.Settle d = refl
+by_name event.Create d = refl
+by_name event.Split d = refl
+
+by_field : (o : Option EventName) (d : Data) → option_and_then (λ name. event_by name d) o ≡ option_and_then (λ name. event_from name (fields_of d)) o
+by_field None d = refl
+by_field (Some name) d = by_name name d
+
+pub event_of_fields : (d : Data) → event_of d ≡ event_in (fields_of d)
+unfolding event_of
+event_of_fields d = by_field (field (codes "e") event_name d) d
+
+pub no_event_of : (d : Data) → as_object d ≡ None → event_of d ≡ None
+unfolding event_of
+no_event_of null is = refl
+no_event_of (boolean b) is = refl
+no_event_of (number n) is = refl
+no_event_of (string s) is = refl
+no_event_of (array ds) is = refl
+no_event_of (object ms) is = absurd (cc)
+
+-- the members of an object, read whole
+pub event_says : (depth : ℕ) (ts r : List Token) (fields : Fields) → 0 < depth → told (λ ms. fields_of (object ms)) (members_at no_members (depth - 1) ts) ≡ Some (fields, r)
+    → says event_of depth (Token.begin_object ∷ ts) ≡ Some (event_in fields, r)
+event_says depth ts r fields some e =
+    let q = told_of (members_at no_members (depth - 1) ts) (λ ms. fields_of (object ms)) fields r e in
+    ap (told event_of) (opened_object depth ts some ∙ ap (told object) q.1) ∙ ap (λ o. Some (o, r)) (event_of_fields (object q.0) ∙ ap event_in q.2)
+
+pub no_event_says : (depth : ℕ) (ts r : List Token) → says as_object depth ts ≡ Some (None, r) → says event_of depth ts ≡ Some (None, r)
+no_event_says depth ts r e =
+    let q = says_some as_object depth ts r None e in
+    ap (told event_of) q.1 ∙ ap (λ o. Some (o, r)) (no_event_of q.0 q.2)

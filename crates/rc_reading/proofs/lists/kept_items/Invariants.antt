@@ -1,0 +1,12 @@
+use Rattle.std.proofs.Common.{◌≡◌, ◌≤◌, length, Some, []}
+use Rattle.rc_reading.specs.Ahead.{folds}
+use Rattle.rc_reading.specs.Values.{take_name}
+use Rattle.rc_reading.proofs.lists.kept_items.Given as goal
+
+-- what the items to come make of what there is
+abbrev pub invariant-items : goal.invariant-items
+invariant-items l =
+    (folds take_name l.kept l.depth l.reader ≡ folds take_name (Some []) l.depth l.initial.reader) × (length l.reader ≤ length l.initial.reader)
+
+abbrev pub decreases-items : goal.decreases-items
+decreases-items l = length l.reader

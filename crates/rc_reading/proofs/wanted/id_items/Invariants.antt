@@ -1,0 +1,14 @@
+use Rattle.std.proofs.Common.{◌≡◌, ◌≤◌, length, Some}
+use Rattle.rc_reading.specs.declared.pairs.Pair.TheVariants.{Nothing}
+use Rattle.rc_reading.specs.Ahead.{folds}
+use Rattle.rc_reading.specs.Pairs.{id_item}
+use Rattle.rc_reading.proofs.wanted.id_items.Given as goal
+
+-- what the items to come make of what there is
+abbrev pub invariant-items : goal.invariant-items
+invariant-items l =
+    (folds (λ pair d. Some (id_item pair d)) (Some l.so_far) l.depth l.reader ≡ folds (λ pair d. Some (id_item pair d)) (Some Nothing) l.depth l.initial.reader)
+    × (length l.reader ≤ length l.initial.reader)
+
+abbrev pub decreases-items : goal.decreases-items
+decreases-items l = length l.reader

@@ -1,0 +1,134 @@
+-- What the members of an event say, a member at a time.
+use Rattle.std.specs.Prelude.{ℕ, true, false, if◌then◌else◌, List, [], Option, Some, None, option_map, option_and_then, codes}
+use Rattle.std.specs.Str.{bytes_eq}
+use Rattle.rc_types.specs.declared.ids.ServerId.{ServerId}
+use Rattle.rc_types.specs.declared.ids.Addr.{Addr}
+use Rattle.rc_types.specs.declared.ids.Addr.TheVariants.{Coordinator, Server, Outside}
+use Rattle.serde_json.specs.Data.{Data}
+use Rattle.rc_reading.specs.declared.fields.MemberName.{MemberName}
+use Rattle.rc_reading.specs.declared.fields.MemberName.TheVariants as name
+use Rattle.rc_reading.specs.declared.fields.Only.{Only}
+use Rattle.rc_reading.specs.declared.fields.Fields.{Fields}
+use Rattle.rc_reading.specs.declared.names.EventName.{EventName}
+use Rattle.rc_reading.specs.declared.names.EventName.TheVariants as event
+use Rattle.rc_reading.specs.declared.scenarios.ScenarioEvent.{ScenarioEvent}
+use Rattle.rc_reading.specs.declared.scenarios.ScenarioEvent.TheVariants.{Start, Stop, Suspect, Decide, Tick, Write, Read, Deliver, Create, Split, Settle}
+use Rattle.rc_reading.specs.Kinds.{no_kinds}
+use Rattle.rc_reading.specs.Hosts.{no_hosts}
+use Rattle.rc_reading.specs.Names.{start_members, id_members, write_members, read_members, deliver_members, settle_members, create_members, split_members}
+use Rattle.rc_reading.specs.Values.{has_only, field, optional, given2, given3, given4, host_of, table_of, key_of, message_of, id_of, addr_of, kept_of, kinds_of, hosts_of, written, event_name}
+
+abbrev pub member_named : List ℕ → Option MemberName
+member_named text =
+    if bytes_eq text (codes "e") then Some name.Event
+    else (if bytes_eq text (codes "host") then Some name.Host
+    else (if bytes_eq text (codes "kept") then Some name.Kept
+    else (if bytes_eq text (codes "id") then Some name.Id
+    else (if bytes_eq text (codes "to") then Some name.To
+    else (if bytes_eq text (codes "table") then Some name.Table
+    else (if bytes_eq text (codes "key") then Some name.Key
+    else (if bytes_eq text (codes "value") then Some name.Value
+    else (if bytes_eq text (codes "n") then Some name.Number
+    else (if bytes_eq text (codes "kinds") then Some name.Kinds
+    else (if bytes_eq text (codes "hosts") then Some name.Hosts
+    else (if bytes_eq text (codes "owner") then Some name.Owner
+    else (if bytes_eq text (codes "at") then Some name.At
+    else None))))))))))))
+
+-- For each event whether it has all the members that have come
+
+abbrev pub all_events : Only
+all_events = record { start = true; id = true; write = true; read = true; deliver = true; settle = true; create = true; split = true }
+
+abbrev pub no_event : Only
+no_event = record { start = false; id = false; write = false; read = false; deliver = false; settle = false; create = false; split = false }
+
+abbrev pub narrowed : Option MemberName → Only → Only
+narrowed None only = no_event
+narrowed (Some name.Event) only = only
+narrowed (Some name.Host) only = record no_event { start = only.start }
+narrowed (Some name.Kept) only = record no_event { start = only.start }
+narrowed (Some name.Id) only = record no_event { id = only.id }
+narrowed (Some name.To) only = record no_event { write = only.write; read = only.read }
+narrowed (Some name.Table) only = record no_event { write = only.write; read = only.read; create = only.create; split = only.split }
+narrowed (Some name.Key) only = record no_event { write = only.write; read = only.read }
+narrowed (Some name.Value) only = record no_event { write = only.write }
+narrowed (Some name.Number) only = record no_event { deliver = only.deliver }
+narrowed (Some name.Kinds) only = record no_event { settle = only.settle }
+narrowed (Some name.Hosts) only = record no_event { settle = only.settle }
+narrowed (Some name.Owner) only = record no_event { create = only.create }
+narrowed (Some name.At) only = record no_event { split = only.split }
+
+-- one more member was read
+abbrev pub said : Option MemberName → Data → Fields → Fields
+said None d fields = fields
+said (Some name.Event) d fields = record fields { event = event_name d }
+said (Some name.Host) d fields = record fields { host = host_of d }
+said (Some name.Kept) d fields = record fields { kept = kept_of d }
+said (Some name.Id) d fields = record fields { addr = addr_of d }
+said (Some name.To) d fields = record fields { to = id_of d }
+said (Some name.Table) d fields = record fields { table = table_of d }
+said (Some name.Key) d fields = record fields { key = key_of d }
+said (Some name.Value) d fields = record fields { value = written d }
+said (Some name.Number) d fields = record fields { number = message_of d }
+said (Some name.Kinds) d fields = record fields { kinds = kinds_of d }
+said (Some name.Hosts) d fields = record fields { hosts = hosts_of d }
+said (Some name.Owner) d fields = record fields { owner = id_of d }
+said (Some name.At) d fields = record fields { at = key_of d }
+
+abbrev pub noted : Option MemberName → Data → Fields → Fields
+noted name d fields = said name d (record fields { only = narrowed name fields.only })
+
+-- what all members of an object say
+abbrev pub only_of : Data → Only
+only_of d = record {
+  start = has_only start_members d;
+  id = has_only id_members d;
+  write = has_only write_members d;
+  read = has_only read_members d;
+  deliver = has_only deliver_members d;
+  settle = has_only settle_members d;
+  create = has_only create_members d;
+  split = has_only split_members d;
+}
+
+abbrev pub fields_of : Data → Fields
+fields_of d = record {
+  only = only_of d;
+  event = field (codes "e") event_name d;
+  host = field (codes "host") host_of d;
+  kept = optional [] (codes "kept") kept_of d;
+  addr = field (codes "id") addr_of d;
+  to = field (codes "to") id_of d;
+  table = field (codes "table") table_of d;
+  key = field (codes "key") key_of d;
+  value = field (codes "value") written d;
+  number = field (codes "n") message_of d;
+  kinds = optional no_kinds (codes "kinds") kinds_of d;
+  hosts = optional no_hosts (codes "hosts") hosts_of d;
+  owner = field (codes "owner") id_of d;
+  at = field (codes "at") key_of d;
+}
+
+abbrev pub server_in : Option Addr → Option ServerId
+server_in None = None
+server_in (Some Coordinator) = None
+server_in (Some (Server id)) = Some id
+server_in (Some Outside) = None
+
+-- the event that the members say
+abbrev pub event_from : EventName → Fields → Option ScenarioEvent
+event_from event.Start fields = if fields.only.start then given2 Start fields.host fields.kept else None
+event_from event.Stop fields = if fields.only.id then option_map Stop (server_in fields.addr) else None
+event_from event.Suspect fields = if fields.only.id then option_map Suspect (server_in fields.addr) else None
+event_from event.Decide fields = if fields.only.id then option_map Decide (server_in fields.addr) else None
+event_from event.Tick fields = if fields.only.id then option_map Tick fields.addr else None
+event_from event.Write fields = if fields.only.write then given4 Write fields.to fields.table fields.key fields.value else None
+event_from event.Read fields = if fields.only.read then given3 Read fields.to fields.table fields.key else None
+event_from event.Deliver fields = if fields.only.deliver then option_map Deliver fields.number else None
+event_from event.Settle fields = if fields.only.settle then given2 Settle fields.kinds fields.hosts else None
+event_from event.Create fields = if fields.only.create then given2 Create fields.table fields.owner else None
+event_from event.Split fields = if fields.only.split then given2 Split fields.table fields.at else None
+
+abbrev pub event_in : Fields → Option ScenarioEvent
+event_in fields = option_and_then (λ name. event_from name fields) fields.event

@@ -1,0 +1,348 @@
+//! What the members of an event say, a member at a time.
+
+ghost use Rattle.std.specs.Prelude.{◌≡◌, ◌<◌, ℕ, length, Some, None, Err, IfOk, OnOk, OnErr};
+ghost use Rattle.rc_reading.specs.declared.scenarios.ReadFault.TheVariants.{BadScenario};
+ghost use Rattle.serde_json.specs.Data.{object, no_members};
+ghost use Rattle.rc_reading.specs.Values.{written, table_of, message_of};
+ghost use Rattle.rc_reading.specs.Scenario.{event_of};
+ghost use Rattle.rc_reading.specs.Fields.{member_named, narrowed, all_events, noted, fields_of, event_in, event_from, server_in};
+ghost use Rattle.rc_reading.specs.Ahead.{data_at, members_at, says, told};
+
+use crate::hosts::Hosts;
+use crate::kinds::Kinds;
+use crate::limits::{LAST_MESSAGE, LAST_TABLE};
+use crate::lists::{hosts, kept, kinds};
+use crate::names::EventName;
+use crate::scenarios::{ReadFault, ScenarioEvent};
+use crate::simple::Simple;
+use crate::tokens::{opens_object, pass, simple};
+use crate::wanted::{addr, event, host, id, number};
+use json::{Invalid, Reader};
+use rc_types::limits::LAST_KEY;
+use rc_types::{Addr, Seq, ServerId};
+use std::alloc::Global;
+
+/// A member that some event has.
+#[derive(Clone, Copy, Debug, PartialEq, Eq)]
+pub(crate) enum MemberName {
+    Event,
+    Host,
+    Kept,
+    Id,
+    To,
+    Table,
+    Key,
+    Value,
+    Number,
+    Kinds,
+    Hosts,
+    Owner,
+    At,
+}
+
+impl MemberName {
+    fn named(name: &str) -> Option<MemberName>
+        ensures { result ≡ member_named name.now }
+    {
+        match name {
+            "e" => Some(MemberName::Event),
+            "host" => Some(MemberName::Host),
+            "kept" => Some(MemberName::Kept),
+            "id" => Some(MemberName::Id),
+            "to" => Some(MemberName::To),
+            "table" => Some(MemberName::Table),
+            "key" => Some(MemberName::Key),
+            "value" => Some(MemberName::Value),
+            "n" => Some(MemberName::Number),
+            "kinds" => Some(MemberName::Kinds),
+            "hosts" => Some(MemberName::Hosts),
+            "owner" => Some(MemberName::Owner),
+            "at" => Some(MemberName::At),
+            _ => None,
+        }
+    }
+}
+
+/// For each event whether it has all the members that have come.
+#[derive(Clone, Copy, Debug, PartialEq, Eq)]
+pub(crate) struct Only {
+    start: bool,
+    id: bool,
+    write: bool,
+    read: bool,
+    deliver: bool,
+    settle: bool,
+    create: bool,
+    split: bool,
+}
+
+impl Only {
+    fn all() -> Only
+        ensures { result ≡ all_events }
+    {
+        Only {
+            start: true,
+            id: true,
+            write: true,
+            read: true,
+            deliver: true,
+            settle: true,
+            create: true,
+            split: true,
+        }
+    }
+
+    /// One more member has come; `None` is one that no event has.
+    fn narrowed(self, name: Option<MemberName>) -> Only
+        ensures { result ≡ narrowed name self }
+    {
+        let none = Only {
+            start: false,
+            id: false,
+            write: false,
+            read: false,
+            deliver: false,
+            settle: false,
+            create: false,
+            split: false,
+        };
+        match name {
+            Some(MemberName::Event) => self,
+            Some(MemberName::Host | MemberName::Kept) => Only {
+                start: self.start,
+                ..none
+            },
+            Some(MemberName::Id) => Only {
+                id: self.id,
+                ..none
+            },
+            Some(MemberName::To | MemberName::Key) => Only {
+                write: self.write,
+                read: self.read,
+                ..none
+            },
+            Some(MemberName::Table) => Only {
+                write: self.write,
+                read: self.read,
+                create: self.create,
+                split: self.split,
+                ..none
+            },
+            Some(MemberName::Value) => Only {
+                write: self.write,
+                ..none
+            },
+            Some(MemberName::Number) => Only {
+                deliver: self.deliver,
+                ..none
+            },
+            Some(MemberName::Kinds | MemberName::Hosts) => Only {
+                settle: self.settle,
+                ..none
+            },
+            Some(MemberName::Owner) => Only {
+                create: self.create,
+                ..none
+            },
+            Some(MemberName::At) => Only {
+                split: self.split,
+                ..none
+            },
+            None => none,
+        }
+    }
+}
+
+/// What the members of an event say so far; the last of equal names counts. A member that is absent and
+/// one that says nothing right are both `None`, but lists that may be left out are empty where they are
+/// absent.
+#[derive(Debug, Drop)]
+pub(crate) struct Fields {
+    only: Only,
+    event: Option<EventName>,
+    host: Option<u8>,
+    kept: Option<Seq<(ServerId, u16)>>,
+    addr: Option<Addr>,
+    to: Option<ServerId>,
+    table: Option<u32>,
+    key: Option<u64>,
+    value: Option<Option<Seq<u8>>>,
+    number: Option<u32>,
+    kinds: Option<Kinds>,
+    hosts: Option<Hosts>,
+    owner: Option<ServerId>,
+    at: Option<u64>,
+}
+
+/// A table's name.
+fn table(reader: &mut Reader<'_>, depth: usize) -> Result<Option<u32>, Invalid>
+    ensures ok { IfOk result (λ table. says table_of depth reader.old ≡ Some (table, reader.new)) }
+    ensures shorter { OnOk result (length reader.new < length reader.old) }
+    ensures err { OnErr result (data_at depth reader.old ≡ None) }
+{
+    let table = number(reader, depth, 0, u64::from(LAST_TABLE))?;
+    Ok(table.map(|table| table as u32))
+}
+
+/// A message's number.
+fn message(reader: &mut Reader<'_>, depth: usize) -> Result<Option<u32>, Invalid>
+    ensures ok { IfOk result (λ n. says message_of depth reader.old ≡ Some (n, reader.new)) }
+    ensures shorter { OnOk result (length reader.new < length reader.old) }
+    ensures err { OnErr result (data_at depth reader.old ≡ None) }
+{
+    let number = number(reader, depth, 0, u64::from(LAST_MESSAGE))?;
+    Ok(number.map(|number| number as u32))
+}
+
+/// What is written: a text's bytes, or nothing for a deletion.
+fn value(alloc: Global, reader: &mut Reader<'_>, depth: usize) -> Result<Option<Option<Seq<u8>>>, ReadFault>
+    ensures ok { IfOk result (λ value. says written depth reader.old ≡ Some (value, reader.new)) }
+    ensures shorter { OnOk result (length reader.new < length reader.old) }
+    ensures bad { (place : ℕ) → result ≡ Err (BadScenario place) → (place ≡ 0) × (data_at depth reader.old ≡ None) }
+{
+    match simple(reader, depth)? {
+        Simple::Null => Ok(Some(None)),
+        Simple::Text(text) => {
+            let bytes = text.as_bytes().to_vec(alloc)?;
+            Ok(Some(Some(Seq::from_vec(bytes))))
+        }
+        _ => Ok(None),
+    }
+}
+
+impl Fields {
+    fn new(alloc: Global) -> Fields
+        ensures { result ≡ fields_of (object no_members) }
+    {
+        Fields {
+            only: Only::all(),
+            event: None,
+            host: None,
+            kept: Some(Seq::new(alloc)),
+            addr: None,
+            to: None,
+            table: None,
+            key: None,
+            value: None,
+            number: None,
+            kinds: Some(Kinds::new()),
+            hosts: Some(Hosts::new()),
+            owner: None,
+            at: None,
+        }
+    }
+
+    /// Takes the value of one more member.
+    fn take(
+        &mut self,
+        alloc: Global,
+        name: Option<MemberName>,
+        reader: &mut Reader<'_>,
+        depth: usize,
+    ) -> Result<(), ReadFault>
+        ensures ok { OnOk result (says (λ d. noted name d self.old) depth reader.old ≡ Some (self.new, reader.new)) }
+        ensures shorter { OnOk result (length reader.new < length reader.old) }
+        ensures bad { (place : ℕ) → result ≡ Err (BadScenario place) → (place ≡ 0) × (data_at depth reader.old ≡ None) }
+    {
+        self.only = self.only.narrowed(name);
+        match name {
+            Some(MemberName::Event) => self.event = event(reader, depth)?,
+            Some(MemberName::Host) => self.host = host(reader, depth)?,
+            Some(MemberName::Kept) => self.kept = kept(alloc, reader, depth)?,
+            Some(MemberName::Id) => self.addr = addr(reader, depth)?,
+            Some(MemberName::To) => self.to = id(reader, depth)?,
+            Some(MemberName::Table) => self.table = table(reader, depth)?,
+            Some(MemberName::Key) => self.key = number(reader, depth, 0, LAST_KEY)?,
+            Some(MemberName::Value) => self.value = value(alloc, reader, depth)?,
+            Some(MemberName::Number) => self.number = message(reader, depth)?,
+            Some(MemberName::Kinds) => self.kinds = kinds(reader, depth)?,
+            Some(MemberName::Hosts) => self.hosts = hosts(reader, depth)?,
+            Some(MemberName::Owner) => self.owner = id(reader, depth)?,
+            Some(MemberName::At) => self.at = number(reader, depth, 0, LAST_KEY)?,
+            None => pass(reader, depth)?,
+        }
+        Ok(())
+    }
+
+    /// The server that `id` names; the coordinator is none.
+    fn server(&self) -> Option<ServerId>
+        ensures { result ≡ server_in self.now.addr }
+    {
+        match self.addr {
+            Some(Addr::Server(id)) => Some(id),
+            _ => None,
+        }
+    }
+
+    /// The event that the members say.
+    fn event(self) -> Option<ScenarioEvent>
+        ensures { result ≡ event_in self }
+    {
+        let only = self.only;
+        match self.event? {
+            EventName::Start if only.start => Some(ScenarioEvent::Start {
+                host: self.host?,
+                kept: self.kept?,
+            }),
+            EventName::Stop if only.id => Some(ScenarioEvent::Stop(self.server()?)),
+            EventName::Suspect if only.id => Some(ScenarioEvent::Suspect(self.server()?)),
+            EventName::Decide if only.id => Some(ScenarioEvent::Decide(self.server()?)),
+            EventName::Tick if only.id => Some(ScenarioEvent::Tick(self.addr?)),
+            EventName::Write if only.write => Some(ScenarioEvent::Write {
+                to: self.to?,
+                table: self.table?,
+                key: self.key?,
+                value: self.value?,
+            }),
+            EventName::Read if only.read => Some(ScenarioEvent::Read {
+                to: self.to?,
+                table: self.table?,
+                key: self.key?,
+            }),
+            EventName::Deliver if only.deliver => Some(ScenarioEvent::Deliver(self.number?)),
+            EventName::Settle if only.settle => Some(ScenarioEvent::Settle {
+                kinds: self.kinds?,
+                hosts: self.hosts?,
+            }),
+            EventName::Create if only.create => Some(ScenarioEvent::Create {
+                table: self.table?,
+                owner: self.owner?,
+            }),
+            EventName::Split if only.split => Some(ScenarioEvent::Split {
+                table: self.table?,
+                at: self.at?,
+            }),
+            _ => None,
+        }
+    }
+}
+
+/// The members of an event, up to the end of its object.
+fn event_members(alloc: Global, reader: &mut Reader<'_>, depth: usize) -> Result<Fields, ReadFault>
+    ensures ok { IfOk result (λ fields. told (λ ms. fields_of (object ms)) (members_at no_members depth reader.old) ≡ Some (fields, reader.new)) }
+    ensures shorter { OnOk result (length reader.new < length reader.old) }
+    ensures bad { (place : ℕ) → result ≡ Err (BadScenario place) → (place ≡ 0) × (members_at no_members depth reader.old ≡ None) }
+{
+    let mut fields = Fields::new(alloc);
+    'members: while let Some(name) = reader.next_key()? {
+        fields.take(alloc, MemberName::named(name), reader, depth)?;
+    }
+    Ok(fields)
+}
+
+/// One event of a scenario; nothing, where the value is another.
+pub(crate) fn scenario_event(
+    alloc: Global,
+    reader: &mut Reader<'_>,
+    depth: usize,
+) -> Result<Option<ScenarioEvent>, ReadFault>
+    ensures ok { IfOk result (λ event. says event_of depth reader.old ≡ Some (event, reader.new)) }
+    ensures shorter { OnOk result (length reader.new < length reader.old) }
+    ensures bad { (place : ℕ) → result ≡ Err (BadScenario place) → (place ≡ 0) × (data_at depth reader.old ≡ None) }
+{
+    if !opens_object(reader, depth)? {
+        return Ok(None);
+    }
+    let fields = event_members(alloc, reader, depth - 1)?;
+    Ok(fields.event())
+}

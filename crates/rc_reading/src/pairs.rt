@@ -1,0 +1,16 @@
+//! Lists of exactly two items, an item at a time.
+
+ghost use Rattle.std.specs.Prelude.{◌≡◌};
+
+/// What the items of a list say so far, where two are wanted.
+#[derive(Clone, Copy, Debug, Drop)]
+pub(crate) enum Pair<A, B> {
+    /// No item yet.
+    Nothing,
+    /// One item.
+    First(A),
+    /// Two items.
+    Both(A, B),
+    /// More than two.
+    More,
+}
