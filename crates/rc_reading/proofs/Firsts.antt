@@ -1,16 +1,16 @@
 -- What a value says by its first token.
-use Rattle.std.proofs.Common.{◌≡◌, ℕ, zero, suc, ◌-◌, ◌<◌, List, [], ◌∷◌, Bool, true, false, Option, Some, None, option_map, option_and_then, refl, sym, ap, ◌∙◌, arith}
+use Rattle.std.proofs.Common.{◌≡◌, ℕ, zero, suc, ◌-◌, ◌<◌, List, ◌∷◌, Bool, true, false, Option, Some, None, option_map, option_and_then, refl, sym, ap, ◌∙◌, arith}
 use Rattle.json.specs.Token.{Token}
 use Rattle.json.proofs.Grammar.{left_some}
-use Rattle.serde_json.specs.Data.{Num, Data, null, boolean, number, string, array, object, Items, Members, no_members}
+use Rattle.serde_json.specs.Data.{Num, Data, number, array, object, Items, Members, no_members}
 use Rattle.serde_json.specs.Read.{number_of}
-use Rattle.serde_json.specs.Find.{as_u64, as_array, as_object}
+use Rattle.serde_json.specs.Find.{as_u64, as_object}
 use Rattle.rc_reading.specs.Values.{listed, list_of, addr_of, id_in}
 use Rattle.rc_types.specs.declared.ids.ServerId.{ServerId}
 use Rattle.rc_types.specs.declared.ids.Addr.TheVariants.{Server}
-use Rattle.rc_reading.specs.Said.{Said, said_of, both_of, begins_object, begins_list}
+use Rattle.rc_reading.specs.Said.{Said, said_of, both_of, begins_object}
 use Rattle.rc_reading.specs.Ahead.{data_at, items_at, members_at, told, says, rest}
-use Rattle.rc_reading.proofs.Turns.{opened_list, opened_object, told_of, says_some, says_then}
+use Rattle.rc_reading.proofs.Turns.{opened_list, opened_object, says_then}
 use Rattle.rc_reading.proofs.Passing.{at_string, at_bool, at_null, at_number, at_end_object, at_end_array, at_key, at_bad, too_deep_list, too_deep_object}
 
 pub text_said : (depth : ℕ) (s : List ℕ) (ts : List Token) → says both_of depth (Token.string s ∷ ts) ≡ Some ((Said.text s, None), ts)

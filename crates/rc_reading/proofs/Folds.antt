@@ -1,7 +1,7 @@
 -- Folds over the items of a list, to their end.
 use Rattle.std.proofs.Common.{◌≡◌, ℕ, List, Option, Some, None, refl, sym, ap, ◌∙◌}
 use Rattle.json.specs.Token.{Token}
-use Rattle.serde_json.specs.Data.{Data, Items}
+use Rattle.serde_json.specs.Data.{Data}
 use Rattle.rc_reading.specs.Ahead.{items_at, told, folds, taken_from}
 
 told_none : {A B : Type 0} (f : A → B) (o : Option (A × List Token)) → told f o ≡ None → o ≡ None

@@ -1,5 +1,5 @@
 -- The fields of an event after one more member.
-use Rattle.std.proofs.Common.{◌≡◌, ℕ, ◌-◌, ◌<◌, List, [], ◌∷◌, Bool, true, false, ◌&&◌, if◌then◌else◌, codes, Option, Some, None, option_map, option_and_then, bytes_eq, refl, sym, ap, ◌∙◌}
+use Rattle.std.proofs.Common.{◌≡◌, ℕ, ◌-◌, ◌<◌, List, [], ◌∷◌, Bool, true, false, ◌&&◌, if◌then◌else◌, codes, Option, Some, None, option_map, option_and_then, bytes_eq, refl, ap, ◌∙◌}
 use Rattle.std.proofs.lemmas.Slice.Eq.{bytes_eq-Decides}
 use Rattle.json.specs.Token.{Token}
 use Rattle.serde_json.specs.Data.{Data, null, boolean, number, string, array, object, Members, no_members, put}
@@ -13,7 +13,7 @@ use Rattle.rc_reading.specs.declared.scenarios.ScenarioEvent.TheVariants.{Stop, 
 use Rattle.rc_reading.specs.Kinds.{no_kinds}
 use Rattle.rc_reading.specs.Hosts.{no_hosts}
 use Rattle.rc_reading.specs.Names.{start_members, id_members, write_members, read_members, deliver_members, settle_members, create_members, split_members}
-use Rattle.rc_reading.specs.Values.{is_one_of, only, field, has_only, host_of, table_of, key_of, message_of, id_of, addr_of, addr_in, kept_of, kinds_of, hosts_of, written, event_name}
+use Rattle.rc_reading.specs.Values.{is_one_of, only, field, host_of, table_of, key_of, message_of, id_of, addr_of, kept_of, kinds_of, hosts_of, written, event_name}
 use Rattle.rc_reading.specs.Scenario.{event_of, event_by}
 use Rattle.rc_reading.specs.Fields.{member_named, noted, fields_of, server_in, event_from, event_in}
 use Rattle.rc_reading.specs.Ahead.{told, says, members_at}

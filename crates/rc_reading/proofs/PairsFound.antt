@@ -1,8 +1,7 @@
 -- Lists of exactly two items, an item at a time.
-use Rattle.std.proofs.Common.{◌≡◌, ℕ, List, [], ◌∷◌, Option, Some, None, refl, ap}
-use Rattle.serde_json.specs.Data.{Data, Items, no_items, item}
-use Rattle.rc_reading.specs.declared.pairs.Pair.{Pair}
-use Rattle.rc_reading.specs.declared.pairs.Pair.TheVariants.{Nothing, First, Both, More}
+use Rattle.std.proofs.Common.{◌≡◌, List, [], ◌∷◌, Option, Some, None, refl}
+use Rattle.serde_json.specs.Data.{Data, Items}
+use Rattle.rc_reading.specs.declared.pairs.Pair.TheVariants.{Nothing, More}
 use Rattle.rc_reading.specs.Values.{each, listed, id_in, name_in, host_of, id_of}
 use Rattle.rc_reading.specs.Pairs.{generation_of, kept_segment_of, paired, both_in, server_id, replica_name, id_item, name_item}
 use Rattle.rc_reading.specs.Ahead.{taken_from}

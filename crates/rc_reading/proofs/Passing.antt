@@ -1,13 +1,13 @@
 -- What follows a value that is passed, and what a value is by its first token.
-use Rattle.std.proofs.Common.{◌≡◌, ℕ, ◌-◌, ◌<◌, List, [], ◌∷◌, length, Bool, Option, Some, None, option_map, option_and_then, refl, ap, ◌∙◌, arith}
+use Rattle.std.proofs.Common.{◌≡◌, ℕ, ◌-◌, ◌<◌, List, [], ◌∷◌, length, Bool, Option, Some, None, option_map, option_and_then, refl, ap, ◌∙◌}
 use Rattle.serde_json.specs.Find.{as_u64}
 use Rattle.json.specs.Token.{Token}
 use Rattle.json.specs.Json as json
 use Rattle.json.specs.Json.{after_end_array, read_key, members, value}
 use Rattle.json.proofs.Grammar.{left_some, value_is}
-use Rattle.serde_json.specs.Data.{Num, Data, null, boolean, number, string, array, object, Items, Members, no_members, put}
+use Rattle.serde_json.specs.Data.{Num, Data, null, boolean, number, string, array, object, Members, no_members, put}
 use Rattle.serde_json.specs.Read.{of_json, of_members, converted, number_of}
-use Rattle.rc_reading.specs.Ahead.{data_at, items_at, members_at, told, says, rest}
+use Rattle.rc_reading.specs.Ahead.{data_at, items_at, members_at, told, rest}
 use Rattle.rc_reading.proofs.Turns.{item_read, member_read, opened_list, opened_object}
 
 pub rest_told : {A B : Type 0} (f : A → B) (o : Option (A × List Token)) → rest (told f o) ≡ rest o

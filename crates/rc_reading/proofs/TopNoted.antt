@@ -1,5 +1,5 @@
 -- What the members of a scenario say after one more member, and at the end.
-use Rattle.std.proofs.Common.{◌≡◌, ℕ, ◌-◌, ◌<◌, nat_eq, List, [], ◌∷◌, Bool, true, false, ◌&&◌, if◌then◌else◌, codes, Option, Some, None, option_map, option_and_then, Result, Err, bytes_eq, refl, sym, ap, ap₂, ◌∙◌}
+use Rattle.std.proofs.Common.{◌≡◌, ℕ, ◌-◌, ◌<◌, nat_eq, List, ◌∷◌, true, ◌&&◌, if◌then◌else◌, codes, Option, Some, None, option_map, option_and_then, Err, bytes_eq, refl, sym, ap, ap₂, ◌∙◌}
 use Rattle.std.proofs.lemmas.Slice.Eq.{bytes_eq-Decides}
 use Rattle.json.specs.Token.{Token}
 use Rattle.rc_types.specs.declared.events.Setup.{Setup}
@@ -7,9 +7,9 @@ use Rattle.serde_json.specs.Data.{Data, null, boolean, number, string, array, ob
 use Rattle.serde_json.specs.Find.{get, as_bool, as_object}
 use Rattle.rc_reading.specs.declared.whole.Top.{Top}
 use Rattle.rc_reading.specs.Names.{first_members, second_members}
-use Rattle.rc_reading.specs.Values.{is_one_of, field, has_only, whole, list_of, factor_of, factors_of}
+use Rattle.rc_reading.specs.Values.{is_one_of, field, whole, list_of, factor_of, factors_of}
 use Rattle.rc_reading.specs.Scenario.{segment_of, events_of, setup_by, setup_of, scenario_in, scenario_of}
-use Rattle.rc_reading.specs.Whole.{top_named, top_noted, top_of, events_list, first_in, second_in, setup_in, scenario_from, scenario_by}
+use Rattle.rc_reading.specs.Whole.{top_named, top_noted, top_of, events_list, first_in, second_in, scenario_from, scenario_by}
 use Rattle.rc_reading.specs.Ahead.{told, says, members_at}
 use Rattle.rc_reading.proofs.Turns.{told_of, says_some, opened_object}
 use Rattle.rc_reading.proofs.Puts.{field_put, only_put, either}
@@ -80,7 +80,7 @@ in_from (Some setup) (Some ds) = refl
 scenario_of_top : (d : Data) → scenario_of d ≡ scenario_by (top_of d)
 scenario_of_top d =
     in_from (setup_of d) (field (codes "events") list_of d)
-        ∙ ap₂ scenario_from (by_format d (field (codes "format") (whole 1 2) d)) (sym (as_events (get (codes "events") d)))
+    ∙ ap₂ scenario_from (by_format d (field (codes "format") (whole 1 2) d)) (sym (as_events (get (codes "events") d)))
 
 no_scenario_of : (d : Data) → as_object d ≡ None → scenario_of d ≡ Err 1
 no_scenario_of null is = refl

@@ -1,13 +1,13 @@
 -- Lists and objects of JSON, an item or a member at a time.
-use Rattle.std.proofs.Common.{◌≡◌, ℕ, zero, suc, ◌-◌, ◌<◌, ◌≤◌, List, [], ◌∷◌, length, Option, Some, None, option_map, option_and_then, refl, sym, ap, ◌∙◌, subst, arith}
+use Rattle.std.proofs.Common.{◌≡◌, ℕ, zero, suc, ◌-◌, ◌<◌, ◌≤◌, List, [], ◌∷◌, length, Option, Some, None, option_map, option_and_then, refl, sym, ap, ◌∙◌, arith}
 use Rattle.json.specs.Token.{Token}
 use Rattle.json.specs.Json as json
 use Rattle.json.specs.Json.{Parse, parse_map, after_end_array, read_key, items_step, members_step, items, members, value, if_last}
-use Rattle.json.proofs.Grammar.{left, left_some, value_is, value-begin_array, value-begin_object, items_end, items_more, items_fail, members_end, members_no_key, members_more, members_fail, Takes, skip_value-shorter, read_key-shorter}
+use Rattle.json.proofs.Grammar.{left, value-begin_array, value-begin_object, items_end, items_more, items_fail, members_end, members_no_key, members_more, Takes, skip_value-shorter, read_key-shorter}
 use Rattle.serde_json.specs.Data.{Data, array, object, Items, no_items, item, Members, no_members, put}
 use Rattle.serde_json.specs.Read.{of_json, of_items, of_members, converted}
-use Rattle.rc_reading.specs.Values.{listed, each}
-use Rattle.rc_reading.specs.Ahead.{data_at, items_at, members_at, told, says, taken_from, folds, rest}
+use Rattle.rc_reading.specs.Values.{listed}
+use Rattle.rc_reading.specs.Ahead.{data_at, items_at, members_at, told, says, taken_from, folds}
 
 -- ---- the bound on the turns plays no part
 
@@ -125,7 +125,7 @@ item_read depth ts r d going e =
     let j = converted_some of_json (p ts) d r e in
     let less = some_token p ts r j.0 (skip_value-shorter depth) j.1 in
     ap (converted of_items) (items_more p (length ts) ts r j.0 (omega (arith, less)) going j.1) ∙ with_item j.0 d j.2 _
-        ∙ ap (λ o. told (item d) (converted of_items o)) (enough_items p (skip_value-shorter depth) (length ts - 1) (length r) r (omega (arith, less)) (omega arith))
+    ∙ ap (λ o. told (item d) (converted of_items o)) (enough_items p (skip_value-shorter depth) (length ts - 1) (length r) r (omega (arith, less)) (omega arith))
 
 no_item : (more : Parse json.Items) (o : Option (json.Json × List Token)) → converted of_json o ≡ None → converted of_items (option_and_then (λ q. parse_map (json.item q.0) (more q.1)) o) ≡ None
 no_item more None e = refl
@@ -155,7 +155,7 @@ member_read old depth k ts s r d key e =
     let less = some_token p s r j.0 (skip_value-shorter depth) j.1 in
     let lesser = read_key-shorter ts (Some k) s key in
     ap (converted (λ ms. of_members ms old)) (members_more p (length ts) k ts s r j.0 (omega (arith, lesser)) key j.1) ∙ with_member k j.0 d old j.2 _
-        ∙ ap (converted (λ ms. of_members ms (put k d old))) (enough_members p (skip_value-shorter depth) (length ts - 1) (length r) r (omega (arith, less, lesser)) (omega arith))
+    ∙ ap (converted (λ ms. of_members ms (put k d old))) (enough_members p (skip_value-shorter depth) (length ts - 1) (length r) r (omega (arith, less, lesser)) (omega arith))
 
 no_member : (old : Members) (k : List ℕ) (more : Parse json.Members) (o : Option (json.Json × List Token)) → converted of_json o ≡ None
     → converted (λ ms. of_members ms old) (option_and_then (λ q. parse_map (json.member k q.0) (more q.1)) o) ≡ None
@@ -210,7 +210,7 @@ pub folds_more : {A B : Type 0} (takes : A → Data → Option A) (a : Option A)
 folds_more takes a f next depth ts r b is going e =
     let d = says_some f depth ts r b e in
     ap (told (taken_from takes a)) (item_read depth ts r d.0 going d.1) ∙ one_taken takes a d.0 (items_at depth r)
-        ∙ ap (λ s. folds takes s depth r) (is d.0 ∙ ap next d.2)
+    ∙ ap (λ s. folds takes s depth r) (is d.0 ∙ ap next d.2)
 
 -- what is told of a fold's end
 pub folded_told : {A B : Type 0} (takes : A → Data → Option A) (a b : Option A) (g : List Data → B) (h : Option A → B) (depth : ℕ) (ts r : List Token)

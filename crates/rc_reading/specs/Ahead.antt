@@ -1,5 +1,5 @@
 -- What the tokens to come say, as the reader of JSON hands them out.
-use Rattle.std.specs.Prelude.{ℕ, List, length, Option, Some, None, option_map, option_and_then}
+use Rattle.std.specs.Prelude.{ℕ, List, length, Option, option_map, option_and_then}
 use Rattle.json.specs.Token.{Token}
 use Rattle.json.specs.Json.{value, items, members}
 use Rattle.serde_json.specs.Data.{Data, Items, Members}

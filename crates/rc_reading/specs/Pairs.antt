@@ -1,5 +1,5 @@
 -- Lists of exactly two items, an item at a time.
-use Rattle.std.specs.Prelude.{ℕ, List, Option, Some, None}
+use Rattle.std.specs.Prelude.{ℕ, Option, None}
 use Rattle.rc_types.specs.declared.ids.ServerId.{ServerId}
 use Rattle.rc_types.specs.declared.limits.TheConstants.{LAST_SEGMENT}
 use Rattle.serde_json.specs.Data.{Data}

@@ -195,7 +195,11 @@ fn message(reader: &mut Reader<'_>, depth: usize) -> Result<Option<u32>, Invalid
 }
 
 /// What is written: a text's bytes, or nothing for a deletion.
-fn value(alloc: Global, reader: &mut Reader<'_>, depth: usize) -> Result<Option<Option<Seq<u8>>>, ReadFault>
+fn value(
+    alloc: Global,
+    reader: &mut Reader<'_>,
+    depth: usize,
+) -> Result<Option<Option<Seq<u8>>>, ReadFault>
     ensures ok { IfOk result (λ value. says written depth reader.old ≡ Some (value, reader.new)) }
     ensures shorter { OnOk result (length reader.new < length reader.old) }
     ensures bad { (place : ℕ) → result ≡ Err (BadScenario place) → (place ≡ 0) × (data_at depth reader.old ≡ None) }

@@ -111,7 +111,11 @@ fn with_name(
 }
 
 /// The names of a list of kept replicas, up to its end.
-fn kept_items(alloc: Global, reader: &mut Reader<'_>, depth: usize) -> Result<Option<Names>, ReadFault>
+fn kept_items(
+    alloc: Global,
+    reader: &mut Reader<'_>,
+    depth: usize,
+) -> Result<Option<Names>, ReadFault>
     ensures ok { IfOk result (λ kept. folds take_name (Some []) depth reader.old ≡ Some (kept, reader.new)) }
     ensures shorter { OnOk result (length reader.new < length reader.old) }
     ensures bad { (place : ℕ) → result ≡ Err (BadScenario place) → (place ≡ 0) × (items_at depth reader.old ≡ None) }
@@ -125,7 +129,11 @@ fn kept_items(alloc: Global, reader: &mut Reader<'_>, depth: usize) -> Result<Op
 }
 
 /// Kept replicas, by their names.
-pub(crate) fn kept(alloc: Global, reader: &mut Reader<'_>, depth: usize) -> Result<Option<Names>, ReadFault>
+pub(crate) fn kept(
+    alloc: Global,
+    reader: &mut Reader<'_>,
+    depth: usize,
+) -> Result<Option<Names>, ReadFault>
     ensures ok { IfOk result (λ kept. says kept_of depth reader.old ≡ Some (kept, reader.new)) }
     ensures shorter { OnOk result (length reader.new < length reader.old) }
     ensures bad { (place : ℕ) → result ≡ Err (BadScenario place) → (place ≡ 0) × (data_at depth reader.old ≡ None) }
@@ -153,7 +161,11 @@ fn with_factor(factors: Option<Seq<u8>>, factor: Option<u8>) -> Result<Option<Se
 }
 
 /// The factors of a list, up to its end.
-fn factor_items(alloc: Global, reader: &mut Reader<'_>, depth: usize) -> Result<Option<Seq<u8>>, ReadFault>
+fn factor_items(
+    alloc: Global,
+    reader: &mut Reader<'_>,
+    depth: usize,
+) -> Result<Option<Seq<u8>>, ReadFault>
     ensures ok { IfOk result (λ factors. folds take_factor (Some []) depth reader.old ≡ Some (factors, reader.new)) }
     ensures shorter { OnOk result (length reader.new < length reader.old) }
     ensures bad { (place : ℕ) → result ≡ Err (BadScenario place) → (place ≡ 0) × (items_at depth reader.old ≡ None) }
@@ -167,7 +179,11 @@ fn factor_items(alloc: Global, reader: &mut Reader<'_>, depth: usize) -> Result<
 }
 
 /// Factors, no more than there are hosts.
-pub(crate) fn factors(alloc: Global, reader: &mut Reader<'_>, depth: usize) -> Result<Option<Seq<u8>>, ReadFault>
+pub(crate) fn factors(
+    alloc: Global,
+    reader: &mut Reader<'_>,
+    depth: usize,
+) -> Result<Option<Seq<u8>>, ReadFault>
     ensures ok { IfOk result (λ factors. says factors_of depth reader.old ≡ Some (factors, reader.new)) }
     ensures shorter { OnOk result (length reader.new < length reader.old) }
     ensures bad { (place : ℕ) → result ≡ Err (BadScenario place) → (place ≡ 0) × (data_at depth reader.old ≡ None) }

@@ -86,7 +86,10 @@ fn pass_members(reader: &mut Reader<'_>, depth: usize) -> Result<(), Invalid>
 
 /// Takes the value that comes next, and tells what it says by itself; of a list only the bracket that
 /// opens it, and tells nothing.
-pub(crate) fn begin<'a>(reader: &mut Reader<'a>, depth: usize) -> Result<Option<Simple<'a>>, Invalid>
+pub(crate) fn begin<'a>(
+    reader: &mut Reader<'a>,
+    depth: usize,
+) -> Result<Option<Simple<'a>>, Invalid>
     ensures ok { IfOk result (λ begun. MatchOption begun ((reader.old ≡ begin_array ∷ reader.new) × (0 < depth))
         (λ s. says both_of depth reader.old ≡ Some ((shown s, None), reader.new))) }
     ensures shorter { OnOk result (length reader.new < length reader.old) }

@@ -223,7 +223,10 @@ fn name_items(reader: &mut Reader<'_>, depth: usize) -> Result<Option<(ServerId,
 }
 
 /// A kept replica's name, its master and its segment.
-pub(crate) fn name(reader: &mut Reader<'_>, depth: usize) -> Result<Option<(ServerId, u16)>, Invalid>
+pub(crate) fn name(
+    reader: &mut Reader<'_>,
+    depth: usize,
+) -> Result<Option<(ServerId, u16)>, Invalid>
     ensures ok { IfOk result (λ name. says (λ d. option_and_then name_in (list_of d)) depth reader.old ≡ Some (name, reader.new)) }
     ensures shorter { OnOk result (length reader.new < length reader.old) }
     ensures err { OnErr result (data_at depth reader.old ≡ None) }

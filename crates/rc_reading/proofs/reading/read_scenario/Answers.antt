@@ -1,8 +1,6 @@
-use Rattle.std.proofs.Common.{◌≡◌, ◌≤◌, length, Err, ap, ◌∙◌, sym, arith}
+use Rattle.std.proofs.Common.{Err, ap, ◌∙◌, sym, arith}
 use Rattle.std.proofs.lemmas.Result.{IfOk-weaker}
-use Rattle.std.specs.Str.{IsUtf8}
-use Rattle.rc_reading.specs.declared.limits.TheConstants.{MOST_BYTES}
-use Rattle.rc_reading.specs.Scenario.{reading, of_text}
+use Rattle.rc_reading.specs.Scenario.{of_text}
 use Rattle.rc_reading.proofs.Bytes.{of_text_read, no_text, too_long, nothing_read}
 use Rattle.rc_reading.proofs.reading.read_scenario.Goals as goal
 

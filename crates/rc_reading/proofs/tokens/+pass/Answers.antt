@@ -1,5 +1,4 @@
-use Rattle.std.proofs.Common.{◌≡◌, ◌-◌, ◌<◌, [], ◌∷◌, length, Some, None, refl, sym, ap, ◌∙◌, arith, rules, option_map}
-use Rattle.json.specs.Token.{Token}
+use Rattle.std.proofs.Common.{◌≡◌, ◌<◌, [], ◌∷◌, length, Some, None, ap, ◌∙◌, arith}
 use Rattle.json.specs.Json.{after_end_array, read_key}
 use Rattle.json.specs.Reads.{token_of}
 use Rattle.json.proofs.Grammar.{read_key-shorter, left_none}
@@ -9,8 +8,8 @@ use Rattle.json.proofs.Grammar.{value_is}
 use Rattle.serde_json.specs.Read.{of_json, converted}
 use Rattle.serde_json.specs.Data.{no_members}
 use Rattle.rc_reading.specs.Ahead.{data_at, items_at, members_at, rest}
-use Rattle.rc_reading.proofs.Turns.{items_over, item_refused, members_over, member_refused, key_refused, opened_list, opened_object}
-use Rattle.rc_reading.proofs.Passing.{item_passed, member_passed, at_string, at_bool, at_null, at_number, at_end_object, at_end_array, at_key, at_bad, at_nothing, too_deep_list, too_deep_object, list_rest, object_rest, number_rest, number_none}
+use Rattle.rc_reading.proofs.Turns.{items_over, item_refused, members_over, member_refused, key_refused}
+use Rattle.rc_reading.proofs.Passing.{item_passed, member_passed, at_string, at_bool, at_null, at_number, at_nothing, too_deep_list, too_deep_object, list_rest, object_rest, number_rest, number_none}
 use Rattle.rc_reading.proofs.tokens.+pass.Goals as goal
 
 pub pass_items-items-preserved : goal.pass_items-items-preserved

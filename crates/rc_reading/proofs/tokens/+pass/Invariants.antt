@@ -1,5 +1,5 @@
-use Rattle.std.proofs.Common.{◌≡◌, ℕ, ◌+◌, ◌*◌, ◌≤◌, length}
-use Rattle.serde_json.specs.Data.{Members, no_members}
+use Rattle.std.proofs.Common.{◌≡◌, ◌+◌, ◌*◌, ◌≤◌, length}
+use Rattle.serde_json.specs.Data.{no_members}
 use Rattle.rc_reading.specs.Ahead.{items_at, members_at, rest}
 use Rattle.rc_reading.proofs.tokens.+pass.Given as goal
 

@@ -1,10 +1,9 @@
-use Rattle.std.proofs.Common.{◌≡◌, [], ◌∷◌, None, sym, ap, ◌∙◌, arith}
+use Rattle.std.proofs.Common.{◌≡◌, [], ◌∷◌, None, ap, ◌∙◌, arith}
 use Rattle.json.specs.Json.{value}
 use Rattle.json.specs.Reads.{token_of}
 use Rattle.json.proofs.Grammar.{value_is}
 use Rattle.serde_json.specs.Read.{of_json, converted}
-use Rattle.rc_reading.specs.Ahead.{data_at, says}
-use Rattle.rc_reading.specs.Said.{both_of}
+use Rattle.rc_reading.specs.Ahead.{data_at}
 use Rattle.rc_reading.proofs.Passing.{at_nothing, at_number, too_deep_list, number_none}
 use Rattle.rc_reading.proofs.Firsts.{text_said, flag_said, null_said, number_said, object_said}
 use Rattle.rc_reading.proofs.tokens.begin.Goals as goal

@@ -1,8 +1,8 @@
-use Rattle.std.proofs.Common.{◌≡◌, ◌<◌, length, Some, None, refl, ap, ◌∙◌, sym, arith}
+use Rattle.std.proofs.Common.{◌≡◌, ◌<◌, length, Some, None, refl, ◌∙◌, sym, arith}
 use Rattle.json.specs.Json.{after_end_array}
 use Rattle.rc_reading.specs.declared.pairs.Pair.TheVariants.{Nothing}
-use Rattle.rc_reading.specs.Ahead.{says, items_at, folds, told, taken_from}
-use Rattle.rc_reading.specs.Values.{id_in, listed}
+use Rattle.rc_reading.specs.Ahead.{says, items_at}
+use Rattle.rc_reading.specs.Values.{id_in}
 use Rattle.rc_reading.specs.Pairs.{id_item, both_in, server_id}
 use Rattle.rc_reading.proofs.Turns.{folds_more, folds_over, folded_told, item_refused}
 use Rattle.rc_reading.proofs.Folds.{folds_refused}

@@ -1,4 +1,4 @@
-use Rattle.std.proofs.Common.{◌≡◌, ◌<◌, ◌∷◌, Some, arith}
+use Rattle.std.proofs.Common.{◌≡◌, ◌<◌, ◌∷◌, arith}
 use Rattle.json.specs.Token.{Token}
 use Rattle.rc_reading.specs.Scenario.{events_of}
 use Rattle.rc_reading.proofs.Firsts.{list_refused, listed_some}
