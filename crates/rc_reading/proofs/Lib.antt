@@ -9,3 +9,4 @@ pub mod Puts
 pub mod Noted
 pub mod TopNoted
 pub mod Texts
+pub mod Sets

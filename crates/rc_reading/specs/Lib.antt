@@ -10,3 +10,4 @@ pub mod Pairs
 pub mod Lists
 pub mod Fields
 pub mod Whole
+pub mod Claims

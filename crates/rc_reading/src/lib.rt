@@ -4,6 +4,7 @@
 mod fields;
 mod hosts;
 mod kinds;
+pub mod laws;
 pub mod limits;
 mod lists;
 mod names;

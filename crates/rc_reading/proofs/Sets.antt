@@ -1,0 +1,65 @@
+-- Sets by bits.
+use Rattle.std.proofs.Common.{◌≡◌, ℕ, ◌%◌, ◌^◌, ◌<◌, max, Bool, true, false, ◌&&◌, ◌||◌, nat_eq, nat_lt, Option, Some, List, slice_get, refl, sym, ap, ◌∙◌, arith}
+use Rattle.std.specs.Int.{bit_at}
+use Rattle.std.proofs.lemmas.Nat.Bits.{bit_at_or, bit_at-pow_same, bit_at-pow_other}
+use Rattle.rc_types.specs.declared.limits.TheConstants.{MAX_HOSTS}
+use Rattle.rc_reading.specs.declared.hosts.Hosts.{Hosts}
+use Rattle.rc_reading.specs.declared.kinds.Kind.{Kind}
+use Rattle.rc_reading.specs.declared.kinds.Kind.TheVariants as kind
+use Rattle.rc_reading.specs.Bits.{with_bit, has_bit}
+use Rattle.rc_reading.specs.Hosts.{has_host, with_host}
+use Rattle.rc_reading.specs.Kinds.{kind_place, all_kinds}
+use Rattle.rc_reading.proofs.Puts.{either}
+
+one_bit : (n : ℕ) → max (n % 2) 1 ≡ 1
+one_bit n = omega arith
+
+no_bit : (n : ℕ) → max n 0 ≡ n
+no_bit n = omega arith
+
+pub in_set : (bits put i : ℕ) → has_bit (with_bit bits put) i ≡ (nat_eq i put || has_bit bits i)
+in_set bits put i =
+    either (nat_eq i put)
+    (λ is.
+    let same : i ≡ put = grind arith in
+    let there : bit_at (with_bit bits put) put ≡ 1 = bit_at_or bits (2 ^ put) put ∙ ap (max (bit_at bits put)) (bit_at-pow_same put) ∙ one_bit _ in
+    rw is (rw same (ap (λ n. nat_eq n 1) there)))
+    (λ is.
+    let kept : bit_at (with_bit bits put) i ≡ bit_at bits i = bit_at_or bits (2 ^ put) i ∙ ap (max (bit_at bits i)) (bit_at-pow_other put i (λ same. let equal : nat_eq i put ≡ true = grind arith in absurd cc)) ∙ no_bit _ in
+    rw is (ap (λ n. nat_eq n 1) kept))
+
+within : (b a c : Bool) → b ≡ true → (b && (a || c)) ≡ (a || (b && c))
+within b a c is = rw is refl
+
+pub hosts_are_sets : (hosts : Hosts) (put host : ℕ) → host < MAX_HOSTS → has_host (with_host hosts put) host ≡ (nat_eq host put || has_host hosts host)
+hosts_are_sets hosts put host few =
+    let lower : nat_lt host MAX_HOSTS ≡ true = grind arith in
+    ap (λ b. nat_lt host MAX_HOSTS && b) (in_set hosts.bits put host) ∙ within (nat_lt host MAX_HOSTS) (nat_eq host put) (has_bit hosts.bits host) lower
+
+placed : (k : Kind) → slice_get all_kinds (kind_place k) ≡ Some k
+placed kind.Write = refl
+placed kind.Read = refl
+placed kind.WriteOk = refl
+placed kind.ReadOk = refl
+placed kind.Refused = refl
+placed kind.Place = refl
+placed kind.Append = refl
+placed kind.Close = refl
+placed kind.Stored = refl
+placed kind.Commit = refl
+placed kind.CommitOk = refl
+placed kind.Enlist = refl
+placed kind.Ready = refl
+placed kind.List = refl
+placed kind.Gather = refl
+placed kind.Replicas = refl
+placed kind.Plan = refl
+placed kind.Fetch = refl
+placed kind.Data = refl
+placed kind.Recovered = refl
+placed kind.Own = refl
+placed kind.SplitOk = refl
+placed kind.Free = refl
+
+pub same_place : (one other : Kind) → kind_place one ≡ kind_place other → one ≡ other
+same_place one other same = let both : Some one ≡ Some other = sym (placed one) ∙ ap (slice_get all_kinds) same ∙ placed other in cc

@@ -1,0 +1,12 @@
+use Rattle.rc_reading.specs.Kinds.{kind_place}
+use Rattle.rc_reading.proofs.Sets.{in_set, hosts_are_sets, same_place}
+use Rattle.rc_reading.proofs.laws.sets_hold_what_was_put_in.Goals as goal
+
+pub returns-clause-hosts : goal.returns-clause-hosts
+returns-clause-hosts c = hosts_are_sets
+
+pub returns-clause-kinds : goal.returns-clause-kinds
+returns-clause-kinds c kinds put kind = in_set kinds.bits (kind_place put) (kind_place kind)
+
+pub returns-clause-places : goal.returns-clause-places
+returns-clause-places c = same_place

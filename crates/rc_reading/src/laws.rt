@@ -1,0 +1,10 @@
+//! Laws of the definitions.
+
+ghost use Rattle.rc_reading.specs.Claims.{HostsAreSets, KindsAreSets, KindsHavePlaces};
+
+/// The sets of hosts and of kinds are sets: a bit for each says no more and no less than that it was put in.
+pub fn sets_hold_what_was_put_in()
+    ensures hosts { HostsAreSets }
+    ensures kinds { KindsAreSets }
+    ensures places { KindsHavePlaces }
+{}
