@@ -9,7 +9,7 @@ use std::alloc::Global;
 use std::marker::Model;
 
 /// A master's log: its segments, of which the newest is the head, and how much of it is durable.
-/// "The log" in `docs/PROTOCOL.md` has the rules.
+/// "The master" in `docs/PROTOCOL.md` has the rules.
 #[derive(Debug, Drop)]
 pub struct LogHead {
     pub(crate) own: ServerId,

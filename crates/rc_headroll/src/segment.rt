@@ -10,7 +10,7 @@ use rc_types::{Entry, Fault, Member, ServerId};
 use std::alloc::{AllocError, Global};
 use std::marker::Model;
 
-/// One segment of a log: its digest, its entries, its members, and how far it has come. "Segments" in
+/// One segment of a log: its digest, its entries, its members, and how far it has come. "The master" in
 /// `docs/PROTOCOL.md` has the rules.
 #[derive(Debug, Drop)]
 pub struct Segment {
