@@ -103,7 +103,7 @@ impl LogHead {
 }
 
 /// A place of a log, and what stands there.
-#[derive(Clone, Copy)]
+#[derive(Clone, Copy, Debug)]
 pub struct Place<'a> {
     /// The segment.
     pub seg: u16,
