@@ -24,7 +24,7 @@ use Rattle.rc_coordinator_facts.proofs.Attempting.{kept-refl, attempt-kept}
 use Rattle.rc_backup_facts.proofs.Backups.{Quiet, own-fine}
 use Rattle.rc_log_safety.proofs.Lasting.{Onward}
 use Rattle.rc_log_safety.proofs.Unmoved.{NoNewPlaceOf, NewlyToldFits, unmoved-grown, unmoved-good, unmoved-own}
-use Rattle.rc_log_safety.proofs.Worlds.{good-onward, host-still, host_later-refl, coordinator_later-refl}
+use Rattle.rc_log_safety.proofs.Worlds.{Led, good-onward, host-still, host_later-refl, coordinator_later-refl}
 use Rattle.rc_log_safety.proofs.MasterWorlds.{server-same, put-cases}
 
 -- the coordinator stays good where more is sent
@@ -131,7 +131,7 @@ module _ (sent : List Message) (masters : ServerId → Master) (hosts : ℕ → 
   said-fine to (body.Data attempt s term entries) said = tt
   said-fine to _ said = absurd said
 
-  pub good-backup : Good (sent ++ messages) masters (put hosts i (record (hosts i) { backup = after })) c
+  pub good-backup : Led sent masters hosts c (sent ++ messages) masters (put hosts i (record (hosts i) { backup = after })) c
   good-backup =
       good-onward sent masters hosts c (sent ++ messages) masters (put hosts i (record (hosts i) { backup = after })) c good onward
       (λ j. put-cases (λ k host. GoodHost (sent ++ messages) masters k host) hosts i (record (hosts i) { backup = after }) mine other j)
@@ -174,7 +174,7 @@ module _ (sent messages : List Message) (masters : ServerId → Master) (hosts :
     stored = λ x m s e len closed at. inl (moved_told x m s e len closed at);
   }
 
-  pub good-host : Good (sent ++ messages) masters (put hosts i host) c
+  pub good-host : Led sent masters hosts c (sent ++ messages) masters (put hosts i host) c
   good-host =
       good-onward sent masters hosts c (sent ++ messages) masters (put hosts i host) c good moved_onward
       (λ j. put-cases (λ k one. GoodHost (sent ++ messages) masters k one) hosts i host mine_now

@@ -27,7 +27,7 @@ use Rattle.rc_coordinator_facts.proofs.Attempting.{kept-refl, attempt-kept}
 use Rattle.rc_backup_facts.proofs.Backups.{own-fine}
 use Rattle.rc_log_safety.proofs.Lasting.{Onward, held-later}
 use Rattle.rc_log_safety.proofs.Unmoved.{NoNewPlaceOf, unmoved-grown, unmoved-good, unmoved-own}
-use Rattle.rc_log_safety.proofs.Worlds.{good-onward, host-still, host_later-refl, coordinator_later-refl}
+use Rattle.rc_log_safety.proofs.Worlds.{Led, good-onward, host-still, host_later-refl, coordinator_later-refl}
 
 -- servers are one
 pub server-same : (a b : ServerId) → Server a ≡ Server b → a ≡ b
@@ -168,7 +168,7 @@ module _ (sent : List Message) (masters : ServerId → Master) (hosts : ℕ → 
       (λ g. put_id-other masters z (record { index = j; generation = g }) after (λ same. differs (ap (λ (id : ServerId). id.index) (sym z_is ∙ same))))
       (λ m x s e len closed on at. told-back x m s e len closed at)
 
-  pub good-master : Good (sent ++ messages) (put_id masters z after) (put hosts i (record (hosts i) { master = Some after })) c
+  pub good-master : Led sent masters hosts c (sent ++ messages) (put_id masters z after) (put hosts i (record (hosts i) { master = Some after })) c
   good-master =
       good-onward sent masters hosts c (sent ++ messages) (put_id masters z after) (put hosts i (record (hosts i) { master = Some after })) c good onward
       (λ j. put-cases (λ k host. GoodHost (sent ++ messages) (put_id masters z after) k host) hosts i (record (hosts i) { master = Some after }) mine other j)

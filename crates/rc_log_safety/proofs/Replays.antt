@@ -33,7 +33,8 @@ use Rattle.rc_coordinator_facts.proofs.Attempting.{new-good}
 use Rattle.rc_coordinator_facts.proofs.Steps.{moved-takes, moved-suspects, moved-decides, moved-creates, moved-splits, moved-ticks}
 use Rattle.rc_backup_facts.proofs.Backups.{Quiet, quiet-none, own-fine, moved-backup, moved-restart}
 use Rattle.rc_log_safety.proofs.Clauses.{nothing-missing, nothing-invented}
-use Rattle.rc_log_safety.proofs.Worlds.{host_later-refl, coordinator_later-refl, good-quiet, good-coordinator}
+use Rattle.rc_log_safety.proofs.Unmoved.{unmoved-grown}
+use Rattle.rc_log_safety.proofs.Worlds.{Led, host_later-refl, coordinator_later-refl, good-quiet, good-coordinator}
 use Rattle.rc_log_safety.proofs.MasterWorlds.{good-master}
 use Rattle.rc_log_safety.proofs.HostWorlds.{coordinator-still, good-backup, good-host}
 
@@ -41,11 +42,15 @@ use Rattle.rc_log_safety.proofs.HostWorlds.{coordinator-still, good-backup, good
 abbrev pub GoodWorld : World → Type 0
 GoodWorld world = Good world.sent world.masters world.hosts world.coordinator
 
+-- a good world after another, and what it has more
+abbrev pub GoodStep : World → World → Type 0
+GoodStep world after = Led world.sent world.masters world.hosts world.coordinator after.sent after.masters after.hosts after.coordinator
+
 -- The outside
 
 -- what a client asks places nothing and tells nothing, and nothing is claimed of it
 good-asked : (sent : List Message) (masters : ServerId → Master) (hosts : ℕ → HostNode) (c : Coordinator) (to : ServerId) (asked : Body) → Good sent masters hosts c → is_for_clients asked ≡ true →
-    Good (sent ++ record { from = Outside; to = Server to; body = asked } ∷ []) masters hosts c
+    Led sent masters hosts c (sent ++ record { from = Outside; to = Server to; body = asked } ∷ []) masters hosts c
 good-asked sent masters hosts c to asked good clients =
     good-quiet sent (record { from = Outside; to = Server to; body = asked } ∷ []) masters hosts c c good quiet (coordinator_later-refl c) (coordinator-still sent (record { from = Outside; to = Server to; body = asked } ∷ []) c good.coordinator) (λ message at. fine message at)
   where
@@ -73,10 +78,10 @@ good-asked sent masters hosts c to asked good clients =
     fine message (inr never) = absurd never
 
 -- nothing is sent
-good-none : (sent : List Message) (masters : ServerId → Master) (hosts : ℕ → HostNode) (c : Coordinator) → Good sent masters hosts c → Good (sent ++ []) masters hosts c
+good-none : (sent : List Message) (masters : ServerId → Master) (hosts : ℕ → HostNode) (c : Coordinator) → Good sent masters hosts c → Led sent masters hosts c (sent ++ []) masters hosts c
 good-none sent masters hosts c good = good-quiet sent [] masters hosts c c good quiet-none (coordinator_later-refl c) (coordinator-still sent [] c good.coordinator) (λ message at. absurd at)
 
-good-outside : (world : World) (one : Event) (work : Work) → GoodWorld world → outside_can work ≡ true → GoodWorld (node_done world one TheOutside work)
+good-outside : (world : World) (one : Event) (work : Work) → GoodWorld world → outside_can work ≡ true → GoodStep world (node_done world one TheOutside work)
 good-outside world one (Ask to asked) good can = good-asked world.sent world.masters world.hosts world.coordinator to asked good (and_parts (is_for_clients asked) _ can).0
 good-outside world one (Take message) good can = good-none world.sent world.masters world.hosts world.coordinator good
 good-outside world one (Tick addr) good can = true_false (sym can)
@@ -106,7 +111,7 @@ to-coordinator-is (Server id) e = cc
 to-coordinator-is AtCoordinator e = refl
 to-coordinator-is Outside e = cc
 
-good-coordinator-node : (world : World) (one : Event) (work : Work) → GoodWorld world → IsGiven world.sent TheCoordinator work → coordinator_can work ≡ true → GoodWorld (node_done world one TheCoordinator work)
+good-coordinator-node : (world : World) (one : Event) (work : Work) → GoodWorld world → IsGiven world.sent TheCoordinator work → coordinator_can work ≡ true → GoodStep world (node_done world one TheCoordinator work)
 good-coordinator-node world one (Take message) good given can =
     good-coordinator world.sent world.masters world.hosts world.coordinator (coordinator_takes world.coordinator message.from message.body) good
     (moved-takes world.sent world.coordinator good.coordinator message.from message.body
@@ -129,9 +134,11 @@ good-coordinator-node world one (Start kept) good given can = true_false (sym ca
 -- Hosts
 
 -- the same world, said otherwise
-good-same : (sent : List Message) (masters masters_now : ServerId → Master) (hosts hosts_now : ℕ → HostNode) (c : Coordinator) → masters_now ≡ masters → hosts_now ≡ hosts → Good sent masters hosts c → Good sent masters_now hosts_now c
-good-same sent masters masters_now hosts hosts_now c same_masters same_hosts good =
-    subst (λ (ms : ServerId → Master). Good sent ms hosts_now c) (sym same_masters) (subst (λ (hs : ℕ → HostNode). Good sent masters hs c) (sym same_hosts) good)
+good-same : (world : World) (sent : List Message) (masters masters_now : ServerId → Master) (hosts hosts_now : ℕ → HostNode) (c : Coordinator) → masters_now ≡ masters → hosts_now ≡ hosts →
+    Led world.sent world.masters world.hosts world.coordinator sent masters hosts c → Led world.sent world.masters world.hosts world.coordinator sent masters_now hosts_now c
+good-same world sent masters masters_now hosts hosts_now c same_masters same_hosts led =
+    subst (λ (ms : ServerId → Master). Led world.sent world.masters world.hosts world.coordinator sent ms hosts_now c) (sym same_masters)
+    (subst (λ (hs : ℕ → HostNode). Led world.sent world.masters world.hosts world.coordinator sent masters hs c) (sym same_hosts) led)
 
 put-found : (hosts : ℕ → HostNode) (i : ℕ) → put hosts i (hosts i) ≡ hosts
 put-found hosts i = fun_ext (λ j. either (λ (host : HostNode). host ≡ hosts j) (nat_eq i j) (hosts i) (hosts j) (λ e. ap hosts (eqb-true i j e)) (λ _. refl))
@@ -154,17 +161,17 @@ last-view sent masters hosts c good i (Some master) e =
 
 module _ (world : World) (one : Event) (i : ℕ) (good : GoodWorld world) where
   -- nothing happens
-  good-still : GoodWorld (host_done world one i (world.hosts i, []))
+  good-still : GoodStep world (host_done world one i (world.hosts i, []))
   good-still =
-      good-same (world.sent ++ []) world.masters (with_last_view world.masters (world.hosts i).master) world.hosts (put world.hosts i (world.hosts i)) world.coordinator
+      good-same world (world.sent ++ []) world.masters (with_last_view world.masters (world.hosts i).master) world.hosts (put world.hosts i (world.hosts i)) world.coordinator
       (last-view world.sent world.masters world.hosts world.coordinator good i (world.hosts i).master refl) (put-found world.hosts i)
       (good-none world.sent world.masters world.hosts world.coordinator good)
 
   -- the master moves
   good-moved : (master : Master) → (world.hosts i).master ≡ Some master → (after : Master × List Message) → MasterMoved world.sent (server_of (world.hosts i)) master after →
-      GoodWorld (host_done world one i (with_master (world.hosts i) after))
+      GoodStep world (host_done world one i (with_master (world.hosts i) after))
   good-moved master e after moved =
-      good-same (world.sent ++ after.1) (put_id world.masters (server_of (world.hosts i)) after.0) (put_id world.masters after.0.log.own after.0) (put world.hosts i (record (world.hosts i) { master = Some after.0 })) (put world.hosts i (record (world.hosts i) { master = Some after.0 })) world.coordinator
+      good-same world (world.sent ++ after.1) (put_id world.masters (server_of (world.hosts i)) after.0) (put_id world.masters after.0.log.own after.0) (put world.hosts i (record (world.hosts i) { master = Some after.0 })) (put world.hosts i (record (world.hosts i) { master = Some after.0 })) world.coordinator
       (ap (λ (key : ServerId). put_id world.masters key after.0) moved.good.own) refl
       (good-master world.sent world.masters world.hosts world.coordinator good i (server_of (world.hosts i)) (server-here world.sent world.masters i (world.hosts i) (good.hosts_are i)) after.0 after.1
       (subst (λ (old : Master). MasterMoved world.sent (server_of (world.hosts i)) old after) (sym ((good.hosts_are i).runs master e)) moved))
@@ -187,9 +194,9 @@ module _ (world : World) (one : Event) (i : ℕ) (good : GoodWorld world) where
 
   -- a message to the running server
   good-server : (master : Master) → (world.hosts i).master ≡ Some master → (message : Message) → In (record { from = message.from; to = Server (server_of (world.hosts i)); body = message.body }) world.sent →
-      GoodWorld (host_done world one i (server_takes (world.hosts i) master message))
+      GoodStep world (host_done world one i (server_takes (world.hosts i) master message))
   good-server master e message at =
-      either (λ (after : HostNode × List Message). GoodWorld (host_done world one i after)) (is_for_backup message.body) (with_backup (world.hosts i) (backup_takes (world.hosts i).backup message.from message.body)) (with_master (world.hosts i) (master_takes master message.from message.body))
+      either (λ (after : HostNode × List Message). GoodStep world (host_done world one i after)) (is_for_backup message.body) (with_backup (world.hosts i) (backup_takes (world.hosts i).backup message.from message.body)) (with_master (world.hosts i) (master_takes master message.from message.body))
       (λ _. as_backup (backup_takes (world.hosts i).backup message.from message.body)
       (moved-backup world.sent world.masters world.hosts (put world.hosts i (record (world.hosts i) { backup = (backup_takes (world.hosts i).backup message.from message.body).0 })) world.coordinator i message.from message.body good at
       (ap (put world.hosts i (record (world.hosts i) { backup = (backup_takes (world.hosts i).backup message.from message.body).0 })) (good.hosts_are i).index ∙ put_same world.hosts i (record (world.hosts i) { backup = (backup_takes (world.hosts i).backup message.from message.body).0 }))))
@@ -197,9 +204,9 @@ module _ (world : World) (one : Event) (i : ℕ) (good : GoodWorld world) where
       (master_takes_keeps world.sent (server_of (world.hosts i)) master message.from message.body (is-good master e) (is-fine master e) (hears message.from message.body at)))
     where
       as_backup : (after : Backup × List Message) → BackupMoved world.sent world.masters (put world.hosts i (record (world.hosts i) { backup = after.0 })) world.coordinator (world.hosts i) after →
-          GoodWorld (host_done world one i (with_backup (world.hosts i) after))
+          GoodStep world (host_done world one i (with_backup (world.hosts i) after))
       as_backup after moved =
-          good-same (world.sent ++ after.1) world.masters (with_last_view world.masters (world.hosts i).master) (put world.hosts i (record (world.hosts i) { backup = after.0 })) (put world.hosts i (record (world.hosts i) { backup = after.0 })) world.coordinator
+          good-same world (world.sent ++ after.1) world.masters (with_last_view world.masters (world.hosts i).master) (put world.hosts i (record (world.hosts i) { backup = after.0 })) (put world.hosts i (record (world.hosts i) { backup = after.0 })) world.coordinator
           (last-view world.sent world.masters world.hosts world.coordinator good i (world.hosts i).master refl) refl
           (good-backup world.sent world.masters world.hosts world.coordinator good i after.0 after.1 moved)
 
@@ -210,19 +217,19 @@ module _ (world : World) (one : Event) (i : ℕ) (good : GoodWorld world) where
   is_server-true id Outside e = true_false (sym e)
 
   -- a message to the host, by whether its master runs
-  good-takes : (found : Option Master) → (world.hosts i).master ≡ found → (message : Message) → In message world.sent → GoodWorld (host_done world one i (takes_if_running (world.hosts i) found message))
+  good-takes : (found : Option Master) → (world.hosts i).master ≡ found → (message : Message) → In message world.sent → GoodStep world (host_done world one i (takes_if_running (world.hosts i) found message))
   good-takes None e message at = good-still
   good-takes (Some master) e message at =
-      either (λ (after : HostNode × List Message). GoodWorld (host_done world one i after)) (is_server (server_of (world.hosts i)) message.to) (server_takes (world.hosts i) master message) (world.hosts i, [])
+      either (λ (after : HostNode × List Message). GoodStep world (host_done world one i after)) (is_server (server_of (world.hosts i)) message.to) (server_takes (world.hosts i) master message) (world.hosts i, [])
       (λ is. good-server master e message (subst (λ (to : Addr). In (record { from = message.from; to = to; body = message.body }) world.sent) (is_server-true (server_of (world.hosts i)) message.to is) at))
       (λ _. good-still)
 
-  good-ticks : (found : Option Master) → (world.hosts i).master ≡ found → GoodWorld (host_done world one i (ticks_if_running (world.hosts i) found))
+  good-ticks : (found : Option Master) → (world.hosts i).master ≡ found → GoodStep world (host_done world one i (ticks_if_running (world.hosts i) found))
   good-ticks None e = good-still
   good-ticks (Some master) e = good-moved master e (master_ticks master) (master_ticks_keeps world.sent (server_of (world.hosts i)) master (is-good master e) (is-fine master e))
 
   -- a stop
-  good-stops : GoodWorld (host_done world one i (record (world.hosts i) { master = None }, []))
+  good-stops : GoodStep world (host_done world one i (record (world.hosts i) { master = None }, []))
   good-stops =
       good-host world.sent [] world.masters world.hosts world.coordinator good i (record (world.hosts i) { master = None }) quiet-none
       (record { generation = (host_later-refl (world.hosts i)).generation; held = (host_later-refl (world.hosts i)).held }) (record {
@@ -237,15 +244,15 @@ module _ (world : World) (one : Event) (i : ℕ) (good : GoodWorld world) where
       was = good.hosts_are i
 
       same_held : GoodHost (world.sent ++ []) world.masters i (world.hosts i)
-      same_held = (good-none world.sent world.masters world.hosts world.coordinator good).hosts_are i
+      same_held = (good-none world.sent world.masters world.hosts world.coordinator good).good.hosts_are i
 
       none_some : (master : Master) → None ≡ Some master → ⊥
       none_some master never = cc
 
   -- a start
-  good-starts : (kept : List (ServerId × ℕ)) → GoodWorld (host_done world one i (starts_host (world.hosts i) (next_server (world.hosts i)) kept))
+  good-starts : (kept : List (ServerId × ℕ)) → GoodStep world (host_done world one i (starts_host (world.hosts i) (next_server (world.hosts i)) kept))
   good-starts kept =
-      good-same (world.sent ++ to_coordinator (next_server (world.hosts i)) body.Enlist ∷ []) world.masters (put_id world.masters (next_server (world.hosts i)) (new_master (next_server (world.hosts i)) (world.hosts i).setup))
+      good-same world (world.sent ++ to_coordinator (next_server (world.hosts i)) body.Enlist ∷ []) world.masters (put_id world.masters (next_server (world.hosts i)) (new_master (next_server (world.hosts i)) (world.hosts i).setup))
       (put world.hosts i (starts_host (world.hosts i) (next_server (world.hosts i)) kept).0) (put world.hosts i (starts_host (world.hosts i) (next_server (world.hosts i)) kept).0) world.coordinator (put_id-found world.masters (next_server (world.hosts i)) (new_master (next_server (world.hosts i)) (world.hosts i).setup) started) refl
       (good-host world.sent (to_coordinator (next_server (world.hosts i)) body.Enlist ∷ []) world.masters world.hosts world.coordinator good i (starts_host (world.hosts i) (next_server (world.hosts i)) kept).0 quiet
       (record { generation = omega arith; held = λ same m. absurd (omega arith) }) (record {
@@ -279,7 +286,7 @@ module _ (world : World) (one : Event) (i : ℕ) (good : GoodWorld world) where
       fine message (inl same) = subst (λ (one : Message). Fine (world.sent ++ to_coordinator (next_server (world.hosts i)) body.Enlist ∷ []) world.masters (put world.hosts i (starts_host (world.hosts i) (next_server (world.hosts i)) kept).0) world.coordinator one) (sym same) tt
       fine message (inr never) = absurd never
 
-  good-host-node : (work : Work) → IsGiven world.sent (TheHost i) work → host_can (world.hosts i) work ≡ true → GoodWorld (node_done world one (TheHost i) work)
+  good-host-node : (work : Work) → IsGiven world.sent (TheHost i) work → host_can (world.hosts i) work ≡ true → GoodStep world (node_done world one (TheHost i) work)
   good-host-node (Take message) given can = good-takes (world.hosts i).master refl message given.0
   good-host-node (Tick addr) given can = good-ticks (world.hosts i).master refl
   good-host-node (Stop id) given can = good-stops
@@ -291,6 +298,21 @@ module _ (world : World) (one : Event) (i : ℕ) (good : GoodWorld world) where
   good-host-node (Split table at) given can = good-still
 
 -- Events
+
+-- the world stays as it is
+led-still : (world : World) → GoodWorld world → GoodStep world world
+led-still world good = record {
+  good = good;
+  onward = record {
+    more = λ message at. at;
+    grown = λ m. unmoved-grown world.sent world.sent m (world.masters m) (good.masters_are m) (λ message at. at) (λ x s e digest entries closed at. at);
+    masters_are = good.masters_are;
+    own = λ m. own-fine world.sent world.masters world.hosts world.coordinator good m;
+    hosts_later = λ i. host_later-refl (world.hosts i);
+    c_later = coordinator_later-refl world.coordinator;
+    stored = λ x m s e len closed at. inl at;
+  };
+}
 
 -- a delivered message was sent
 delivery-given : (sent : List Message) (found : Option Message) (job : Job) → ((message : Message) → found ≡ Some message → In message sent) → delivery found ≡ Some job → IsGiven sent job.node job.work
@@ -313,19 +335,22 @@ work_of-given sent (event.Decide id) job e = of-job sent _ job tt e
 work_of-given sent (event.Create table owner) job e = of-job sent _ job tt e
 work_of-given sent (event.Split table at) job e = of-job sent _ job tt e
 
-good-node : (world : World) (one : Event) (node : NodeName) (work : Work) → GoodWorld world → IsGiven world.sent node work → node_can world node work ≡ true → GoodWorld (node_done world one node work)
+good-node : (world : World) (one : Event) (node : NodeName) (work : Work) → GoodWorld world → IsGiven world.sent node work → node_can world node work ≡ true → GoodStep world (node_done world one node work)
 good-node world one TheOutside work good given can = good-outside world one work good can
 good-node world one TheCoordinator work good given can = good-coordinator-node world one work good given can
 good-node world one (TheHost i) work good given can = good-host-node world one i good work given can
 
-good-job : (world : World) (one : Event) (found : Option Job) → work_of world.sent one ≡ found → GoodWorld world → is_possible_job world found ≡ true → GoodWorld (job_done world one found)
-good-job world one None is good can = good
+good-job : (world : World) (one : Event) (found : Option Job) → work_of world.sent one ≡ found → GoodWorld world → is_possible_job world found ≡ true → GoodStep world (job_done world one found)
+good-job world one None is good can = led-still world good
 good-job world one (Some job) is good can = good-node world one job.node job.work good (work_of-given world.sent one job is) can
 
--- each step keeps all facts
+-- each step keeps all facts, and only adds
+pub led-step : (world : World) (one : Event) → GoodWorld world → GoodStep world (step world one)
+led-step world one good =
+    either (GoodStep world) (is_possible world one) (job_done world one (work_of world.sent one)) world (λ can. good-job world one (work_of world.sent one) refl good can) (λ _. led-still world good)
+
 pub good-step : (world : World) (one : Event) → GoodWorld world → GoodWorld (step world one)
-good-step world one good =
-    either GoodWorld (is_possible world one) (job_done world one (work_of world.sent one)) world (λ can. good-job world one (work_of world.sent one) refl good can) (λ _. good)
+good-step world one good = (led-step world one good).good
 
 pub good-replay_from : (world : World) (events : List Event) → GoodWorld world → GoodWorld (replay_from world events)
 good-replay_from world [] good = good

@@ -24,15 +24,23 @@ use Rattle.rc_log_safety.proofs.Unmoved.{NoNewPlaceOf, unmoved-grown, unmoved-go
 
 -- The next world is good where its parts are, and what is new is fine
 
+-- a good world, and what it has more than an earlier one
+pub record Led (sent : List Message) (masters : ServerId → Master) (hosts : ℕ → HostNode) (c : Coordinator) (sent_now : List Message) (masters_now : ServerId → Master) (hosts_now : ℕ → HostNode) (c_now : Coordinator) : Type 0 where
+  pub good : Good sent_now masters_now hosts_now c_now
+  pub onward : Onward sent masters hosts c sent_now masters_now hosts_now c_now
+
 pub good-onward : (sent : List Message) (masters : ServerId → Master) (hosts : ℕ → HostNode) (c : Coordinator) (sent_now : List Message) (masters_now : ServerId → Master) (hosts_now : ℕ → HostNode) (c_now : Coordinator) →
     Good sent masters hosts c → Onward sent masters hosts c sent_now masters_now hosts_now c_now →
     ((i : ℕ) → GoodHost sent_now masters_now i (hosts_now i)) → GoodCoordinator sent_now c_now →
-    ((message : Message) → In message sent_now → In message sent ⊎ Fine sent_now masters_now hosts_now c_now message) → Good sent_now masters_now hosts_now c_now
+    ((message : Message) → In message sent_now → In message sent ⊎ Fine sent_now masters_now hosts_now c_now message) → Led sent masters hosts c sent_now masters_now hosts_now c_now
 good-onward sent masters hosts c sent_now masters_now hosts_now c_now good w hosts_are coordinator new = record {
-  messages = λ message at. by message (new message at);
-  masters_are = w.masters_are;
-  hosts_are = hosts_are;
-  coordinator = coordinator;
+  good = record {
+    messages = λ message at. by message (new message at);
+    masters_are = w.masters_are;
+    hosts_are = hosts_are;
+    coordinator = coordinator;
+  };
+  onward = w;
 }
   where
     by : (message : Message) → In message sent ⊎ Fine sent_now masters_now hosts_now c_now message → Fine sent_now masters_now hosts_now c_now message
@@ -103,7 +111,7 @@ module _ (sent messages : List Message) (masters : ServerId → Master) (hosts :
     stored = λ x m s e len closed at. inl (told-quiet x m s e len closed at);
   }
 
-  pub good-quiet : GoodCoordinator (sent ++ messages) c_now → ((message : Message) → In message messages → Fine (sent ++ messages) masters hosts c_now message) → Good (sent ++ messages) masters hosts c_now
+  pub good-quiet : GoodCoordinator (sent ++ messages) c_now → ((message : Message) → In message messages → Fine (sent ++ messages) masters hosts c_now message) → Led sent masters hosts c (sent ++ messages) masters hosts c_now
   good-quiet coordinator fine =
       good-onward sent masters hosts c (sent ++ messages) masters hosts c_now good onward-quiet
       (λ i. host-still sent masters hosts c (sent ++ messages) masters hosts c_now good onward-quiet i (λ g. refl) (λ m x s e len closed on at. told-quiet x m s e len closed at))
@@ -116,7 +124,7 @@ module _ (sent messages : List Message) (masters : ServerId → Master) (hosts :
 -- The coordinator moves
 
 pub good-coordinator : (sent : List Message) (masters : ServerId → Master) (hosts : ℕ → HostNode) (c : Coordinator) (after : Coordinator × List Message) → Good sent masters hosts c → CoordinatorMoved sent c after →
-    Good (sent ++ after.1) masters hosts after.0
+    Led sent masters hosts c (sent ++ after.1) masters hosts after.0
 good-coordinator sent masters hosts c after good moved =
     good-quiet sent after.1 masters hosts c after.0 good quiet moved.later moved.good (λ message at. fine message.from message.to message.body (moved.from message at) (moved.says message at))
   where
