@@ -1,3 +1,3 @@
-mod Servers
+pub mod Servers
 pub mod Attempting
 pub mod Steps

@@ -17,7 +17,7 @@ use Rattle.rc_model.specs.Log.{Log}
 use Rattle.rc_model.specs.Master.{Master}
 use Rattle.rc_model.specs.Coordinator.{Coordinator}
 use Rattle.rc_model.specs.Nodes.{HostNode}
-use Rattle.rc_model.specs.Headline.{HasMade, HasAcknowledged, WasAccepted, IsHeld, OnlyIt, IsSuperseded, NothingIsMissing, NothingIsInvented}
+use Rattle.rc_model.specs.Headline.{HasMade, HasAcknowledged, WasAccepted, IsHeld, OnlyIt, IsSuperseded, IsThere, NothingIsMissing, NothingIsInvented}
 use Rattle.rc_model.proofs.Members.{either}
 use Rattle.rc_facts.specs.Words.{log_in}
 use Rattle.rc_facts.specs.Facts.{IsCopy, IsWriteOk, Good, body_fine}
@@ -54,13 +54,13 @@ made-is sent masters hosts c good m s o entry made =
 
 -- The plan, and the write, of a message
 
-accepted-is : (sent : List Message) (masters : ServerId → Master) (hosts : ℕ → HostNode) (c : Coordinator) → Good sent masters hosts c → (plan : Accepted) → WasAccepted sent plan →
+pub accepted-is : (sent : List Message) (masters : ServerId → Master) (hosts : ℕ → HostNode) (c : Coordinator) → Good sent masters hosts c → (plan : Accepted) → WasAccepted sent plan →
     PlanIs sent masters c plan.master plan.rows
 accepted-is sent masters hosts c good plan was =
     plan-is sent masters hosts c good plan.attempt plan.master was.head plan.rows
     (subst (λ (body : Body). body_fine sent masters hosts c was.message.from was.message.to body) was.says (good.messages was.message was.among))
 
-acknowledged-is : (sent : List Message) (masters : ServerId → Master) (hosts : ℕ → HostNode) (c : Coordinator) → Good sent masters hosts c → (m : ServerId) (ack : Ack) → HasAcknowledged sent m ack →
+pub acknowledged-is : (sent : List Message) (masters : ServerId → Master) (hosts : ℕ → HostNode) (c : Coordinator) → Good sent masters hosts c → (m : ServerId) (ack : Ack) → HasAcknowledged sent m ack →
     IsWriteOk sent m (masters m).log ack.seg ack.offset ack.term ack.table ack.key ack.version
 acknowledged-is sent masters hosts c good m ack was =
     let fine : body_fine sent masters hosts c was.message.from was.message.to was.message.body = good.messages was.message was.among in
@@ -68,7 +68,7 @@ acknowledged-is sent masters hosts c good m ack was =
     subst (λ (body : Body). body_fine sent masters hosts c (Server m) was.message.to body) was.says from_m
 
 -- what a row of the plan holds was made
-held-made : (sent : List Message) (masters : ServerId → Master) (hosts : ℕ → HostNode) (c : Coordinator) → (m : ServerId) (rows : List PlanRow) → PlanIs sent masters c m rows → (s o : ℕ) → IsHeld rows s o →
+pub held-made : (sent : List Message) (masters : ServerId → Master) (hosts : ℕ → HostNode) (c : Coordinator) → (m : ServerId) (rows : List PlanRow) → PlanIs sent masters c m rows → (s o : ℕ) → IsHeld rows s o →
     (entry : Entry) × (slice_get (log_in (masters m).log s) o ≡ Some entry) × HasMade sent m s o entry
 held-made sent masters hosts c m rows plan s o held = by (plan.each held.row held.among)
   where
@@ -83,8 +83,10 @@ held-made sent masters hosts c m rows plan s o held = by (plan.each held.row hel
 
 -- Nothing acknowledged is missing
 
-pub nothing-missing : (sent : List Message) (masters : ServerId → Master) (hosts : ℕ → HostNode) (c : Coordinator) → Good sent masters hosts c → NothingIsMissing sent
-nothing-missing sent masters hosts c good plan accepted ack acked = record { held = by is_covered.is_it; only = only }
+-- what is safe, and could be acknowledged, is there
+pub safe-there : (sent : List Message) (masters : ServerId → Master) (hosts : ℕ → HostNode) (c : Coordinator) → Good sent masters hosts c → (plan : Accepted) → WasAccepted sent plan → (ack : Ack) →
+    IsWriteOk sent plan.master (masters plan.master).log ack.seg ack.offset ack.term ack.table ack.key ack.version → IsThere sent plan ack
+safe-there sent masters hosts c good plan accepted ack write = record { held = by is_covered.is_it; only = only }
   where
     m : ServerId
     m = plan.master
@@ -94,9 +96,6 @@ nothing-missing sent masters hosts c good plan accepted ack acked = record { hel
 
     is_plan : PlanIs sent masters c plan.master plan.rows
     is_plan = accepted-is sent masters hosts c good plan accepted
-
-    write : IsWriteOk sent plan.master (masters plan.master).log ack.seg ack.offset ack.term ack.table ack.key ack.version
-    write = acknowledged-is sent masters hosts c good plan.master ack acked
 
     is_covered : IsCovered plan.master (masters plan.master).log plan.rows ack.seg ack.offset write.entry
     is_covered = covered sent masters hosts c good plan.master plan.rows is_plan ack.seg ack.offset write.entry write.safe write.holds
@@ -134,6 +133,9 @@ nothing-missing sent masters hosts c good plan accepted ack acked = record { hel
           },
           ap (λ (one : Entry). one.version) same ∙ write.version_is,
         )
+
+pub nothing-missing : (sent : List Message) (masters : ServerId → Master) (hosts : ℕ → HostNode) (c : Coordinator) → Good sent masters hosts c → NothingIsMissing sent
+nothing-missing sent masters hosts c good plan accepted ack acked = safe-there sent masters hosts c good plan accepted ack (acknowledged-is sent masters hosts c good plan.master ack acked)
 
 -- Nothing recovered is invented
 

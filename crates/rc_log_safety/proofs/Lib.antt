@@ -1,5 +1,5 @@
-mod Picked
-mod Covers
+pub mod Picked
+pub mod Covers
 pub mod Clauses
 pub mod Lasting
 pub mod Unmoved

@@ -35,7 +35,7 @@ least_told-below o (one ∷ other ∷ members) member less (inr rest) =
     least_told-below o (other ∷ members) member (least_of-right o (told_len one.told) (least_told (other ∷ members)) less) rest
 
 -- below the durable length the epoch is committed, and each member has told more
-durable_len-tells : (o : ℕ) (config : Config) → o < durable_len config → (config.committed ≡ true) × ((member : Member) → In member config.members → o < told_len member.told)
+pub durable_len-tells : (o : ℕ) (config : Config) → o < durable_len config → (config.committed ≡ true) × ((member : Member) → In member config.members → o < told_len member.told)
 durable_len-tells o config less =
     either (λ len. o < len → (config.committed ≡ true) × ((member : Member) → In member config.members → o < told_len member.told))
     (config.committed && not (any_lost config.members)) (least_told config.members) 0

@@ -35,7 +35,7 @@ use Rattle.rc_master_facts.proofs.Ticks.{fetches-quiet, moved-ticks}
 
 -- A good master's view, and back
 
-view-of : (sent : List Message) (m : ServerId) (master : Master) → GoodMaster sent m master → OwnFine sent m master.log → GoodView sent m master
+pub view-of : (sent : List Message) (m : ServerId) (master : Master) → GoodMaster sent m master → OwnFine sent m master.log → GoodView sent m master
 view-of sent m master good fine = record {
   log = record {
     own = good.own;
