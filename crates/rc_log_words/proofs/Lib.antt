@@ -1,3 +1,5 @@
 pub mod Since
 pub mod Stored
 pub mod SafePlaces
+pub mod Growing
+pub mod Fencing

@@ -4,3 +4,5 @@
 #![tactic(auto)]
 
 pub mod durable;
+pub mod fences;
+pub mod logs;
