@@ -78,7 +78,7 @@ row-covers sent masters hosts c good m y row copy valid o safe = split row.close
             omega arith
 
 -- the head row is of no segment below a durable place: that one is shut
-head-not-below : (sent : List Message) (masters : ServerId → Master) (hosts : ℕ → HostNode) (c : Coordinator) → Good sent masters hosts c →
+pub head-not-below : (sent : List Message) (masters : ServerId → Master) (hosts : ℕ → HostNode) (c : Coordinator) → Good sent masters hosts c →
     (m y : ServerId) (row : Row) → IsCopy sent m (masters m).log y.index y.generation row.seg row.epoch row.closed row.len row.digest →
     row.closed ≡ false → is_valid (c.least m) row ≡ true → ((masters m).log.segments row.seg).shut ≡ true → ⊥
 head-not-below sent masters hosts c good m y row copy open_so valid shut_so =
@@ -217,7 +217,7 @@ plan-is sent masters hosts c good number m head rows plan = record {
     all s found = (found.0, subst (λ (rs : List PlanRow). In found.0 rs) rows_are found.1, found.2)
 
 -- a durable place of a segment of the head's digest is held
-held-in : (sent : List Message) (masters : ServerId → Master) (hosts : ℕ → HostNode) (c : Coordinator) → Good sent masters hosts c →
+pub held-in : (sent : List Message) (masters : ServerId → Master) (hosts : ℕ → HostNode) (c : Coordinator) → Good sent masters hosts c →
     (m : ServerId) (rows : List PlanRow) → (plan : PlanIs sent masters c m rows) → (s o : ℕ) → IsSafe sent m (masters m).log s o → In s plan.row.digest → IsHeld rows s o
 held-in sent masters hosts c good m rows plan s o safe at =
     let found : (one : PlanRow) × (In one rows) × (one.seg ≡ s) = plan.all s at in

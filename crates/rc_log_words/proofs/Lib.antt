@@ -3,3 +3,5 @@ pub mod Stored
 pub mod SafePlaces
 pub mod Growing
 pub mod Fencing
+pub mod Keeping
+pub mod KeptWorlds

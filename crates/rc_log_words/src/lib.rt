@@ -6,3 +6,4 @@
 pub mod durable;
 pub mod fences;
 pub mod logs;
+pub mod kept;
