@@ -1,0 +1,4 @@
+mod Tablets
+mod Chains
+mod Granting
+mod Steps

@@ -1,0 +1,13 @@
+//! What the steps of the coordinator keep of tablets and grants.
+
+ghost use Rattle.rc_owner_facts.specs.Claims.{StepsKeepGrants, NewHasGoodGrants};
+
+/// After each step of the coordinator: tablets do not overlap; the grants of a point are a chain in
+/// which each one's previous term is that of the one before, terms rise, and the last term is that of
+/// the tablet that holds the point; each owner in it but the last has crashed, and none comes twice; a
+/// part of a current attempt that isn't granted still is its crashed master's. A grant is remembered
+/// for good and sent in the step that makes it, and each Own that is sent is of one that is remembered.
+pub fn the_coordinator_keeps_the_grants()
+    ensures steps { StepsKeepGrants }
+    ensures new { NewHasGoodGrants }
+{}
