@@ -2,3 +2,4 @@ mod Tablets
 mod Chains
 mod Granting
 mod Steps
+mod Owners

@@ -137,3 +137,8 @@ pub record GrantsMoved (old : Coordinator) (after : Coordinator × List Message)
   pub remembers : (grant : Grant) → In grant old.grants → In grant after.0.grants
   pub told : (grant : Grant) → In grant after.0.grants → In grant old.grants ⊎ In (from_coordinator grant.owner (own_body grant)) after.1
   pub says : (message : Message) → In message after.1 → own_said after.0 message.to message.body
+
+-- What was sent of the grants: each that is remembered, and no other; and each Plan is of a decision
+pub record GrantsKept (sent : List Message) (c : Coordinator) : Type 0 where
+  pub told : (grant : Grant) → In grant c.grants → In (from_coordinator grant.owner (own_body grant)) sent
+  pub known : (message : Message) → In message sent → own_said c message.to message.body

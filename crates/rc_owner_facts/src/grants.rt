@@ -1,6 +1,6 @@
 //! What the steps of the coordinator keep of tablets and grants.
 
-ghost use Rattle.rc_owner_facts.specs.Claims.{StepsKeepGrants, NewHasGoodGrants};
+ghost use Rattle.rc_owner_facts.specs.Claims.{StepsKeepGrants, NewHasGoodGrants, StepsKeepWhatWasSent, OthersKeepWhatWasSent, NothingWasSent, OwnersFormOneChain, EarlierTermsAreLess, GrantedOnce};
 
 /// After each step of the coordinator: tablets do not overlap; the grants of a point are a chain in
 /// which each one's previous term is that of the one before, terms rise, and the last term is that of
@@ -10,4 +10,20 @@ ghost use Rattle.rc_owner_facts.specs.Claims.{StepsKeepGrants, NewHasGoodGrants}
 pub fn the_coordinator_keeps_the_grants()
     ensures steps { StepsKeepGrants }
     ensures new { NewHasGoodGrants }
+{}
+
+/// What was sent of the grants is what is remembered, in each step of any node: each grant that is
+/// remembered was sent, each Own is of one of them, and each Plan is of a decision.
+pub fn what_was_sent_is_remembered()
+    ensures coordinator { StepsKeepWhatWasSent }
+    ensures others { OthersKeepWhatWasSent }
+    ensures new { NothingWasSent }
+{}
+
+/// The owners of a point form one chain: of two terms granted for it one is the earlier one, an
+/// earlier term is less, and no id is granted it twice.
+pub fn owners_form_one_chain()
+    ensures chain { OwnersFormOneChain }
+    ensures less { EarlierTermsAreLess }
+    ensures once { GrantedOnce }
 {}
