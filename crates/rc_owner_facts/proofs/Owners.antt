@@ -1,5 +1,5 @@
 -- What was sent of the grants stays so, and the owners of a point form one chain.
-use Rattle.std.proofs.Common.{◌≡◌, ◌⊎◌, ℕ, ◌<◌, Bool, true, false, cond, List, [], ◌∷◌, ◌++◌, filter, slice_get, Option, Some, None, refl, sym, ap, ◌∙◌, subst, inl, inr, arith}
+use Rattle.std.proofs.Common.{◌≡◌, ◌⊎◌, ℕ, ◌<◌, Bool, true, List, [], ◌∷◌, ◌++◌, filter, slice_get, Some, None, refl, sym, ap, ◌∙◌, subst, inl, inr, arith}
 use Rattle.rc_types.specs.declared.ids.ServerId.{ServerId}
 use Rattle.rc_types.specs.declared.ids.Addr.{Addr}
 use Rattle.rc_types.specs.declared.ids.Addr.TheVariants.{Server}
@@ -8,7 +8,7 @@ use Rattle.rc_types.specs.declared.messages.Message.{Message}
 use Rattle.rc_types.specs.declared.messages.Body.{Body}
 use Rattle.rc_types.specs.declared.messages.Body.TheVariants.{Own, Plan as PlanBody}
 use Rattle.rc_model.specs.Messages.{from_coordinator}
-use Rattle.rc_model.specs.Attempts.{Attempt, Decision}
+use Rattle.rc_model.specs.Attempts.{Decision}
 use Rattle.rc_model.specs.Coordinator.{Coordinator, new_coordinator}
 use Rattle.rc_model.specs.Deciding.{own_body}
 use Rattle.rc_model.specs.Ownership.{in_range}
@@ -19,7 +19,7 @@ use Rattle.rc_model.proofs.Befores.{before-through}
 use Rattle.rc_facts.specs.Later.{AttemptLater}
 use Rattle.rc_facts.specs.Moves.{CoordinatorLater}
 use Rattle.rc_facts.proofs.Lists.{true_false, In-filter}
-use Rattle.rc_owner_facts.specs.Grants.{grants_at, term_at, IsChain, NoneTo, OwnersDiffer, IsDecided, IsOwn, IsPlanOf, own_said, GoodGrants, GrantsMoved, GrantsKept}
+use Rattle.rc_owner_facts.specs.Grants.{grants_at, term_at, IsChain, NoneTo, OwnersDiffer, IsDecided, own_said, GoodGrants, GrantsMoved, GrantsKept}
 
 -- What was sent
 
