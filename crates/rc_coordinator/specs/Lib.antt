@@ -1,3 +1,4 @@
+pub mod Book
 pub mod Numbers
 pub mod View
 pub mod Steps

@@ -1,12 +1,13 @@
--- How the definitions see the coordinator's fields.
+-- How contracts and the definitions see the coordinator's fields.
 use Rattle.indexmap.specs.IndexSet.{contains}
 use Rattle.rc_model.specs.Ids.{same_id}
 use Rattle.rc_model.specs.Coordinator.{Coordinator as Node}
-use Rattle.rc_coordinator.specs.declared.coordinator.Coordinator.{Coordinator}
+use Rattle.rc_coordinator.specs.declared.state.State.{State}
+use Rattle.rc_coordinator.specs.Book.{Book}
 use Rattle.rc_coordinator.specs.Numbers.{number_in, pair_in}
 
-abbrev pub coordinator_of : {A : _} → Coordinator A → Node
-coordinator_of c =
+abbrev pub state_view : {A : _} → State A → Node
+state_view c =
     record {
       servers = c.servers;
       ready = contains same_id c.ready;
@@ -14,6 +15,19 @@ coordinator_of c =
       least = pair_in c.least;
       attempts = c.recoveries.attempts.items;
       current = number_in c.recoveries.current;
+      grants = c.grants.items;
+      last_term = c.last_term;
+    }
+
+abbrev pub book_of : {A : _} → State A → Book
+book_of c =
+    record {
+      servers = c.servers;
+      ready = c.ready.keys;
+      tablets = c.tablets.tablets;
+      least = c.least.entries;
+      attempts = c.recoveries.attempts.items;
+      current = c.recoveries.current.entries;
       grants = c.grants.items;
       last_term = c.last_term;
     }

@@ -224,7 +224,7 @@ impl Recoveries {
         ensures current { OnOk result (number_in self.new.current ≡ put_id (number_in self.old.current) master (length self.old.attempts.items + 1)) }
         ensures sends { OnOk result (sent.new.items ≡ sent.old.items ++ (messages.items ++ to_each (up servers.now) (Gather (length self.old.attempts.items + 1) master))) }
         ensures attempts_stay { OnErr result (self.new.attempts.items ≡ self.old.attempts.items) }
-        ensures current_stays { OnErr result (number_in self.new.current ≡ number_in self.old.current) }
+        ensures current_stays { OnErr result (self.new.current.entries ≡ self.old.current.entries) }
         ensures unsent { OnErr result (sent.new.items ≡ sent.old.items) }
         ensures no_memory { IfErr result (λ fault. fault ≡ OutOfMemory) }
     {

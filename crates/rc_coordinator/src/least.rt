@@ -30,7 +30,7 @@ pub(crate) fn raise(
     pair: Pair,
 ) -> Result<(), AllocError>
     ensures ok { OnOk result (pair_in least.new ≡ put_id (pair_in least.old) master (greater_of (pair_in least.old master) pair)) }
-    ensures err { OnErr result (pair_in least.new ≡ pair_in least.old) }
+    ensures err { OnErr result (least.new.entries ≡ least.old.entries) }
 {
     let greater = greater_of(least_of(least, master), pair);
     least.insert(master, greater)?;

@@ -10,6 +10,8 @@ mod grants;
 mod least;
 mod notices;
 mod plans;
-
+mod state;
+#[cfg(test)]
+mod tests;
 
 pub use coordinator::Coordinator;

@@ -32,4 +32,3 @@ loop-count-preserved c =
       given = given-next ids (c.args.first + place) (c.args.term + place) _ _ parts c.push.new.self.items tablet rest to found next (omega arith) (omega arith) ∙ sym before ∙ c.loop-count.invariant.given;
       few = omega (arith, ap length next, length_push parts one, c.loop-count.invariant.few);
     }
-

@@ -2,7 +2,7 @@ use Rattle.std.proofs.Common.{filter, rules, tests, ap, ◌∙◌}
 use Rattle.std.proofs.lemmas.Fn.{filter_same}
 use Rattle.indexmap.specs.IndexSet.{contains}
 use Rattle.rc_model.specs.Ids.{same_id}
-use Rattle.rc_coordinator.proofs.coordinator.Coordinator.ready_ids.Goals as goal
+use Rattle.rc_coordinator.proofs.state.State.ready_ids.Goals as goal
 
 pub returns-clause-ok : goal.returns-clause-ok
 returns-clause-ok g c =

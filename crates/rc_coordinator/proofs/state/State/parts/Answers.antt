@@ -2,7 +2,7 @@ use Rattle.std.proofs.Common.{◌≡◌, ◌≤◌, length, ap, ◌∙◌, arith
 use Rattle.std.proofs.lemmas.Result.{IfOk-weaker}
 use Rattle.rc_model.specs.Tablets.{tablets_of}
 use Rattle.rc_coordinator.proofs.TabletLemmas.{length-tablets_of}
-use Rattle.rc_coordinator.proofs.coordinator.Coordinator.parts.Goals as goal
+use Rattle.rc_coordinator.proofs.state.State.parts.Goals as goal
 
 pub give_parts-requires-clause-terms : goal.give_parts-requires-clause-terms
 give_parts-requires-clause-terms g c =
