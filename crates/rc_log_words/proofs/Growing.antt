@@ -1,12 +1,10 @@
 -- Logs and their replicas.
-use Rattle.std.proofs.Common.{◌≡◌, ℕ, ◌+◌, ◌<◌, Bool, true, List, ◌++◌, length, Some, slice_get, refl, sym, ap, ◌∙◌, subst, inl, inr, arith}
+use Rattle.std.proofs.Common.{◌≡◌, ℕ, ◌<◌, Bool, true, List, ◌++◌, length, Some, slice_get, inl, arith}
 use Rattle.std.proofs.lemmas.List.{length-map}
 use Rattle.rc_types.specs.declared.ids.ServerId.{ServerId}
 use Rattle.rc_types.specs.declared.entries.Entry.{Entry}
-use Rattle.rc_types.specs.declared.events.Setup.{Setup}
-use Rattle.rc_types.specs.declared.events.Event.{Event}
 use Rattle.rc_types.specs.declared.messages.Message.{Message}
-use Rattle.rc_model.specs.Log.{Log, LogPlace}
+use Rattle.rc_model.specs.Log.{LogPlace}
 use Rattle.rc_model.specs.Master.{Master}
 use Rattle.rc_model.specs.World.{replay}
 use Rattle.rc_facts.specs.Words.{log_in}
@@ -19,7 +17,7 @@ use Rattle.rc_master_facts.proofs.Steps.{view-of}
 use Rattle.rc_backup_facts.proofs.Backups.{own-fine}
 use Rattle.rc_backup_facts.proofs.Replicas.{begins-whole}
 use Rattle.rc_log_safety.proofs.Clauses.{made-is, accepted-is, held-made}
-use Rattle.rc_log_safety.proofs.Replays.{GoodWorld, good-world}
+use Rattle.rc_log_safety.proofs.Replays.{good-world}
 use Rattle.rc_log_words.specs.LogClaims.{OneEntryAtAPlace, LogsGrow, ShutIsFinal, ShutIsSafe, ReplicasAreBeginnings, RecoveredIsMade}
 use Rattle.rc_log_words.proofs.Since.{Since, since-more}
 

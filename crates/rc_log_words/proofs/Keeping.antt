@@ -1,7 +1,7 @@
 -- A master that frees nothing keeps each segment in each digest.
-use Rattle.std.proofs.Common.{◌≡◌, ◌⊎◌, ℕ, zero, suc, ◌+◌, ◌-◌, ◌<◌, ◌≤◌, Bool, true, false, cond, not, ◌&&◌, ◌||◌, nat_eq, nat_lt, List, [], ◌∷◌, ◌++◌, filter, Option, Some, None, Result, Ok, Err, refl, sym, ap, ◌∙◌, subst, inl, inr, arith}
+use Rattle.std.proofs.Common.{◌≡◌, ◌⊎◌, ℕ, zero, suc, ◌+◌, ◌-◌, ◌<◌, ◌≤◌, Bool, true, false, cond, not, ◌&&◌, ◌||◌, nat_eq, nat_lt, List, [], ◌∷◌, filter, Option, Some, None, Result, Ok, Err, refl, sym, ap, ◌∙◌, subst, inl, inr, arith}
 use Rattle.std.specs.List.{list_any}
-use Rattle.std.proofs.lemmas.Bool.{and_parts, eqb-true, cases_order}
+use Rattle.std.proofs.lemmas.Bool.{and_parts, eqb-true}
 use Rattle.rc_types.specs.declared.ids.ServerId.{ServerId}
 use Rattle.rc_types.specs.declared.ids.Addr.{Addr}
 use Rattle.rc_types.specs.declared.ids.Addr.TheVariants.{Server, Coordinator}
@@ -14,7 +14,6 @@ use Rattle.rc_types.specs.declared.messages.Message.{Message}
 use Rattle.rc_types.specs.declared.messages.Body.{Body}
 use Rattle.rc_types.specs.declared.messages.Body.TheVariants.{Write, Read, Stored, CommitOk, Refused, Plan, Data, Own, List as ServersOf, Enlist}
 use Rattle.rc_types.specs.declared.limits.TheConstants.{LAST_SEGMENT}
-use Rattle.rc_model.specs.Tables.{put}
 use Rattle.rc_model.specs.ServerList.{ServerList, from_rows, newer_than, is_up}
 use Rattle.rc_model.specs.Messages.{to_coordinator}
 use Rattle.rc_model.specs.Config.{Config, choose, lose, refill, noted, committed_at}

@@ -1,5 +1,5 @@
 -- Where masters free nothing, an accepted recovery holds each safe place.
-use Rattle.std.proofs.Common.{◌≡◌, ◌⊎◌, ℕ, ◌+◌, ◌<◌, ◌≤◌, Bool, true, false, List, [], ◌∷◌, Option, Some, None, take, refl, sym, ap, ◌∙◌, subst, inl, inr, arith}
+use Rattle.std.proofs.Common.{◌≡◌, ◌⊎◌, ℕ, ◌+◌, ◌<◌, ◌≤◌, false, List, [], ◌∷◌, Option, Some, None, take, refl, sym, subst, inl, inr, arith}
 use Rattle.std.proofs.lemmas.Bool.{cases_order}
 use Rattle.rc_types.specs.declared.ids.ServerId.{ServerId}
 use Rattle.rc_types.specs.declared.events.Setup.{Setup}
@@ -7,16 +7,15 @@ use Rattle.rc_types.specs.declared.events.Event.{Event}
 use Rattle.rc_types.specs.declared.messages.Message.{Message}
 use Rattle.rc_types.specs.declared.rows.PlanRow.{PlanRow}
 use Rattle.rc_model.specs.Ids.{is_server}
-use Rattle.rc_model.specs.Tables.{put_id}
-use Rattle.rc_model.specs.Backup.{Backup, backup_takes}
+use Rattle.rc_model.specs.Backup.{backup_takes}
 use Rattle.rc_model.specs.Master.{Master, new_master}
 use Rattle.rc_model.specs.MasterStep.{master_takes, master_ticks}
-use Rattle.rc_model.specs.Nodes.{Work, Ask, Take, Tick, Stop, Start, Suspect, Decide, Create, Split, HostNode, is_for_backup, with_backup, with_master, server_of, next_server, server_takes, takes_if_running, ticks_if_running, starts_host, host_step, master_setup}
+use Rattle.rc_model.specs.Nodes.{Work, Ask, Take, Tick, Stop, Start, Suspect, Decide, Create, Split, HostNode, is_for_backup, with_backup, with_master, server_of, next_server, server_takes, takes_if_running, ticks_if_running, host_step}
 use Rattle.rc_model.specs.World.{World, opening, NodeName, TheOutside, TheCoordinator, TheHost, Job, with_last_view, is_possible, work_of, node_done, job_done, step, replay_from, replay}
-use Rattle.rc_model.specs.Recovered.{Ack, Accepted}
-use Rattle.rc_model.specs.Headline.{In, WasAccepted, IsHeld, IsThereItself, NothingIsDropped}
+use Rattle.rc_model.specs.Recovered.{Accepted}
+use Rattle.rc_model.specs.Headline.{In, WasAccepted, IsHeld}
 use Rattle.rc_model.proofs.Members.{either}
-use Rattle.rc_facts.specs.Facts.{IsSafe, GoodHost, IsWriteOk}
+use Rattle.rc_facts.specs.Facts.{IsSafe, IsWriteOk}
 use Rattle.rc_facts.proofs.Lists.{put_id_each}
 use Rattle.rc_log_safety.proofs.Covers.{PlanIs, held-in, head-not-below}
 use Rattle.rc_log_safety.proofs.Clauses.{accepted-is, acknowledged-is, safe-there}
@@ -24,7 +23,7 @@ use Rattle.rc_log_safety.proofs.Replays.{GoodWorld, good-step, good-opening, goo
 use Rattle.rc_log_words.specs.KeptClaims.{NothingIsDroppedWhereNothingIsFreed, DurableIsHeldWhereNothingIsFreed}
 use Rattle.rc_log_words.proofs.Since.{since-take}
 use Rattle.rc_log_words.proofs.SafePlaces.{stored-is-safe}
-use Rattle.rc_log_words.proofs.Keeping.{WholeLog, Keeps, KeepsAfter, keeps-takes, keeps-ticks}
+use Rattle.rc_log_words.proofs.Keeping.{Keeps, KeepsAfter, keeps-takes, keeps-ticks}
 
 -- each master that ever ran keeps all
 abbrev KeepsAll : (ServerId → Master) → Type 0

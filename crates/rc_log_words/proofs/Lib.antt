@@ -5,3 +5,4 @@ pub mod Growing
 pub mod Fencing
 pub mod Keeping
 pub mod KeptWorlds
+pub mod Crashing

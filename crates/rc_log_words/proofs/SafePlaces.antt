@@ -1,12 +1,12 @@
 -- Durable places and acknowledgements.
-use Rattle.std.proofs.Common.{◌≡◌, ℕ, List, ◌++◌, take, Some, slice_get, refl, sym, ap, ◌∙◌, subst}
+use Rattle.std.proofs.Common.{◌≡◌, ℕ, List, ◌++◌, take, Some, slice_get, refl, sym, subst}
 use Rattle.rc_types.specs.declared.ids.ServerId.{ServerId}
 use Rattle.rc_types.specs.declared.entries.Entry.{Entry}
 use Rattle.rc_types.specs.declared.events.Setup.{Setup}
 use Rattle.rc_types.specs.declared.events.Event.{Event}
-use Rattle.rc_model.specs.Recovered.{Ack, Accepted}
+use Rattle.rc_model.specs.Recovered.{Ack}
 use Rattle.rc_model.specs.World.{World, replay}
-use Rattle.rc_model.specs.Headline.{HasAcknowledged, WasAccepted, IsThere}
+use Rattle.rc_model.specs.Headline.{HasAcknowledged}
 use Rattle.rc_facts.specs.Words.{log_in}
 use Rattle.rc_facts.specs.Facts.{IsSafe, IsWriteOk}
 use Rattle.rc_facts.proofs.Lists.{get-below}

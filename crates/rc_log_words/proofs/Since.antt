@@ -1,15 +1,14 @@
 -- From a world to a later one: what was sent stays, each master's log is a later one, and what is safe stays safe.
-use Rattle.std.proofs.Common.{◌≡◌, ◌⊎◌, ℕ, ◌≤◌, Bool, List, [], ◌∷◌, ◌++◌, length, take, drop, refl, sym, ap, ◌∙◌, subst}
+use Rattle.std.proofs.Common.{◌≡◌, ℕ, List, [], ◌∷◌, ◌++◌, take, drop, refl, sym, subst}
 use Rattle.std.proofs.lemmas.List.{take-append-drop}
 use Rattle.rc_types.specs.declared.ids.ServerId.{ServerId}
 use Rattle.rc_types.specs.declared.events.Setup.{Setup}
 use Rattle.rc_types.specs.declared.events.Event.{Event}
-use Rattle.rc_types.specs.declared.messages.Message.{Message}
 use Rattle.rc_model.specs.World.{World, opening, step, replay_from, replay}
 use Rattle.rc_facts.specs.Facts.{IsSafe}
 use Rattle.rc_facts.specs.Later.{LogLater}
 use Rattle.rc_facts.proofs.Copies.{More}
-use Rattle.rc_master_facts.proofs.Logs.{log_later-refl, log_later-trans, log_later-more, safe-grown}
+use Rattle.rc_master_facts.proofs.Logs.{log_later-refl, log_later-trans, safe-grown}
 use Rattle.rc_log_safety.proofs.Replays.{GoodWorld, GoodStep, led-step, good-world}
 
 -- a later world, as one master's log sees it

@@ -1,14 +1,14 @@
 -- A place that is stored on all is safe.
-use Rattle.std.proofs.Common.{◌≡◌, ◌⊎◌, ℕ, zero, suc, ◌-◌, ◌<◌, ◌≤◌, Bool, true, false, min, nat_lt, not, ◌&&◌, List, [], ◌∷◌, length, Some, slice_get, refl, sym, ap, ◌∙◌, subst, inl, inr, arith}
+use Rattle.std.proofs.Common.{◌≡◌, ◌⊎◌, ℕ, zero, suc, ◌-◌, ◌<◌, ◌≤◌, Bool, true, nat_lt, not, ◌&&◌, List, [], ◌∷◌, length, Some, slice_get, refl, sym, subst, inl, inr, arith}
 use Rattle.std.proofs.lemmas.Bool.{and_parts, ltb-true}
 use Rattle.std.proofs.lemmas.List.{length-map}
 use Rattle.rc_types.specs.declared.ids.ServerId.{ServerId}
 use Rattle.rc_types.specs.declared.entries.Entry.{Entry}
 use Rattle.rc_types.specs.declared.kept.Member.{Member}
 use Rattle.rc_types.specs.declared.messages.Message.{Message}
-use Rattle.rc_model.specs.Config.{Config, any_lost, told_len, least_told, durable_len}
+use Rattle.rc_model.specs.Config.{Config, any_lost, least_told, durable_len}
 use Rattle.rc_model.specs.Segment.{Segment, durable_in}
-use Rattle.rc_model.specs.Log.{Log, LogPlace, has_segment}
+use Rattle.rc_model.specs.Log.{LogPlace, has_segment}
 use Rattle.rc_model.specs.Master.{Master}
 use Rattle.rc_model.specs.Durable.{all_shut_to, is_stored_on_all}
 use Rattle.rc_model.specs.Headline.{In}

@@ -3,7 +3,8 @@
 //! and their contracts are theorems on the definitions.
 #![tactic(auto)]
 
+pub mod commits;
 pub mod durable;
 pub mod fences;
-pub mod logs;
 pub mod kept;
+pub mod logs;
