@@ -1,5 +1,5 @@
 -- The greatest recovered versions, entry by entry and message by message.
-use Rattle.std.proofs.Common.{◌≡◌, ℕ, suc, ◌+◌, ◌<◌, ◌≤◌, Bool, true, false, cond, ◌&&◌, ◌||◌, max, min, nat_eq, nat_lt, List, [], ◌∷◌, ◌++◌, Option, Some, None, unwrap_or, length, map, take, get_or, refl, sym, ap, ◌∙◌, subst, arith}
+use Rattle.std.proofs.Common.{◌≡◌, ℕ, suc, ◌+◌, ◌<◌, ◌≤◌, Bool, true, false, ◌&&◌, ◌||◌, min, nat_eq, nat_lt, List, [], ◌∷◌, ◌++◌, length, map, take, get_or, refl, sym, ap, ◌∙◌, subst, arith}
 use Rattle.std.specs.BTreeMap.{BTreeMap}
 use Rattle.std.proofs.lemmas.Bool.{and_parts, eqb-true}
 use Rattle.std.proofs.lemmas.Bool.Decides.{nat_tests}
@@ -13,7 +13,7 @@ use Rattle.rc_types.specs.declared.messages.Body.TheVariants.{Place, Append}
 use Rattle.rc_model.specs.Recovered.{Ack, reach}
 use Rattle.rc_model.specs.Breach.{is_greater, has_greater, holds_greater}
 use Rattle.rc_audit.specs.declared.highs.TermKey.{TermKey}
-use Rattle.rc_audit.specs.Highs.{same_key, high_at, is_above, NotesVersion}
+use Rattle.rc_audit.specs.Highs.{same_key}
 use Rattle.rc_audit.specs.Superseded.{greater_below, superseded_in, says_above, Supersedes}
 use Rattle.rc_audit.proofs.PlaceLemmas.{taken_more}
 
