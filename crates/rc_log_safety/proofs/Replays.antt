@@ -95,7 +95,7 @@ good-outside world one (Split table at) good can = true_false (sym can)
 -- The coordinator
 
 -- what reaches the coordinator was sent to it
-may-hear : (sent : List Message) (masters : ServerId → Master) (hosts : ℕ → HostNode) (c : Coordinator) → Good sent masters hosts c → (from : Addr) (says : Body) →
+pub may-hear : (sent : List Message) (masters : ServerId → Master) (hosts : ℕ → HostNode) (c : Coordinator) → Good sent masters hosts c → (from : Addr) (says : Body) →
     In (record { from = from; to = AtCoordinator; body = says }) sent → CoordinatorMayHear sent from says
 may-hear sent masters hosts c good (Server y) (body.Replicas number rows) at = at
 may-hear sent masters hosts c good from _ at = tt
@@ -106,7 +106,7 @@ IsGiven sent node (Take message) = In message sent × (node_of message.to ≡ no
 IsGiven sent node _ = Unit {0}
 
 -- an address of the coordinator, and one of a host's server
-to-coordinator-is : (to : Addr) → node_of to ≡ TheCoordinator → to ≡ AtCoordinator
+pub to-coordinator-is : (to : Addr) → node_of to ≡ TheCoordinator → to ≡ AtCoordinator
 to-coordinator-is (Server id) e = cc
 to-coordinator-is AtCoordinator e = refl
 to-coordinator-is Outside e = cc
@@ -177,14 +177,14 @@ module _ (world : World) (one : Event) (i : ℕ) (good : GoodWorld world) where
       (subst (λ (old : Master). MasterMoved world.sent (server_of (world.hosts i)) old after) (sym ((good.hosts_are i).runs master e)) moved))
 
   -- the master of a host, with what is known of it
-  is-good : (master : Master) → (world.hosts i).master ≡ Some master → GoodMaster world.sent (server_of (world.hosts i)) master
+  pub is-good : (master : Master) → (world.hosts i).master ≡ Some master → GoodMaster world.sent (server_of (world.hosts i)) master
   is-good master e = subst (GoodMaster world.sent (server_of (world.hosts i))) ((good.hosts_are i).runs master e) (good.masters_are (server_of (world.hosts i)))
 
-  is-fine : (master : Master) → (world.hosts i).master ≡ Some master → OwnFine world.sent (server_of (world.hosts i)) master.log
+  pub is-fine : (master : Master) → (world.hosts i).master ≡ Some master → OwnFine world.sent (server_of (world.hosts i)) master.log
   is-fine master e = subst (λ (one : Master). OwnFine world.sent (server_of (world.hosts i)) one.log) ((good.hosts_are i).runs master e) (own-fine world.sent world.masters world.hosts world.coordinator good (server_of (world.hosts i)))
 
   -- what a master hears was sent to it
-  hears : (from : Addr) (says : Body) → In (record { from = from; to = Server (server_of (world.hosts i)); body = says }) world.sent → MayHear world.sent (server_of (world.hosts i)) from says
+  pub hears : (from : Addr) (says : Body) → In (record { from = from; to = Server (server_of (world.hosts i)); body = says }) world.sent → MayHear world.sent (server_of (world.hosts i)) from says
   hears (Server x) (body.Stored s e len closed) at = at
   hears AtCoordinator (body.CommitOk s e) at = at
   hears (Server x) (body.CommitOk s e) at = absurd (good.messages (record { from = Server x; to = Server (server_of (world.hosts i)); body = body.CommitOk s e }) at)
@@ -211,7 +211,7 @@ module _ (world : World) (one : Event) (i : ℕ) (good : GoodWorld world) where
           (good-backup world.sent world.masters world.hosts world.coordinator good i after.0 after.1 moved)
 
   -- the test of an address
-  is_server-true : (id : ServerId) (to : Addr) → is_server id to ≡ true → to ≡ Server id
+  pub is_server-true : (id : ServerId) (to : Addr) → is_server id to ≡ true → to ≡ Server id
   is_server-true id (Server other) e = ap Server (sym (same_id-true id other e))
   is_server-true id AtCoordinator e = true_false (sym e)
   is_server-true id Outside e = true_false (sym e)
@@ -324,7 +324,7 @@ delivery-given sent (Some message) job was e =
 of-job : (sent : List Message) (this job : Job) → IsGiven sent this.node this.work → Some this ≡ Some job → IsGiven sent job.node job.work
 of-job sent this job given e = let same : this ≡ job = cc in subst (λ (some : Job). IsGiven sent some.node some.work) same given
 
-work_of-given : (sent : List Message) (one : Event) (job : Job) → work_of sent one ≡ Some job → IsGiven sent job.node job.work
+pub work_of-given : (sent : List Message) (one : Event) (job : Job) → work_of sent one ≡ Some job → IsGiven sent job.node job.work
 work_of-given sent (event.Deliver number) job e = delivery-given sent (slice_get sent number) job (λ message at. In-get sent number message at) e
 work_of-given sent (event.Ask to asked) job e = of-job sent _ job tt e
 work_of-given sent (event.Tick addr) job e = of-job sent _ job tt e

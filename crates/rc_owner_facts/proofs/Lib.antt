@@ -1,5 +1,7 @@
-mod Tablets
-mod Chains
-mod Granting
-mod Steps
-mod Owners
+pub mod Tablets
+pub mod Chains
+pub mod Granting
+pub mod Steps
+pub mod Ordered
+pub mod Replays
+mod Chained

@@ -1,2 +1,3 @@
 pub mod Grants
 pub mod Claims
+pub mod Headline

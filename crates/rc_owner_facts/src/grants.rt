@@ -20,9 +20,9 @@ pub fn what_was_sent_is_remembered()
     ensures new { NothingWasSent }
 {}
 
-/// The owners of a point form one chain: of two terms granted for it one is the earlier one, an
+/// Where they hold, the grants of a point form one chain: of two terms one is the earlier one, an
 /// earlier term is less, and no id is granted it twice.
-pub fn owners_form_one_chain()
+pub fn grants_form_one_chain()
     ensures chain { OwnersFormOneChain }
     ensures less { EarlierTermsAreLess }
     ensures once { GrantedOnce }

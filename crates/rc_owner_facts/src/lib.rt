@@ -3,3 +3,4 @@
 #![tactic(auto)]
 
 pub mod grants;
+pub mod owners;

@@ -1,4 +1,4 @@
-use Rattle.rc_owner_facts.proofs.Owners.{kept-step, kept-others, kept-none}
+use Rattle.rc_owner_facts.proofs.Ordered.{kept-step, kept-others, kept-none}
 use Rattle.rc_owner_facts.proofs.grants.what_was_sent_is_remembered.Goals as goal
 
 pub returns : goal.returns
