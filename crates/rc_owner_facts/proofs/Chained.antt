@@ -1,5 +1,5 @@
 -- The owners of a point form one chain, in every world.
-use Rattle.rc_model.specs.World.{World, replay}
+use Rattle.rc_model.specs.World.{replay}
 use Rattle.rc_owner_facts.specs.Headline.{PointsHaveOneChain, TermsRise, PointsAreGrantedOnce}
 use Rattle.rc_owner_facts.proofs.Ordered.{one-chain, earlier-less, granted-once}
 use Rattle.rc_owner_facts.proofs.Replays.{OfWorld, grants-world}

@@ -1,9 +1,9 @@
 -- What holds of tablets and grants holds of every world that a list of events leads to.
-use Rattle.std.proofs.Common.{◌≡◌, ◌⊎◌, ℕ, Bool, true, List, [], ◌∷◌, ◌++◌, Option, Some, None, refl, sym, ap, ◌∙◌, subst, inl, inr}
+use Rattle.std.proofs.Common.{◌≡◌, ℕ, true, List, [], ◌∷◌, ◌++◌, Option, Some, None, refl, sym, ap, ◌∙◌, subst, inl, inr}
 use Rattle.std.proofs.lemmas.Bool.{and_parts}
 use Rattle.rc_types.specs.declared.ids.ServerId.{ServerId}
 use Rattle.rc_types.specs.declared.ids.Addr.{Addr}
-use Rattle.rc_types.specs.declared.ids.Addr.TheVariants.{Server, Coordinator as AtCoordinator, Outside}
+use Rattle.rc_types.specs.declared.ids.Addr.TheVariants.{Server}
 use Rattle.rc_types.specs.declared.events.Setup.{Setup}
 use Rattle.rc_types.specs.declared.events.Event.{Event}
 use Rattle.rc_types.specs.declared.messages.Message.{Message}
@@ -16,7 +16,7 @@ use Rattle.rc_model.specs.Log.{Log}
 use Rattle.rc_model.specs.Master.{Master}
 use Rattle.rc_model.specs.MasterStep.{master_takes, master_ticks}
 use Rattle.rc_model.specs.Coordinator.{Coordinator}
-use Rattle.rc_model.specs.Nodes.{Work, Ask, Take, Tick, Stop, Start, Suspect, Decide, Create, Split, HostNode, is_for_clients, outside_can, outside_sends, coordinator_can, coordinator_step, server_of, host_step, is_for_backup, with_backup, with_master, server_takes, takes_if_running, ticks_if_running}
+use Rattle.rc_model.specs.Nodes.{Work, Ask, Take, Tick, Start, Suspect, Decide, Create, Split, HostNode, is_for_clients, outside_can, outside_sends, coordinator_step, server_of, host_step, is_for_backup, with_backup, with_master, server_takes, takes_if_running, ticks_if_running}
 use Rattle.rc_model.specs.World.{World, opening, NodeName, TheOutside, TheCoordinator, TheHost, Job, work_of, node_can, is_possible_job, is_possible, node_done, job_done, step, replay_from, replay}
 use Rattle.rc_model.specs.Headline.{In}
 use Rattle.rc_model.proofs.Members.{either}
