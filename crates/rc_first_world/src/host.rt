@@ -6,7 +6,7 @@ ghost use Rattle.rc_first_model.specs.World.{is_for_backup};
 
 use crate::backup::Backup;
 use crate::master::Master;
-use rc_types::{Body, Fault, Message, ServerId, FirstSetup};
+use rc_types::{Body, Fault, FirstSetup, Message, ServerId};
 use std::alloc::Global;
 
 /// A host that was started and runs.

@@ -9,7 +9,7 @@ use crate::{config, outbox, ownership};
 use rc_serverlist::ServerList;
 use rc_types::limits::MAX_VALUE;
 use rc_types::{
-    Addr, Body, Fault, GrantedRange, KeyRange, Message, Seq, ServerId, FirstSetup, TryClone,
+    Addr, Body, Fault, FirstSetup, GrantedRange, KeyRange, Message, Seq, ServerId, TryClone,
 };
 use std::alloc::Global;
 

@@ -16,7 +16,7 @@ use crate::coordinator::Coordinator;
 use crate::host::Host;
 use indexmap::IndexMap;
 use rc_types::limits::MAX_HOSTS;
-use rc_types::{Addr, Body, Event, Fault, Message, ServerId, FirstSetup, TryClone};
+use rc_types::{Addr, Body, Event, Fault, FirstSetup, Message, ServerId, TryClone};
 use std::alloc::{Allocator, Global};
 
 /// The nodes of a world, and all messages ever sent, in order. A host that was never started has no

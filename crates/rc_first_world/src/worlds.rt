@@ -8,7 +8,7 @@ ghost use Rattle.rc_first_world.specs.Happened.{with_events, sent_in, can_happen
 
 use crate::nodes::Nodes;
 use rc_types::limits::MAX_EVENTS;
-use rc_types::{Event, Fault, Message, FirstSetup, TryClone};
+use rc_types::{Event, Fault, FirstSetup, Message, TryClone};
 use std::alloc::{Allocator, Global};
 use std::marker::Model;
 

@@ -69,7 +69,12 @@ fn state(rt: &impl Abort, own: &Ownership) -> (usize, bool, bool, u64) {
 }
 
 /// Notes an entry; once refused, nothing has changed, and it is noted again.
-fn note(rt: &(impl Abort + Print), alloc: Global, own: &mut Ownership, entry: &Entry) -> Result<(), Fail> {
+fn note(
+    rt: &(impl Abort + Print),
+    alloc: Global,
+    own: &mut Ownership,
+    entry: &Entry,
+) -> Result<(), Fail> {
     let before = state(rt, own);
     if own.note(alloc, entry).is_err() {
         println!(rt; "refused")?;
@@ -135,11 +140,27 @@ fn dead_entries(rt: HostRuntime) -> Result<(), Fail> {
 }
 
 /// Takes a grant; once refused, nothing has changed, and it is taken again.
-fn grant(rt: &(impl Abort + Print), own: &mut Ownership, range: KeyRange, term: u32) -> Result<(), Fail> {
-    let before = (own.has_grants(), own.owns_term(term), own.term_of(7, range.lo));
+fn grant(
+    rt: &(impl Abort + Print),
+    own: &mut Ownership,
+    range: KeyRange,
+    term: u32,
+) -> Result<(), Fail> {
+    let before = (
+        own.has_grants(),
+        own.owns_term(term),
+        own.term_of(7, range.lo),
+    );
     if own.grant(range, term).is_err() {
         println!(rt; "refused")?;
-        assert_eq!(rt; (own.has_grants(), own.owns_term(term), own.term_of(7, range.lo)), before);
+        assert_eq!(rt;
+            (
+                own.has_grants(),
+                own.owns_term(term),
+                own.term_of(7, range.lo)
+            ),
+            before
+        );
         own.grant(range, term)?;
     }
     assert_eq!(rt; own.owns_term(term), true);
@@ -215,11 +236,23 @@ fn put_part(rt: &(impl Abort + Print), alloc: Global) -> Result<Ownership, Fail>
     assert_eq!(rt; (own.knows_term(2), own.owns_term(2)), (true, false));
     let first = again!(rt; half(alloc, 1));
     let second = again!(rt; half(alloc, 513));
-    assert_eq!(rt; put(rt, alloc, &mut own, 2, OTHER, second.as_slice())?, false);
-    assert_eq!(rt; put(rt, alloc, &mut own, 2, HOLDER, second.as_slice())?, true);
-    assert_eq!(rt; put(rt, alloc, &mut own, 2, HOLDER, first.as_slice())?, false);
+    assert_eq!(rt;
+        put(rt, alloc, &mut own, 2, OTHER, second.as_slice())?,
+        false
+    );
+    assert_eq!(rt;
+        put(rt, alloc, &mut own, 2, HOLDER, second.as_slice())?,
+        true
+    );
+    assert_eq!(rt;
+        put(rt, alloc, &mut own, 2, HOLDER, first.as_slice())?,
+        false
+    );
     assert_eq!(rt; own.has_replay(), false);
-    assert_eq!(rt; put(rt, alloc, &mut own, 1, HOLDER, first.as_slice())?, true);
+    assert_eq!(rt;
+        put(rt, alloc, &mut own, 1, HOLDER, first.as_slice())?,
+        true
+    );
     assert_eq!(rt; own.has_replay(), true);
     assert_eq!(rt; own.complete(), None);
     Ok(own)

@@ -34,21 +34,50 @@ fn each_event(rt: HostRuntime) -> Result<(), Fail> {
     let kept = vec![in alloc; (id(1, 2), 3u16), (id(0, 4_294_967_295), 65_535u16)]?;
     let accent = vec![in alloc; 195u8, 169u8]?;
     let expected = vec![in alloc;
-        ScenarioEvent::Start { host: 0, kept: Seq::new(alloc) },
-        ScenarioEvent::Start { host: 63, kept: Seq::from_vec(kept) },
+        ScenarioEvent::Start {
+            host: 0,
+            kept: Seq::new(alloc)
+        },
+        ScenarioEvent::Start {
+            host: 63,
+            kept: Seq::from_vec(kept)
+        },
         ScenarioEvent::Stop(id(0, 1)),
         ScenarioEvent::Suspect(id(1, 2)),
         ScenarioEvent::Decide(id(2, 3)),
         ScenarioEvent::Tick(Addr::Server(id(3, 4))),
         ScenarioEvent::Tick(Addr::Coordinator),
-        ScenarioEvent::Write { to: id(0, 1), table: 7, key: u64::MAX, value: Some(Seq::from_vec(accent)) },
-        ScenarioEvent::Write { to: id(0, 1), table: u32::MAX, key: 0, value: None },
-        ScenarioEvent::Read { to: id(0, 1), table: 7, key: 5 },
+        ScenarioEvent::Write {
+            to: id(0, 1),
+            table: 7,
+            key: u64::MAX,
+            value: Some(Seq::from_vec(accent))
+        },
+        ScenarioEvent::Write {
+            to: id(0, 1),
+            table: u32::MAX,
+            key: 0,
+            value: None
+        },
+        ScenarioEvent::Read {
+            to: id(0, 1),
+            table: 7,
+            key: 5
+        },
         ScenarioEvent::Deliver(u32::MAX),
-        ScenarioEvent::Create { table: 7, owner: id(0, 1) },
+        ScenarioEvent::Create {
+            table: 7,
+            owner: id(0, 1)
+        },
         ScenarioEvent::Split { table: 7, at: 9 },
-        ScenarioEvent::Settle { kinds: Kinds::new(), hosts: Hosts::new() },
-        ScenarioEvent::Settle { kinds: Kinds::new().with(Kind::Free).with(Kind::Write), hosts: Hosts::new().with(0).with(63) }
+        ScenarioEvent::Settle {
+            kinds: Kinds::new(),
+            hosts: Hosts::new()
+        },
+        ScenarioEvent::Settle {
+            kinds: Kinds::new().with(Kind::Free).with(Kind::Write),
+            hosts: Hosts::new().with(0).with(63)
+        },
     ]?;
     assert!(rt; scenario.events.as_slice() == expected.as_slice());
     Ok(())
@@ -60,9 +89,15 @@ fn sets(rt: HostRuntime) -> Result<(), Fail> {
     assert!(rt; kinds.has(Kind::Write) && kinds.has(Kind::Free) && !kinds.has(Kind::Read));
     assert!(rt; !Kinds::new().has(Kind::Free));
     let hosts = Hosts::new().with(0).with(63);
-    assert!(rt; hosts.has(0) && hosts.has(63) && !hosts.has(1) && !hosts.has(64) && !hosts.has(255));
+    assert!(rt;
+        hosts.has(0) && hosts.has(63) && !hosts.has(1) && !hosts.has(64) && !hosts.has(255)
+    );
     let enlist = Kind::of(&Body::Enlist);
-    assert!(rt; enlist == Kind::Enlist && enlist.name() == "Enlist" && Kind::named("Enlist") == Some(Kind::Enlist));
+    assert!(rt;
+        enlist == Kind::Enlist
+            && enlist.name() == "Enlist"
+            && Kind::named("Enlist") == Some(Kind::Enlist)
+    );
     assert!(rt; Kind::named("enlist").is_none() && Kind::named("Free") == Some(Kind::Free));
     Ok(())
 }

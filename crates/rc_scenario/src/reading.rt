@@ -10,7 +10,7 @@ ghost use Rattle.rc_scenario.specs.Scenario.{kind_at, start_of, write_of, delive
 use crate::kinds::BodyKind;
 use crate::scenarios::{Passing, ReadFault, Scenario, ScenarioEvent};
 use crate::values::{id_at, is_object_of, items, items_at, number, number_at};
-use rc_types::{Body, Event, Seq, FirstSetup};
+use rc_types::{Body, Event, FirstSetup, Seq};
 use serde_json::Value;
 use std::alloc::{AllocError, Global};
 

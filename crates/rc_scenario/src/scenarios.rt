@@ -3,7 +3,7 @@
 ghost use Rattle.std.specs.Prelude.{◌≡◌};
 
 use crate::kinds::BodyKind;
-use rc_types::{Addr, Body, Event, Message, Seq, FirstSetup};
+use rc_types::{Addr, Body, Event, FirstSetup, Message, Seq};
 use std::alloc::{AllocError, AllocFailed};
 
 /// A scenario of format 1.

@@ -12,9 +12,9 @@ ghost use Rattle.rc_sim.specs.Verdicts.{audited, Comes};
 
 use crate::runs::Run;
 use crate::verdicts::{SimFault, Verdict};
+use rc_first_world::{World, audit};
 use rc_scenario::{ReadFault, Scenario, add_stopped, error_text, read_scenario, report_of};
 use rc_types::Code;
-use rc_first_world::{World, audit};
 use std::alloc::{Allocator, Global};
 
 /// What is answered, and what is printed.

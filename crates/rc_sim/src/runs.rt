@@ -9,9 +9,9 @@ ghost use Rattle.rc_scenario.specs.Run.{due_from, settles, scenario_event, run_f
 ghost use Rattle.rc_sim.specs.Steps.{GoesOn, StopsIn, RunsThrough, StopsAt};
 
 use crate::mail::Mail;
+use rc_first_world::World;
 use rc_scenario::{Passing, ScenarioEvent};
 use rc_types::{Event, Fault, FirstSetup};
-use rc_first_world::World;
 use std::alloc::{Allocator, Global};
 use std::marker::Model;
 
