@@ -1,5 +1,5 @@
 -- A host's backup moves, or the host starts or stops, and the world stays good.
-use Rattle.std.proofs.Common.{◌≡◌, ◌⊎◌, ℕ, ◌≤◌, Bool, false, List, ◌++◌, refl, sym, ap, ◌∙◌, subst, inl, inr, arith}
+use Rattle.std.proofs.Common.{◌≡◌, ◌⊎◌, ℕ, ◌≤◌, Bool, true, false, List, ◌++◌, refl, sym, ap, ◌∙◌, subst, inl, inr, arith}
 use Rattle.rc_types.specs.declared.ids.ServerId.{ServerId}
 use Rattle.rc_types.specs.declared.ids.Addr.{Addr}
 use Rattle.rc_types.specs.declared.ids.Addr.TheVariants.{Server, Coordinator as AtCoordinator, Outside}
@@ -7,7 +7,8 @@ use Rattle.rc_types.specs.declared.messages.Message.{Message}
 use Rattle.rc_types.specs.declared.messages.Body.{Body}
 use Rattle.rc_types.specs.declared.messages.Body.TheVariants as body
 use Rattle.rc_model.specs.Tables.{put}
-use Rattle.rc_model.specs.Messages.{between}
+use Rattle.rc_model.specs.Messages.{between, from_coordinator}
+use Rattle.rc_model.specs.ServerList.{is_up}
 use Rattle.rc_model.specs.Backup.{Backup}
 use Rattle.rc_model.specs.Master.{Master}
 use Rattle.rc_model.specs.Coordinator.{Coordinator}
@@ -22,6 +23,7 @@ use Rattle.rc_facts.proofs.Lists.{put_each, put_same}
 use Rattle.rc_facts.proofs.Copies.{More}
 use Rattle.rc_coordinator_facts.proofs.Attempting.{kept-refl, attempt-kept}
 use Rattle.rc_backup_facts.proofs.Backups.{Quiet, own-fine}
+use Rattle.rc_log_safety.proofs.Granted.{GrantsUp}
 use Rattle.rc_log_safety.proofs.Lasting.{Onward}
 use Rattle.rc_log_safety.proofs.Unmoved.{NoNewPlaceOf, NewlyToldFits, unmoved-grown, unmoved-good, unmoved-own}
 use Rattle.rc_log_safety.proofs.Worlds.{Led, good-onward, host-still, host_later-refl, coordinator_later-refl}
@@ -80,6 +82,13 @@ module _ (sent : List Message) (masters : ServerId → Master) (hosts : ℕ → 
       by (inl there) = inl there
       by (inr new) = inr (subst (λ (y : ServerId). IsNewStored hosts y m) (sym (teller x m s e len closed new)) (by_server (moved.says (between x m (body.Stored s e len closed)) new).1.1))
 
+  granted-back : (m : ServerId) (s e : ℕ) → In (from_coordinator m (body.CommitOk s e)) (sent ++ messages) → In (from_coordinator m (body.CommitOk s e)) sent ⊎ (is_up c.servers m ≡ true)
+  granted-back m s e at = by (In-append (from_coordinator m (body.CommitOk s e)) sent messages at)
+    where
+      by : In (from_coordinator m (body.CommitOk s e)) sent ⊎ In (from_coordinator m (body.CommitOk s e)) messages → In (from_coordinator m (body.CommitOk s e)) sent ⊎ (is_up c.servers m ≡ true)
+      by (inl there) = inl there
+      by (inr new) = absurd (moved.says (from_coordinator m (body.CommitOk s e)) new)
+
   onward : Onward sent masters hosts c (sent ++ messages) masters (put hosts i (record (hosts i) { backup = after })) c
   onward = record {
     more = more;
@@ -89,6 +98,7 @@ module _ (sent : List Message) (masters : ServerId → Master) (hosts : ℕ → 
     hosts_later = λ j. put_each (λ k host. HostLater (hosts k) host) hosts i (record (hosts i) { backup = after }) (record { generation = omega arith; held = λ same m. moved.later m }) (λ k. host_later-refl (hosts k)) j;
     c_later = coordinator_later-refl c;
     stored = new-stored;
+    granted = granted-back;
   }
 
   mine : GoodHost (sent ++ messages) masters i (record (hosts i) { backup = after })
@@ -144,7 +154,7 @@ module _ (sent : List Message) (masters : ServerId → Master) (hosts : ℕ → 
 
 -- The host changes otherwise: it starts, or it stops
 
-module _ (sent messages : List Message) (masters : ServerId → Master) (hosts : ℕ → HostNode) (c : Coordinator) (good : Good sent masters hosts c) (i : ℕ) (host : HostNode) (quiet : Quiet messages)
+module _ (sent messages : List Message) (masters : ServerId → Master) (hosts : ℕ → HostNode) (c : Coordinator) (good : Good sent masters hosts c) (i : ℕ) (host : HostNode) (quiet : Quiet messages) (grants : GrantsUp c messages)
     (later : HostLater (hosts i) host) (mine_now : GoodHost (sent ++ messages) masters i host) (fine_now : (message : Message) → In message messages → Fine (sent ++ messages) masters (put hosts i host) c message) where
   moved_more : More sent (sent ++ messages)
   moved_more message at = In-left message sent messages at
@@ -163,6 +173,13 @@ module _ (sent messages : List Message) (masters : ServerId → Master) (hosts :
       by (inl there) = there
       by (inr new) = absurd (quiet.told x m s e len closed new)
 
+  granted-moved : (m : ServerId) (s e : ℕ) → In (from_coordinator m (body.CommitOk s e)) (sent ++ messages) → In (from_coordinator m (body.CommitOk s e)) sent ⊎ (is_up c.servers m ≡ true)
+  granted-moved m s e at = by (In-append (from_coordinator m (body.CommitOk s e)) sent messages at)
+    where
+      by : In (from_coordinator m (body.CommitOk s e)) sent ⊎ In (from_coordinator m (body.CommitOk s e)) messages → In (from_coordinator m (body.CommitOk s e)) sent ⊎ (is_up c.servers m ≡ true)
+      by (inl there) = inl there
+      by (inr new) = inr (grants m s e new)
+
   moved_onward : Onward sent masters hosts c (sent ++ messages) masters (put hosts i host) c
   moved_onward = record {
     more = moved_more;
@@ -172,6 +189,7 @@ module _ (sent messages : List Message) (masters : ServerId → Master) (hosts :
     hosts_later = λ j. put_each (λ k one. HostLater (hosts k) one) hosts i host later (λ k. host_later-refl (hosts k)) j;
     c_later = coordinator_later-refl c;
     stored = λ x m s e len closed at. inl (moved_told x m s e len closed at);
+    granted = granted-moved;
   }
 
   pub good-host : Led sent masters hosts c (sent ++ messages) masters (put hosts i host) c

@@ -8,7 +8,8 @@ use Rattle.rc_types.specs.declared.rows.PlanRow.{PlanRow}
 use Rattle.rc_types.specs.declared.messages.Message.{Message}
 use Rattle.rc_types.specs.declared.messages.Body.{Body}
 use Rattle.rc_types.specs.declared.messages.Body.TheVariants as body
-use Rattle.rc_model.specs.Messages.{between}
+use Rattle.rc_model.specs.Messages.{between, from_coordinator}
+use Rattle.rc_model.specs.ServerList.{is_up}
 use Rattle.rc_model.specs.Replica.{Replica}
 use Rattle.rc_model.specs.Backup.{Held, is_freed}
 use Rattle.rc_model.specs.Master.{Master}
@@ -37,6 +38,9 @@ pub record Onward (sent : List Message) (masters : ServerId → Master) (hosts :
   pub c_later : CoordinatorLater c c_now
   pub stored : (x m : ServerId) (s e len : ℕ) (closed : Bool) → In (between x m (body.Stored s e len closed)) sent_now →
       In (between x m (body.Stored s e len closed)) sent ⊎ IsNewStored hosts x m
+  -- what is newly granted goes to a server that is up
+  pub granted : (m : ServerId) (s e : ℕ) → In (from_coordinator m (body.CommitOk s e)) sent_now →
+      In (from_coordinator m (body.CommitOk s e)) sent ⊎ (is_up c.servers m ≡ true)
 
 -- what was told and stands, stands
 stands-later : (old new : Held) (s e len : ℕ) (closed : Bool) → HeldLater old new → StillStands old s e len closed ⊎ (is_freed s old ≡ true) → StillStands new s e len closed ⊎ (is_freed s new ≡ true)

@@ -3,6 +3,7 @@ pub mod Covers
 pub mod Clauses
 pub mod Lasting
 pub mod Unmoved
+pub mod Granted
 pub mod Worlds
 pub mod MasterWorlds
 pub mod HostWorlds

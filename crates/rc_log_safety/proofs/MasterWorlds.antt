@@ -10,7 +10,8 @@ use Rattle.rc_types.specs.declared.messages.Body.{Body}
 use Rattle.rc_types.specs.declared.messages.Body.TheVariants as body
 use Rattle.rc_model.specs.Ids.{same_id}
 use Rattle.rc_model.specs.Tables.{put, put_id}
-use Rattle.rc_model.specs.Messages.{between}
+use Rattle.rc_model.specs.Messages.{between, from_coordinator}
+use Rattle.rc_model.specs.ServerList.{is_up}
 use Rattle.rc_model.specs.Log.{Log}
 use Rattle.rc_model.specs.Master.{Master}
 use Rattle.rc_model.specs.Coordinator.{Coordinator}
@@ -127,6 +128,13 @@ module _ (sent : List Message) (masters : ServerId → Master) (hosts : ℕ → 
   hosts_later : (j : ℕ) → HostLater (hosts j) (put hosts i (record (hosts i) { master = Some after }) j)
   hosts_later j = put_each (λ k host. HostLater (hosts k) host) hosts i (record (hosts i) { master = Some after }) (record { generation = (host_later-refl (hosts i)).generation; held = (host_later-refl (hosts i)).held }) (λ k. host_later-refl (hosts k)) j
 
+  granted-back : (m : ServerId) (s e : ℕ) → In (from_coordinator m (body.CommitOk s e)) (sent ++ messages) → In (from_coordinator m (body.CommitOk s e)) sent ⊎ (is_up c.servers m ≡ true)
+  granted-back m s e at = by (In-append (from_coordinator m (body.CommitOk s e)) sent messages at)
+    where
+      by : In (from_coordinator m (body.CommitOk s e)) sent ⊎ In (from_coordinator m (body.CommitOk s e)) messages → In (from_coordinator m (body.CommitOk s e)) sent ⊎ (is_up c.servers m ≡ true)
+      by (inl there) = inl there
+      by (inr new) = absurd (moved.says (from_coordinator m (body.CommitOk s e)) new).says
+
   onward : Onward sent masters hosts c (sent ++ messages) (put_id masters z after) (put hosts i (record (hosts i) { master = Some after })) c
   onward = record {
     more = more;
@@ -139,6 +147,7 @@ module _ (sent : List Message) (masters : ServerId → Master) (hosts : ℕ → 
     hosts_later = hosts_later;
     c_later = coordinator_later-refl c;
     stored = λ x m s e len closed at. inl (told-back x m s e len closed at);
+    granted = granted-back;
   }
 
   -- the moving host: its backup stays

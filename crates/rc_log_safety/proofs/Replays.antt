@@ -33,6 +33,7 @@ use Rattle.rc_coordinator_facts.proofs.Attempting.{new-good}
 use Rattle.rc_coordinator_facts.proofs.Steps.{moved-takes, moved-suspects, moved-decides, moved-creates, moved-splits, moved-ticks}
 use Rattle.rc_backup_facts.proofs.Backups.{Quiet, quiet-none, own-fine, moved-backup, moved-restart}
 use Rattle.rc_log_safety.proofs.Clauses.{nothing-missing, nothing-invented}
+use Rattle.rc_log_safety.proofs.Granted.{GrantsUp, grants-takes, grants-ticks, grants-suspects, grants-decides, grants-creates, grants-splits}
 use Rattle.rc_log_safety.proofs.Unmoved.{unmoved-grown}
 use Rattle.rc_log_safety.proofs.Worlds.{Led, host_later-refl, coordinator_later-refl, good-quiet, good-coordinator}
 use Rattle.rc_log_safety.proofs.MasterWorlds.{good-master}
@@ -52,8 +53,12 @@ GoodStep world after = Led world.sent world.masters world.hosts world.coordinato
 good-asked : (sent : List Message) (masters : ServerId → Master) (hosts : ℕ → HostNode) (c : Coordinator) (to : ServerId) (asked : Body) → Good sent masters hosts c → is_for_clients asked ≡ true →
     Led sent masters hosts c (sent ++ record { from = Outside; to = Server to; body = asked } ∷ []) masters hosts c
 good-asked sent masters hosts c to asked good clients =
-    good-quiet sent (record { from = Outside; to = Server to; body = asked } ∷ []) masters hosts c c good quiet (coordinator_later-refl c) (coordinator-still sent (record { from = Outside; to = Server to; body = asked } ∷ []) c good.coordinator) (λ message at. fine message at)
+    good-quiet sent (record { from = Outside; to = Server to; body = asked } ∷ []) masters hosts c c good quiet (coordinator_later-refl c) no_grant (coordinator-still sent (record { from = Outside; to = Server to; body = asked } ∷ []) c good.coordinator) (λ message at. fine message at)
   where
+    no_grant : GrantsUp c (record { from = Outside; to = Server to; body = asked } ∷ [])
+    no_grant m s e (inl same) = (let froms : AtCoordinator ≡ Outside = ap (λ (one : Message). one.from) same in cc)
+    no_grant m s e (inr never) = absurd never
+
     not_outside : {P : Type 0} (x : ServerId) → Server x ≡ Outside → P
     not_outside x never = cc
 
@@ -79,7 +84,7 @@ good-asked sent masters hosts c to asked good clients =
 
 -- nothing is sent
 good-none : (sent : List Message) (masters : ServerId → Master) (hosts : ℕ → HostNode) (c : Coordinator) → Good sent masters hosts c → Led sent masters hosts c (sent ++ []) masters hosts c
-good-none sent masters hosts c good = good-quiet sent [] masters hosts c c good quiet-none (coordinator_later-refl c) (coordinator-still sent [] c good.coordinator) (λ message at. absurd at)
+good-none sent masters hosts c good = good-quiet sent [] masters hosts c c good quiet-none (coordinator_later-refl c) (λ m s e at. absurd at) (coordinator-still sent [] c good.coordinator) (λ message at. absurd at)
 
 good-outside : (world : World) (one : Event) (work : Work) → GoodWorld world → outside_can work ≡ true → GoodStep world (node_done world one TheOutside work)
 good-outside world one (Ask to asked) good can = good-asked world.sent world.masters world.hosts world.coordinator to asked good (and_parts (is_for_clients asked) _ can).0
@@ -117,16 +122,17 @@ good-coordinator-node world one (Take message) good given can =
     (moved-takes world.sent world.coordinator good.coordinator message.from message.body
     (may-hear world.sent world.masters world.hosts world.coordinator good message.from message.body
     (subst (λ (to : Addr). In (record { from = message.from; to = to; body = message.body }) world.sent) (to-coordinator-is message.to given.1) given.0)))
+    (grants-takes world.coordinator message.from message.body)
 good-coordinator-node world one (Tick addr) good given can =
-    good-coordinator world.sent world.masters world.hosts world.coordinator (world.coordinator, coordinator_ticks world.coordinator) good (moved-ticks world.sent world.coordinator good.coordinator)
+    good-coordinator world.sent world.masters world.hosts world.coordinator (world.coordinator, coordinator_ticks world.coordinator) good (moved-ticks world.sent world.coordinator good.coordinator) (grants-ticks world.coordinator)
 good-coordinator-node world one (Suspect id) good given can =
-    good-coordinator world.sent world.masters world.hosts world.coordinator (suspects world.coordinator id) good (moved-suspects world.sent world.coordinator good.coordinator id)
+    good-coordinator world.sent world.masters world.hosts world.coordinator (suspects world.coordinator id) good (moved-suspects world.sent world.coordinator good.coordinator id) (grants-suspects world.coordinator id)
 good-coordinator-node world one (Decide id) good given can =
-    good-coordinator world.sent world.masters world.hosts world.coordinator (decides world.coordinator id) good (moved-decides world.sent world.coordinator good.coordinator id)
+    good-coordinator world.sent world.masters world.hosts world.coordinator (decides world.coordinator id) good (moved-decides world.sent world.coordinator good.coordinator id) (grants-decides world.coordinator id)
 good-coordinator-node world one (Create table owner) good given can =
-    good-coordinator world.sent world.masters world.hosts world.coordinator (creates world.coordinator table owner) good (moved-creates world.sent world.coordinator good.coordinator table owner)
+    good-coordinator world.sent world.masters world.hosts world.coordinator (creates world.coordinator table owner) good (moved-creates world.sent world.coordinator good.coordinator table owner) (grants-creates world.coordinator table owner)
 good-coordinator-node world one (Split table at) good given can =
-    good-coordinator world.sent world.masters world.hosts world.coordinator (splits world.coordinator table at) good (moved-splits world.sent world.coordinator good.coordinator table at)
+    good-coordinator world.sent world.masters world.hosts world.coordinator (splits world.coordinator table at) good (moved-splits world.sent world.coordinator good.coordinator table at) (grants-splits world.coordinator table at)
 good-coordinator-node world one (Ask to asked) good given can = true_false (sym can)
 good-coordinator-node world one (Stop id) good given can = true_false (sym can)
 good-coordinator-node world one (Start kept) good given can = true_false (sym can)
@@ -231,7 +237,7 @@ module _ (world : World) (one : Event) (i : ℕ) (good : GoodWorld world) where
   -- a stop
   good-stops : GoodStep world (host_done world one i (record (world.hosts i) { master = None }, []))
   good-stops =
-      good-host world.sent [] world.masters world.hosts world.coordinator good i (record (world.hosts i) { master = None }) quiet-none
+      good-host world.sent [] world.masters world.hosts world.coordinator good i (record (world.hosts i) { master = None }) quiet-none (λ m s e at. absurd at)
       (record { generation = (host_later-refl (world.hosts i)).generation; held = (host_later-refl (world.hosts i)).held }) (record {
         index = was.index;
         own = was.own;
@@ -254,7 +260,7 @@ module _ (world : World) (one : Event) (i : ℕ) (good : GoodWorld world) where
   good-starts kept =
       good-same world (world.sent ++ to_coordinator (next_server (world.hosts i)) body.Enlist ∷ []) world.masters (put_id world.masters (next_server (world.hosts i)) (new_master (next_server (world.hosts i)) (world.hosts i).setup))
       (put world.hosts i (starts_host (world.hosts i) (next_server (world.hosts i)) kept).0) (put world.hosts i (starts_host (world.hosts i) (next_server (world.hosts i)) kept).0) world.coordinator (put_id-found world.masters (next_server (world.hosts i)) (new_master (next_server (world.hosts i)) (world.hosts i).setup) started) refl
-      (good-host world.sent (to_coordinator (next_server (world.hosts i)) body.Enlist ∷ []) world.masters world.hosts world.coordinator good i (starts_host (world.hosts i) (next_server (world.hosts i)) kept).0 quiet
+      (good-host world.sent (to_coordinator (next_server (world.hosts i)) body.Enlist ∷ []) world.masters world.hosts world.coordinator good i (starts_host (world.hosts i) (next_server (world.hosts i)) kept).0 quiet no_grant
       (record { generation = omega arith; held = λ same m. absurd (omega arith) }) (record {
         index = was.index;
         own = refl;
@@ -269,6 +275,10 @@ module _ (world : World) (one : Event) (i : ℕ) (good : GoodWorld world) where
       started : world.masters (next_server (world.hosts i)) ≡ new_master (next_server (world.hosts i)) (world.hosts i).setup
       started = subst (λ n. world.masters (record { index = n; generation = (world.hosts i).generation + 1 }) ≡ new_master (record { index = n; generation = (world.hosts i).generation + 1 }) (world.hosts i).setup) (sym was.index)
           (was.unstarted ((world.hosts i).generation + 1) (omega arith))
+
+      no_grant : GrantsUp world.coordinator (to_coordinator (next_server (world.hosts i)) body.Enlist ∷ [])
+      no_grant m s e (inl same) = (let bodies : body.CommitOk s e ≡ body.Enlist = ap (λ (one : Message). one.body) same in cc)
+      no_grant m s e (inr never) = absurd never
 
       quiet : Quiet (to_coordinator (next_server (world.hosts i)) body.Enlist ∷ [])
       quiet = record { places = λ m x s e digest entries closed at. places m x s e digest entries closed at; told = λ x m s e len closed at. told x m s e len closed at }
@@ -311,6 +321,7 @@ led-still world good = record {
     hosts_later = λ i. host_later-refl (world.hosts i);
     c_later = coordinator_later-refl world.coordinator;
     stored = λ x m s e len closed at. inl at;
+    granted = λ m s e at. inl at;
   };
 }
 

@@ -1,12 +1,13 @@
 -- One part of a good world moves, and the world stays good.
-use Rattle.std.proofs.Common.{◌≡◌, ◌⊎◌, ℕ, Bool, List, ◌++◌, refl, sym, ◌∙◌, subst, inl, inr, arith}
+use Rattle.std.proofs.Common.{◌≡◌, ◌⊎◌, ℕ, Bool, true, List, ◌++◌, refl, sym, ◌∙◌, subst, inl, inr, arith}
 use Rattle.rc_types.specs.declared.ids.ServerId.{ServerId}
 use Rattle.rc_types.specs.declared.ids.Addr.{Addr}
 use Rattle.rc_types.specs.declared.ids.Addr.TheVariants.{Server, Coordinator as AtCoordinator}
 use Rattle.rc_types.specs.declared.messages.Message.{Message}
 use Rattle.rc_types.specs.declared.messages.Body.{Body}
 use Rattle.rc_types.specs.declared.messages.Body.TheVariants as body
-use Rattle.rc_model.specs.Messages.{between}
+use Rattle.rc_model.specs.Messages.{between, from_coordinator}
+use Rattle.rc_model.specs.ServerList.{is_up}
 use Rattle.rc_model.specs.Master.{Master}
 use Rattle.rc_model.specs.Coordinator.{Coordinator}
 use Rattle.rc_model.specs.Nodes.{HostNode, server_of}
@@ -19,6 +20,7 @@ use Rattle.rc_facts.proofs.Copies.{More}
 use Rattle.rc_coordinator_facts.proofs.Attempting.{kept-refl, attempt_later-refl}
 use Rattle.rc_backup_facts.proofs.Storing.{held_later-refl}
 use Rattle.rc_backup_facts.proofs.Backups.{Quiet, own-fine}
+use Rattle.rc_log_safety.proofs.Granted.{GrantsUp}
 use Rattle.rc_log_safety.proofs.Lasting.{Onward, fine-later, held-later}
 use Rattle.rc_log_safety.proofs.Unmoved.{NoNewPlaceOf, unmoved-grown, unmoved-good, unmoved-own}
 
@@ -82,7 +84,7 @@ host-still sent masters hosts c sent_now masters_now hosts_now c_now good w i sa
 -- Messages that neither place nor tell
 
 -- where no master, no host and not the coordinator moves, or the coordinator alone does
-module _ (sent messages : List Message) (masters : ServerId → Master) (hosts : ℕ → HostNode) (c c_now : Coordinator) (good : Good sent masters hosts c) (quiet : Quiet messages) (later : CoordinatorLater c c_now) where
+module _ (sent messages : List Message) (masters : ServerId → Master) (hosts : ℕ → HostNode) (c c_now : Coordinator) (good : Good sent masters hosts c) (quiet : Quiet messages) (later : CoordinatorLater c c_now) (grants : GrantsUp c messages) where
   more-quiet : More sent (sent ++ messages)
   more-quiet message at = In-left message sent messages at
 
@@ -100,6 +102,13 @@ module _ (sent messages : List Message) (masters : ServerId → Master) (hosts :
       by (inl there) = there
       by (inr new) = absurd (quiet.told x m s e len closed new)
 
+  granted-quiet : (m : ServerId) (s e : ℕ) → In (from_coordinator m (body.CommitOk s e)) (sent ++ messages) → In (from_coordinator m (body.CommitOk s e)) sent ⊎ (is_up c.servers m ≡ true)
+  granted-quiet m s e at = by (In-append (from_coordinator m (body.CommitOk s e)) sent messages at)
+    where
+      by : In (from_coordinator m (body.CommitOk s e)) sent ⊎ In (from_coordinator m (body.CommitOk s e)) messages → In (from_coordinator m (body.CommitOk s e)) sent ⊎ (is_up c.servers m ≡ true)
+      by (inl there) = inl there
+      by (inr new) = inr (grants m s e new)
+
   onward-quiet : Onward sent masters hosts c (sent ++ messages) masters hosts c_now
   onward-quiet = record {
     more = more-quiet;
@@ -109,6 +118,7 @@ module _ (sent messages : List Message) (masters : ServerId → Master) (hosts :
     hosts_later = λ i. host_later-refl (hosts i);
     c_later = later;
     stored = λ x m s e len closed at. inl (told-quiet x m s e len closed at);
+    granted = granted-quiet;
   }
 
   pub good-quiet : GoodCoordinator (sent ++ messages) c_now → ((message : Message) → In message messages → Fine (sent ++ messages) masters hosts c_now message) → Led sent masters hosts c (sent ++ messages) masters hosts c_now
@@ -123,10 +133,10 @@ module _ (sent messages : List Message) (masters : ServerId → Master) (hosts :
 
 -- The coordinator moves
 
-pub good-coordinator : (sent : List Message) (masters : ServerId → Master) (hosts : ℕ → HostNode) (c : Coordinator) (after : Coordinator × List Message) → Good sent masters hosts c → CoordinatorMoved sent c after →
+pub good-coordinator : (sent : List Message) (masters : ServerId → Master) (hosts : ℕ → HostNode) (c : Coordinator) (after : Coordinator × List Message) → Good sent masters hosts c → CoordinatorMoved sent c after → GrantsUp c after.1 →
     Led sent masters hosts c (sent ++ after.1) masters hosts after.0
-good-coordinator sent masters hosts c after good moved =
-    good-quiet sent after.1 masters hosts c after.0 good quiet moved.later moved.good (λ message at. fine message.from message.to message.body (moved.from message at) (moved.says message at))
+good-coordinator sent masters hosts c after good moved grants =
+    good-quiet sent after.1 masters hosts c after.0 good quiet moved.later grants moved.good (λ message at. fine message.from message.to message.body (moved.from message at) (moved.says message at))
   where
     from_server : {P : Type 0} (x : ServerId) → Server x ≡ AtCoordinator → P
     from_server x never = cc

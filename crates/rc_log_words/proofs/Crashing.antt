@@ -1,12 +1,14 @@
 -- Who has crashed stays so.
-use Rattle.std.proofs.Common.{◌≡◌, true, false, List, [], ◌∷◌, sym, subst}
+use Rattle.std.proofs.Common.{◌≡◌, ◌⊎◌, ℕ, true, false, List, [], ◌∷◌, sym, ◌∙◌, subst, inl, inr}
 use Rattle.rc_types.specs.declared.ids.ServerId.{ServerId}
 use Rattle.rc_types.specs.declared.events.Event.{Event}
 use Rattle.rc_model.specs.ServerList.{is_up, has_crashed}
 use Rattle.rc_model.specs.World.{World, opening, step, replay_from, replay}
 use Rattle.rc_coordinator_facts.proofs.Servers.{crashed-not-up}
+use Rattle.rc_facts.proofs.Lists.{true_false}
+use Rattle.rc_model.proofs.Replays.{replay_from-push}
 use Rattle.rc_log_safety.proofs.Replays.{GoodWorld, GoodStep, led-step, good-world}
-use Rattle.rc_log_words.specs.CommitClaims.{CrashedIsNeverUp}
+use Rattle.rc_log_words.specs.CommitClaims.{CrashedIsNeverUp, IsGrantedTo, GrantsGoToTheUp, CrashedAreGrantedNoMore}
 use Rattle.rc_log_words.proofs.Since.{replay_from-append}
 
 crashed-from : (world : World) (more : List Event) (m : ServerId) → GoodWorld world → has_crashed world.coordinator.servers m ≡ true → has_crashed (replay_from world more).coordinator.servers m ≡ true
@@ -20,3 +22,26 @@ pub crashed-is-never-up : CrashedIsNeverUp
 crashed-is-never-up setup events more m e =
     subst (λ (world : World). is_up world.coordinator.servers m ≡ false) (sym (replay_from-append (opening setup) events more))
     (crashed-not-up (replay_from (replay setup events) more).coordinator.servers m (crashed-from (replay setup events) more m (good-world setup events) e))
+
+-- Grants
+
+pub grants-go-to-the-up : GrantsGoToTheUp
+grants-go-to-the-up setup events one m s e at =
+    (led-step (replay setup events) one (good-world setup events)).onward.granted m s e
+    (subst (λ (world : World). IsGrantedTo world.sent m s e) (replay_from-push (opening setup) events one) at)
+
+granted-from : (world : World) (more : List Event) (m : ServerId) (s e : ℕ) → GoodWorld world → has_crashed world.coordinator.servers m ≡ true → IsGrantedTo (replay_from world more).sent m s e → IsGrantedTo world.sent m s e
+granted-from world [] m s e good has at = at
+granted-from world (one ∷ more) m s e good has at =
+    by (led.onward.granted m s e (granted-from (step world one) more m s e led.good (led.onward.c_later.crashed m has) at))
+  where
+    led : GoodStep world (step world one)
+    led = led-step world one good
+
+    by : IsGrantedTo world.sent m s e ⊎ (is_up world.coordinator.servers m ≡ true) → IsGrantedTo world.sent m s e
+    by (inl there) = there
+    by (inr up) = true_false (sym up ∙ crashed-not-up world.coordinator.servers m has)
+
+pub crashed-are-granted-no-more : CrashedAreGrantedNoMore
+crashed-are-granted-no-more setup events more m s e has at =
+    granted-from (replay setup events) more m s e (good-world setup events) has (subst (λ (world : World). IsGrantedTo world.sent m s e) (replay_from-append (opening setup) events more) at)
