@@ -1,6 +1,8 @@
 -- Worked runs.
 use Rattle.std.specs.Prelude.{◌≡◌, false, List, [], ◌∷◌, ◌++◌, codes}
-use Rattle.rc_worked.specs.Settling.{Line, report_of, create, decide, deliver, id, settle, start, suspect, write}
+use Rattle.rc_model.specs.World.{opening}
+use Rattle.rc_model.specs.Report.{message_lines}
+use Rattle.rc_worked.specs.Settling.{Line, of_two, runs, report_of, create, decide, deliver, id, settle, start, suspect, write}
 
 abbrev pub roll : List Line
 roll =
@@ -68,3 +70,25 @@ NewHeadNowhereReports =
     ++ codes "plans 1\n"
     ++ codes "grants 1\n"
     ++ codes "audit clean\n"
+
+abbrev pub replaced_then_rolled : List Line
+replaced_then_rolled =
+    start 0 ∷ start 1 ∷ start 2 ∷ start 3 ∷ settle ∷ create 7 (id 0 1) ∷ settle ∷
+    write (id 0 1) 7 1 (codes "a") ∷ settle ∷ suspect (id 1 1) ∷ settle ∷ write (id 0 1) 7 2 (codes "a") ∷ settle ∷
+    write (id 0 1) 7 3 (codes "a") ∷ settle ∷ write (id 0 1) 7 3 (codes "a") ∷ settle ∷ suspect (id 0 1) ∷ settle ∷
+    decide (id 0 1) ∷ []
+
+-- what it sends to the outside, its grant and its plan
+abbrev pub ReplacedThenRolledReports : Type 0
+ReplacedThenRolledReports =
+    message_lines (runs (opening of_two) replaced_then_rolled).sent
+    ≡ codes "own 0.1 term 1 table 7 from 0 to 18446744073709551615 after 0 attempt 0\n"
+    ++ codes "ack 0.1 seg 1 at 0 term 1 table 7 key 1 version 1\n"
+    ++ codes "ack 0.1 seg 1 at 1 term 1 table 7 key 2 version 1\n"
+    ++ codes "refused 3 from 0.1 to out\n"
+    ++ codes "ack 0.1 seg 2 at 0 term 1 table 7 key 3 version 1\n"
+    ++ codes "plan 1 of 0.1 to 2.1 head 2 rows 1:2.1:2 2:2.1:1\n"
+
+-- by then the first segment has other members, under a fresh epoch
+abbrev pub ReplacedThenRolledChanged : Type 0
+ReplacedThenRolledChanged = (((runs (opening of_two) replaced_then_rolled).masters (id 0 1)).log.segments 1).config.epoch ≡ 1

@@ -1,6 +1,6 @@
 //! Runs of `specs/Rolls.antt`.
 
-ghost use Rattle.rc_worked.specs.Rolls.{RollReports, SuspectedWhileOpeningReports, NewHeadNowhereReports};
+ghost use Rattle.rc_worked.specs.Rolls.{RollReports, SuspectedWhileOpeningReports, NewHeadNowhereReports, ReplacedThenRolledReports, ReplacedThenRolledChanged};
 
 /// roll
 pub fn roll()
@@ -15,4 +15,11 @@ pub fn suspected_while_opening()
 /// new head nowhere
 pub fn new_head_nowhere()
     ensures { NewHeadNowhereReports }
+{}
+
+/// A write is acknowledged, its segment's members are replaced, and the log rolls: the recovery has
+/// its head at segment 2, and its rows cover each acknowledged write.
+pub fn replaced_then_rolled()
+    ensures told { ReplacedThenRolledReports }
+    ensures changed { ReplacedThenRolledChanged }
 {}
