@@ -28,6 +28,7 @@ pub mod World
 pub mod Made
 pub mod Recovered
 pub mod Owners
+pub mod Base
 pub mod Durable
 pub mod Breach
 pub mod Headline
