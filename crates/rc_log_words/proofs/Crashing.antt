@@ -7,8 +7,10 @@ use Rattle.rc_model.specs.World.{World, opening, step, replay_from, replay}
 use Rattle.rc_coordinator_facts.proofs.Servers.{crashed-not-up}
 use Rattle.rc_facts.proofs.Lists.{true_false}
 use Rattle.rc_model.proofs.Replays.{replay_from-push}
+use Rattle.rc_model.specs.Nodes.{Ask, Take, Tick, Stop, Start, Suspect, Decide, Create, Split}
+use Rattle.rc_log_safety.proofs.Granted.{grants-takes, grants-ticks, grants-suspects, grants-decides, grants-creates, grants-splits}
 use Rattle.rc_log_safety.proofs.Replays.{GoodWorld, GoodStep, led-step, good-world}
-use Rattle.rc_log_words.specs.CommitClaims.{CrashedIsNeverUp, IsGrantedTo, GrantsGoToTheUp, CrashedAreGrantedNoMore}
+use Rattle.rc_log_words.specs.CommitClaims.{CrashedIsNeverUp, IsGrantedTo, EachGrantGoesToTheUp, GrantsGoToTheUp, CrashedAreGrantedNoMore}
 use Rattle.rc_log_words.proofs.Since.{replay_from-append}
 
 crashed-from : (world : World) (more : List Event) (m : ServerId) → GoodWorld world → has_crashed world.coordinator.servers m ≡ true → has_crashed (replay_from world more).coordinator.servers m ≡ true
@@ -24,6 +26,17 @@ crashed-is-never-up setup events more m e =
     (crashed-not-up (replay_from (replay setup events) more).coordinator.servers m (crashed-from (replay setup events) more m (good-world setup events) e))
 
 -- Grants
+
+pub each-grant-goes-to-the-up : EachGrantGoesToTheUp
+each-grant-goes-to-the-up c (Take message) m s e at = grants-takes c message.from message.body m s e at
+each-grant-goes-to-the-up c (Tick addr) m s e at = grants-ticks c m s e at
+each-grant-goes-to-the-up c (Suspect id) m s e at = grants-suspects c id m s e at
+each-grant-goes-to-the-up c (Decide id) m s e at = grants-decides c id m s e at
+each-grant-goes-to-the-up c (Create table owner) m s e at = grants-creates c table owner m s e at
+each-grant-goes-to-the-up c (Split table key) m s e at = grants-splits c table key m s e at
+each-grant-goes-to-the-up c (Ask to asked) m s e at = absurd at
+each-grant-goes-to-the-up c (Stop id) m s e at = absurd at
+each-grant-goes-to-the-up c (Start kept) m s e at = absurd at
 
 pub grants-go-to-the-up : GrantsGoToTheUp
 grants-go-to-the-up setup events one m s e at =

@@ -7,6 +7,8 @@ use Rattle.rc_model.specs.ServerList.{ServerList, is_up, has_crashed}
 use Rattle.rc_types.specs.declared.messages.Message.{Message}
 use Rattle.rc_types.specs.declared.messages.Body.TheVariants.{CommitOk}
 use Rattle.rc_model.specs.Messages.{from_coordinator}
+use Rattle.rc_model.specs.Coordinator.{Coordinator}
+use Rattle.rc_model.specs.Nodes.{Work, coordinator_step}
 use Rattle.rc_model.specs.World.{replay}
 use Rattle.rc_model.specs.Headline.{In}
 use Rattle.rc_log_words.specs.Claims.{sent_after}
@@ -23,6 +25,11 @@ CrashedIsNeverUp = (setup : Setup) (events more : List Event) (m : ServerId) →
 -- a commit of the segment under the epoch was granted to the server
 abbrev pub IsGrantedTo : List Message → ServerId → ℕ → ℕ → Type 0
 IsGrantedTo sent m s e = In (from_coordinator m (CommitOk s e)) sent
+
+-- in each of its steps the coordinator grants only to servers that are up
+abbrev pub EachGrantGoesToTheUp : Type 0
+EachGrantGoesToTheUp = (c : Coordinator) (work : Work) (m : ServerId) (s e : ℕ) →
+    IsGrantedTo (coordinator_step c work).1 m s e → is_up c.servers m ≡ true
 
 -- what one event newly grants goes to a server that is up at that moment
 abbrev pub GrantsGoToTheUp : Type 0

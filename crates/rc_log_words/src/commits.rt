@@ -1,6 +1,6 @@
 //! Commits, and who may ask for them.
 
-ghost use Rattle.rc_log_words.specs.CommitClaims.{CrashedIsNeverUp, GrantsGoToTheUp, CrashedAreGrantedNoMore};
+ghost use Rattle.rc_log_words.specs.CommitClaims.{CrashedIsNeverUp, EachGrantGoesToTheUp, GrantsGoToTheUp, CrashedAreGrantedNoMore};
 
 /// A server that the coordinator's list once showed crashed is never up in it again.
 pub fn crashed_is_for_good()
@@ -8,8 +8,9 @@ pub fn crashed_is_for_good()
 {}
 
 /// A commit is granted only to a server that is up by the coordinator's list when it is granted. So
-/// once a server has crashed, nothing more is granted to it, whatever happens.
+/// once a server has crashed, nothing is granted to it that was not granted before.
 pub fn commits_go_to_who_is_up()
+    ensures each { EachGrantGoesToTheUp }
     ensures up { GrantsGoToTheUp }
     ensures crashed { CrashedAreGrantedNoMore }
 {}
