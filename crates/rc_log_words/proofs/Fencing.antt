@@ -15,7 +15,7 @@ use Rattle.rc_facts.specs.Later.{IsNewStored}
 use Rattle.rc_facts.proofs.Lists.{true_false}
 use Rattle.rc_coordinator_facts.proofs.Attempting.{numbered-same}
 use Rattle.rc_log_safety.proofs.Replays.{GoodWorld, GoodStep, led-step, good-world}
-use Rattle.rc_log_words.specs.LogClaims.{WasAsked, FencesHold}
+use Rattle.rc_log_words.specs.LogClaims.{WasAsked, FencesHold, WhoAnsweredIsFenced}
 use Rattle.rc_log_words.proofs.Since.{replay_from-append}
 
 -- an answer about this master: it is fenced as long as the server is its host's last
@@ -70,3 +70,6 @@ pub fences-hold : FencesHold
 fences-hold setup events more y m number rows asked at s e len closed told =
     fences-from (replay setup events) more y m number rows (good-world setup events) asked at s e len closed
     (subst (λ (world : World). In (between y m (Stored s e len closed)) world.sent) (replay_from-append (opening setup) events more) told)
+
+pub who-answered-is-fenced : WhoAnsweredIsFenced
+who-answered-is-fenced setup events y m number rows asked at same = (answer-about (replay setup events) y m number rows (good-world setup events) asked at).1 same

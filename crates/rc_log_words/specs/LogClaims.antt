@@ -79,3 +79,9 @@ FencesHold = (setup : Setup) (events more : List Event) (y m : ServerId) (number
     WasAsked (sent_after setup events) number m → In (to_coordinator y (Replicas number rows)) (sent_after setup events) →
     (s e len : ℕ) (closed : Bool) → In (between y m (Stored s e len closed)) (sent_after setup (events ++ more)) →
     In (between y m (Stored s e len closed)) (sent_after setup events)
+
+-- and is fenced for that master, as long as it is its host's last server
+abbrev pub WhoAnsweredIsFenced : Type 0
+WhoAnsweredIsFenced = (setup : Setup) (events : List Event) (y m : ServerId) (number : ℕ) (rows : List Row) →
+    WasAsked (sent_after setup events) number m → In (to_coordinator y (Replicas number rows)) (sent_after setup events) →
+    y.generation ≡ ((replay setup events).hosts y.index).generation → (held_after setup events y.index m).fenced ≡ true

@@ -1,5 +1,8 @@
-use Rattle.rc_log_words.proofs.Fencing.{fences-hold}
+use Rattle.rc_log_words.proofs.Fencing.{fences-hold, who-answered-is-fenced}
 use Rattle.rc_log_words.proofs.fences.fences_hold.Goals as goal
 
-pub returns : goal.returns
-returns c = fences-hold
+pub returns-clause-silent : goal.returns-clause-silent
+returns-clause-silent c = fences-hold
+
+pub returns-clause-fenced : goal.returns-clause-fenced
+returns-clause-fenced c = who-answered-is-fenced
