@@ -9,8 +9,6 @@ mod log;
 mod opening;
 mod segment;
 mod telling;
-#[cfg(test)]
-mod tests;
 
 pub use durable::Place;
 pub use log::LogHead;
