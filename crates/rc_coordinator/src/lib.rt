@@ -11,7 +11,5 @@ mod least;
 mod notices;
 mod plans;
 mod state;
-#[cfg(test)]
-mod tests;
 
 pub use coordinator::Coordinator;
