@@ -3,7 +3,7 @@
 ghost use Rattle.std.specs.Prelude.{◌≡◌, OnOk, OnErr};
 ghost use Rattle.rc_model.specs.Pick.{is_below};
 ghost use Rattle.rc_model.specs.Tables.{put_id};
-ghost use Rattle.rc_model.specs.Coordinator.{greater_of};
+ghost use Rattle.rc_model.specs.Pick.{greater_pair};
 ghost use Rattle.rc_coordinator.specs.Numbers.{pair_in};
 
 use indexmap::IndexMap;
@@ -29,17 +29,17 @@ pub(crate) fn raise(
     master: ServerId,
     pair: Pair,
 ) -> Result<(), AllocError>
-    ensures ok { OnOk result (pair_in least.new ≡ put_id (pair_in least.old) master (greater_of (pair_in least.old master) pair)) }
+    ensures ok { OnOk result (pair_in least.new ≡ put_id (pair_in least.old) master (greater_pair (pair_in least.old master) pair)) }
     ensures err { OnErr result (least.new.entries ≡ least.old.entries) }
 {
-    let greater = greater_of(least_of(least, master), pair);
+    let greater = greater_pair(least_of(least, master), pair);
     least.insert(master, greater)?;
     Ok(())
 }
 
 /// The greater of two pairs.
-fn greater_of(a: Pair, b: Pair) -> Pair
-    ensures { result ≡ greater_of a b }
+fn greater_pair(a: Pair, b: Pair) -> Pair
+    ensures { result ≡ greater_pair a b }
 {
     if is_below(a, b) { b } else { a }
 }

@@ -14,9 +14,9 @@ use Rattle.std.proofs.lemmas.List.{length-append, length-set}
 use Rattle.rc_model.specs.Tables.{put_id}
 use Rattle.rc_model.specs.Messages.{from_coordinator, to_each, to_coordinator}
 use Rattle.rc_model.specs.ServerList.{has_crashed, up_rows}
-use Rattle.rc_model.specs.Pick.{is_below, pick}
+use Rattle.rc_model.specs.Pick.{is_below, pick, greater_pair}
 use Rattle.rc_model.specs.Attempts.{Attempt, Decision}
-use Rattle.rc_model.specs.Coordinator.{Coordinator, new_coordinator, attempt_at, greater_of}
+use Rattle.rc_model.specs.Coordinator.{Coordinator, new_coordinator, attempt_at}
 use Rattle.rc_model.specs.Headline.{In}
 use Rattle.rc_model.proofs.Members.{either, In-left}
 use Rattle.rc_facts.specs.Words.{OnDifferentHosts, IsNumbered, IsOf}
@@ -30,13 +30,13 @@ use Rattle.rc_facts.proofs.Lists.{put_id_each, get-left, get-end, get-append, ge
 pub below-refl : (p : Pair) → is_below p p ≡ false
 below-refl p = grind (arith, nat_tests)
 
-pub greater-first : (a b : Pair) → is_below (greater_of a b) a ≡ false
+pub greater-first : (a b : Pair) → is_below (greater_pair a b) a ≡ false
 greater-first a b = either (λ (p : Pair). is_below p a ≡ false) (is_below a b) b a (λ e. asymmetric a b e) (λ _. below-refl a)
   where
     asymmetric : (a b : Pair) → is_below a b ≡ true → is_below b a ≡ false
     asymmetric a b e = grind (arith, nat_tests)
 
-pub greater-second : (a b : Pair) → is_below (greater_of a b) b ≡ false
+pub greater-second : (a b : Pair) → is_below (greater_pair a b) b ≡ false
 greater-second a b = either (λ (p : Pair). is_below p b ≡ false) (is_below a b) b a (λ _. below-refl b) (λ e. e)
 
 pub below-trans : (a b c : Pair) → is_below b a ≡ false → is_below c b ≡ false → is_below c a ≡ false

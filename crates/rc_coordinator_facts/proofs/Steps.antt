@@ -19,9 +19,9 @@ use Rattle.rc_model.specs.Tables.{put_id}
 use Rattle.rc_model.specs.Messages.{from_coordinator, to_each, to_coordinator, coordinator_refuses, coordinator_tells}
 use Rattle.rc_model.specs.ServerList.{ServerList, is_up, has_crashed, is_newest, enlisted, crashed, up, up_rows}
 use Rattle.rc_model.specs.Tablets.{has_table, tablet_of, split_at, marked_crashed, has_range, assigned}
-use Rattle.rc_model.specs.Pick.{is_below, pick}
+use Rattle.rc_model.specs.Pick.{is_below, pick, greater_pair}
 use Rattle.rc_model.specs.Attempts.{Attempt, Decision, new_attempt, has_answered, is_gathering, is_undecided, parts_of, plan_message, plan_messages}
-use Rattle.rc_model.specs.Coordinator.{Coordinator, refuses_server, list_body, spreads_list, begins_attempt, has_tablets, begins_if_needed, spreads_then_begins, attempt_at, with_attempt, up_of_host, follows_generation, enlists, notes_ready, with_crashed, suspects, greater_of, commits_pair}
+use Rattle.rc_model.specs.Coordinator.{Coordinator, refuses_server, list_body, spreads_list, begins_attempt, has_tablets, begins_if_needed, spreads_then_begins, attempt_at, with_attempt, up_of_host, follows_generation, enlists, notes_ready, with_crashed, suspects, commits_pair}
 use Rattle.rc_model.specs.Deciding.{is_current, with_answer, keeps_answer_in, keeps_answer, ready_ids, decision_of, decides_on, decides_with, decides_attempt, decides, own_body, range_of, grant_of, grant_to, part_of_sender, grants_part, grants_if_given, grants_or_repeats, takes_recovered}
 use Rattle.rc_model.specs.CoordinatorStep.{creates_table, is_too_many, creates, split_fault, splits_unless, splits, has_open_part, asks_again, asks_again_of, coordinator_ticks, coordinator_takes}
 use Rattle.rc_model.specs.Headline.{In}
@@ -134,30 +134,30 @@ module _ (sent : List Message) (c : Coordinator) (good : GoodCoordinator sent c)
   moved-commits : (id : ServerId) (pair : Pair) → CoordinatorMoved sent c (commits_pair c id pair)
   moved-commits id pair =
       either (λ (after : Coordinator × List Message). CoordinatorMoved sent c after) (is_up c.servers id)
-      (record c { least = put_id c.least id (greater_of (c.least id) pair) }, from_coordinator id (CommitOk pair.seg pair.epoch) ∷ []) (c, refuses_server id Deposed ∷ [])
+      (record c { least = put_id c.least id (greater_pair (c.least id) pair) }, from_coordinator id (CommitOk pair.seg pair.epoch) ∷ []) (c, refuses_server id Deposed ∷ [])
       (λ is. granted is) (λ _. refused_server id Deposed)
     where
       raised : ServerId → Pair
-      raised = put_id c.least id (greater_of (c.least id) pair)
+      raised = put_id c.least id (greater_pair (c.least id) pair)
 
-      rises : (m : ServerId) → is_below (put_id c.least id (greater_of (c.least id) pair) m) (c.least m) ≡ false
-      rises m = put_id_each (λ (k : ServerId) (p : Pair). is_below p (c.least k) ≡ false) c.least id (greater_of (c.least id) pair) (greater-first (c.least id) pair) (λ other. below-refl (c.least other)) m
+      rises : (m : ServerId) → is_below (put_id c.least id (greater_pair (c.least id) pair) m) (c.least m) ≡ false
+      rises m = put_id_each (λ (k : ServerId) (p : Pair). is_below p (c.least k) ≡ false) c.least id (greater_pair (c.least id) pair) (greater-first (c.least id) pair) (λ other. below-refl (c.least other)) m
 
       -- that of a crashed master stays, since it isn't up
-      stays : is_up c.servers id ≡ true → (m : ServerId) → has_crashed c.servers m ≡ true → put_id c.least id (greater_of (c.least id) pair) m ≡ c.least m
-      stays is m e = put_id_each (λ (k : ServerId) (p : Pair). has_crashed c.servers k ≡ true → p ≡ c.least k) c.least id (greater_of (c.least id) pair)
+      stays : is_up c.servers id ≡ true → (m : ServerId) → has_crashed c.servers m ≡ true → put_id c.least id (greater_pair (c.least id) pair) m ≡ c.least m
+      stays is m e = put_id_each (λ (k : ServerId) (p : Pair). has_crashed c.servers k ≡ true → p ≡ c.least k) c.least id (greater_pair (c.least id) pair)
           (λ has. true_false (sym is ∙ crashed-not-up c.servers id has)) (λ other has. refl) m e
 
-      mine : is_below (put_id c.least id (greater_of (c.least id) pair) id) pair ≡ false
+      mine : is_below (put_id c.least id (greater_pair (c.least id) pair) id) pair ≡ false
       mine = put_id_at
         where
-          put_id_at : is_below (put_id c.least id (greater_of (c.least id) pair) id) pair ≡ false
-          put_id_at = ap (λ (p : Pair). is_below p pair) (put_id_same c.least id (greater_of (c.least id) pair)) ∙ greater-second (c.least id) pair
+          put_id_at : is_below (put_id c.least id (greater_pair (c.least id) pair) id) pair ≡ false
+          put_id_at = ap (λ (p : Pair). is_below p pair) (put_id_same c.least id (greater_pair (c.least id) pair)) ∙ greater-second (c.least id) pair
 
-      granted : is_up c.servers id ≡ true → CoordinatorMoved sent c (record c { least = put_id c.least id (greater_of (c.least id) pair) }, from_coordinator id (CommitOk pair.seg pair.epoch) ∷ [])
-      granted is = moved-kept sent c (record c { least = put_id c.least id (greater_of (c.least id) pair) }) (from_coordinator id (CommitOk pair.seg pair.epoch) ∷ []) good refl refl
+      granted : is_up c.servers id ≡ true → CoordinatorMoved sent c (record c { least = put_id c.least id (greater_pair (c.least id) pair) }, from_coordinator id (CommitOk pair.seg pair.epoch) ∷ [])
+      granted is = moved-kept sent c (record c { least = put_id c.least id (greater_pair (c.least id) pair) }) (from_coordinator id (CommitOk pair.seg pair.epoch) ∷ []) good refl refl
           (record { crashed = λ m e. e; least = rises; least_stays = stays is }) good.servers
-          (says-one (record c { least = put_id c.least id (greater_of (c.least id) pair) }) (Server id) (CommitOk pair.seg pair.epoch) mine)
+          (says-one (record c { least = put_id c.least id (greater_pair (c.least id) pair) }) (Server id) (CommitOk pair.seg pair.epoch) mine)
 
   -- Answers
 

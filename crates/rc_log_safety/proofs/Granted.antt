@@ -16,9 +16,9 @@ use Rattle.rc_model.specs.Tables.{put_id}
 use Rattle.rc_model.specs.Messages.{from_coordinator, to_each, coordinator_refuses, coordinator_tells}
 use Rattle.rc_model.specs.ServerList.{ServerList, is_up, has_crashed, is_newest, enlisted, up}
 use Rattle.rc_model.specs.Tablets.{has_table, tablet_of, marked_crashed, has_range, assigned}
-use Rattle.rc_model.specs.Pick.{pick}
+use Rattle.rc_model.specs.Pick.{pick, greater_pair}
 use Rattle.rc_model.specs.Attempts.{Attempt, Decision, has_answered, is_gathering, parts_of, plan_message, plan_messages}
-use Rattle.rc_model.specs.Coordinator.{Coordinator, refuses_server, list_body, spreads_list, begins_attempt, has_tablets, begins_if_needed, spreads_then_begins, attempt_at, up_of_host, follows_generation, enlists, notes_ready, with_crashed, suspects, greater_of, commits_pair}
+use Rattle.rc_model.specs.Coordinator.{Coordinator, refuses_server, list_body, spreads_list, begins_attempt, has_tablets, begins_if_needed, spreads_then_begins, attempt_at, up_of_host, follows_generation, enlists, notes_ready, with_crashed, suspects, commits_pair}
 use Rattle.rc_model.specs.Deciding.{is_current, ready_ids, decides_with, decides_attempt, decides, own_body, range_of, grant_of, grant_to, part_of_sender, grants_if_given, grants_or_repeats, takes_recovered}
 use Rattle.rc_model.specs.CoordinatorStep.{first_grant, creates_table, is_too_many, creates, split_fault, splits_unless, splits, has_open_part, asks_again, asks_again_of, coordinator_ticks, coordinator_takes}
 use Rattle.rc_model.specs.Headline.{In}
@@ -197,7 +197,7 @@ grants-ticks c = plain-grants c (coordinator_ticks c) (plain-join (spreads_list 
 grants-commits : (c : Coordinator) (id : ServerId) (pair : Pair) → GrantsUp c (commits_pair c id pair).1
 grants-commits c id pair =
     either (λ (after : Coordinator × List Message). GrantsUp c after.1) (is_up c.servers id)
-    (record c { least = put_id c.least id (greater_of (c.least id) pair) }, from_coordinator id (CommitOk pair.seg pair.epoch) ∷ []) (c, refuses_server id Deposed ∷ [])
+    (record c { least = put_id c.least id (greater_pair (c.least id) pair) }, from_coordinator id (CommitOk pair.seg pair.epoch) ∷ []) (c, refuses_server id Deposed ∷ [])
     (λ is m s e at. to_it is m s e at) (λ _. plain-grants c (refuses_server id Deposed ∷ []) (plain-refuses id Deposed))
   where
     same-server : (a b : ServerId) → Server a ≡ Server b → a ≡ b

@@ -15,7 +15,7 @@ use Rattle.rc_model.specs.Tables.{put_id}
 use Rattle.rc_model.specs.Messages.{from_coordinator, to_each}
 use Rattle.rc_model.specs.ServerList.{ServerList, no_servers, is_up, has_crashed, is_newest, enlisted, crashed, up}
 use Rattle.rc_model.specs.Tablets.{tablets_of, marked_crashed}
-use Rattle.rc_model.specs.Pick.{is_below}
+use Rattle.rc_model.specs.Pick.{greater_pair}
 use Rattle.rc_model.specs.Attempts.{Attempt, new_attempt}
 
 pub record Coordinator : Type 0 where
@@ -120,12 +120,9 @@ suspects c id = if is_up c.servers id then spreads_then_begins (with_crashed c i
 
 -- Commits
 
-abbrev pub greater_of : Pair → Pair → Pair
-greater_of a b = if is_below a b then b else a
-
 -- a Commit: the sender's least pair becomes the greater of the two, and the commit's own pair is answered
 abbrev pub commits_pair : Coordinator → ServerId → Pair → Coordinator × List Message
 commits_pair c id pair =
     if is_up c.servers id
-    then (record c { least = put_id c.least id (greater_of (c.least id) pair) }, from_coordinator id (CommitOk pair.seg pair.epoch) ∷ [])
+    then (record c { least = put_id c.least id (greater_pair (c.least id) pair) }, from_coordinator id (CommitOk pair.seg pair.epoch) ∷ [])
     else (c, refuses_server id Deposed ∷ [])

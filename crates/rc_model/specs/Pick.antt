@@ -27,6 +27,10 @@ held_rows (reply ∷ replies) = rows_of reply.0 reply.1 ++ held_rows replies
 abbrev pub is_below : Pair → Pair → Bool
 is_below pair other = nat_lt pair.seg other.seg || (nat_eq pair.seg other.seg && nat_lt pair.epoch other.epoch)
 
+-- the greater of two pairs
+abbrev pub greater_pair : Pair → Pair → Pair
+greater_pair a b = if is_below a b then b else a
+
 -- a closed row always counts, an open one if it is not below the least pair
 abbrev pub is_valid : Pair → Row → Bool
 is_valid min row = row.closed || not (is_below (record { seg = row.seg; epoch = row.epoch }) min)

@@ -8,7 +8,7 @@ use Rattle.rc_types.specs.declared.messages.Message.{Message}
 use Rattle.rc_types.specs.declared.messages.Body.{Body}
 use Rattle.rc_types.specs.declared.messages.Body.TheVariants.{WriteOk, CommitOk, Plan}
 use Rattle.rc_model.specs.Ids.{is_server}
-use Rattle.rc_model.specs.Pick.{is_below}
+use Rattle.rc_model.specs.Pick.{greater_pair}
 use Rattle.rc_model.specs.Made.{IsMade}
 
 -- an acknowledged write: its place, and what was written under which version
@@ -72,9 +72,6 @@ is_recovered rows s o = nat_lt o (reach rows s)
 -- the entry is in the recovered log of this master, at its place
 abbrev pub IsRecovered : List Message → ServerId → List PlanRow → ℕ → ℕ → Entry → Type 0
 IsRecovered sent m rows s o entry = IsTrue (is_recovered rows s o) × IsMade sent m s o entry
-
-abbrev pub greater_pair : Pair → Pair → Pair
-greater_pair a b = if is_below a b then b else a
 
 abbrev pub pair_in : Body → Pair
 pair_in (CommitOk seg epoch) = record { seg = seg; epoch = epoch }

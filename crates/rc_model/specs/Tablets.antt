@@ -4,6 +4,7 @@ use Rattle.std.specs.Prelude.{ℕ, ◌+◌, ◌-◌, Bool, true, false, not, nat
 use Rattle.rc_types.specs.declared.ids.ServerId.{ServerId}
 use Rattle.rc_types.specs.declared.rows.Tablet.{Tablet}
 use Rattle.rc_types.specs.declared.rows.KeyRange.{KeyRange}
+use Rattle.rc_types.specs.declared.limits.TheConstants.{LAST_KEY}
 use Rattle.rc_model.specs.Ids.{same_id}
 
 -- the tablet holds the point (table, key)
@@ -32,7 +33,7 @@ insert_tablet new (tablet ∷ tablets) = if nat_lt new.table tablet.table then n
 
 -- the whole of a table
 abbrev pub whole_table : ℕ → ServerId → ℕ → Tablet
-whole_table table owner term = record { table = table; lo = 0; hi = 18446744073709551615; owner = owner; term = term; crashed = false }
+whole_table table owner term = record { table = table; lo = 0; hi = LAST_KEY; owner = owner; term = term; crashed = false }
 
 -- the tablets with a new table, all of it one tablet
 abbrev pub with_table : ℕ → ServerId → ℕ → List Tablet → List Tablet

@@ -22,9 +22,9 @@ use Rattle.rc_model.specs.Messages.{from_coordinator, to_each, coordinator_refus
 use Rattle.rc_model.specs.Ids.{same_id}
 use Rattle.rc_model.specs.ServerList.{ServerList, is_up, has_crashed, is_newest, enlisted, crashed, up}
 use Rattle.rc_model.specs.Tablets.{holds, has_table, tablet_of, tablets_of, with_table, whole_table, split_at, marked_crashed, has_range, assigned}
-use Rattle.rc_model.specs.Pick.{pick}
+use Rattle.rc_model.specs.Pick.{pick, greater_pair}
 use Rattle.rc_model.specs.Attempts.{Attempt, Decision, GivenPart, new_attempt, has_answered, is_gathering, is_undecided, parts_of, plan_message, plan_messages, gives_parts}
-use Rattle.rc_model.specs.Coordinator.{Coordinator, new_coordinator, refuses_server, list_body, spreads_list, begins_attempt, has_tablets, begins_if_needed, spreads_then_begins, attempt_at, with_attempt, up_of_host, follows_generation, enlists, notes_ready, with_crashed, suspects, greater_of, commits_pair}
+use Rattle.rc_model.specs.Coordinator.{Coordinator, new_coordinator, refuses_server, list_body, spreads_list, begins_attempt, has_tablets, begins_if_needed, spreads_then_begins, attempt_at, with_attempt, up_of_host, follows_generation, enlists, notes_ready, with_crashed, suspects, commits_pair}
 use Rattle.rc_model.specs.Deciding.{is_current, with_answer, keeps_answer_in, ready_ids, decision_of, decides_on, decides_with, decides_attempt, decides, own_body, range_of, grant_of, is_grant_to, grant_to, part_in, part_if_current, part_of_sender, grants_part, grants_if_given, grants_or_repeats, takes_recovered}
 use Rattle.rc_model.specs.CoordinatorStep.{first_grant, creates_table, is_too_many, creates, split_fault, splits_unless, splits, has_open_part, asks_again, asks_again_of, coordinator_ticks, coordinator_takes}
 use Rattle.rc_model.specs.Nodes.{Work, Take, Tick, Suspect, Decide, Create, Split, coordinator_step}
@@ -236,10 +236,10 @@ module _ (sent : List Message) (c : Coordinator) (base : GoodCoordinator sent c)
   moved-commits : (id : ServerId) (pair : Pair) → GrantsMoved c (commits_pair c id pair)
   moved-commits id pair =
       either (λ (after : Coordinator × List Message). GrantsMoved c after) (is_up c.servers id)
-      (record c { least = put_id c.least id (greater_of (c.least id) pair) }, from_coordinator id (CommitOk pair.seg pair.epoch) ∷ []) (c, refuses_server id Deposed ∷ [])
-      (λ _. quiet (record c { least = put_id c.least id (greater_of (c.least id) pair) }) (from_coordinator id (CommitOk pair.seg pair.epoch) ∷ [])
-      (changed c.servers c.ready c.tablets (put_id c.least id (greater_of (c.least id) pair)) good.apart (λ table key. refl) (λ m e. e)) refl
-      (says-one (record c { least = put_id c.least id (greater_of (c.least id) pair) }) (Server id) (CommitOk pair.seg pair.epoch) tt))
+      (record c { least = put_id c.least id (greater_pair (c.least id) pair) }, from_coordinator id (CommitOk pair.seg pair.epoch) ∷ []) (c, refuses_server id Deposed ∷ [])
+      (λ _. quiet (record c { least = put_id c.least id (greater_pair (c.least id) pair) }) (from_coordinator id (CommitOk pair.seg pair.epoch) ∷ [])
+      (changed c.servers c.ready c.tablets (put_id c.least id (greater_pair (c.least id) pair)) good.apart (λ table key. refl) (λ m e. e)) refl
+      (says-one (record c { least = put_id c.least id (greater_pair (c.least id) pair) }) (Server id) (CommitOk pair.seg pair.epoch) tt))
       (λ _. refused_server id Deposed)
 
   -- Answers
