@@ -1,0 +1,10 @@
+pub mod Tablets
+pub mod Coordinators
+pub mod Entries
+pub mod Logs
+pub mod Masters
+pub mod Followed
+pub mod Ticks
+pub mod Backups
+pub mod Worlds
+pub mod Rooms

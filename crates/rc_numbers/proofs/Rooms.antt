@@ -1,0 +1,38 @@
+-- In a world of at most as many events as one takes, the numbers stay below the ends of their types.
+use Rattle.std.proofs.Common.{ℕ, ◌-◌, ◌^◌, ◌<◌, ◌≤◌, length, arith}
+use Rattle.std.proofs.lemmas.List.Elements.{All-weaker}
+use Rattle.rc_types.specs.declared.entries.Entry.{Entry}
+use Rattle.rc_types.specs.declared.limits.TheConstants.{MAX_EVENTS}
+use Rattle.rc_model.specs.Coordinator.{Coordinator}
+use Rattle.rc_model.specs.Log.{entries_of}
+use Rattle.rc_model.specs.Versions.{greatest_version}
+use Rattle.rc_model.specs.Master.{Master}
+use Rattle.rc_model.specs.World.{replay}
+use Rattle.rc_numbers.specs.Numbers.{CoordinatorWithin, VersionsUpTo, MasterWithin}
+use Rattle.rc_numbers.specs.Claims.{HasRoom, CoordinatorHasRoom, GenerationsHaveRoom, VersionsHaveRoom, NextVersionsHaveRoom}
+use Rattle.rc_numbers.proofs.Entries.{greatest-within}
+use Rattle.rc_numbers.proofs.Logs.{entries-within}
+use Rattle.rc_numbers.proofs.Worlds.{within-replay}
+
+room-of : (n : ℕ) (c : Coordinator) → n ≤ MAX_EVENTS → CoordinatorWithin n c → HasRoom c
+room-of n c few h = record { versions = omega (arith, h.versions); attempts = omega (arith, h.attempts); terms = omega (arith, h.terms, h.tablets) }
+
+pub coordinator-has-room : CoordinatorHasRoom
+coordinator-has-room setup events few = room-of (length events) (replay setup events).coordinator few (within-replay setup events).coordinator
+
+pub generations-have-room : GenerationsHaveRoom
+generations-have-room setup events few index = let h = ((within-replay setup events).hosts index).generation in omega (arith, h, few)
+
+versions-of : (n : ℕ) (master : Master) → MasterWithin n master → VersionsUpTo n (entries_of master.log)
+versions-of n master h = entries-within n master.log h.log
+
+pub versions-have-room : VersionsHaveRoom
+versions-have-room setup events few index master e =
+    All-weaker (λ (entry : Entry). entry.version ≤ length events) (λ (entry : Entry). entry.version < 2 ^ 64 - 1) (λ entry p. omega (arith, p, few)) (entries_of master.log)
+    (versions-of (length events) master (((within-replay setup events).hosts index).master master e))
+
+pub next-versions-have-room : NextVersionsHaveRoom
+next-versions-have-room setup events few index master e term table key =
+    let h : greatest_version term table key (entries_of master.log) ≤ length events =
+    greatest-within (length events) term table key (entries_of master.log) (versions-of (length events) master (((within-replay setup events).hosts index).master master e)) in
+    omega (arith, h, few)
