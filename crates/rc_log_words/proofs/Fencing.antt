@@ -19,7 +19,7 @@ use Rattle.rc_log_words.specs.LogClaims.{WasAsked, FencesHold, WhoAnsweredIsFenc
 use Rattle.rc_log_words.proofs.Since.{replay_from-append}
 
 -- an answer about this master: it is fenced as long as the server is its host's last
-answer-about : (world : World) (y m : ServerId) (number : ℕ) (rows : List Row) → GoodWorld world → WasAsked world.sent number m → In (to_coordinator y (Replicas number rows)) world.sent →
+pub answer-about : (world : World) (y m : ServerId) (number : ℕ) (rows : List Row) → GoodWorld world → WasAsked world.sent number m → In (to_coordinator y (Replicas number rows)) world.sent →
     (y.generation ≤ (world.hosts y.index).generation) × (y.generation ≡ (world.hosts y.index).generation → (held_at world.hosts y.index m).fenced ≡ true)
 answer-about world y m number rows good asked at =
     (answer.since, λ same. subst (λ (n : ServerId). (held_at world.hosts y.index n).fenced ≡ true) of_m (answer.fenced same))

@@ -85,3 +85,10 @@ abbrev pub WhoAnsweredIsFenced : Type 0
 WhoAnsweredIsFenced = (setup : Setup) (events : List Event) (y m : ServerId) (number : ℕ) (rows : List Row) →
     WasAsked (sent_after setup events) number m → In (to_coordinator y (Replicas number rows)) (sent_after setup events) →
     y.generation ≡ ((replay setup events).hosts y.index).generation → (held_after setup events y.index m).fenced ≡ true
+
+-- and what it keeps of that master stays as it is until its host starts anew
+abbrev pub FencedReplicasStay : Type 0
+FencedReplicasStay = (setup : Setup) (events more : List Event) (y m : ServerId) (number : ℕ) (rows : List Row) →
+    WasAsked (sent_after setup events) number m → In (to_coordinator y (Replicas number rows)) (sent_after setup events) →
+    y.generation ≡ ((replay setup (events ++ more)).hosts y.index).generation →
+    (held_after setup (events ++ more) y.index m).replicas ≡ (held_after setup events y.index m).replicas

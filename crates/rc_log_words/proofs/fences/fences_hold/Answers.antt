@@ -1,4 +1,5 @@
 use Rattle.rc_log_words.proofs.Fencing.{fences-hold, who-answered-is-fenced}
+use Rattle.rc_log_words.proofs.Staying.{fenced-replicas-stay}
 use Rattle.rc_log_words.proofs.fences.fences_hold.Goals as goal
 
 pub returns-clause-silent : goal.returns-clause-silent
@@ -6,3 +7,6 @@ returns-clause-silent c = fences-hold
 
 pub returns-clause-fenced : goal.returns-clause-fenced
 returns-clause-fenced c = who-answered-is-fenced
+
+pub returns-clause-stay : goal.returns-clause-stay
+returns-clause-stay c = fenced-replicas-stay
