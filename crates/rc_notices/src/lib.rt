@@ -1,0 +1,17 @@
+//! The messages that a master sends: each list of messages of its rules by one call, which adds them to
+//! the others. It changes nothing else. The words of the contracts are those of `rc_model`'s `Master`,
+//! `FollowUps` and `MasterTick`.
+#![tactic(auto)]
+
+mod appending;
+mod closing;
+mod copies;
+mod placing;
+mod single;
+mod tasks;
+
+pub use appending::{add_append, add_write_oks};
+pub use closing::{add_closes, add_frees};
+pub use placing::{add_head_places, add_places};
+pub use single::{commit, enlist, read_ok, ready, recovered, refusal};
+pub use tasks::{Task, add_fetches, attempt_of};
