@@ -1,0 +1,3 @@
+mod Views
+mod Bytes
+mod Each

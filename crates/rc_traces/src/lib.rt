@@ -1,0 +1,13 @@
+//! Traces: lists of messages as text, with what a judge asks of each. "Trace" in `docs/FORMATS.md` has the
+//! members.
+#![tactic(auto)]
+
+mod entries;
+mod faults;
+pub mod limits;
+mod messages;
+mod reading;
+mod values;
+
+pub use faults::TraceFault;
+pub use reading::read_trace;
