@@ -1,3 +1,4 @@
 mod Views
 mod Bytes
 mod Each
+mod Floats

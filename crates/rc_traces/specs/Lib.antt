@@ -1,2 +1,3 @@
 pub mod Values
 pub mod Trace
+pub mod Written

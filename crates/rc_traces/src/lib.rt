@@ -8,6 +8,8 @@ pub mod limits;
 mod messages;
 mod reading;
 mod values;
+mod writing;
 
 pub use faults::TraceFault;
 pub use reading::read_trace;
+pub use writing::write_trace;
