@@ -1,0 +1,50 @@
+//! The report as a whole.
+
+ghost use Rattle.std.specs.Prelude.{◌≡◌, ◌++◌, IfOk, IfErr, string_bytes};
+ghost use Rattle.rc_types.specs.declared.faults.Fault.TheVariants.{OutOfMemory};
+ghost use Rattle.rc_model.specs.Report.{message_lines, counts_text, audit_line, report};
+ghost use Rattle.rc_model.specs.Breach.{breach};
+
+use crate::audited::add_audit;
+use crate::counts::add_counts;
+use crate::lines::add_messages;
+use rc_audit::audit;
+use rc_types::{Breach, Fault, Message};
+use std::alloc::Global;
+
+/// The report of these messages. They are judged by `audit`, whose cost this adds to that of the text.
+///
+/// # Errors
+///
+/// `OutOfMemory` (F1): memory was refused.
+pub fn report(alloc: Global, messages: &[Message]) -> Result<String, Fault>
+    ensures ok { IfOk result (λ text. string_bytes text ≡ report messages.now) }
+    ensures err { IfErr result (λ e. e ≡ OutOfMemory) }
+{
+    let found = audit(alloc, messages)?;
+    report_of(alloc, messages, found)
+}
+
+/// The report of these messages, with what the audit found in them. It costs one look at each message, and what
+/// it prints.
+///
+/// # Errors
+///
+/// `OutOfMemory` (F1): memory was refused.
+pub fn report_of(
+    alloc: Global,
+    messages: &[Message],
+    found: Option<Breach>,
+) -> Result<String, Fault>
+    ensures ok { IfOk result
+        (λ text. string_bytes text ≡ message_lines messages.now ++ counts_text messages.now ++ audit_line found) }
+    // told of the messages' own first breach, it is the report of the definitions
+    ensures judged { found ≡ breach messages.now → IfOk result (λ text. string_bytes text ≡ report messages.now) }
+    ensures err { IfErr result (λ e. e ≡ OutOfMemory) }
+{
+    let mut text = String::new(alloc);
+    add_messages(&mut text, messages)?;
+    add_counts(&mut text, messages)?;
+    add_audit(&mut text, found)?;
+    Ok(text)
+}
