@@ -1,0 +1,2 @@
+pub mod Waitings
+pub mod Deliveries

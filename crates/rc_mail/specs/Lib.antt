@@ -1,0 +1,5 @@
+pub mod Delivered
+pub mod Passing
+pub mod Settling
+pub mod Waiting
+pub mod Letters
