@@ -4,3 +4,8 @@ pub mod LogChanges
 pub mod LogSteps
 pub mod DurableLogs
 pub mod PlaceLemmas
+pub mod GoingBack
+pub mod BeforeLemmas
+pub mod KeptSegments
+pub mod SoundBefore
+pub mod StillBefore

@@ -159,16 +159,16 @@ module _ (kept : LogData) (seg number : ℕ) (servers : ServerList) (x was : Seg
 
   pub lose_err : (result : Result (Vec ServerId Global) Fault) →
       IfErr result (λ fault. ((fault ≡ OutOfMemory) × (x ≡ was)) ⊎ (segment_loses kept.own servers was ≡ (x, Err fault))) →
-      IfErr result (λ fault. ((fault ≡ OutOfMemory) × (record kept { segments = set kept.segments (number - 1) x } ≡ kept))
+      IfErr result (λ fault. ((fault ≡ OutOfMemory) × (log_of (record kept { segments = set kept.segments (number - 1) x }) ≡ log_of kept))
       ⊎ (loses servers seg (log_of kept) ≡ (log_of (record kept { segments = set kept.segments (number - 1) x }), Err fault)))
   lose_err (Ok ids) err = tt
   lose_err (Err fault) err = ⊎_elim
-      {C = ((fault ≡ OutOfMemory) × (record kept { segments = set kept.segments (number - 1) x } ≡ kept))
+      {C = ((fault ≡ OutOfMemory) × (log_of (record kept { segments = set kept.segments (number - 1) x }) ≡ log_of kept))
       ⊎ (loses servers seg (log_of kept) ≡ (log_of (record kept { segments = set kept.segments (number - 1) x }), Err fault))}
       (λ (none : (fault ≡ OutOfMemory) × (x ≡ was)).
       inl (
         none.0,
-        ap (λ (segments : List Segment). record kept { segments = segments })
+        ap (λ (segments : List Segment). log_of (record kept { segments = segments }))
             (ap (set kept.segments (number - 1)) (none.1 ∙ read) ∙ set-get_or kept.segments (number - 1) was),
       ))
       (λ (refused : segment_loses kept.own servers was ≡ (x, Err fault)). inr (loses-written kept seg number servers x was (Err fault) has is read refused))

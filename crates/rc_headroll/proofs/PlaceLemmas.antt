@@ -1,5 +1,5 @@
 -- Places of a log, segment by segment.
-use Rattle.std.proofs.Common.{◌≡◌, ℕ, ◌+◌, ◌-◌, ◌<◌, ◌≤◌, zero, suc, Bool, List, [], ◌∷◌, ◌++◌, length, take, drop, map, min, get_or, ⊎_elim, refl, ap, sym, ◌∙◌, arith, append_assoc, add_assoc, add-zero, zero-add}
+use Rattle.std.proofs.Common.{◌≡◌, ℕ, ◌+◌, ◌-◌, ◌<◌, ◌≤◌, zero, suc, Bool, List, [], ◌∷◌, ◌++◌, length, take, drop, min, get_or, ⊎_elim, refl, ap, sym, ◌∙◌, arith, append_assoc, add-zero}
 use Rattle.std.proofs.Math.Seq.{take-append-add, drop-append-add}
 use Rattle.std.proofs.lemmas.Bool.{cases_lt}
 use Rattle.std.proofs.lemmas.List.{take-append-le, drop-append-le, take_all, drop_all, append-nil, length-take, length-append, take_more, take_min, drop-take}

@@ -1,13 +1,14 @@
 -- Segments in a list, as the definitions see them.
-use Rattle.std.proofs.Common.{◌≡◌, ◌≢◌, ⊎_elim, ℕ, ◌+◌, ◌<◌, ◌≤◌, zero, suc, true, false, eqb, ltb, leb, List, [], ◌∷◌, ◌++◌, length, get_or, set, refl, ap, sym, ◌∙◌, subst, arith}
+use Rattle.std.proofs.Common.{◌≡◌, ◌≢◌, ⊎_elim, ℕ, ◌+◌, ◌-◌, ◌<◌, ◌≤◌, zero, suc, true, false, eqb, ltb, leb, List, [], ◌∷◌, ◌++◌, length, get_or, set, refl, ap, sym, ◌∙◌, subst, arith}
 use Rattle.std.proofs.Math.Path.{fun_ext}
-use Rattle.std.proofs.lemmas.Bool.{cases_eq, cases_lt, eq-eqb, ne_eqb, eqb-true, cond_both, and_parts, ltb-true, leb-true}
+use Rattle.std.proofs.lemmas.Bool.{cases_eq, cases_lt, eq-eqb, ne_eqb, eqb-true, cond_both, and_parts, and_from, ltb-true, leb-true, lt-ltb, le-leb}
 use Rattle.std.proofs.lemmas.List.{get_or-set_same, get_or-set_other, get_or_push, get_or_append_left, get_or_past, get_or_default, length-set, length_push}
 use Rattle.rc_model.specs.Tables.{put}
 use Rattle.rc_model.specs.Segment.{Segment, no_segment}
 use Rattle.rc_types.specs.declared.ids.ServerId.{ServerId}
 use Rattle.rc_types.specs.declared.kept.Phase.TheVariants.{Opening}
 use Rattle.rc_model.specs.Log.{Log, new_log, with_segment, has_segment, has_old_head}
+use Rattle.rc_headroll.specs.Before.{first_mark}
 use Rattle.rc_headroll.specs.LogData.{LogData, segment_at, log_of}
 
 -- Tables
@@ -37,6 +38,11 @@ segment_at-within segments seg place d e inside = segment_at-place segments seg 
 pub segment_at-zero : (segments : List Segment) → segment_at segments 0 ≡ no_segment 0
 unfolding segment_at
 segment_at-zero segments = refl
+
+-- nor behind the last one
+pub segment_at-past : (segments : List Segment) (seg : ℕ) → length segments < seg → segment_at segments seg ≡ no_segment seg
+segment_at-past segments seg past =
+    segment_at-place segments seg (seg - 1) (omega arith) ∙ get_or_past segments (seg - 1) (no_segment seg) (omega arith)
 
 -- no segment stands in the empty list
 segment_at-nil_at : (seg : ℕ) → segment_at [] seg ≡ no_segment seg
@@ -110,7 +116,7 @@ segment_at-read segments seg place x e inside read = read ∙ sym (segment_at-wi
 
 -- a log with no segment is a new one
 pub log_of-nil : (own : ServerId) (factor size : ℕ) →
-    log_of (record { own = own; factor = factor; size = size; segments = []; phase = Opening; durable = 0 }) ≡ new_log own factor size
+    log_of (record { own = own; factor = factor; size = size; segments = []; phase = Opening; durable = 0; mark = first_mark }) ≡ new_log own factor size
 log_of-nil own factor size = rw segment_at-nil refl
 
 -- what is behind a model, at a segment
@@ -122,6 +128,9 @@ pub has-parts : (log : Log) (seg : ℕ) → has_segment log seg ≡ true → (0 
 has-parts log seg has =
     let parts : (ltb 0 seg ≡ true) × (leb seg log.head ≡ true) = and_parts (ltb 0 seg) (leb seg log.head) has in
     (ltb-true 0 seg parts.0, leb-true seg log.head parts.1)
+
+pub has-from : (log : Log) (seg : ℕ) → 0 < seg → seg ≤ log.head → has_segment log seg ≡ true
+has-from log seg above within = and_from (ltb 0 seg) (leb seg log.head) (lt-ltb 0 seg above) (le-leb seg log.head within)
 
 pub has-old-parts : (log : Log) → has_old_head log ≡ true → 1 < log.head
 has-old-parts log has = ltb-true 1 log.head has

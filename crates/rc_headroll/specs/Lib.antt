@@ -3,3 +3,4 @@ pub mod LogData
 pub mod Soundness
 pub mod Freeing
 pub mod Places
+pub mod Before

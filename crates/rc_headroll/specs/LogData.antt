@@ -4,6 +4,7 @@ use Rattle.rc_types.specs.declared.ids.ServerId.{ServerId}
 use Rattle.rc_types.specs.declared.kept.Phase.{Phase}
 use Rattle.rc_model.specs.Segment.{Segment, no_segment}
 use Rattle.rc_model.specs.Log.{Log}
+use Rattle.rc_headroll.specs.Before.{Mark, segments_before}
 
 pub record LogData : Type 0 where
   pub own : ServerId
@@ -12,6 +13,8 @@ pub record LogData : Type 0 where
   pub segments : List Segment
   pub phase : Phase
   pub durable : ℕ
+  -- where the log goes back to
+  pub mark : Mark
 
 -- the segment of this number; one that was never opened has none
 unfoldable pub segment_at : List Segment → ℕ → Segment
@@ -28,4 +31,16 @@ log_of kept = record {
   segments = segment_at kept.segments;
   phase = kept.phase;
   durable = kept.durable;
+}
+
+-- the log that it goes back to
+abbrev pub before_of : LogData → Log
+before_of kept = record {
+  own = kept.own;
+  factor = kept.factor;
+  size = kept.size;
+  head = kept.mark.head;
+  segments = segments_before kept.mark (segment_at kept.segments);
+  phase = kept.mark.phase;
+  durable = kept.mark.durable;
 }

@@ -4,6 +4,8 @@ use Rattle.rc_types.specs.declared.kept.Phase.TheVariants.{Opening}
 use Rattle.rc_types.specs.declared.limits.TheConstants.{LAST_SEGMENT, MAX_FACTOR, MAX_SEGMENT}
 use Rattle.rc_model.specs.Segment.{Segment}
 use Rattle.rc_model.specs.Log.{Log, head_of, is_writing}
+use Rattle.rc_headroll.specs.Before.{CanGoBack}
+use Rattle.rc_headroll.specs.LogData.{LogData, segment_at, log_of, before_of}
 
 -- the number is that of a segment
 abbrev pub IsKnown : ℕ → ℕ → Type 0
@@ -36,3 +38,9 @@ pub record IsSound (log : Log) (passed entries : ℕ) : Type 0 where
   pub passed_shut : (seg : ℕ) → 0 < seg → seg ≤ passed → (log.segments seg).shut ≡ true
   pub passed_entries : entries ≡ entries_to log.segments passed
   pub passed_durable : entries ≤ log.durable
+
+-- the log is sound, and so is the one that it can go back to
+pub record IsSoundLog (kept : LogData) (passed entries : ℕ) : Type 0 where
+  pub now : IsSound (log_of kept) passed entries
+  pub before : IsSound (before_of kept) kept.mark.passed kept.mark.passed_entries
+  pub back : CanGoBack kept.mark (length kept.segments) (segment_at kept.segments)

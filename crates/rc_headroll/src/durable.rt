@@ -4,7 +4,7 @@ ghost use Rattle.std.specs.Prelude.{◌≡◌, ◌+◌, ◌*◌, ◌^◌, ◌<�
 ghost use Rattle.rc_types.specs.declared.limits.TheConstants.{MAX_SEGMENT};
 ghost use Rattle.rc_model.specs.Log.{durable_now, has_segment, places_in};
 ghost use Rattle.rc_model.specs.FollowUps.{first_open, new_durable};
-ghost use Rattle.rc_headroll.specs.LogData.{log_of};
+ghost use Rattle.rc_headroll.specs.LogData.{log_of, before_of};
 ghost use Rattle.rc_headroll.specs.Soundness.{entries_to};
 ghost use Rattle.rc_headroll.specs.Places.{log_place};
 
@@ -93,7 +93,8 @@ impl LogHead {
     /// What is durable at this moment is durable for good.
     pub fn keep_durable(&mut self)
         requires { self.old.durable ≤ durable_now (log_of self.old) }
-        ensures { log_of self.new ≡ record (log_of self.old) { durable = durable_now (log_of self.old) } }
+        ensures state { log_of self.new ≡ record (log_of self.old) { durable = durable_now (log_of self.old) } }
+        ensures before { before_of self.new ≡ before_of self.old }
     {
         let front = self.shut_front();
         self.durable = self.durable_now();

@@ -1,11 +1,12 @@
 //! The log goes on: a new head is placed, the old one closed, and the new one writes.
 
-ghost use Rattle.std.specs.Prelude.{◌≡◌, true, length, filter, not, nat_eq, IfOk, All};
+ghost use Rattle.std.specs.Prelude.{◌≡◌, true, length, filter, not, nat_eq, OnOk, OnErr, IfOk, All};
 ghost use Rattle.std.specs.List.{list_any};
 ghost use Rattle.rc_model.specs.Log.{is_opening, is_closing, has_segment, has_old_head, with_segment};
 ghost use Rattle.rc_model.specs.Heads.{shuts, with_shut, may_start, may_close, may_write, starts, closes_old, left_out, writes_on};
 ghost use Rattle.rc_model.specs.FollowUps.{close_is_due, close_marked};
-ghost use Rattle.rc_headroll.specs.LogData.{log_of, segment_at};
+ghost use Rattle.rc_headroll.specs.Before.{IsKept};
+ghost use Rattle.rc_headroll.specs.LogData.{log_of, before_of, segment_at};
 ghost use Rattle.rc_headroll.specs.Soundness.{IsKnown};
 ghost use Rattle.rc_headroll.specs.Freeing.{freed_in};
 
@@ -25,7 +26,8 @@ impl LogHead {
 
     /// Marks the old head shut where it is closed on all its members, under a committed epoch.
     pub fn mark_shut(&mut self)
-        ensures { log_of self.new ≡ with_shut (log_of self.old) }
+        ensures state { log_of self.new ≡ with_shut (log_of self.old) }
+        ensures before { before_of self.new ≡ before_of self.old }
     {
         if self.shuts() {
             let old = self.segments.len() - 2;
@@ -43,7 +45,8 @@ impl LogHead {
     /// The first head writes.
     pub fn start(&mut self)
         requires { may_start (log_of self.old) ≡ true }
-        ensures { log_of self.new ≡ starts (log_of self.old) }
+        ensures state { log_of self.new ≡ starts (log_of self.old) }
+        ensures before { before_of self.new ≡ before_of self.old }
     {
         self.phase = Phase::Writing;
     }
@@ -58,7 +61,8 @@ impl LogHead {
     /// The old head is being closed.
     pub fn close_old(&mut self)
         requires { may_close (log_of self.old) ≡ true }
-        ensures { log_of self.new ≡ closes_old (log_of self.old) }
+        ensures state { log_of self.new ≡ closes_old (log_of self.old) }
+        ensures before { before_of self.new ≡ before_of self.old }
     {
         self.phase = Phase::Closing;
     }
@@ -76,16 +80,32 @@ impl LogHead {
     /// Marks that a Close was sent to the old head's members.
     pub fn mark_close_sent(&mut self)
         requires { close_is_due (log_of self.old) ≡ true }
-        ensures { log_of self.new ≡ close_marked (log_of self.old) }
+        ensures state { log_of self.new ≡ close_marked (log_of self.old) }
+        ensures before { before_of self.new ≡ before_of self.old }
     {
         let old = self.segments.len() - 2;
         self.segments[old].mark_close_sent();
     }
 
-    /// Marks that a Commit of the present epoch of a segment was sent.
-    pub fn mark_commit_sent(&mut self, seg: u16)
+    /// Marks that a Commit of the present epoch of a segment was sent. Where memory is refused, the log
+    /// is as it was.
+    pub fn mark_commit_sent(&mut self, seg: u16) -> Result<(), AllocError>
         requires { has_segment (log_of self.old) seg ≡ true }
-        ensures { log_of self.new ≡ with_segment seg (record ((log_of self.old).segments seg) { commit_sent = true }) (log_of self.old) }
+        ensures marked { OnOk result (log_of self.new ≡ with_segment seg (record ((log_of self.old).segments seg) { commit_sent = true }) (log_of self.old)) }
+        ensures unchanged { OnErr result (log_of self.new ≡ log_of self.old) }
+        ensures before { before_of self.new ≡ before_of self.old }
+    {
+        self.keep(seg)?;
+        self.mark_commit(seg);
+        Ok(())
+    }
+
+    /// Marks that a Commit was sent of a segment that is kept.
+    fn mark_commit(&mut self, seg: u16)
+        requires has { has_segment (log_of self.old) seg ≡ true }
+        requires kept { IsKept self.old.mark seg }
+        ensures marked { log_of self.new ≡ with_segment seg (record ((log_of self.old).segments seg) { commit_sent = true }) (log_of self.old) }
+        ensures before { before_of self.new ≡ before_of self.old }
     {
         self.segments[usize::from(seg) - 1].mark_commit_sent();
     }
@@ -109,11 +129,28 @@ impl LogHead {
         without(alloc, self.previous().digest(), self.newest().digest())
     }
 
-    /// The new head writes, and the segments that its digest leaves out are freed.
-    pub fn write_on(&mut self, freed: &[u16])
+    /// The new head writes, and the segments that its digest leaves out are freed. Where memory is
+    /// refused, the log is as it was.
+    pub fn write_on(&mut self, freed: &[u16]) -> Result<(), AllocError>
         requires may { may_write (log_of self.old) ≡ true }
         requires left { freed.now ≡ left_out (log_of self.old) }
-        ensures { log_of self.new ≡ writes_on (log_of self.old) }
+        ensures written { OnOk result (log_of self.new ≡ writes_on (log_of self.old)) }
+        ensures unchanged { OnErr result (log_of self.new ≡ log_of self.old) }
+        ensures before { before_of self.new ≡ before_of self.old }
+    {
+        let _ = &self.segments;
+        self.keep_all(freed)?;
+        self.free_and_write(freed);
+        Ok(())
+    }
+
+    /// The new head writes, and these segments, which are kept, are freed.
+    fn free_and_write(&mut self, freed: &[u16])
+        requires may { may_write (log_of self.old) ≡ true }
+        requires left { freed.now ≡ left_out (log_of self.old) }
+        requires kept { All (IsKept self.old.mark) freed.now }
+        ensures written { log_of self.new ≡ writes_on (log_of self.old) }
+        ensures before { before_of self.new ≡ before_of self.old }
     {
         mark_freed(self.segments.as_mut_slice(), freed);
         self.phase = Phase::Writing;

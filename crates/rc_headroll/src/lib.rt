@@ -3,11 +3,14 @@
 //! It sends nothing.
 #![tactic(auto)]
 
+mod before;
 mod durable;
+mod going_back;
 mod going_on;
 mod log;
 mod opening;
 mod segment;
+mod state;
 mod telling;
 
 pub use durable::Place;

@@ -3,6 +3,7 @@
 ghost use Rattle.std.specs.Prelude.{◌≡◌, ◌⊎◌, ◌≤◌, ◌<◌, true, Some, None, Ok, Err, length, nat_lt, All, if◌then◌else◌, OnOk, OnErr, IfOk, IfErr};
 ghost use Rattle.std.specs.Option.{option_copied};
 
+use crate::before::Before;
 use crate::segment::Segment;
 use rc_types::{Phase, ServerId};
 use std::alloc::Global;
@@ -23,14 +24,16 @@ pub struct LogHead {
     pub(crate) passed: usize,
     /// How many entries these have.
     pub(crate) passed_entries: usize,
+    /// Where the log goes back to.
+    pub(crate) before: Before,
 }
 
 impl Model for LogHead {
-    ghost use Rattle.rc_headroll.specs.LogData.{LogData, log_of};
+    ghost use Rattle.rc_headroll.specs.LogData.{LogData};
 
     ghost Value = { LogData };
 
-    ghost use Rattle.rc_headroll.specs.Soundness.{IsSound};
+    ghost use Rattle.rc_headroll.specs.Soundness.{IsSoundLog};
 
     ghost view = { λ l. record {
       own = l.own;
@@ -39,22 +42,24 @@ impl Model for LogHead {
       segments = l.segments.items;
       phase = l.phase;
       durable = l.durable;
+      mark = l.before;
     } };
 
-    ghost invariant = { λ l. IsSound (log_of (record {
+    ghost invariant = { λ l. IsSoundLog (record {
       own = l.own;
       factor = l.factor;
       size = l.size;
       segments = l.segments.items;
       phase = l.phase;
       durable = l.durable;
-    })) l.passed l.passed_entries };
+      mark = l.before;
+    }) l.passed l.passed_entries };
 }
 
 impl LogHead {
     ghost use Rattle.rc_model.specs.Log.{new_log, head_of, old_head_of, has_segment, has_old_head, is_opening, is_closing, is_writing};
     ghost use Rattle.rc_model.specs.Heads.{is_full};
-    ghost use Rattle.rc_headroll.specs.LogData.{log_of};
+    ghost use Rattle.rc_headroll.specs.LogData.{log_of, before_of};
     ghost use Rattle.rc_headroll.specs.Soundness.{IsKnown};
     ghost use Rattle.rc_types.specs.declared.limits.TheConstants.{MAX_FACTOR, MAX_SEGMENT, LAST_SEGMENT};
 
@@ -63,7 +68,8 @@ impl LogHead {
     pub fn new(alloc: Global, own: ServerId, factor: u8, size: u16) -> LogHead
         requires factor { factor ≤ MAX_FACTOR }
         requires size { size ≤ MAX_SEGMENT }
-        ensures { log_of result ≡ new_log own factor size }
+        ensures log { log_of result ≡ new_log own factor size }
+        ensures before { before_of result ≡ new_log own factor size }
     {
         LogHead {
             own,
@@ -74,6 +80,7 @@ impl LogHead {
             durable: 0,
             passed: 0,
             passed_entries: 0,
+            before: Before::new(alloc),
         }
     }
 

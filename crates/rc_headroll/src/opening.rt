@@ -6,7 +6,7 @@ ghost use Rattle.rc_types.specs.declared.faults.Fault.TheVariants.{OutOfMemory};
 ghost use Rattle.rc_types.specs.declared.limits.TheConstants.{MAX_FACTOR, LAST_SEGMENT};
 ghost use Rattle.rc_model.specs.Log.{head_of, is_writing};
 ghost use Rattle.rc_model.specs.Heads.{opens_head, open_first, appends, append_fault, next_digest, begin_roll};
-ghost use Rattle.rc_headroll.specs.LogData.{log_of};
+ghost use Rattle.rc_headroll.specs.LogData.{log_of, before_of};
 ghost use Rattle.rc_headroll.specs.Soundness.{IsKnown};
 
 use crate::log::LogHead;
@@ -48,6 +48,7 @@ impl LogHead {
         ensures place { IfOk result (λ place. place ≡ ((log_of self.old).head, length (head_of (log_of self.old)).entries)) }
         ensures err { IfErr result (λ fault. (fault ≡ OutOfMemory) ⊎ (append_fault (log_of self.old) ≡ Some fault)) }
         ensures unchanged { OnErr result (self.new ≡ self.old) }
+        ensures before { before_of self.new ≡ before_of self.old }
     {
         self.append_entry(entry, false)
     }
@@ -63,6 +64,7 @@ impl LogHead {
         ensures place { IfOk result (λ place. place ≡ ((log_of self.old).head, length (head_of (log_of self.old)).entries)) }
         ensures err { IfErr result (λ fault. (fault ≡ OutOfMemory) ⊎ (append_fault (log_of self.old) ≡ Some fault)) }
         ensures unchanged { OnErr result (self.new ≡ self.old) }
+        ensures before { before_of self.new ≡ before_of self.old }
     {
         self.append_entry(entry, true)
     }
@@ -73,6 +75,7 @@ impl LogHead {
         ensures place { IfOk result (λ place. place ≡ ((log_of self.old).head, length (head_of (log_of self.old)).entries)) }
         ensures err { IfErr result (λ fault. (fault ≡ OutOfMemory) ⊎ (append_fault (log_of self.old) ≡ Some fault)) }
         ensures unchanged { OnErr result (self.new ≡ self.old) }
+        ensures before { before_of self.new ≡ before_of self.old }
     {
         if let Some(fault) = self.append_fault() {
             return Err(fault);
@@ -87,6 +90,7 @@ impl LogHead {
         requires possible { append_fault (log_of self.old) ≡ None }
         ensures state { OnOk result (log_of self.new ≡ appends entry client (log_of self.old)) }
         ensures unchanged { OnErr result (self.new ≡ self.old) }
+        ensures before { before_of self.new ≡ before_of self.old }
     {
         let last = self.segments.len() - 1;
         self.segments[last].push(entry, client)?;
@@ -105,6 +109,7 @@ impl LogHead {
         ensures err { IfErr result (λ fault. (fault ≡ OutOfMemory)
             ⊎ (open_first servers.now (log_of self.old) ≡ (log_of self.old, Err fault))) }
         ensures unchanged { OnErr result (self.new ≡ self.old) }
+        ensures before { before_of self.new ≡ before_of self.old }
     {
         let ids = choose(alloc, 1, self.own, self.factor, servers)?;
         let digest = vec![in alloc; 1]?;
@@ -131,6 +136,7 @@ impl LogHead {
         ensures err { IfErr result (λ fault. (fault ≡ OutOfMemory)
             ⊎ (begin_roll servers.now dead.now (log_of self.old) ≡ (log_of self.old, Err fault))) }
         ensures unchanged { OnErr result (self.new ≡ self.old) }
+        ensures before { before_of self.new ≡ before_of self.old }
     {
         let head = self.head();
         if head == LAST_SEGMENT {
@@ -168,6 +174,7 @@ impl LogHead {
         requires shut { (seg : ℕ) → 0 < seg → seg < (log_of self.old).head → ((log_of self.old).segments seg).shut ≡ true }
         ensures ok { OnOk result (log_of self.new ≡ opens_head (log_of self.old) digest.items ids.now) }
         ensures unchanged { OnErr result (self.new ≡ self.old) }
+        ensures before { before_of self.new ≡ before_of self.old }
     {
         let head = Segment::new(alloc, self.head() + 1, digest, ids);
         self.segments.push(head)?;

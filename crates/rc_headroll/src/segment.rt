@@ -4,6 +4,7 @@ ghost use Rattle.std.specs.Prelude.{◌≡◌, ◌⊎◌, ◌≤◌, Ok, Err, tr
 ghost use Rattle.rc_types.specs.declared.faults.Fault.TheVariants.{OutOfMemory};
 ghost use Rattle.rc_model.specs.Config.{notes, noted, committed_at};
 
+use crate::state::SegmentState;
 use rc_config::{Config, MAX_MEMBERS};
 use rc_serverlist::ServerList;
 use rc_types::{Entry, Fault, Member, ServerId};
@@ -44,6 +45,7 @@ impl Segment {
     ghost use Rattle.rc_model.specs.FollowUps.{wants_commit};
     ghost use Rattle.rc_model.specs.MasterTick.{awaits_commit};
     ghost use Rattle.rc_headroll.specs.Losing.{segment_loses};
+    ghost use Rattle.rc_headroll.specs.Before.{state_of, with_state};
 
     /// A segment as it is opened with this digest on these members. It takes no memory.
     pub(crate) fn new(alloc: Global, seg: u16, digest: Vec<u16>, ids: &[ServerId]) -> Segment
@@ -210,6 +212,32 @@ impl Segment {
         ensures { self.new ≡ record self.old { freed = true } }
     {
         self.freed = true;
+    }
+
+    /// What a step can change of it.
+    pub(crate) fn state(&self) -> SegmentState
+        ensures { result ≡ state_of self.now }
+    {
+        SegmentState {
+            len: self.entries.len(),
+            config: self.config.copy(),
+            commit_sent: self.commit_sent,
+            close_sent: self.close_sent,
+            shut: self.shut,
+            freed: self.freed,
+        }
+    }
+
+    /// It is as it was, but for its digest.
+    pub(crate) fn put_back(&mut self, state: &SegmentState)
+        ensures { self.new ≡ with_state state.now self.old }
+    {
+        self.entries.truncate(state.len);
+        self.config = state.config.copy();
+        self.commit_sent = state.commit_sent;
+        self.close_sent = state.close_sent;
+        self.shut = state.shut;
+        self.freed = state.freed;
     }
 
     /// Replaces members that have crashed, as `LogHead::lose` says.

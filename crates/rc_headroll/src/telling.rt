@@ -1,37 +1,81 @@
 //! What members tell, and what becomes of lost ones.
 
-ghost use Rattle.std.specs.Prelude.{◌≡◌, ◌⊎◌, true, Ok, Err, IfOk, IfErr};
+ghost use Rattle.std.specs.Prelude.{◌≡◌, ◌⊎◌, true, Ok, Err, OnOk, OnErr, IfOk, IfErr};
 ghost use Rattle.rc_types.specs.declared.faults.Fault.TheVariants.{OutOfMemory};
 ghost use Rattle.rc_model.specs.Log.{has_segment};
 ghost use Rattle.rc_model.specs.Heads.{stored, notes_stored, commit_noted, loses};
-ghost use Rattle.rc_headroll.specs.LogData.{log_of};
+ghost use Rattle.rc_headroll.specs.Before.{IsKept};
+ghost use Rattle.rc_headroll.specs.LogData.{log_of, before_of};
 
 use crate::log::LogHead;
 use rc_serverlist::ServerList;
 use rc_types::{Fault, ServerId};
-use std::alloc::Global;
+use std::alloc::{AllocError, Global};
 
 impl LogHead {
     /// Notes what a server has told of a segment, as `Config::stored` does, and says whether it did.
-    /// An unknown segment changes nothing.
-    pub fn stored(&mut self, seg: u16, from: ServerId, epoch: u16, len: usize, closed: bool) -> bool
-        ensures notes { result ≡ notes_stored (log_of self.old) seg from epoch }
-        ensures noted { log_of self.new ≡ stored seg from epoch len closed (log_of self.old) }
+    /// An unknown segment changes nothing. Where memory is refused, the log is as it was.
+    pub fn stored(
+        &mut self,
+        seg: u16,
+        from: ServerId,
+        epoch: u16,
+        len: usize,
+        closed: bool,
+    ) -> Result<bool, AllocError>
+        ensures notes { IfOk result (λ noted. noted ≡ notes_stored (log_of self.old) seg from epoch) }
+        ensures noted { OnOk result (log_of self.new ≡ stored seg from epoch len closed (log_of self.old)) }
+        ensures unchanged { OnErr result (log_of self.new ≡ log_of self.old) }
+        ensures before { before_of self.new ≡ before_of self.old }
     {
         if !self.has(seg) {
-            return false;
+            return Ok(false);
         }
+        self.keep(seg)?;
+        Ok(self.note_stored(seg, from, epoch, len, closed))
+    }
+
+    /// Notes what a server has told of a segment that is kept.
+    fn note_stored(
+        &mut self,
+        seg: u16,
+        from: ServerId,
+        epoch: u16,
+        len: usize,
+        closed: bool,
+    ) -> bool
+        requires has { has_segment (log_of self.old) seg ≡ true }
+        requires kept { IsKept self.old.mark seg }
+        ensures notes { result ≡ notes_stored (log_of self.old) seg from epoch }
+        ensures noted { log_of self.new ≡ stored seg from epoch len closed (log_of self.old) }
+        ensures before { before_of self.new ≡ before_of self.old }
+    {
         self.segments[usize::from(seg) - 1].stored(from, epoch, len, closed)
     }
 
     /// Notes that an epoch of a segment is committed. Another epoch than the present one, or an
-    /// unknown segment, changes nothing.
-    pub fn committed_at(&mut self, seg: u16, epoch: u16)
-        ensures { log_of self.new ≡ commit_noted seg epoch (log_of self.old) }
+    /// unknown segment, changes nothing. Where memory is refused, the log is as it was.
+    pub fn committed_at(&mut self, seg: u16, epoch: u16) -> Result<(), AllocError>
+        ensures noted { OnOk result (log_of self.new ≡ commit_noted seg epoch (log_of self.old)) }
+        ensures unchanged { OnErr result (log_of self.new ≡ log_of self.old) }
+        ensures before { before_of self.new ≡ before_of self.old }
     {
-        if self.has(seg) {
-            self.segments[usize::from(seg) - 1].committed_at(epoch);
+        if !self.has(seg) {
+            return Ok(());
         }
+        self.keep(seg)?;
+        self.note_commit(seg, epoch);
+        Ok(())
+    }
+
+    /// Notes that an epoch of a segment is committed that is kept.
+    fn note_commit(&mut self, seg: u16, epoch: u16)
+        requires has { has_segment (log_of self.old) seg ≡ true }
+        requires kept { IsKept self.old.mark seg }
+        ensures noted { log_of self.new ≡ commit_noted seg epoch (log_of self.old) }
+        ensures before { before_of self.new ≡ before_of self.old }
+    {
+        self.segments[usize::from(seg) - 1].committed_at(epoch);
     }
 
     /// Marks the members of a segment lost that the list shows crashed, and replaces the lost ones:
@@ -52,8 +96,27 @@ impl LogHead {
     ) -> Result<Vec<ServerId>, Fault>
         requires { has_segment (log_of self.old) seg ≡ true }
         ensures ok { IfOk result (λ ids. loses servers.now seg (log_of self.old) ≡ (log_of self.new, Ok ids.items)) }
-        ensures err { IfErr result (λ fault. ((fault ≡ OutOfMemory) × (self.new ≡ self.old))
+        ensures err { IfErr result (λ fault. ((fault ≡ OutOfMemory) × (log_of self.new ≡ log_of self.old))
             ⊎ (loses servers.now seg (log_of self.old) ≡ (log_of self.new, Err fault))) }
+        ensures before { before_of self.new ≡ before_of self.old }
+    {
+        self.keep(seg)?;
+        self.lose_members(alloc, seg, servers)
+    }
+
+    /// Replaces lost members of a segment that is kept, as `lose` does.
+    fn lose_members(
+        &mut self,
+        alloc: Global,
+        seg: u16,
+        servers: &ServerList,
+    ) -> Result<Vec<ServerId>, Fault>
+        requires has { has_segment (log_of self.old) seg ≡ true }
+        requires kept { IsKept self.old.mark seg }
+        ensures ok { IfOk result (λ ids. loses servers.now seg (log_of self.old) ≡ (log_of self.new, Ok ids.items)) }
+        ensures err { IfErr result (λ fault. ((fault ≡ OutOfMemory) × (log_of self.new ≡ log_of self.old))
+            ⊎ (loses servers.now seg (log_of self.old) ≡ (log_of self.new, Err fault))) }
+        ensures before { before_of self.new ≡ before_of self.old }
     {
         self.segments[usize::from(seg) - 1].lose(alloc, self.own, servers)
     }

@@ -1,4 +1,4 @@
-use Rattle.std.proofs.Common.{◌+◌, ◌<◌, ℕ, map, length, ap, ◌∙◌, arith}
+use Rattle.std.proofs.Common.{◌<◌, map, length, ap, ◌∙◌, arith}
 use Rattle.std.proofs.lemmas.List.{map_push}
 use Rattle.rc_headroll.specs.Places.{log_place}
 use Rattle.rc_headroll.proofs.PlaceLemmas.{add-step}

@@ -1,28 +1,17 @@
-use Rattle.std.proofs.Common.{◌≡◌, true, sym}
-use Rattle.rc_model.specs.Log.{has_segment}
+use Rattle.std.proofs.Common.{◌≡◌, ◌⊎◌, Ok, Err, IfOk, IfErr, subst}
+use Rattle.rc_types.specs.declared.faults.Fault.TheVariants.{OutOfMemory}
+use Rattle.rc_model.specs.Log.{Log}
+use Rattle.rc_model.specs.Heads.{loses}
 use Rattle.rc_headroll.specs.LogData.{log_of}
-use Rattle.rc_headroll.specs.contracts.log.LogHead.{the_view}
-use Rattle.rc_headroll.proofs.LogChanges.{sound-written, lose_keeps, lose_ok, lose_err}
 use Rattle.rc_headroll.proofs.log.LogHead.lose.Goals as goal
-
-pub invariant_of-self : goal.invariant_of-self
-invariant_of-self c =
-    let has : true ≡ has_segment (log_of c.args.self.now) c.args.seg = sym c.requires in
-    let was = c.index_mut.result.now in
-    sound-written (the_view c.self.inside) c.args.seg c.from.result c.self.inside.passed c.self.inside.passed_entries c.lose.new.self was c.self.invariant
-    (rw (← c.self.view_is) at has) c.from.ensures c.index_mut.ensures.value
-    (lose_keeps c.self.inside.own c.args.servers.now c.lose.new.self was c.lose.result c.lose.ensures.ok c.lose.ensures.err)
 
 pub returns-clause-ok : goal.returns-clause-ok
 returns-clause-ok c =
-    let has : true ≡ has_segment (log_of c.args.self.now) c.args.seg = sym c.requires in
-    rw (← c.self.view_is)
-    (lose_ok (the_view c.self.inside) c.args.seg c.from.result c.args.servers.now c.lose.new.self c.index_mut.result.now
-    (rw (← c.self.view_is) at has) c.from.ensures c.index_mut.ensures.value c.lose.result c.lose.ensures.ok)
+    subst (λ (log : Log). IfOk c.lose_members.result (λ ids. loses c.args.servers.now c.args.seg log ≡ (log_of c.lose_members.new.self, Ok ids.items)))
+    c.in_ok-keep.ensures.log c.lose_members.ensures.ok
 
 pub returns-clause-err : goal.returns-clause-err
 returns-clause-err c =
-    let has : true ≡ has_segment (log_of c.args.self.now) c.args.seg = sym c.requires in
-    rw (← c.self.view_is)
-    (lose_err (the_view c.self.inside) c.args.seg c.from.result c.args.servers.now c.lose.new.self c.index_mut.result.now
-    (rw (← c.self.view_is) at has) c.from.ensures c.index_mut.ensures.value c.lose.result c.lose.ensures.err)
+    subst (λ (log : Log). IfErr c.lose_members.result (λ fault. ((fault ≡ OutOfMemory) × (log_of c.lose_members.new.self ≡ log))
+    ⊎ (loses c.args.servers.now c.args.seg log ≡ (log_of c.lose_members.new.self, Err fault))))
+    c.in_ok-keep.ensures.log c.lose_members.ensures.err

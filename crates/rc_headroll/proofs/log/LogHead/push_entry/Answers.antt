@@ -2,14 +2,15 @@ use Rattle.std.proofs.Common.{◌≡◌, ◌-◌, None, length, ap, ◌∙◌, �
 use Rattle.rc_model.specs.Heads.{append_fault}
 use Rattle.rc_headroll.specs.LogData.{log_of}
 use Rattle.rc_headroll.specs.contracts.log.LogHead.{the_view}
-use Rattle.rc_headroll.proofs.LogChanges.{sound-pushed, appended}
+use Rattle.rc_headroll.proofs.LogChanges.{appended}
+use Rattle.rc_headroll.proofs.StillBefore.{pushed-sound, pushed-before}
 use Rattle.rc_headroll.proofs.log.LogHead.push_entry.Goals as goal
 
 pub invariant_of-self-2 : goal.invariant_of-self-2
 invariant_of-self-2 c =
     let possible : append_fault (log_of c.args.self.now) ≡ None = c.requires.possible in
     let last : c.len-last.result - 1 ≡ length c.self.inside.segments.items - 1 = ap (λ (n : ℕ). n - 1) (c.len-last.ensures ∙ c.self.inside.segments.ok.0) in
-    sound-pushed (the_view c.self.inside) (c.len-last.result - 1) c.self.inside.passed c.self.inside.passed_entries c.args.entry c.args.client c.push.new.self c.index_mut.result.now
+    pushed-sound (the_view c.self.inside) (c.len-last.result - 1) c.self.inside.passed c.self.inside.passed_entries c.args.entry c.args.client c.push.new.self c.index_mut.result.now
     c.self.invariant (rw (← c.self.view_is) at possible) last c.index_mut.ensures.value c.in_ok-push.ensures.ok
 
 pub returns-clause-state : goal.returns-clause-state
@@ -18,4 +19,12 @@ returns-clause-state c =
     let last : c.len-last.result - 1 ≡ length c.self.inside.segments.items - 1 = ap (λ (n : ℕ). n - 1) (c.len-last.ensures ∙ c.self.inside.segments.ok.0) in
     rw (← c.self.view_is)
     (appended (the_view c.self.inside) (c.len-last.result - 1) c.self.inside.passed c.self.inside.passed_entries c.args.entry c.args.client c.push.new.self c.index_mut.result.now
+    c.self.invariant.now (rw (← c.self.view_is) at possible) last c.index_mut.ensures.value c.in_ok-push.ensures.ok)
+
+pub returns-clause-before : goal.returns-clause-before
+returns-clause-before c =
+    let possible : append_fault (log_of c.args.self.now) ≡ None = c.requires.possible in
+    let last : c.len-last.result - 1 ≡ length c.self.inside.segments.items - 1 = ap (λ (n : ℕ). n - 1) (c.len-last.ensures ∙ c.self.inside.segments.ok.0) in
+    rw (← c.self.view_is)
+    (pushed-before (the_view c.self.inside) (c.len-last.result - 1) c.self.inside.passed c.self.inside.passed_entries c.args.entry c.args.client c.push.new.self c.index_mut.result.now
     c.self.invariant (rw (← c.self.view_is) at possible) last c.index_mut.ensures.value c.in_ok-push.ensures.ok)

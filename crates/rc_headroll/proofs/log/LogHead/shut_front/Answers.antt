@@ -23,7 +23,7 @@ returns-then-not-is_shut-clause-few c =
     let below : place < length c.self.inside.segments.items = omega (arith, c.loop-place-test.true, c.len-place-end.ensures, c.self.inside.segments.ok.0) in
     let is : c.loop-place.entries ≡ entries_to (segment_at c.args.self.now.segments) place = c.loop-place.invariant.entries in
     let is' : c.loop-place.entries ≡ entries_to (segment_at c.self.inside.segments.items) place = rw (← c.self.view_is) at is in
-    omega (arith, is', entries_to-small (log_of (the_view c.self.inside)) c.self.inside.passed c.self.inside.passed_entries place c.self.invariant (omega arith))
+    omega (arith, is', entries_to-small (log_of (the_view c.self.inside)) c.self.inside.passed c.self.inside.passed_entries place c.self.invariant.now (omega arith))
 
 pub overflow_add-entries : goal.overflow_add-entries
 overflow_add-entries c =
@@ -32,10 +32,10 @@ overflow_add-entries c =
     let is : c.loop-place.entries ≡ entries_to (segment_at c.args.self.now.segments) place = c.loop-place.invariant.entries in
     let is' : c.loop-place.entries ≡ entries_to (segment_at c.self.inside.segments.items) place = rw (← c.self.view_is) at is in
     let small : entries_to (segment_at c.self.inside.segments.items) place ≤ MAX_SEGMENT * place =
-    entries_to-small (log_of (the_view c.self.inside)) c.self.inside.passed c.self.inside.passed_entries place c.self.invariant (omega arith) in
+    entries_to-small (log_of (the_view c.self.inside)) c.self.inside.passed c.self.inside.passed_entries place c.self.invariant.now (omega arith) in
     let fits : length c.index-segment.result.now.entries ≤ c.self.inside.size =
-    (sound_segment-read (the_view c.self.inside) c.self.inside.passed c.self.inside.passed_entries place c.index-segment.result.now c.self.invariant below c.index-segment.ensures).fits in
-    omega (arith, is', small, fits, c.len-entries.ensures, c.self.invariant.size, c.self.invariant.few, below)
+    (sound_segment-read (the_view c.self.inside) c.self.inside.passed c.self.inside.passed_entries place c.index-segment.result.now c.self.invariant.now below c.index-segment.ensures).fits in
+    omega (arith, is', small, fits, c.len-entries.ensures, c.self.invariant.now.size, c.self.invariant.now.few, below)
 
 pub loop-place-preserved : goal.loop-place-preserved
 loop-place-preserved c =

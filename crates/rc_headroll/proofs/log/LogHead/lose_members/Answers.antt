@@ -1,0 +1,43 @@
+use Rattle.std.proofs.Common.{◌≡◌, true, sym}
+use Rattle.rc_model.specs.Log.{has_segment}
+use Rattle.rc_headroll.specs.Before.{IsKept}
+use Rattle.rc_headroll.specs.LogData.{log_of}
+use Rattle.rc_headroll.specs.contracts.log.LogHead.{the_view}
+use Rattle.rc_headroll.proofs.LogChanges.{lose_keeps, lose_ok, lose_err}
+use Rattle.rc_headroll.proofs.StillBefore.{written-sound, written-before}
+use Rattle.rc_headroll.proofs.log.LogHead.lose_members.Goals as goal
+
+pub invariant_of-self : goal.invariant_of-self
+invariant_of-self c =
+    let has : true ≡ has_segment (log_of c.args.self.now) c.args.seg = sym c.requires.has in
+    let kept : IsKept c.args.self.now.mark c.args.seg = c.requires.kept in
+    let was = c.index_mut.result.now in
+    written-sound (the_view c.self.inside) c.args.seg c.from.result c.self.inside.passed c.self.inside.passed_entries c.lose.new.self was c.self.invariant
+    (rw (← c.self.view_is) at has) c.from.ensures c.index_mut.ensures.value
+    (lose_keeps c.self.inside.own c.args.servers.now c.lose.new.self was c.lose.result c.lose.ensures.ok c.lose.ensures.err)
+    (rw (← c.self.view_is) at kept)
+
+pub returns-clause-before : goal.returns-clause-before
+returns-clause-before c =
+    let has : true ≡ has_segment (log_of c.args.self.now) c.args.seg = sym c.requires.has in
+    let kept : IsKept c.args.self.now.mark c.args.seg = c.requires.kept in
+    let was = c.index_mut.result.now in
+    rw (← c.self.view_is)
+    (written-before (the_view c.self.inside) c.args.seg c.from.result c.self.inside.passed c.self.inside.passed_entries c.lose.new.self was c.self.invariant
+    (rw (← c.self.view_is) at has) c.from.ensures c.index_mut.ensures.value
+    (lose_keeps c.self.inside.own c.args.servers.now c.lose.new.self was c.lose.result c.lose.ensures.ok c.lose.ensures.err)
+    (rw (← c.self.view_is) at kept))
+
+pub returns-clause-ok : goal.returns-clause-ok
+returns-clause-ok c =
+    let has : true ≡ has_segment (log_of c.args.self.now) c.args.seg = sym c.requires.has in
+    rw (← c.self.view_is)
+    (lose_ok (the_view c.self.inside) c.args.seg c.from.result c.args.servers.now c.lose.new.self c.index_mut.result.now
+    (rw (← c.self.view_is) at has) c.from.ensures c.index_mut.ensures.value c.lose.result c.lose.ensures.ok)
+
+pub returns-clause-err : goal.returns-clause-err
+returns-clause-err c =
+    let has : true ≡ has_segment (log_of c.args.self.now) c.args.seg = sym c.requires.has in
+    rw (← c.self.view_is)
+    (lose_err (the_view c.self.inside) c.args.seg c.from.result c.args.servers.now c.lose.new.self c.index_mut.result.now
+    (rw (← c.self.view_is) at has) c.from.ensures c.index_mut.ensures.value c.lose.result c.lose.ensures.err)

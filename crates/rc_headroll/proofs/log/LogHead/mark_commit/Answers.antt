@@ -1,0 +1,37 @@
+use Rattle.std.proofs.Common.{◌≡◌, true, refl, sym}
+use Rattle.rc_model.specs.Log.{has_segment}
+use Rattle.rc_headroll.specs.Before.{IsKept}
+use Rattle.rc_headroll.specs.LogData.{log_of}
+use Rattle.rc_headroll.specs.contracts.log.LogHead.{the_view}
+use Rattle.rc_headroll.proofs.LogChanges.{keeps_from}
+use Rattle.rc_headroll.proofs.LogSteps.{commit-marked}
+use Rattle.rc_headroll.proofs.StillBefore.{written-sound, written-before}
+use Rattle.rc_headroll.proofs.log.LogHead.mark_commit.Goals as goal
+
+pub invariant_of-self : goal.invariant_of-self
+invariant_of-self c =
+    let has : true ≡ has_segment (log_of c.args.self.now) c.args.seg = sym c.requires.has in
+    let kept : IsKept c.args.self.now.mark c.args.seg = c.requires.kept in
+    let was = c.index_mut.result.now in
+    written-sound (the_view c.self.inside) c.args.seg c.from.result c.self.inside.passed c.self.inside.passed_entries c.mark_commit_sent.new.self was c.self.invariant
+    (rw (← c.self.view_is) at has) c.from.ensures c.index_mut.ensures.value
+    (keeps_from c.mark_commit_sent.new.self was _ c.mark_commit_sent.ensures refl refl refl)
+    (rw (← c.self.view_is) at kept)
+
+pub returns-clause-before : goal.returns-clause-before
+returns-clause-before c =
+    let has : true ≡ has_segment (log_of c.args.self.now) c.args.seg = sym c.requires.has in
+    let kept : IsKept c.args.self.now.mark c.args.seg = c.requires.kept in
+    let was = c.index_mut.result.now in
+    rw (← c.self.view_is)
+    (written-before (the_view c.self.inside) c.args.seg c.from.result c.self.inside.passed c.self.inside.passed_entries c.mark_commit_sent.new.self was c.self.invariant
+    (rw (← c.self.view_is) at has) c.from.ensures c.index_mut.ensures.value
+    (keeps_from c.mark_commit_sent.new.self was _ c.mark_commit_sent.ensures refl refl refl)
+    (rw (← c.self.view_is) at kept))
+
+pub returns-clause-marked : goal.returns-clause-marked
+returns-clause-marked c =
+    let has : true ≡ has_segment (log_of c.args.self.now) c.args.seg = sym c.requires.has in
+    rw (← c.self.view_is)
+    (commit-marked (the_view c.self.inside) c.args.seg c.from.result c.mark_commit_sent.new.self c.index_mut.result.now
+    (rw (← c.self.view_is) at has) c.from.ensures c.index_mut.ensures.value c.mark_commit_sent.ensures)

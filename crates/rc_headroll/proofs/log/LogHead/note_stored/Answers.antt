@@ -1,0 +1,43 @@
+use Rattle.std.proofs.Common.{◌≡◌, true, refl, sym, ◌∙◌}
+use Rattle.rc_model.specs.Log.{has_segment}
+use Rattle.rc_headroll.specs.Before.{IsKept}
+use Rattle.rc_headroll.specs.LogData.{log_of}
+use Rattle.rc_headroll.specs.contracts.log.LogHead.{the_view}
+use Rattle.rc_headroll.proofs.LogChanges.{stored-written, notes-written, keeps_from}
+use Rattle.rc_headroll.proofs.StillBefore.{written-sound, written-before}
+use Rattle.rc_headroll.proofs.log.LogHead.note_stored.Goals as goal
+
+pub invariant_of-self : goal.invariant_of-self
+invariant_of-self c =
+    let has : true ≡ has_segment (log_of c.args.self.now) c.args.seg = sym c.requires.has in
+    let kept : IsKept c.args.self.now.mark c.args.seg = c.requires.kept in
+    let was = c.index_mut.result.now in
+    written-sound (the_view c.self.inside) c.args.seg c.from.result c.self.inside.passed c.self.inside.passed_entries c.stored.new.self was c.self.invariant
+    (rw (← c.self.view_is) at has) c.from.ensures c.index_mut.ensures.value
+    (keeps_from c.stored.new.self was _ c.stored.ensures.noted refl refl refl)
+    (rw (← c.self.view_is) at kept)
+
+pub returns-clause-before : goal.returns-clause-before
+returns-clause-before c =
+    let has : true ≡ has_segment (log_of c.args.self.now) c.args.seg = sym c.requires.has in
+    let kept : IsKept c.args.self.now.mark c.args.seg = c.requires.kept in
+    let was = c.index_mut.result.now in
+    rw (← c.self.view_is)
+    (written-before (the_view c.self.inside) c.args.seg c.from.result c.self.inside.passed c.self.inside.passed_entries c.stored.new.self was c.self.invariant
+    (rw (← c.self.view_is) at has) c.from.ensures c.index_mut.ensures.value
+    (keeps_from c.stored.new.self was _ c.stored.ensures.noted refl refl refl)
+    (rw (← c.self.view_is) at kept))
+
+pub returns-clause-notes : goal.returns-clause-notes
+returns-clause-notes c =
+    let has : true ≡ has_segment (log_of c.args.self.now) c.args.seg = sym c.requires.has in
+    rw (← c.self.view_is)
+    (c.stored.ensures.notes ∙ notes-written (the_view c.self.inside) c.args.seg c.args.epoch c.args.from c.from.result c.index_mut.result.now
+    (rw (← c.self.view_is) at has) c.from.ensures c.index_mut.ensures.value)
+
+pub returns-clause-noted : goal.returns-clause-noted
+returns-clause-noted c =
+    let has : true ≡ has_segment (log_of c.args.self.now) c.args.seg = sym c.requires.has in
+    rw (← c.self.view_is)
+    (stored-written (the_view c.self.inside) c.args.seg c.args.epoch c.args.len c.args.from c.args.closed c.from.result c.stored.new.self c.index_mut.result.now
+    (rw (← c.self.view_is) at has) c.from.ensures c.index_mut.ensures.value c.stored.ensures.noted)

@@ -1,0 +1,205 @@
+//! Where a log goes back to.
+
+ghost use Rattle.std.specs.Prelude.{◌≡◌, ◌+◌, ◌^◌, ◌<◌, ◌≤◌, Some, length, OnOk, OnErr};
+ghost use Rattle.std.specs.Option.{option_copied};
+ghost use Rattle.rc_headroll.specs.Before.{state_of, first_mark, mark_of, state_at, kept_of, with_kept, segments_before, others_back, other_back, one_back};
+ghost use Rattle.rc_headroll.specs.LogData.{segment_at};
+
+use crate::segment::Segment;
+use crate::state::SegmentState;
+use indexmap::IndexMap;
+use rc_types::Phase;
+use std::alloc::{AllocError, Global};
+use std::marker::Model;
+
+/// Where a log goes back to: how it was when a step began. The newest segment and the one before it are
+/// kept at once, and others when they are first changed.
+#[derive(Debug, Drop)]
+pub(crate) struct Before {
+    head: usize,
+    phase: Phase,
+    durable: usize,
+    passed: usize,
+    passed_entries: usize,
+    newest: Option<SegmentState>,
+    previous: Option<SegmentState>,
+    others: IndexMap<u16, SegmentState>,
+}
+
+impl Model for Before {
+    ghost use Rattle.rc_headroll.specs.Before.{Mark};
+
+    ghost Value = { Mark };
+
+    ghost view = { λ b. record {
+      head = b.head;
+      phase = b.phase;
+      durable = b.durable;
+      passed = b.passed;
+      passed_entries = b.passed_entries;
+      newest = b.newest;
+      previous = b.previous;
+      others = b.others.entries;
+    } };
+}
+
+impl Before {
+    /// Where a log with no segment goes back to. It takes no memory.
+    pub(crate) fn new(alloc: Global) -> Before
+        ensures { result ≡ first_mark }
+    {
+        Before {
+            head: 0,
+            phase: Phase::Opening,
+            durable: 0,
+            passed: 0,
+            passed_entries: 0,
+            newest: None,
+            previous: None,
+            others: IndexMap::new(alloc),
+        }
+    }
+
+    /// How many segments there were.
+    pub(crate) fn head(&self) -> usize
+        ensures { result ≡ self.now.head }
+    {
+        self.head
+    }
+
+    /// The phase that the log was in.
+    pub(crate) fn phase(&self) -> Phase
+        ensures { result ≡ self.now.phase }
+    {
+        self.phase
+    }
+
+    /// How many places were durable.
+    pub(crate) fn durable(&self) -> usize
+        ensures { result ≡ self.now.durable }
+    {
+        self.durable
+    }
+
+    /// How many segments had been passed.
+    pub(crate) fn passed(&self) -> usize
+        ensures { result ≡ self.now.passed }
+    {
+        self.passed
+    }
+
+    /// How many entries those have.
+    pub(crate) fn passed_entries(&self) -> usize
+        ensures { result ≡ self.now.passed_entries }
+    {
+        self.passed_entries
+    }
+
+    /// What was kept of a segment.
+    pub(crate) fn kept(&self, seg: u16) -> Option<&SegmentState>
+        ensures { option_copied result ≡ kept_of self.now seg }
+    {
+        if usize::from(seg) == self.head {
+            return self.newest.as_ref();
+        }
+        if usize::from(seg) + 1 == self.head {
+            return self.previous.as_ref();
+        }
+        self.others.get(&seg)
+    }
+
+    /// Keeps how a segment is now, unless something was kept before, or it is one of the last two, or
+    /// newer.
+    pub(crate) fn keep(&mut self, seg: u16, segment: &Segment) -> Result<(), AllocError>
+        ensures ok { OnOk result (self.new ≡ with_kept seg (state_of segment.now) self.old) }
+        ensures err { OnErr result (self.new ≡ self.old) }
+    {
+        if usize::from(seg) + 1 < self.head && !self.others.contains_key(&seg) {
+            self.others.insert(seg, segment.state())?;
+        }
+        Ok(())
+    }
+
+    /// Goes back to now.
+    pub(crate) fn begin(
+        &mut self,
+        segments: &[Segment],
+        phase: Phase,
+        durable: usize,
+        passed: usize,
+        passed_entries: usize,
+    )
+        ensures { self.new ≡ mark_of segments.now phase durable passed passed_entries }
+    {
+        self.head = segments.len();
+        self.phase = phase;
+        self.durable = durable;
+        self.passed = passed;
+        self.passed_entries = passed_entries;
+        self.newest = state_at(segments, 1);
+        self.previous = state_at(segments, 2);
+        self.others.clear();
+    }
+
+    /// Puts all segments back as they were.
+    pub(crate) fn put_back(&mut self, segments: &mut [Segment])
+        requires { length segments.old ≡ self.old.head }
+        ensures { segment_at segments.new ≡ segments_before self.old (segment_at segments.old) }
+    {
+        put_others_back(&mut self.others, self.head, segments);
+        put_kept_back(segments, self.head, &self.newest);
+        put_kept_back(segments, self.head.saturating_sub(1), &self.previous);
+    }
+}
+
+/// How the segment is that stands so many places before the end, if there is one.
+fn state_at(segments: &[Segment], back: usize) -> Option<SegmentState>
+    requires { 0 < back }
+    ensures { result ≡ state_at segments.now back }
+{
+    if segments.len() < back {
+        return None;
+    }
+    Some(segments[segments.len() - back].state())
+}
+
+/// Puts back those of the others that are not among the last two.
+fn put_others_back(others: &mut IndexMap<u16, SegmentState>, head: usize, segments: &mut [Segment])
+    requires { head ≤ length segments.old }
+    ensures { segment_at segments.new ≡ others_back head others.old.entries (segment_at segments.old) }
+{
+    while let Some((seg, state)) = others.pop() {
+        put_other_back(segments, head, usize::from(seg), &state);
+    }
+}
+
+/// Puts a segment back that is not among the last two.
+fn put_other_back(segments: &mut [Segment], head: usize, seg: usize, state: &SegmentState)
+    requires few { head ≤ length segments.old }
+    requires small { seg + 1 < 2 ^ 64 }
+    ensures { segment_at segments.new ≡ other_back head seg state.now (segment_at segments.old) }
+{
+    if 0 < seg && seg + 1 < head {
+        put_one_back(segments, seg, state);
+    }
+}
+
+/// Puts a segment back of which something was kept.
+fn put_kept_back(segments: &mut [Segment], seg: usize, kept: &Option<SegmentState>)
+    requires { seg ≤ length segments.old }
+    ensures { segment_at segments.new ≡ one_back seg kept.now (segment_at segments.old) }
+{
+    if let Some(state) = kept {
+        put_one_back(segments, seg, state);
+    }
+}
+
+/// Puts a segment back, if the number is of one.
+fn put_one_back(segments: &mut [Segment], seg: usize, state: &SegmentState)
+    requires { seg ≤ length segments.old }
+    ensures { segment_at segments.new ≡ one_back seg (Some state.now) (segment_at segments.old) }
+{
+    if 0 < seg {
+        segments[seg - 1].put_back(state);
+    }
+}

@@ -1,0 +1,20 @@
+//! What a step can change of a segment.
+
+use rc_config::Config;
+
+/// What a step can change of a segment, kept so that the change can be undone.
+#[derive(Debug, Drop)]
+pub struct SegmentState {
+    /// How many entries there were.
+    pub(crate) len: usize,
+    /// The members, and the epoch under which they were.
+    pub(crate) config: Config,
+    /// Whether a Commit was sent under that epoch.
+    pub(crate) commit_sent: bool,
+    /// Whether a Close was sent under that epoch.
+    pub(crate) close_sent: bool,
+    /// Whether the segment was shut.
+    pub(crate) shut: bool,
+    /// Whether it was freed.
+    pub(crate) freed: bool,
+}
