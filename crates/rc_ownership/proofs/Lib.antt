@@ -8,4 +8,5 @@ pub mod RecordHighs
 pub mod RowOrder
 pub mod Saying
 pub mod Under
+pub mod Undone
 pub mod Waiting

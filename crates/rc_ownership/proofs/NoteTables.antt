@@ -1,6 +1,7 @@
 -- The tables beside the notes, with one more entry, and with more of them durable.
-use Rattle.std.proofs.Common.{◌≡◌, ℕ, ◌+◌, ◌-◌, ◌≤◌, cond, nat_eq, List, [], ◌∷◌, ◌++◌, length, take, drop, sym, ap, ◌∙◌, refl, arith, length-append, length-take, zero, suc}
-use Rattle.std.proofs.lemmas.List.{take-append-le}
+use Rattle.std.proofs.Common.{◌≡◌, ℕ, ◌+◌, ◌-◌, ◌<◌, ◌≤◌, Bool, true, false, cond, filter, nat_lt, nat_eq, List, [], ◌∷◌, ◌++◌, length, take, drop, sym, ap, subst, ◌∙◌, refl, arith, length-append, length-take, zero, suc}
+use Rattle.std.proofs.lemmas.List.{take-append-le, take_all}
+use Rattle.std.specs.List.Sorted.{IsNonDecreasingBy}
 use Rattle.std.specs.Prelude.{slice_index_or}
 use Rattle.std.specs.Option.{IsSome}
 use Rattle.indexmap.specs.IndexMap.{get}
@@ -9,10 +10,10 @@ use Rattle.rc_model.specs.Versions.{is_of}
 use Rattle.rc_model.specs.Ownership.{count_under}
 use Rattle.rc_ownership.specs.declared.highs.Slot.{Slot}
 use Rattle.rc_ownership.specs.Counts.{CountTable, count_in, AreKnown}
-use Rattle.rc_ownership.specs.Highs.{with_high}
+use Rattle.rc_ownership.specs.Highs.{with_high, highs_of}
 use Rattle.rc_ownership.specs.Slots.{HighTable, highs_in, same_slot, slot_of}
-use Rattle.rc_ownership.specs.Notes.{AreTablesOf}
-use Rattle.rc_ownership.proofs.RecordHighs.{highs_of-push}
+use Rattle.rc_ownership.specs.Notes.{Noted, AreTablesOf}
+use Rattle.rc_ownership.proofs.RecordHighs.{highs_of-push, highs_of-take, highs_from-rise}
 use Rattle.rc_ownership.proofs.Under.{count_under-append, count_under-le}
 
 -- an entry is of a slot where the slot is its own
@@ -97,3 +98,70 @@ tables-undurable noted durable count highs counts new_counts tables fallen count
       omega (arith, counted term, tables.counts_are term, whole);
   known = λ place other w. kept (slice_index_or noted place other).term (tables.known place other w);
 }
+
+-- Notes that are dropped
+
+last_of : (noted rest : List Entry) (entry : Entry) → noted ≡ rest ++ entry ∷ [] → rest ≡ take (length noted - 1) noted
+last_of noted rest entry is =
+    let count : length noted ≡ length rest + 1 = ap length is ∙ length-append rest (entry ∷ []) in
+    sym (take_all (length rest) rest (omega arith))
+    ∙ sym (take-append-le (length rest) rest (entry ∷ []) (omega arith))
+    ∙ ap (take (length rest)) (sym is)
+    ∙ ap (λ n. take n noted) (omega (arith, count))
+
+known-take : (counts : CountTable) (rest : List Entry) (entry : Entry) → AreKnown counts (rest ++ entry ∷ []) → AreKnown counts rest
+known-take counts [] entry known place other within = absurd (omega arith)
+known-take counts (first ∷ rest) entry known zero other within = known 0 other (omega arith)
+known-take counts (first ∷ rest) entry known (suc place) other within =
+    known-take counts rest entry (λ p o w. known (suc p) o (omega arith)) place other (omega arith)
+
+-- the highs without those of the last entry
+highs-drop : {A : Type 0} (noted rest : List Entry) (entry : Entry) (durable : ℕ) (highs new_highs : HighTable A) (counts : CountTable) →
+    AreTablesOf noted durable highs counts → noted ≡ rest ++ entry ∷ [] →
+    ((other : Slot) → highs_in new_highs other ≡ cond (same_slot (slot_of entry) other) (filter (λ high. nat_lt high.0 (length rest)) (highs_in highs other)) (highs_in highs other)) →
+    (slot : Slot) → highs_in new_highs slot ≡ highs_of slot.term slot.table slot.key rest
+highs-drop noted rest entry durable highs new_highs counts tables is dropped slot =
+    dropped slot ∙ by (same_slot (slot_of entry) slot) refl
+  where
+    among : filter (λ high. nat_lt high.0 (length rest)) (highs_in highs slot) ≡ highs_of slot.term slot.table slot.key rest
+    among =
+        ap (filter (λ high. nat_lt high.0 (length rest))) (tables.highs_are slot)
+        ∙ sym (highs_of-take slot.term slot.table slot.key noted (length rest))
+        ∙ ap (highs_of slot.term slot.table slot.key)
+        (ap (take (length rest)) is ∙ take-append-le (length rest) rest (entry ∷ []) (omega arith) ∙ take_all (length rest) rest (omega arith))
+
+    by : (b : Bool) → same_slot (slot_of entry) slot ≡ b →
+        cond b (filter (λ high. nat_lt high.0 (length rest)) (highs_in highs slot)) (highs_in highs slot) ≡ highs_of slot.term slot.table slot.key rest
+    by true here = among
+    by false other =
+        tables.highs_are slot
+        ∙ ap (highs_of slot.term slot.table slot.key) is
+        ∙ highs_of-push slot.term slot.table slot.key rest entry
+        ∙ ap (λ b. cond b (with_high (length rest) entry.version (highs_of slot.term slot.table slot.key rest)) (highs_of slot.term slot.table slot.key rest)) other
+
+-- the last entry, which isn't durable, is dropped
+pub tables-drop : {A : Type 0} (noted rest : List Entry) (entry : Entry) (durable : ℕ) (highs new_highs : HighTable A) (counts : CountTable) →
+    AreTablesOf noted durable highs counts → noted ≡ rest ++ entry ∷ [] → durable < length noted →
+    ((other : Slot) → highs_in new_highs other ≡ cond (same_slot (slot_of entry) other) (filter (λ high. nat_lt high.0 (length rest)) (highs_in highs other)) (highs_in highs other)) →
+    AreTablesOf rest durable new_highs counts
+tables-drop noted rest entry durable highs new_highs counts tables is undurable dropped = record {
+  within = within;
+  highs_are = highs-drop noted rest entry durable highs new_highs counts tables is dropped;
+  counts_are = λ term.
+      tables.counts_are term
+      ∙ ap (λ entries. count_under term (take durable entries)) is
+      ∙ ap (count_under term) (take-append-le durable rest (entry ∷ []) within);
+  known = known-take counts rest entry (subst (AreKnown counts) is tables.known);
+}
+  where
+    within : durable ≤ length rest
+    within = omega (arith, undurable, ap length is, length-append rest (entry ∷ []))
+
+-- the highs of a slot are in order of place
+pub highs_rise : {A : Type 0} (noted : List Entry) (durable : ℕ) (highs : HighTable A) (counts : CountTable) (slot : Slot) → AreTablesOf noted durable highs counts →
+    IsNonDecreasingBy (λ high. high.0) (highs_in highs slot)
+highs_rise noted durable highs counts slot tables =
+    subst (IsNonDecreasingBy (λ high. high.0)) (sym (tables.highs_are slot)) (highs_from-rise slot.term slot.table slot.key 0 0 noted)
+
+pub same_notes : (one other : Noted) → one.noted ≡ other.noted → one.durable ≡ other.durable → one.noted_before ≡ other.noted_before → one.durable_before ≡ other.durable_before → one ≡ other
+same_notes one other p q r t j = record { noted = p j; durable = q j; noted_before = r j; durable_before = t j }

@@ -1,11 +1,10 @@
 -- The table of parts by term: what a look-up finds, and what a write changes.
-use Rattle.std.proofs.Common.{◌≡◌, ℕ, Bool, true, false, cond, ◌&&◌, ◌||◌, nat_eq, is_some, find, option_map, Option, Some, None, Result, Ok, Err, List, [], ◌∷◌, ◌++◌, sym, ap, subst, ◌∙◌, refl, arith, true≢false}
+use Rattle.std.proofs.Common.{◌≡◌, ℕ, Bool, true, false, cond, ◌&&◌, ◌||◌, nat_eq, is_some, find, option_map, Option, Some, None, List, [], ◌∷◌, ◌++◌, sym, ap, subst, ◌∙◌, refl, arith, true≢false}
 use Rattle.std.proofs.lemmas.Bool.Decides.{nat_tests}
 use Rattle.std.proofs.lemmas.List.{append-nil}
 use Rattle.std.specs.List.{list_any}
 use Rattle.std.specs.Map.{lookup, set_value}
 use Rattle.std.specs.Option.{option_map_or}
-use Rattle.std.specs.Result.{OnErr}
 use Rattle.indexmap.specs.IndexMap.{IndexMap, insert_entry}
 use Rattle.indexmap.proofs.CallerLemmas.{insert_entry-new}
 use Rattle.rc_types.specs.declared.ids.ServerId.{ServerId}
@@ -93,30 +92,6 @@ replay_in-set (entry ∷ entries) term seg from came state h found some =
         (sym (ap (λ part. list_any (is_awaited seg from) part.rows) (sym it) ∙ some))
     by false is later = later is some
 
--- Writes
-
-none-set : (key term : ℕ) (entries : List (ℕ × PartState)) (state : PartState) → HasNone key entries → HasNone key (set_value (nat_eq term) entries state)
-none-set key term [] state h = tt
-none-set key term (entry ∷ entries) state h = by (nat_eq term entry.0) (none-set key term entries state h.1)
-  where
-    by : (b : Bool) → HasNone key (set_value (nat_eq term) entries state) → HasNone key (cond b ((entry.0, state) ∷ entries) (entry ∷ set_value (nat_eq term) entries state))
-    by true later = h
-    by false later = (h.0, later)
-
--- a part that keeps its name keeps its place
-pub under-set : (term : ℕ) (entries : List (ℕ × PartState)) (state next : PartState) → AreUnderTheirTerms entries → lookup (nat_eq term) entries ≡ Some state →
-    next.part ≡ state.part → AreUnderTheirTerms (set_value (nat_eq term) entries next)
-under-set term [] state next h found named = tt
-under-set term (entry ∷ entries) state next h found named = by (nat_eq term entry.0) found (under-set term entries state next h.2)
-  where
-    by : (b : Bool) → cond b (Some entry.1) (lookup (nat_eq term) entries) ≡ Some state →
-        (lookup (nat_eq term) entries ≡ Some state → next.part ≡ state.part → AreUnderTheirTerms (set_value (nat_eq term) entries next)) →
-        AreUnderTheirTerms (cond b ((entry.0, next) ∷ entries) (entry ∷ set_value (nat_eq term) entries next))
-    by true is later =
-        let it : entry.1 ≡ state = cc in
-        (h.0 ∙ ap (λ part. part.part.term) it ∙ ap (λ part. part.term) (sym named), h.1, h.2)
-    by false is later = (h.0, none-set entry.0 term entries next h.1, later is named)
-
 -- a part is there where a look-up finds one
 pub has_part-lookup : (entries : List (ℕ × PartState)) (term : ℕ) → AreUnderTheirTerms entries →
     is_some (lookup (nat_eq term) entries) ≡ list_any (λ state. nat_eq state.part.term term) (parts_in entries)
@@ -153,7 +128,7 @@ parts_in-push : (entries : List (ℕ × PartState)) (entry : ℕ × PartState) �
 parts_in-push [] entry = refl
 parts_in-push (first ∷ entries) entry = ap (λ parts. first.1 ∷ parts) (parts_in-push entries entry)
 
-inserted-last : {S : Type 0} (old new : IndexMap ℕ PartState S) (term : ℕ) (state : PartState) → AreUnderTheirTerms old.entries →
+pub inserted-last : {S : Type 0} (old new : IndexMap ℕ PartState S) (term : ℕ) (state : PartState) → AreUnderTheirTerms old.entries →
     list_any (λ one. nat_eq one.part.term term) (parts_in old.entries) ≡ false → new.entries ≡ insert_entry nat_eq old.entries term state → new.entries ≡ old.entries ++ (term, state) ∷ []
 inserted-last old new term state h none inserted =
     inserted ∙ insert_entry-new nat_eq old term state (none_found (lookup (nat_eq term) old.entries) (has_part-lookup old.entries term h ∙ none))
@@ -169,11 +144,6 @@ pub parts_in-insert : {S : Type 0} (old new : IndexMap ℕ PartState S) (term : 
     list_any (λ one. nat_eq one.part.term term) (parts_in old.entries) ≡ false → new.entries ≡ insert_entry nat_eq old.entries term state →
     parts_in new.entries ≡ parts_in old.entries ++ state ∷ []
 parts_in-insert old new term state h none inserted = ap parts_in (inserted-last old new term state h none inserted) ∙ parts_in-push old.entries (term, state)
-
--- what holds after an error, of two facts
-pub both_err : {T E A B C : Type 0} (r : Result T E) → (A → B → C) → OnErr r A → OnErr r B → OnErr r C
-both_err (Ok x) f a b = a
-both_err (Err e) f a b = f a b
 
 -- the part that a look-up found awaits the row
 pub some-awaited : (entries : List (ℕ × PartState)) (term seg : ℕ) (from : ServerId) (state : PartState) → AreUnderTheirTerms entries →

@@ -4,5 +4,6 @@ pub mod Grants
 pub mod Highs
 pub mod Owner
 pub mod Parts
+pub mod Replay
 pub mod Slots
 pub mod Notes

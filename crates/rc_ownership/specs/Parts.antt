@@ -1,12 +1,8 @@
 -- The parts as they are kept: what is counted beside their rows, and the queue of those whose rows have all come.
-use Rattle.std.specs.Prelude.{◌≡◌, ℕ, ◌<◌, nat_eq, false, not, ◌&&◌, List, [], ◌∷◌, length, map, filter, is_some}
-use Rattle.std.specs.List.{flat_map}
+use Rattle.std.specs.Prelude.{◌≡◌, ℕ, ◌<◌, ◌≤◌, nat_eq, false, not, ◌&&◌, List, [], ◌∷◌, length, map, filter, is_some}
+use Rattle.std.specs.Map.{set_value}
 use Rattle.rc_types.specs.declared.entries.Entry.{Entry}
-use Rattle.rc_model.specs.Ownership.{Ownership, owns_nothing, PartRow, PartState, entries_that_came, came_entries, is_complete, owns_term}
-
--- the entries of all rows that have come
-abbrev pub entries_in : List PartRow → List Entry
-entries_in rows = flat_map (λ row. came_entries row.came) rows
+use Rattle.rc_model.specs.Ownership.{Ownership, owns_nothing, PartRow, PartState, entries_that_came, is_complete, owns_term}
 
 -- how many rows have not come
 abbrev pub count_missing : List PartRow → ℕ
@@ -22,15 +18,6 @@ pub record AreCounted (rows : List PartRow) (missing count : ℕ) : Type 0 where
   pub missing_are : missing ≡ count_missing rows
   pub entries_are : 0 < length rows → count ≡ length (entries_that_came rows)
 
--- the entries of all parts that wait
-abbrev pub all_waiting : List (List Entry) → List Entry
-all_waiting parts = flat_map (λ part. part) parts
-
--- each list has an element
-abbrev pub NoneIsEmpty : List (List Entry) → Type 0
-NoneIsEmpty [] = Unit {0}
-NoneIsEmpty (entries ∷ lists) = (0 < length entries) × NoneIsEmpty lists
-
 -- no entry of a table has this key
 abbrev pub HasNone : ℕ → List (ℕ × PartState) → Type 0
 HasNone key [] = Unit {0}
@@ -45,19 +32,32 @@ AreUnderTheirTerms (entry ∷ entries) = (entry.0 ≡ entry.1.part.term) × HasN
 abbrev pub parts_in : List (ℕ × PartState) → List PartState
 parts_in entries = map (λ entry. entry.1) entries
 
--- the parts that were begun, and the entries that wait to be appended
+-- each part that was kept is under its own term
+abbrev pub AreOfTheirTerms : List (ℕ × PartState) → Type 0
+AreOfTheirTerms [] = Unit {0}
+AreOfTheirTerms (entry ∷ entries) = (entry.0 ≡ entry.1.part.term) × AreOfTheirTerms entries
+
+-- a table's entries with the parts that were kept in their places again, the last one first
+abbrev pub undone : List (ℕ × PartState) → List (ℕ × PartState) → List (ℕ × PartState)
+undone [] entries = entries
+undone (entry ∷ touched) entries = set_value (nat_eq entry.0) (undone touched entries) entry.1
+
+-- the parts that were begun, and the entries that wait to be appended; and both as `restore` lets them be again
 pub record Fetched : Type 0 where
   pub parts : List PartState
   pub replay : List Entry
+  pub parts_before : List PartState
+  pub replay_before : List Entry
 
 -- who has begun these and has nothing else
 abbrev pub who_fetched : Fetched → Ownership
 who_fetched fetched = record owns_nothing { parts = fetched.parts; replay = fetched.replay }
 
--- a table of parts, and the queue beside it
-pub record IsPartTable (entries : List (ℕ × PartState)) (waiting : List (List Entry)) : Type 0 where
+-- a table of parts, those that changed as they were before, and how many parts there were
+pub record IsPartTable (entries touched : List (ℕ × PartState)) (kept : ℕ) : Type 0 where
   pub under_terms : AreUnderTheirTerms entries
-  pub none_empty : NoneIsEmpty waiting
+  pub of_terms : AreOfTheirTerms touched
+  pub within : kept ≤ length entries
 
 -- the terms of the complete parts that aren't granted yet
 abbrev pub awaiting_grant : List Entry → Ownership → List PartState → List ℕ

@@ -1,7 +1,7 @@
 //! The record highs of keys: of each key under a term, the place and the version of each noted
 //! entry whose version is above all earlier ones.
 
-ghost use Rattle.std.specs.Prelude.{◌≡◌, ℕ, ◌++◌, ◌∷◌, [], OnOk, OnErr, if◌then◌else◌, filter, nat_lt};
+ghost use Rattle.std.specs.Prelude.{◌≡◌, ℕ, ◌++◌, ◌∷◌, [], OnOk, OnErr, if◌then◌else◌, filter, nat_lt, ◌≤◌, length, take};
 ghost use Rattle.std.specs.List.Sorted.{IsNonDecreasingBy};
 ghost use Rattle.rc_model.specs.Versions.{is_of};
 ghost use Rattle.rc_ownership.specs.Highs.{last_version, with_high};
@@ -79,11 +79,31 @@ pub(crate) fn add_high(
     Ok(())
 }
 
+/// How many of the highs, which are in order of place, have a place below a count.
+fn count_below(highs: &[(usize, u64)], count: usize) -> usize
+    requires { IsNonDecreasingBy (λ high. high.0) highs.now }
+    ensures within { result ≤ length highs.now }
+    ensures first { take result highs.now ≡ filter (λ high. nat_lt high.0 count) highs.now }
+{
+    highs.partition_point(|(place, _)| *place < count)
+}
+
 /// The highs whose places are below a count, of highs in order of place.
 pub(crate) fn below(highs: &[(usize, u64)], count: usize) -> &[(usize, u64)]
     requires { IsNonDecreasingBy (λ high. high.0) highs.now }
     ensures { result.now ≡ filter (λ high. nat_lt high.0 count) highs.now }
 {
-    let end = highs.partition_point(|(place, _)| *place < count);
+    let end = count_below(highs, count);
     &highs[..end]
+}
+
+/// Drops the highs of a slot whose places aren't below a count.
+pub(crate) fn drop_from(highs: &mut IndexMap<Slot, Vec<(usize, u64)>>, slot: Slot, count: usize)
+    requires { IsNonDecreasingBy (λ high. high.0) (highs_in highs.old slot) }
+    ensures { (other : Slot) → highs_in highs.new other ≡ (if same_slot slot other then filter (λ high. nat_lt high.0 count) (highs_in highs.old other) else highs_in highs.old other) }
+{
+    if let Some(list) = highs.get_mut(&slot) {
+        let left = count_below(list.as_slice(), count);
+        list.truncate(left);
+    }
 }

@@ -11,8 +11,9 @@ mod notes;
 mod ownership;
 mod part;
 mod parts;
-mod pieces;
 mod replay;
 mod rows;
+mod shared;
+mod touched;
 
 pub use ownership::Ownership;

@@ -1,7 +1,7 @@
 //! The notes of a log: its entries as they were appended, how many of them are durable, and the
 //! tables by which versions are numbered and read without a walk over them.
 
-ghost use Rattle.std.specs.Prelude.{◌≡◌, ℕ, ◌+◌, ◌^◌, ◌<◌, ◌≤◌, ◌++◌, ◌∷◌, [], length, take, slice_get, OnOk, OnErr, IfOk, IfErr};
+ghost use Rattle.std.specs.Prelude.{◌≡◌, ℕ, ◌+◌, ◌-◌, ◌^◌, ◌<◌, ◌≤◌, ◌++◌, ◌∷◌, [], length, take, slice_get, OnOk, OnErr, IfOk, IfErr};
 ghost use Rattle.std.specs.Option.{option_copied};
 ghost use Rattle.rc_types.specs.declared.faults.Fault.TheVariants.{OutOfMemory};
 
@@ -12,24 +12,27 @@ use rc_types::{Entry, Fault, Seq, TryClone};
 use std::alloc::Global;
 use std::marker::Model;
 
-/// The noted entries, how many of them are durable, the record highs of each slot, and how many
-/// durable entries each term has.
+/// The noted entries, how many of them are durable, how many there were and were durable when `begin`
+/// was called, the record highs of each slot, and how many durable entries each term has.
 #[derive(Drop)]
 pub(crate) struct Notes {
     noted: Vec<Entry>,
     durable: usize,
+    kept: usize,
+    kept_durable: usize,
     highs: IndexMap<Slot, Vec<(usize, u64)>>,
     counts: IndexMap<u32, usize>,
 }
 
 impl Model for Notes {
-    ghost use Rattle.rc_ownership.specs.Notes.{Noted, AreTablesOf};
+    ghost use Rattle.std.specs.Prelude.{take};
+    ghost use Rattle.rc_ownership.specs.Notes.{Noted, AreNotes};
 
     ghost Value = { Noted };
 
-    ghost view = { λ s. record { noted = s.noted.items; durable = s.durable } };
+    ghost view = { λ s. record { noted = s.noted.items; durable = s.durable; noted_before = take s.kept s.noted.items; durable_before = s.kept_durable } };
 
-    ghost invariant = { λ s. AreTablesOf s.noted.items s.durable s.highs s.counts };
+    ghost invariant = { λ s. AreNotes s.noted.items s.durable s.kept s.kept_durable s.highs s.counts };
 }
 
 impl Notes {
@@ -39,14 +42,47 @@ impl Notes {
 
     /// No notes. It takes no memory until an entry is noted.
     pub(crate) fn new(alloc: Global) -> Notes
-        ensures { result ≡ record { noted = []; durable = 0 } }
+        ensures { result ≡ record { noted = []; durable = 0; noted_before = []; durable_before = 0 } }
     {
         Notes {
             noted: Vec::new(alloc),
             durable: 0,
+            kept: 0,
+            kept_durable: 0,
             highs: IndexMap::new(alloc),
             counts: IndexMap::new(alloc),
         }
+    }
+
+    /// From here on `restore` goes back to now.
+    pub(crate) fn begin(&mut self)
+        ensures { self.new ≡ record self.old { noted_before = self.old.noted; durable_before = self.old.durable } }
+    {
+        self.kept = self.noted.len();
+        self.kept_durable = self.durable;
+    }
+
+    /// Goes back to where `begin` was called: the entries noted since are dropped one by one.
+    pub(crate) fn restore(&mut self)
+        ensures { self.new ≡ record self.old { noted = self.old.noted_before; durable = self.old.durable_before } }
+    {
+        self.set_durable(self.kept_durable);
+        while self.noted.len() > self.kept {
+            self.drop_last();
+        }
+    }
+
+    /// Drops the last entry, which was noted since `begin` was called and isn't durable.
+    fn drop_last(&mut self)
+        requires noted { length self.old.noted_before < length self.old.noted }
+        requires undurable { self.old.durable < length self.old.noted }
+        ensures { self.new ≡ record self.old { noted = take (length self.old.noted - 1) self.old.noted } }
+    {
+        let Some(entry) = self.noted.pop() else {
+            return;
+        };
+        let slot = highs::slot_of(&entry);
+        highs::drop_from(&mut self.highs, slot, self.noted.len());
     }
 
     /// Notes an entry after the others. Only memory can be refused (F1).

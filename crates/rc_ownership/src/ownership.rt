@@ -6,7 +6,7 @@ ghost use Rattle.rc_model.specs.Ownership.{owns_nothing};
 ghost use Rattle.rc_model.specs.Ownership as owning;
 ghost use Rattle.rc_model.specs.Versions as versions;
 ghost use Rattle.rc_ownership.specs.Highs.{highs_of};
-ghost use Rattle.rc_ownership.specs.Owner.{durable_of};
+ghost use Rattle.rc_ownership.specs.Owner.{durable_of, kept_now, kept_nothing};
 ghost use Rattle.rc_ownership.specs.Parts.{awaiting_grant};
 
 use crate::grants::Grants;
@@ -30,13 +30,18 @@ impl Model for Ownership {
 
     ghost Value = { Owner };
 
-    ghost view = { λ s. record { own = record { grants = s.grants; parts = s.parts.parts; replay = s.parts.replay }; noted = s.notes.noted; durable = s.notes.durable } };
+    ghost view = { λ s. record {
+      own = record { grants = s.grants; parts = s.parts.parts; replay = s.parts.replay };
+      noted = s.notes.noted;
+      durable = s.notes.durable;
+      before = record { own = record { grants = s.grants; parts = s.parts.parts_before; replay = s.parts.replay_before }; noted = s.notes.noted_before; durable = s.notes.durable_before };
+    } };
 }
 
 impl Ownership {
     /// What a new master owns: nothing. It takes no memory until something is taken in.
     pub fn new(alloc: Global) -> Ownership
-        ensures { result ≡ record { own = owns_nothing; noted = []; durable = 0 } }
+        ensures { result ≡ record { own = owns_nothing; noted = []; durable = 0; before = kept_nothing } }
     {
         Ownership {
             grants: Grants::new(alloc),
@@ -45,13 +50,31 @@ impl Ownership {
         }
     }
 
-    /// Takes a granted range, unless one was granted under its term before.
+    /// From here on `restore` goes back to now. What `restore` would have needed before is let go.
+    pub fn begin(&mut self)
+        ensures { self.new ≡ record self.old { before = kept_now self.old } }
+    {
+        self.notes.begin();
+        self.parts.begin();
+    }
+
+    /// Goes back to where `begin` was called last, or to nothing where it never was; but for the
+    /// grants, which stay. It takes no memory, and as long as what was done since.
+    pub fn restore(&mut self)
+        ensures { self.new ≡ record self.old { own = self.old.before.own; noted = self.old.before.noted; durable = self.old.before.durable } }
+    {
+        self.notes.restore();
+        self.parts.restore();
+    }
+
+    /// Takes a granted range, unless one was granted under its term before. This isn't undone: what
+    /// `restore` goes back to has it too.
     ///
     /// # Errors
     ///
     /// - `OutOfMemory` (F1): memory was refused; nothing has changed.
     pub fn grant(&mut self, range: KeyRange, term: u32) -> Result<(), Fault>
-        ensures ok { OnOk result (self.new ≡ record self.old { own = owning.grant (record { range = range; term = term }) self.old.own }) }
+        ensures ok { OnOk result (self.new ≡ record self.old { own = owning.grant (record { range = range; term = term }) self.old.own; before = record self.old.before { own = owning.grant (record { range = range; term = term }) self.old.before.own } }) }
         ensures err { OnErr result (self.new ≡ self.old) }
         ensures no_memory { IfErr result (λ fault. fault ≡ OutOfMemory) }
     {
@@ -187,7 +210,7 @@ impl Ownership {
         if self.knows_term(part.term) {
             return Ok(false);
         }
-        self.parts.begin(alloc, part, rows)?;
+        self.parts.begin_part(alloc, part, rows)?;
         Ok(true)
     }
 
@@ -232,22 +255,35 @@ impl Ownership {
         self.parts.has_replay()
     }
 
-    /// Moves the first entry that waits out, under the term of its part.
-    pub fn next_replay(&mut self) -> Option<Entry>
-        ensures first { result ≡ slice_get self.old.own.replay 0 }
-        ensures rest { self.new ≡ record self.old { own = owning.after_replay self.old.own } }
+    /// A copy of the first entry that waits, under the term of its part: it waits no more.
+    ///
+    /// # Errors
+    ///
+    /// - `OutOfMemory` (F1): memory was refused; nothing has changed.
+    pub fn next_replay(&mut self, alloc: Global) -> Result<Option<Entry>, Fault>
+        ensures first { IfOk result (λ entry. entry ≡ slice_get self.old.own.replay 0) }
+        ensures rest { OnOk result (self.new ≡ record self.old { own = owning.after_replay self.old.own }) }
+        ensures err { OnErr result (self.new ≡ self.old) }
+        ensures no_memory { IfErr result (λ fault. fault ≡ OutOfMemory) }
     {
-        self.parts.next_replay()
+        self.parts.next_replay(alloc)
     }
 
     /// The term of the first begun part that is complete and whose end wasn't told: its rows have all
     /// come, and as many entries under its term are durable as they held. Its end counts as told from
     /// now on.
-    pub fn complete(&mut self) -> Option<u32>
-        ensures term { result ≡ owning.to_answer (durable_of self.old) self.old.own }
-        ensures answered { self.new ≡ record self.old { own = owning.after_answer (durable_of self.old) self.old.own } }
+    ///
+    /// # Errors
+    ///
+    /// - `OutOfMemory` (F1): memory was refused; nothing has changed.
+    pub fn complete(&mut self, alloc: Global) -> Result<Option<u32>, Fault>
+        ensures term { IfOk result (λ term. term ≡ owning.to_answer (durable_of self.old) self.old.own) }
+        ensures answered { OnOk result (self.new ≡ record self.old { own = owning.after_answer (durable_of self.old) self.old.own }) }
+        ensures err { OnErr result (self.new ≡ self.old) }
+        ensures no_memory { IfErr result (λ fault. fault ≡ OutOfMemory) }
     {
-        self.parts.complete(&self.notes)
+        let term = self.parts.complete(alloc, &self.notes)?;
+        Ok(term)
     }
 
     /// The terms of the complete parts that aren't granted yet, in the order in which the parts were

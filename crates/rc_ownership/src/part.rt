@@ -6,13 +6,12 @@ ghost use Rattle.rc_types.specs.declared.faults.Fault.TheVariants.{OutOfMemory};
 ghost use Rattle.rc_model.specs.Ownership.{new_part, is_awaited, with_row, part_with_row, all_came, joined, entries_that_came, is_complete, is_to_answer};
 
 use crate::notes::Notes;
-use crate::pieces::Pieces;
 use crate::rows::{self, FetchedRow};
+use crate::shared::SharedEntries;
 use rc_types::{Entry, Fault, Part, ServerId};
 use std::alloc::{AllocError, Global};
 use std::collections::VecDeque;
 use std::marker::Model;
-use std::mem;
 
 /// A part: its rows in order of segment until all have come, how many of them have not, how many
 /// entries those that have come hold, and whether its end was told.
@@ -55,6 +54,19 @@ impl FetchedPart {
         })
     }
 
+    /// The same part; what came of its rows is shared.
+    pub(crate) fn share(&self, alloc: Global) -> Result<FetchedPart, AllocError>
+        ensures { IfOk result (λ shared. shared ≡ self.now) }
+    {
+        Ok(FetchedPart {
+            part: self.part,
+            rows: rows::share_rows(alloc, &self.rows)?,
+            missing: self.missing,
+            count: self.count,
+            answered: self.answered,
+        })
+    }
+
     /// Its term.
     pub(crate) fn term(&self) -> u32
         ensures { result ≡ self.now.part.term }
@@ -84,7 +96,7 @@ impl FetchedPart {
         let Some(place) = rows::awaited_place(&self.rows, seg, from) else {
             return Ok(());
         };
-        let came = Pieces::copy_of(alloc, entries)?;
+        let came = SharedEntries::copy_of(alloc, entries)?;
         let Some(count) = self.count.checked_add(entries.len()) else {
             return Err(Fault::OutOfMemory);
         };
@@ -101,21 +113,20 @@ impl FetchedPart {
         self.missing == 0
     }
 
-    /// Gives its rows away and waits for none any more.
-    pub(crate) fn join(&mut self, alloc: Global) -> VecDeque<FetchedRow>
-        requires { 0 < length self.old.rows }
-        ensures rows { result.items ≡ self.old.rows }
-        ensures joined { self.new ≡ record self.old { rows = []; size = length (entries_that_came self.old.rows) } }
+    /// Its rows.
+    pub(crate) fn rows(&self) -> &VecDeque<FetchedRow>
+        ensures { result.now.items ≡ self.now.rows }
     {
-        self.missing = 0;
-        mem::replace(&mut self.rows, VecDeque::new(alloc))
+        &self.rows
     }
 
-    /// How many entries it has, once it waits for no row.
-    pub(crate) fn size(&self) -> usize
-        ensures { result ≡ self.now.size }
+    /// Waits for no row any more.
+    pub(crate) fn join(&mut self, alloc: Global)
+        requires { 0 < length self.old.rows }
+        ensures { self.new ≡ record self.old { rows = []; size = length (entries_that_came self.old.rows) } }
     {
-        if self.rows.is_empty() { self.count } else { 0 }
+        self.missing = 0;
+        self.rows = VecDeque::new(alloc);
     }
 
     /// Whether it is complete: it waits for no row, and as many entries under its term are durable as

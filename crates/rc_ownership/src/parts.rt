@@ -9,40 +9,63 @@ ghost use Rattle.rc_ownership.specs.Grants.{owner_of};
 use crate::grants::Grants;
 use crate::notes::Notes;
 use crate::part::FetchedPart;
-use crate::replay::{self, JoinedPart};
+use crate::replay::{self, Replay};
+use crate::touched;
 use indexmap::IndexMap;
 use rc_types::{Entry, Fault, Part, ServerId};
 use std::alloc::{AllocError, Global};
-use std::collections::VecDeque;
 use std::marker::Model;
 
-/// The parts by term, in the order in which they were begun, and those of them whose rows have all
-/// come, as far as their entries wait to be appended.
+/// The parts by term, in the order in which they were begun, how many of them there were when `begin`
+/// was called, those that changed since as they were before, and the entries that wait.
 #[derive(Drop)]
 pub(crate) struct Parts {
     begun: IndexMap<u32, FetchedPart>,
-    replay: VecDeque<JoinedPart>,
+    kept: usize,
+    touched: Vec<(u32, FetchedPart)>,
+    replay: Replay,
 }
 
 impl Model for Parts {
-    ghost use Rattle.rc_ownership.specs.Parts.{Fetched, parts_in, all_waiting, NoneIsEmpty, AreUnderTheirTerms, IsPartTable};
+    ghost use Rattle.std.specs.Prelude.{take};
+    ghost use Rattle.rc_ownership.specs.Parts.{Fetched, parts_in, undone, IsPartTable};
 
     ghost Value = { Fetched };
 
-    ghost view = { λ s. record { parts = parts_in s.begun.entries; replay = all_waiting s.replay.items } };
+    ghost view = { λ s. record { parts = parts_in s.begun.entries; replay = s.replay.entries; parts_before = parts_in (undone s.touched.items (take s.kept s.begun.entries)); replay_before = s.replay.before } };
 
-    ghost invariant = { λ s. IsPartTable s.begun.entries s.replay.items };
+    ghost invariant = { λ s. IsPartTable s.begun.entries s.touched.items s.kept };
 }
 
 impl Parts {
     /// No parts. It takes no memory until one is begun.
     pub(crate) fn new(alloc: Global) -> Parts
-        ensures { result ≡ record { parts = []; replay = [] } }
+        ensures { result ≡ record { parts = []; replay = []; parts_before = []; replay_before = [] } }
     {
         Parts {
             begun: IndexMap::new(alloc),
-            replay: VecDeque::new(alloc),
+            kept: 0,
+            touched: Vec::new(alloc),
+            replay: Replay::new(alloc),
         }
+    }
+
+    /// From here on `restore` goes back to now.
+    pub(crate) fn begin(&mut self)
+        ensures { self.new ≡ record self.old { parts_before = self.old.parts; replay_before = self.old.replay } }
+    {
+        self.touched.clear();
+        self.kept = self.begun.len();
+        self.replay.begin();
+    }
+
+    /// Goes back to where `begin` was called.
+    pub(crate) fn restore(&mut self)
+        ensures { self.new ≡ record self.old { parts = self.old.parts_before; replay = self.old.replay_before } }
+    {
+        touched::undo(&mut self.begun, &mut self.touched);
+        self.begun.truncate(self.kept);
+        self.replay.restore();
     }
 
     /// Whether a part was begun under the term.
@@ -53,7 +76,7 @@ impl Parts {
     }
 
     /// Begins a part under a term of which none was begun.
-    pub(crate) fn begin(
+    pub(crate) fn begin_part(
         &mut self,
         alloc: Global,
         part: Part,
@@ -88,30 +111,36 @@ impl Parts {
         entries: &[Entry],
     ) -> Result<(), Fault>
         requires { owning.awaits_data term seg from (who_fetched self.old) ≡ true }
-        ensures parts { OnOk result (self.new.parts ≡ owning.data_in term seg from entries.now self.old.parts) }
-        ensures replay { OnOk result (self.new.replay ≡ self.old.replay ++ owning.replay_in term seg from entries.now self.old.parts) }
+        ensures ok { OnOk result (self.new ≡ record self.old { parts = owning.data_in term seg from entries.now self.old.parts; replay = self.old.replay ++ owning.replay_in term seg from entries.now self.old.parts }) }
         ensures err { OnErr result (self.new ≡ self.old) }
         ensures no_memory { IfErr result (λ fault. fault ≡ OutOfMemory) }
     {
-        match self.begun.get_mut(&term) {
-            Some(part) => replay::put_row(alloc, part, &mut self.replay, seg, from, entries),
-            None => Ok(()),
-        }
+        let Some(part) = self.begun.get(&term) else {
+            return Ok(());
+        };
+        let mut changed = part.share(alloc)?;
+        changed.put_row(alloc, seg, from, entries)?;
+        self.touched.reserve(1)?;
+        replay::join_whole(alloc, &mut changed, &mut self.replay)?;
+        touched::change(&mut self.begun, &mut self.touched, changed);
+        Ok(())
     }
 
     /// Whether an entry waits to be appended.
     pub(crate) fn has_replay(&self) -> bool
         ensures { result ≡ nat_lt 0 (length self.now.replay) }
     {
-        !self.replay.is_empty()
+        self.replay.is_waiting()
     }
 
-    /// Moves the first entry that waits out.
-    pub(crate) fn next_replay(&mut self) -> Option<Entry>
-        ensures first { result ≡ slice_get self.old.replay 0 }
-        ensures rest { self.new ≡ record self.old { replay = owning.without_first self.old.replay } }
+    /// A copy of the first entry that waits: it waits no more. Only memory can be refused (F1).
+    pub(crate) fn next_replay(&mut self, alloc: Global) -> Result<Option<Entry>, Fault>
+        ensures first { IfOk result (λ entry. entry ≡ slice_get self.old.replay 0) }
+        ensures rest { OnOk result (self.new ≡ record self.old { replay = owning.without_first self.old.replay }) }
+        ensures err { OnErr result (self.new ≡ self.old) }
+        ensures no_memory { IfErr result (λ fault. fault ≡ OutOfMemory) }
     {
-        replay::take_first(&mut self.replay)
+        self.replay.next(alloc)
     }
 
     /// The term of the first complete part whose end wasn't told.
@@ -125,18 +154,26 @@ impl Parts {
     }
 
     /// The same term; the part's end counts as told from now on.
-    pub(crate) fn complete(&mut self, notes: &Notes) -> Option<u32>
-        ensures term { result ≡ owning.to_answer (take notes.now.durable notes.now.noted) (who_fetched self.old) }
-        ensures answered { self.new ≡ record self.old { parts = owning.answered_in (take notes.now.durable notes.now.noted) self.old.parts } }
+    pub(crate) fn complete(
+        &mut self,
+        alloc: Global,
+        notes: &Notes,
+    ) -> Result<Option<u32>, AllocError>
+        ensures term { IfOk result (λ term. term ≡ owning.to_answer (take notes.now.durable notes.now.noted) (who_fetched self.old)) }
+        ensures answered { OnOk result (self.new ≡ record self.old { parts = owning.answered_in (take notes.now.durable notes.now.noted) self.old.parts }) }
+        ensures err { OnErr result (self.new ≡ self.old) }
     {
         let Some(term) = self.to_answer(notes) else {
-            return None;
+            return Ok(None);
         };
-        let Some(part) = self.begun.get_mut(&term) else {
-            return None;
+        let Some(part) = self.begun.get(&term) else {
+            return Ok(None);
         };
-        part.answer();
-        Some(term)
+        let mut answered = part.share(alloc)?;
+        self.touched.reserve(1)?;
+        answered.answer();
+        touched::change(&mut self.begun, &mut self.touched, answered);
+        Ok(Some(term))
     }
 
     /// The terms of the complete parts that aren't granted yet, in the order in which the parts were

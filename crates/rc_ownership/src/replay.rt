@@ -1,123 +1,206 @@
 //! The entries that wait to be appended: those of the parts whose rows have all come.
 
-ghost use Rattle.std.specs.Prelude.{◌≡◌, ◌<◌, ◌++◌, [], true, length, map, nat_eq, slice_get, OnOk, OnErr, IfErr};
-ghost use Rattle.std.specs.List.{list_any};
-ghost use Rattle.std.specs.VecDeque.{deque_len, deque_capacity};
+ghost use Rattle.std.specs.Prelude.{◌≡◌, ◌<◌, ◌++◌, [], length, map, nat_lt, slice_get, OnOk, OnErr, IfOk, IfErr};
+ghost use Rattle.std.specs.Option.{option_copied};
 ghost use Rattle.rc_types.specs.declared.faults.Fault.TheVariants.{OutOfMemory};
-ghost use Rattle.rc_model.specs.Ownership.{is_awaited, under_term, entries_that_came, part_with_row, joined, joining, without_first};
-ghost use Rattle.rc_ownership.specs.Parts.{all_waiting, NoneIsEmpty};
+ghost use Rattle.rc_model.specs.Ownership.{under_term, came_entries, entries_that_came, joined, joining, without_first};
+ghost use Rattle.rc_ownership.specs.Replay.{Waiting, all_waiting, NoneIsEmpty};
 
 use crate::part::FetchedPart;
 use crate::rows::FetchedRow;
-use rc_types::{Entry, Fault, ServerId};
-use std::alloc::Global;
+use crate::shared::SharedEntries;
+use rc_types::{Entry, Fault, TryClone};
+use std::alloc::{AllocError, Global};
 use std::collections::VecDeque;
 use std::marker::Model;
 
-/// A part whose rows have all come, as far as its entries were not moved out, how many of them are
-/// left, and the term that they get.
+/// The entries of a row, and the term that they get.
 #[derive(Drop)]
-pub(crate) struct JoinedPart {
+pub(crate) struct JoinedRow {
     term: u32,
-    rows: VecDeque<FetchedRow>,
-    left: usize,
+    entries: SharedEntries,
 }
 
-impl Model for JoinedPart {
-    ghost use Rattle.std.specs.Prelude.{◌≡◌, List, length, map};
+impl Model for JoinedRow {
+    ghost use Rattle.std.specs.Prelude.{List, map};
     ghost use Rattle.rc_types.specs.declared.entries.Entry.{Entry};
     ghost use Rattle.rc_model.specs.Ownership.{under_term};
-    ghost use Rattle.rc_ownership.specs.Parts.{entries_in};
 
     ghost Value = { List Entry };
 
-    ghost view = { λ s. map (under_term s.term) (entries_in s.rows.items) };
-
-    ghost invariant = { λ s. s.left ≡ length (entries_in s.rows.items) };
+    ghost view = { λ s. map (under_term s.term) s.entries };
 }
 
-impl JoinedPart {
-    /// Whether no entry is left.
-    fn is_empty(&self) -> bool
-        ensures { result ≡ nat_eq (length self.now) 0 }
+impl JoinedRow {
+    /// How many entries it has.
+    fn len(&self) -> usize
+        ensures { result ≡ length self.now }
     {
-        self.left == 0
+        self.entries.len()
     }
 
-    /// Moves the first entry out, under the part's term.
-    fn take_first(&mut self) -> Option<Entry>
-        ensures first { result ≡ slice_get self.old 0 }
-        ensures rest { self.new ≡ without_first self.old }
+    /// A copy of the entry at a place, under its term. Only memory can be refused (F1).
+    fn copy_at(&self, alloc: Global, place: usize) -> Result<Option<Entry>, Fault>
+        ensures ok { IfOk result (λ entry. entry ≡ slice_get self.now place) }
+        ensures no_memory { IfErr result (λ fault. fault ≡ OutOfMemory) }
     {
-        while let Some(row) = self.rows.front_mut() {
-            if let Some(mut entry) = row.take_first() {
-                entry.term = self.term;
-                self.left -= 1;
-                return Some(entry);
-            }
-            self.rows.pop_front();
+        let Some(entry) = self.entries.get(place) else {
+            return Ok(None);
+        };
+        let mut copy = entry.try_clone(alloc)?;
+        copy.term = self.term;
+        Ok(Some(copy))
+    }
+}
+
+/// The rows of parts that joined: how many there were when `begin` was called, the place in the first
+/// of them from which on they waited then, and the row and its place from which on they wait now.
+#[derive(Drop)]
+pub(crate) struct Replay {
+    rows: VecDeque<JoinedRow>,
+    kept: usize,
+    first: usize,
+    row: usize,
+    place: usize,
+}
+
+impl Model for Replay {
+    ghost use Rattle.std.specs.Prelude.{take, drop};
+    ghost use Rattle.rc_ownership.specs.Replay.{Waiting, waiting_from, IsReplay};
+
+    ghost Value = { Waiting };
+
+    ghost view = { λ s. record { entries = waiting_from s.place (drop s.row s.rows.items); before = waiting_from s.first (take s.kept s.rows.items) } };
+
+    ghost invariant = { λ s. IsReplay s.rows.items s.kept s.first s.row s.place };
+}
+
+impl Replay {
+    /// Nothing waits. It takes no memory until a part joins.
+    pub(crate) fn new(alloc: Global) -> Replay
+        ensures { result ≡ record { entries = []; before = [] } }
+    {
+        Replay {
+            rows: VecDeque::new(alloc),
+            kept: 0,
+            first: 0,
+            row: 0,
+            place: 0,
         }
-        None
+    }
+
+    /// From here on `restore` goes back to now. The rows that were replayed are let go.
+    pub(crate) fn begin(&mut self)
+        ensures { self.new ≡ record self.old { before = self.old.entries } }
+    {
+        self.kept = 0;
+        self.first = 0;
+        while self.row > 0 {
+            self.rows.pop_front();
+            self.row -= 1;
+        }
+        self.kept = self.rows.len();
+        self.first = self.place;
+    }
+
+    /// Goes back to where `begin` was called.
+    pub(crate) fn restore(&mut self)
+        ensures { self.new ≡ record self.old { entries = self.old.before } }
+    {
+        self.rows.truncate(self.kept);
+        self.row = 0;
+        self.place = self.first;
+    }
+
+    /// Whether an entry waits.
+    pub(crate) fn is_waiting(&self) -> bool
+        ensures { result ≡ nat_lt 0 (length self.now.entries) }
+    {
+        self.row < self.rows.len()
+    }
+
+    /// A copy of the first entry that waits: it waits no more. Only memory can be refused (F1).
+    pub(crate) fn next(&mut self, alloc: Global) -> Result<Option<Entry>, Fault>
+        ensures first { IfOk result (λ entry. entry ≡ slice_get self.old.entries 0) }
+        ensures rest { OnOk result (self.new ≡ record self.old { entries = without_first self.old.entries }) }
+        ensures err { OnErr result (self.new ≡ self.old) }
+        ensures no_memory { IfErr result (λ fault. fault ≡ OutOfMemory) }
+    {
+        let Some(row) = self.rows.get(self.row) else {
+            return Ok(None);
+        };
+        let count = row.len();
+        let entry = row.copy_at(alloc, self.place)?;
+        if self.place + 1 < count {
+            self.place += 1;
+            return Ok(entry);
+        }
+        self.place = 0;
+        self.row += 1;
+        Ok(entry)
+    }
+
+    /// The entries that came of these rows wait, under a term, after the others.
+    pub(crate) fn join(
+        &mut self,
+        alloc: Global,
+        term: u32,
+        rows: &VecDeque<FetchedRow>,
+    ) -> Result<(), AllocError>
+        ensures ok { OnOk result (self.new ≡ record self.old { entries = self.old.entries ++ map (under_term term) (entries_that_came rows.now.items) }) }
+        ensures err { OnErr result (self.new ≡ self.old) }
+    {
+        let mut joined = joined_rows(alloc, term, rows)?;
+        self.rows.append(&mut joined)?;
+        Ok(())
     }
 }
 
-/// Moves the first of all entries out.
-pub(crate) fn take_first(replay: &mut VecDeque<JoinedPart>) -> Option<Entry>
-    requires { NoneIsEmpty replay.old.items }
-    ensures first { result ≡ slice_get (all_waiting replay.old.items) 0 }
-    ensures rest { all_waiting replay.new.items ≡ without_first (all_waiting replay.old.items) }
-    ensures none_empty { NoneIsEmpty replay.new.items }
-{
-    let Some(part) = replay.front_mut() else {
-        return None;
-    };
-    let entry = part.take_first();
-    if part.is_empty() {
-        replay.pop_front();
-    }
-    entry
-}
-
-/// What a part's rows hold joins the entries that wait, at their end.
-fn join(alloc: Global, part: &mut FetchedPart, replay: &mut VecDeque<JoinedPart>)
-    requires some { 0 < length part.old.rows }
-    requires room { deque_len replay.old < deque_capacity replay.old }
-    ensures part { part.new ≡ record part.old { rows = []; size = length (entries_that_came part.old.rows) } }
-    ensures replay { all_waiting replay.new.items ≡ all_waiting replay.old.items ++ map (under_term part.old.part.term) (entries_that_came part.old.rows) }
-    ensures none_empty { NoneIsEmpty replay.old.items → NoneIsEmpty replay.new.items }
-{
-    let term = part.term();
-    let rows = part.join(alloc);
-    let left = part.size();
-    if left > 0 {
-        let joined = JoinedPart { term, rows, left };
-        replay.push_back(joined).unwrap();
-    }
-}
-
-/// A part takes the entries of a row that it awaits, and joins the entries that wait, once it has all
-/// its rows. Only memory can be refused (F1).
-pub(crate) fn put_row(
+/// The entries of a part whose rows have all come wait, and it waits for no row any more.
+pub(crate) fn join_whole(
     alloc: Global,
     part: &mut FetchedPart,
-    replay: &mut VecDeque<JoinedPart>,
-    seg: u16,
-    from: ServerId,
-    entries: &[Entry],
-) -> Result<(), Fault>
-    requires { list_any (is_awaited seg from) part.old.rows ≡ true }
-    ensures part { OnOk result (part.new ≡ joined (part_with_row seg from entries.now part.old)) }
-    ensures replay { OnOk result (all_waiting replay.new.items ≡ all_waiting replay.old.items ++ joining (part_with_row seg from entries.now part.old)) }
-    ensures named { part.new.part ≡ part.old.part }
-    ensures none_empty { NoneIsEmpty replay.old.items → NoneIsEmpty replay.new.items }
-    ensures err { OnErr result (part.new ≡ part.old) }
-    ensures unjoined { OnErr result (replay.new.items ≡ replay.old.items) }
-    ensures no_memory { IfErr result (λ fault. fault ≡ OutOfMemory) }
+    replay: &mut Replay,
+) -> Result<(), AllocError>
+    requires { 0 < length part.old.rows }
+    ensures part { OnOk result (part.new ≡ joined part.old) }
+    ensures replay { OnOk result (replay.new ≡ record replay.old { entries = replay.old.entries ++ joining part.old }) }
+    ensures err { OnErr result (replay.new ≡ replay.old) }
 {
-    replay.reserve(1)?;
-    part.put_row(alloc, seg, from, entries)?;
-    if part.has_all() {
-        join(alloc, part, replay);
+    if !part.has_all() {
+        return Ok(());
+    }
+    replay.join(alloc, part.term(), part.rows())?;
+    part.join(alloc);
+    Ok(())
+}
+
+/// What came of these rows, shared and under a term; rows without an entry are left out.
+fn joined_rows(
+    alloc: Global,
+    term: u32,
+    rows: &VecDeque<FetchedRow>,
+) -> Result<VecDeque<JoinedRow>, AllocError>
+    ensures entries { IfOk result (λ joined. all_waiting joined.items ≡ map (under_term term) (entries_that_came rows.now.items)) }
+    ensures none_empty { IfOk result (λ joined. NoneIsEmpty joined.items) }
+{
+    let mut joined = VecDeque::with_capacity(alloc, rows.len())?;
+    for row in rows {
+        push_row(&mut joined, term, row)?;
+    }
+    Ok(joined)
+}
+
+/// What came of a row goes last, if it has an entry.
+fn push_row(joined: &mut VecDeque<JoinedRow>, term: u32, row: &FetchedRow) -> Result<(), AllocError>
+    ensures entries { OnOk result (all_waiting joined.new.items ≡ all_waiting joined.old.items ++ map (under_term term) (came_entries row.now.came)) }
+    ensures none_empty { NoneIsEmpty joined.old.items → NoneIsEmpty joined.new.items }
+{
+    let Some(entries) = row.share_came()? else {
+        return Ok(());
+    };
+    if entries.len() > 0 {
+        joined.push_back(JoinedRow { term, entries })?;
     }
     Ok(())
 }

@@ -1,10 +1,10 @@
 //! The rows that a part waits for: of a segment, from a backup, its entries.
 
-ghost use Rattle.std.specs.Prelude.{◌≡◌, nat_lt, not, position, map, slice_get, Some, option_map, IfOk, OnOk, OnErr};
-ghost use Rattle.rc_model.specs.Ownership.{PartRow, awaited_row, is_awaited, insert_row, rows_in_order, came_entries, without_first};
+ghost use Rattle.std.specs.Prelude.{◌≡◌, nat_lt, not, position, map, Some, option_map, IfOk, OnOk};
+ghost use Rattle.rc_model.specs.Ownership.{PartRow, awaited_row, is_awaited, insert_row, rows_in_order};
 
-use crate::pieces::Pieces;
-use rc_types::{Entry, ServerId};
+use crate::shared::SharedEntries;
+use rc_types::ServerId;
 use std::alloc::{AllocError, Global};
 use std::collections::VecDeque;
 use std::marker::Model;
@@ -14,7 +14,7 @@ use std::marker::Model;
 pub(crate) struct FetchedRow {
     seg: u16,
     holder: ServerId,
-    came: Option<Pieces>,
+    came: Option<SharedEntries>,
 }
 
 impl Model for FetchedRow {
@@ -52,22 +52,47 @@ impl FetchedRow {
     }
 
     /// Its entries have come.
-    pub(crate) fn fill(&mut self, came: Pieces)
+    pub(crate) fn fill(&mut self, came: SharedEntries)
         ensures { self.new ≡ record self.old { came = Some came } }
     {
         self.came = Some(came);
     }
 
-    /// Moves its first entry out, if any came.
-    pub(crate) fn take_first(&mut self) -> Option<Entry>
-        ensures first { result ≡ slice_get (came_entries self.old.came) 0 }
-        ensures rest { came_entries self.new.came ≡ without_first (came_entries self.old.came) }
+    /// What came of it, shared.
+    pub(crate) fn share_came(&self) -> Result<Option<SharedEntries>, AllocError>
+        ensures { IfOk result (λ came. came ≡ self.now.came) }
     {
-        match &mut self.came {
-            Some(pieces) => pieces.take_first(),
-            None => None,
+        match &self.came {
+            Some(came) => Ok(Some(came.share()?)),
+            None => Ok(None),
         }
     }
+
+    /// The same row; what came of it is shared.
+    fn share(&self) -> Result<FetchedRow, AllocError>
+        ensures { IfOk result (λ row. row ≡ self.now) }
+    {
+        let came = self.share_came()?;
+        Ok(FetchedRow {
+            seg: self.seg,
+            holder: self.holder,
+            came,
+        })
+    }
+}
+
+/// The same rows; what came of them is shared.
+pub(crate) fn share_rows(
+    alloc: Global,
+    rows: &VecDeque<FetchedRow>,
+) -> Result<VecDeque<FetchedRow>, AllocError>
+    ensures { IfOk result (λ shared. shared.items ≡ rows.now.items) }
+{
+    let mut shared = VecDeque::with_capacity(alloc, rows.len())?;
+    for row in rows {
+        shared.push_back(row.share()?)?;
+    }
+    Ok(shared)
 }
 
 /// The place of the first row whose segment doesn't come before this one.
