@@ -1,2 +1,4 @@
 pub mod Beginnings
 pub mod Unknown
+pub mod SegmentLists
+pub mod Senders

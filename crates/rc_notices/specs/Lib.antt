@@ -1,3 +1,4 @@
 pub mod Beginnings
 pub mod Sender
 pub mod Placed
+pub mod Reminders

@@ -3,6 +3,7 @@
 //! `FollowUps` and `MasterTick`.
 #![tactic(auto)]
 
+mod again;
 mod appending;
 mod closing;
 mod copies;
@@ -10,6 +11,7 @@ mod placing;
 mod single;
 mod tasks;
 
+pub use again::{add_commits_again, add_fetches_again, add_ready_again, add_recovered_again};
 pub use appending::{add_append, add_write_oks};
 pub use closing::{add_closes, add_frees};
 pub use placing::{add_head_places, add_places};

@@ -1,0 +1,43 @@
+-- What the timer's messages depend on: the log, the ownership and the tasks of a master.
+use Rattle.std.proofs.Common.{◌≡◌, List, [], ◌∷◌, ◌++◌, ◌&&◌, not, map, filter, take, ap, ◌∙◌, refl}
+use Rattle.std.proofs.lemmas.Simd.{map-map}
+use Rattle.rc_types.specs.declared.entries.Entry.{Entry}
+use Rattle.rc_types.specs.declared.messages.Body.TheVariants.{Recovered}
+use Rattle.rc_model.specs.Messages.{to_coordinator}
+use Rattle.rc_model.specs.Log.{Log, entries_of, numbers_to}
+use Rattle.rc_model.specs.Ownership.{Ownership, PartState, is_complete, owns_term}
+use Rattle.rc_model.specs.Master.{Master, Task}
+use Rattle.rc_model.specs.FollowUps.{attempt_of}
+use Rattle.rc_model.specs.MasterTick.{fetch_of, has_not_come, reminds_open, reminds_shut, commits_again, fetches_again, recovered_again, ready_again, reminds}
+use Rattle.rc_ownership.specs.Parts.{awaiting_grant}
+use Rattle.rc_notices.specs.Reminders.{recovered_of}
+use Rattle.rc_notices.specs.Sender.{sender}
+
+pub fetches-sender : (m : Master) (tasks : List Task) →
+    fetches_again m tasks ≡ fetches_again (sender m.log m.ownership m.tasks) tasks
+fetches-sender m [] = refl
+fetches-sender m (task ∷ tasks) =
+    ap (λ l. map (fetch_of m.log.own task) (filter (has_not_come m.ownership task) task.rows) ++ l) (fetches-sender m tasks)
+
+pub recovered-sender : (m : Master) → recovered_again m ≡ recovered_again (sender m.log m.ownership m.tasks)
+recovered-sender m = refl
+
+pub ready-sender : (m : Master) → ready_again m ≡ ready_again (sender m.log m.ownership m.tasks)
+ready-sender m = refl
+
+-- all that the timer says again
+pub reminds-sender : (before : Log) (m : Master) →
+    (reminds before m).1 ≡ (reminds before (sender m.log m.ownership m.tasks)).1
+reminds-sender before m =
+    ap (λ l. reminds_open before m.log (numbers_to m.log.head) ++ reminds_shut before m.log (numbers_to m.log.head)
+    ++ commits_again m.log ++ l ++ recovered_again m ++ ready_again m) (fetches-sender m m.tasks)
+
+-- the parts that are told of again, by their terms
+pub recovered-again : (log : Log) (own : Ownership) (tasks : List Task) (durable : List Entry) →
+    durable ≡ take log.durable (entries_of log) →
+    recovered_of log.own tasks (awaiting_grant durable own own.parts) ≡ recovered_again (sender log own tasks)
+recovered-again log own tasks durable is =
+    map-map (λ term. to_coordinator log.own (Recovered (attempt_of term tasks) term)) (λ state. state.part.term)
+    (filter (λ state. is_complete durable state && not (owns_term own state.part.term)) own.parts)
+    ∙ ap (λ entries. map (λ (state : PartState). to_coordinator log.own (Recovered (attempt_of state.part.term tasks) state.part.term))
+    (filter (λ state. is_complete entries state && not (owns_term own state.part.term)) own.parts)) is

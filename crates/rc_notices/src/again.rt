@@ -1,0 +1,132 @@
+//! What the coordinator and the holders of rows have not answered is said again.
+
+ghost use Rattle.std.specs.Prelude.{◌≡◌, ◌++◌, [], true, map, filter, take, OnOk, OnErr};
+ghost use Rattle.rc_model.specs.Log.{has_segment, entries_of};
+ghost use Rattle.rc_model.specs.MasterTick.{fetch_of, has_not_come, commits_again, fetches_again, recovered_again, ready_again};
+ghost use Rattle.rc_headroll.specs.LogData.{log_of};
+ghost use Rattle.rc_ownership.specs.Owner.{durable_of};
+ghost use Rattle.rc_notices.specs.Beginnings.{IsBeginning};
+ghost use Rattle.rc_notices.specs.Reminders.{commit_again, recovered_of};
+ghost use Rattle.rc_notices.specs.Sender.{sender};
+
+use crate::single::{commit, ready, recovered};
+use crate::tasks::Task;
+use rc_headroll::LogHead;
+use rc_ownership::Ownership;
+use rc_types::{Message, ServerId};
+use std::alloc::{AllocError, Global};
+
+/// Adds the Commit of a segment, where one was sent and not answered.
+fn add_commit_again(log: &LogHead, seg: u16, sent: &mut Vec<Message>) -> Result<(), AllocError>
+    requires { has_segment (log_of log.now) seg ≡ true }
+    ensures ok { OnOk result (sent.new.items ≡ sent.old.items ++ commit_again (log_of log.now) seg) }
+    ensures begun { OnErr result (IsBeginning sent.old.items sent.new.items) }
+{
+    let Some(segment) = log.segment(seg) else {
+        return Ok(());
+    };
+    if segment.awaits_commit() {
+        sent.push(commit(log, seg))?;
+    }
+    Ok(())
+}
+
+/// Adds the Commit of each segment of which one was sent and not answered, and which is placed on all
+/// its members.
+pub fn add_commits_again(log: &LogHead, sent: &mut Vec<Message>) -> Result<(), AllocError>
+    ensures ok { OnOk result (sent.new.items ≡ sent.old.items ++ commits_again (log_of log.now)) }
+    ensures begun { OnErr result (IsBeginning sent.old.items sent.new.items) }
+{
+    for place in 0..log.head() {
+        add_commit_again(log, place + 1, sent)?;
+    }
+    Ok(())
+}
+
+/// Adds a Fetch of each row of a task that has not come.
+fn add_fetches_of(
+    own: ServerId,
+    ownership: &Ownership,
+    task: &Task,
+    sent: &mut Vec<Message>,
+) -> Result<(), AllocError>
+    ensures ok { OnOk result (sent.new.items ≡ sent.old.items ++
+        map (fetch_of own task.now) (filter (has_not_come ownership.now.own task.now) task.now.rows)) }
+    ensures begun { OnErr result (IsBeginning sent.old.items sent.new.items) }
+{
+    let term = task.part().term;
+    for row in task.rows() {
+        if ownership.awaits_data(term, row.seg, row.holder) {
+            sent.push(task.fetch(own, row))?;
+        }
+    }
+    Ok(())
+}
+
+/// Adds a Fetch of each row of these tasks that has not come.
+pub fn add_fetches_again(
+    log: &LogHead,
+    ownership: &Ownership,
+    tasks: &[Task],
+    sent: &mut Vec<Message>,
+) -> Result<(), AllocError>
+    ensures ok { OnOk result (sent.new.items ≡ sent.old.items ++
+        fetches_again (sender (log_of log.now) ownership.now.own tasks.now) tasks.now) }
+    ensures begun { OnErr result (IsBeginning sent.old.items sent.new.items) }
+{
+    for task in tasks {
+        add_fetches_of(log.own(), ownership, task, sent)?;
+    }
+    Ok(())
+}
+
+/// Adds a Recovered for each of these terms.
+fn add_recovered(
+    own: ServerId,
+    tasks: &[Task],
+    terms: &[u32],
+    sent: &mut Vec<Message>,
+) -> Result<(), AllocError>
+    ensures ok { OnOk result (sent.new.items ≡ sent.old.items ++ recovered_of own tasks.now terms.now) }
+    ensures begun { OnErr result (IsBeginning sent.old.items sent.new.items) }
+{
+    for term in terms {
+        sent.push(recovered(own, tasks, *term))?;
+    }
+    Ok(())
+}
+
+/// Adds a Recovered for each part that is complete and was not granted yet.
+pub fn add_recovered_again(
+    alloc: Global,
+    log: &LogHead,
+    ownership: &Ownership,
+    tasks: &[Task],
+    sent: &mut Vec<Message>,
+) -> Result<(), AllocError>
+    requires { durable_of ownership.now ≡ take (log_of log.now).durable (entries_of (log_of log.now)) }
+    ensures ok { OnOk result (sent.new.items ≡ sent.old.items ++
+        recovered_again (sender (log_of log.now) ownership.now.own tasks.now)) }
+    ensures begun { OnErr result (IsBeginning sent.old.items sent.new.items) }
+{
+    let Ok(terms) = ownership.awaiting_grant(alloc) else {
+        return Err(AllocError);
+    };
+    add_recovered(log.own(), tasks, terms.as_slice(), sent)
+}
+
+/// Adds a Ready where the head takes entries and nothing was granted yet.
+pub fn add_ready_again(
+    log: &LogHead,
+    ownership: &Ownership,
+    sent: &mut Vec<Message>,
+) -> Result<(), AllocError>
+    ensures ok { OnOk result (sent.new.items ≡ sent.old.items ++
+        ready_again (sender (log_of log.now) ownership.now.own [])) }
+    ensures begun { OnErr result (IsBeginning sent.old.items sent.new.items) }
+{
+    if log.is_writing() && !ownership.has_grants() {
+        sent.push(ready(log.own()))?;
+    }
+    Ok(())
+}
