@@ -27,7 +27,8 @@ pub(crate) fn add_counts(text: &mut String, messages: &[Message]) -> Result<(), 
     add_count(text, "grants ", counts.grants)
 }
 
-fn add_count(text: &mut String, word: &str, count: usize) -> Result<(), AllocError>
+/// Adds a line of a word and a count.
+pub(crate) fn add_count(text: &mut String, word: &str, count: usize) -> Result<(), AllocError>
     ensures { OnOk result (string_bytes text.new ≡ string_bytes text.old ++ count_line word.now count) }
 {
     write!(text, "{word}{count}\n")

@@ -9,4 +9,4 @@ mod lines;
 mod reports;
 
 pub use ends::{add_stopped, error_text};
-pub use reports::{report, report_of};
+pub use reports::{judgement_of, report, report_of};

@@ -1,12 +1,13 @@
 //! The report as a whole.
 
-ghost use Rattle.std.specs.Prelude.{◌≡◌, ◌++◌, IfOk, IfErr, string_bytes};
+ghost use Rattle.std.specs.Prelude.{◌≡◌, ◌++◌, IfOk, IfErr, codes, length, string_bytes};
 ghost use Rattle.rc_types.specs.declared.faults.Fault.TheVariants.{OutOfMemory};
-ghost use Rattle.rc_model.specs.Report.{message_lines, counts_text, audit_line, report};
+ghost use Rattle.rc_model.specs.Report.{message_lines, count_line, counts_text, audit_line, report};
+ghost use Rattle.rc_report.specs.Ends.{judgement};
 ghost use Rattle.rc_model.specs.Breach.{breach};
 
 use crate::audited::add_audit;
-use crate::counts::add_counts;
+use crate::counts::{add_count, add_counts};
 use crate::lines::add_messages;
 use rc_audit::audit;
 use rc_types::{Breach, Fault, Message};
@@ -45,6 +46,27 @@ pub fn report_of(
     let mut text = String::new(alloc);
     add_messages(&mut text, messages)?;
     add_counts(&mut text, messages)?;
+    add_audit(&mut text, found)?;
+    Ok(text)
+}
+
+/// The judgement of these messages, told what the audit found in them: how many they are, and the audit's line.
+///
+/// # Errors
+///
+/// `OutOfMemory` (F1): memory was refused.
+pub fn judgement_of(
+    alloc: Global,
+    messages: &[Message],
+    found: Option<Breach>,
+) -> Result<String, Fault>
+    ensures ok { IfOk result (λ text. string_bytes text ≡ count_line (codes "messages ") (length messages.now) ++ audit_line found) }
+    // told of the messages' own first breach, it is the judgement of the definitions
+    ensures judged { found ≡ breach messages.now → IfOk result (λ text. string_bytes text ≡ judgement messages.now) }
+    ensures err { IfErr result (λ e. e ≡ OutOfMemory) }
+{
+    let mut text = String::new(alloc);
+    add_count(&mut text, "messages ", messages.len())?;
     add_audit(&mut text, found)?;
     Ok(text)
 }
