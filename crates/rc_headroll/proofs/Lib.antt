@@ -9,3 +9,4 @@ pub mod BeforeLemmas
 pub mod KeptSegments
 pub mod SoundBefore
 pub mod StillBefore
+pub mod Stood

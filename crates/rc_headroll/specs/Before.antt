@@ -85,7 +85,8 @@ other_of others seg = lookup (nat_eq seg) others
 -- what was kept of a segment
 abbrev pub kept_of : Mark → ℕ → Option SegmentState
 kept_of mark seg =
-    if nat_eq seg mark.head then mark.newest else (if nat_eq (seg + 1) mark.head then mark.previous else other_of mark.others seg)
+    if nat_eq seg mark.head then mark.newest
+    else (if nat_eq (seg + 1) mark.head then mark.previous else other_of mark.others seg)
 
 -- the segment is one of those that there were
 abbrev pub was_there : Mark → ℕ → Bool
@@ -99,8 +100,8 @@ segments_before mark segments seg =
 -- how a segment is now is kept, unless something was kept before, or it is one of the last two, or newer
 abbrev pub with_kept : ℕ → SegmentState → Mark → Mark
 with_kept seg state mark =
-    if nat_lt (seg + 1) mark.head && is_none (other_of mark.others seg) then record mark { others = mark.others ++ (seg, state) ∷ [] }
-    else mark
+    if nat_lt (seg + 1) mark.head && is_none (other_of mark.others seg)
+    then record mark { others = mark.others ++ (seg, state) ∷ [] } else mark
 
 -- nothing more has to be kept before the segment is changed
 abbrev pub IsKept : Mark → ℕ → Type 0

@@ -2,11 +2,16 @@
 
 ghost use Rattle.std.specs.Prelude.{◌≡◌, ℕ, true, length, All, OnOk};
 ghost use Rattle.rc_model.specs.Log.{has_segment};
+ghost use Rattle.std.specs.List.{list_any};
+ghost use Rattle.rc_model.specs.Ids.{same_id};
+ghost use Rattle.rc_model.specs.MasterTick.{stood};
 ghost use Rattle.rc_headroll.specs.Before.{IsKept};
 ghost use Rattle.rc_headroll.specs.LogData.{log_of, before_of};
 ghost use Rattle.rc_headroll.specs.Soundness.{IsKnown};
 
 use crate::log::LogHead;
+use rc_config::Config;
+use rc_types::ServerId;
 use std::alloc::AllocError;
 
 impl LogHead {
@@ -44,6 +49,20 @@ impl LogHead {
         );
     }
 
+    /// Whether the id was a member of the segment under its present epoch at the last `begin`.
+    pub fn stood(&self, seg: u16, id: ServerId) -> bool
+        ensures { result ≡ stood (before_of self.now) (log_of self.now) seg id }
+    {
+        if seg == 0 || self.before.head() < usize::from(seg) {
+            return false;
+        }
+        let now = self.segments[usize::from(seg) - 1].config();
+        match self.before.kept(seg) {
+            None => has_member(now, id),
+            Some(state) => state.config.epoch() == now.epoch() && has_member(&state.config, id),
+        }
+    }
+
     /// Keeps how a segment is now, so that `restore` can put it back. It comes before each change of a
     /// segment that need not be one of the last two.
     pub(crate) fn keep(&mut self, seg: u16) -> Result<(), AllocError>
@@ -68,4 +87,11 @@ impl LogHead {
         }
         Ok(())
     }
+}
+
+/// Whether the id is that of a member.
+fn has_member(config: &Config, id: ServerId) -> bool
+    ensures { result ≡ list_any (λ member. same_id id member.id) config.now.members }
+{
+    config.members().iter().any(|member| id == member.id)
 }
