@@ -10,3 +10,4 @@ pub mod KeptSegments
 pub mod SoundBefore
 pub mod StillBefore
 pub mod Stood
+pub mod ConcernedLemmas

@@ -4,3 +4,4 @@ pub mod Soundness
 pub mod Freeing
 pub mod Places
 pub mod Before
+pub mod Concerned
