@@ -17,8 +17,8 @@ reminds_if_open before log seg =
 -- to the members of a shut segment, unless it was freed
 abbrev pub reminds_if_shut : Log → Log → ℕ → List Message
 reminds_if_shut before log seg =
-    if (log.segments seg).shut && not (log.segments seg).freed then reminds_shut_members log seg (to_remind before log seg)
-    else []
+    if (log.segments seg).shut && not (log.segments seg).freed
+    then reminds_shut_members log seg (to_remind before log seg) else []
 
 -- the Commit of a segment, where one was sent and not answered
 abbrev pub commit_again : Log → ℕ → List Message

@@ -1,0 +1,13 @@
+use Rattle.std.proofs.Common.{◌≡◌, ◌++◌}
+use Rattle.rc_model.specs.Log.{numbers_to}
+use Rattle.rc_model.specs.MasterTick.{reminds_shut}
+use Rattle.rc_headroll.specs.LogData.{log_of, before_of}
+use Rattle.rc_notices.specs.Beginnings.{IsBeginning}
+use Rattle.rc_notices.proofs.reminding.add_shut_reminders.Given as goal
+
+-- the reminders of the segments so far
+abbrev pub invariant-loop-place : goal.invariant-loop-place
+invariant-loop-place l = record {
+  so_far : l.sent.items ≡ l.initial.sent.items ++ reminds_shut (before_of l.log) (log_of l.log) (numbers_to l.place);
+  begun : IsBeginning l.initial.sent.items l.sent.items;
+}
