@@ -1,0 +1,9 @@
+pub mod Quiet
+pub mod Walk
+pub mod Frame
+pub mod Counting
+pub mod Settling
+pub mod Asking
+pub mod Once
+pub mod Ordering
+pub mod Leasts

@@ -1,0 +1,13 @@
+use Rattle.rc_master_words.proofs.Counting.{counted-is-acknowledged}
+use Rattle.rc_master_words.proofs.Settling.{stored-is-acknowledged}
+use Rattle.rc_master_words.proofs.Once.{acknowledged-once}
+use Rattle.rc_master_words.proofs.acks.writes_are_acknowledged_once.Goals as goal
+
+pub returns-clause-counted : goal.returns-clause-counted
+returns-clause-counted c = counted-is-acknowledged
+
+pub returns-clause-stored : goal.returns-clause-stored
+returns-clause-stored c = stored-is-acknowledged
+
+pub returns-clause-once : goal.returns-clause-once
+returns-clause-once c = acknowledged-once

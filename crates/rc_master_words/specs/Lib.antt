@@ -1,0 +1,2 @@
+pub mod AckClaims
+pub mod CommitClaims

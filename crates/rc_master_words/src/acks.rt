@@ -1,0 +1,18 @@
+//! Acknowledgements.
+
+ghost use Rattle.rc_master_words.specs.AckClaims.{CountedIsAcknowledged, StoredIsAcknowledged, AcknowledgedOnce, AcknowledgedWasAsked};
+
+/// A master has acknowledged exactly the clients' writes at the places that it counts as durable, in the
+/// order of places, each once. A client's write is acknowledged in the very step in which it is stored on
+/// all members of its segment with each earlier segment shut, unless the master is deposed.
+pub fn writes_are_acknowledged_once()
+    ensures counted { CountedIsAcknowledged }
+    ensures stored { StoredIsAcknowledged }
+    ensures once { AcknowledgedOnce }
+{}
+
+/// What was acknowledged was asked: a Write of that table and key was sent to that master, and the entry
+/// at the acknowledged place has that Write's value.
+pub fn acknowledged_was_asked()
+    ensures { AcknowledgedWasAsked }
+{}

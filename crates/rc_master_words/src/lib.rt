@@ -1,0 +1,7 @@
+//! What a master says, and when, in words: of acknowledgements and commits, after every list of
+//! events. Nothing here runs: the functions have empty bodies, and their contracts are theorems on the
+//! definitions.
+#![tactic(auto)]
+
+pub mod acks;
+pub mod commits;
