@@ -7,3 +7,4 @@ pub mod Asking
 pub mod Once
 pub mod Ordering
 pub mod Leasts
+pub mod Limiting

@@ -1,7 +1,7 @@
 -- A walk over the rules of a master: what its few kinds of moves keep, its whole step keeps.
 use Rattle.std.proofs.Common.{◌≡◌, ℕ, zero, suc, ◌-◌, ◌<◌, not, Bool, true, false, cond, nat_lt, nat_eq, ◌&&◌, List, [], ◌∷◌, ◌++◌, map, filter, drop, length, Option, Some, None, is_some, Result, Ok, Err, refl, sym, subst, arith}
 use Rattle.std.specs.List.{All}
-use Rattle.std.proofs.lemmas.Bool.{ltb-true}
+use Rattle.std.proofs.lemmas.Bool.{and_parts, ltb-true, eqb-true}
 use Rattle.std.proofs.lemmas.List.Elements.{All-nil, All-cons, All-map}
 use Rattle.rc_types.specs.declared.ids.ServerId.{ServerId}
 use Rattle.rc_types.specs.declared.ids.Addr.{Addr}
@@ -36,7 +36,7 @@ pub record IsKept (Asked : Entry → Type 0) (R : Master → Master × List Mess
   pub both : (a b : Master) (first : List Message) (after : Master × List Message) → R a (b, first) → R b after → R a (after.0, first ++ after.1)
   pub quiet : (old new : Master) (messages : List Message) → QuietLog old.log new.log → AllSoft messages → R old (new, messages)
   -- an entry is appended, by a client only one that was asked
-  pub appends : (master : Master) (entry : Entry) (client : Bool) → (client ≡ true → Asked entry) → R master (appends_entry master entry client)
+  pub appends : (master : Master) (entry : Entry) (client : Bool) → is_full master.log ≡ false → (client ≡ true → Asked entry) → R master (appends_entry master entry client)
   pub counts : (master : Master) → master.log.durable < durable_now master.log →
       R master (with_log master (record master.log { durable = durable_now master.log }), write_oks master.log.own (new_durable master.log))
   pub commits : (master : Master) (seg : ℕ) → first_open master.log ≡ Some seg → R master (commits master seg)
@@ -78,7 +78,7 @@ module _ (Asked : Entry → Type 0) (R : Master → Master × List Message → T
   tries-kept : (master : Master) → R master (tries_first master)
   tries-kept master =
       either (R master) (nat_eq master.log.head 0 && is_up master.known master.log.own) (opens_first master (open_first master.known master.log)) (master, [])
-      (λ e. first-kept master (open_first master.known master.log) (quiet-first master.known master.log)) (λ e. still master)
+      (λ e. first-kept master (open_first master.known master.log) (quiet-first master.known master.log (eqb-true master.log.head 0 (and_parts (nat_eq master.log.head 0) (is_up master.known master.log.own) e).0))) (λ e. still master)
 
   obeys-kept : (master : Master) → R master (obeys_list master)
   obeys-kept master = then-kept master (replaces_lost_of (numbers_to master.log.head) master) tries_first (lost_of-kept (numbers_to master.log.head) master) tries-kept
@@ -110,7 +110,7 @@ module _ (Asked : Entry → Type 0) (R : Master → Master × List Message → T
       (λ e. refused-kept master Rolling)
       (λ e. either (R master) (is_full master.log) (rolls_for_write master (begin_roll master.known (dead_segments master) master.log)) (appends_entry master (written master term table key value) true)
       (λ f. roll-kept master (begin_roll master.known (dead_segments master) master.log) (quiet-roll master.known (dead_segments master) master.log))
-      (λ f. kept.appends master (written master term table key value) true (λ _. asked)))
+      (λ f. kept.appends master (written master term table key value) true f (λ _. asked)))
 
   owned-kept : (master : Master) (term : Option ℕ) (table key : ℕ) (value : Option (List ℕ)) → ((under : ℕ) → Asked (written master under table key value)) → R master (writes_if_owned master term table key value)
   owned-kept master None table key value asked = refused-kept master NotOwner
@@ -166,16 +166,16 @@ module _ (Asked : Entry → Type 0) (R : Master → Master × List Message → T
   start-does : (master : Master) → Does master (follows_start master)
   start-does master = does-when master (may_start master.log) (with_log master (starts master.log), to_coordinator master.log.own Ready ∷ [])
       (λ _. says master (with_log master (starts master.log)) (to_coordinator master.log.own Ready)
-      (record { own = refl; factor = refl; durable = refl; places = refl; head = omega arith; shut = λ s upto e. e; asked = λ s e. e }) refl)
+      (record { own = refl; factor = refl; durable = refl; size = refl; limits = λ h. record { head = h.head; epochs = h.epochs; entries = h.entries }; places = refl; head = omega arith; shut = λ s upto e. e; asked = λ s e. e }) refl)
 
   placed-does : (master : Master) → Does master (follows_placed master)
   placed-does master = does-when master (may_close master.log) (with_log master (closes_old master.log), [])
       (λ _. kept.quiet master (with_log master (closes_old master.log)) []
-      (record { own = refl; factor = refl; durable = refl; places = refl; head = omega arith; shut = λ s upto e. e; asked = λ s e. e }) soft-none)
+      (record { own = refl; factor = refl; durable = refl; size = refl; limits = λ h. record { head = h.head; epochs = h.epochs; entries = h.entries }; places = refl; head = omega arith; shut = λ s upto e. e; asked = λ s e. e }) soft-none)
 
   closing-does : (master : Master) → Does master (follows_closing master)
   closing-does master = does-when master (close_is_due master.log) (with_log master (close_marked master.log), _)
-      (λ _. kept.quiet master (with_log master (close_marked master.log)) _ (quiet-put master.log (master.log.head - 1) (record (old_head_of master.log) { close_sent = true }) refl (λ e. e) (λ e. e))
+      (λ _. kept.quiet master (with_log master (close_marked master.log)) _ (quiet-put master.log (master.log.head - 1) (record (old_head_of master.log) { close_sent = true }) refl (λ e. e) (λ e. e) (λ e. e))
       (soft-ids master.log.own (ids_of (old_head_of master.log).config.members) (Close (master.log.head - 1) (length (old_head_of master.log).entries)) refl))
 
   soft-frees : (log : Log) (segs : List ℕ) → AllSoft (frees_segments log segs)
@@ -186,7 +186,7 @@ module _ (Asked : Entry → Type 0) (R : Master → Master × List Message → T
   shut-does master = does-when master (may_write master.log) (with_log master (writes_on master.log), frees_segments master.log (left_out master.log))
       (λ _. kept.quiet master (with_log master (writes_on master.log)) (frees_segments master.log (left_out master.log))
       (quiet-trans master.log (starts master.log) (writes_on master.log)
-      (record { own = refl; factor = refl; durable = refl; places = refl; head = omega arith; shut = λ s upto e. e; asked = λ s e. e }) (quiet-freed (left_out master.log) (starts master.log)))
+      (record { own = refl; factor = refl; durable = refl; size = refl; limits = λ h. record { head = h.head; epochs = h.epochs; entries = h.entries }; places = refl; head = omega arith; shut = λ s upto e. e; asked = λ s e. e }) (quiet-freed (left_out master.log) (starts master.log)))
       (soft-frees master.log (left_out master.log)))
 
   commits-does : (master : Master) (seg : Option ℕ) → first_open master.log ≡ seg → Does master (commits_open master seg)
@@ -210,7 +210,7 @@ module _ (Asked : Entry → Type 0) (R : Master → Master × List Message → T
       either (Does master) (is_full master.log) (rolls_for_replay master (begin_roll master.known (dead_segments master) master.log)) (Some (appends_entry (record master { ownership = after_replay master.ownership }) entry false))
       (λ e. rolls-does master (begin_roll master.known (dead_segments master) master.log) (quiet-roll master.known (dead_segments master) master.log))
       (λ e. as-kept master (record master { ownership = after_replay master.ownership }) (appends_entry (record master { ownership = after_replay master.ownership }) entry false) refl
-      (kept.appends (record master { ownership = after_replay master.ownership }) entry false (λ never. not-client never)))
+      (kept.appends (record master { ownership = after_replay master.ownership }) entry false e (λ never. not-client never)))
 
   data-does : (master : Master) → Does master (follows_data master)
   data-does master = either (Does master) (is_writing master.log.phase) (replays master master.ownership.replay) None (λ e. replays-does master master.ownership.replay) (λ e. tt)

@@ -1,2 +1,3 @@
 pub mod AckClaims
 pub mod CommitClaims
+pub mod LimitClaims
