@@ -1,5 +1,5 @@
 -- Each step of a master keeps its parts.
-use Rattle.std.proofs.Common.{◌≡◌, ◌⊎◌, ℕ, zero, suc, ◌<◌, Bool, true, false, cond, not, List, [], ◌∷◌, ◌++◌, length, map, filter, nat_lt, find, Option, Some, None, option_map, refl, sym, ap, ◌∙◌, subst, inl, inr, arith}
+use Rattle.std.proofs.Common.{drop, take, ◌≡◌, ◌⊎◌, ℕ, zero, suc, ◌<◌, Bool, true, false, cond, not, List, [], ◌∷◌, ◌++◌, length, map, filter, nat_lt, find, Option, Some, None, option_map, refl, sym, ap, ◌∙◌, subst, inl, inr, arith}
 use Rattle.std.proofs.lemmas.Bool.{and_parts, ltb-true}
 use Rattle.rc_types.specs.declared.ids.ServerId.{ServerId}
 use Rattle.rc_types.specs.declared.ids.Addr.{Addr}
@@ -25,11 +25,11 @@ use Rattle.rc_model.specs.FollowUps.{follows_start, follows_placed, follows_clos
 use Rattle.rc_model.specs.MasterTick.{reminds_open, reminds_shut, commits_again, has_not_come, fetch_of, fetches_again, awaits_grant, recovered_again, ready_again, reminds, ticks}
 use Rattle.rc_model.specs.MasterStep.{begins_task, task_of, takes_plan, says_deposed, master_takes_first, deposed_takes}
 use Rattle.rc_model.specs.Headline.{In}
-use Rattle.rc_model.proofs.Members.{either, In-append, In-left, In-right}
+use Rattle.rc_model.proofs.Members.{either, In-append, In-left, In-right, In-get}
 use Rattle.rc_model.proofs.Numbering.{places-push}
 use Rattle.rc_facts.proofs.Lists.{In-filter}
 use Rattle.rc_master_facts.proofs.Rolling.{roll-cases}
-use Rattle.rc_master_facts.proofs.Tests.{In-map, find-one}
+use Rattle.rc_master_facts.proofs.Tests.{In-map, In-take, find-one}
 use Rattle.rc_part_facts.specs.Parts.{PartView, part_view, WasGranted, WasPlanned, GoodParts}
 use Rattle.rc_part_facts.specs.Moves.{HasHead, IsComplete, HasEnded, part_said, StateLater, PartsLater, PartsMoved, PartsHear}
 use Rattle.rc_part_facts.specs.Claims.{TakesKeepParts, TicksKeepParts, NewHasGoodParts}
@@ -51,6 +51,11 @@ later-places v more own grants parts = record {
   attempts = λ task at. refl;
   joined = λ state at rows. record { now = state; among = subst (In state) (sym parts) at; part_is = refl; rows = rows; size = refl };
 }
+
+In-drop : {X : Type 0} (n : ℕ) (xs : List X) (x : X) → In x (drop n xs) → In x xs
+In-drop zero xs x at = at
+In-drop (suc n) [] x at = at
+In-drop (suc n) (y ∷ xs) x at = inr (In-drop n xs x at)
 
 module _ (sent : List Message) (m : ServerId) where
   -- A write
@@ -127,17 +132,39 @@ module _ (sent : List Message) (m : ServerId) where
           attempts = λ task at. refl;
           joined = λ state at rows. record { now = state; among = at; part_is = refl; rows = rows; size = refl };
         };
-        says = plain-says (part_view (with_log master (record master.log { durable = durable_now master.log }))) (write_oks master.log.own (new_durable master.log)) (oks (new_durable master.log));
+        says = oks (new_durable master.log) (λ place at. among place at);
       }))
     where
-      oks : (places : List LogPlace) → AllPlain (write_oks master.log.own places)
-      oks [] = plain-none
-      oks (place ∷ places) =
-          either AllPlain place.client
-          (to_outside master.log.own (body.WriteOk place.seg place.offset place.entry.term place.entry.table place.entry.key place.entry.version) ∷ write_oks master.log.own places) (write_oks master.log.own places)
-          (λ _. plain-both (to_outside master.log.own (body.WriteOk place.seg place.offset place.entry.term place.entry.table place.entry.key place.entry.version) ∷ []) (write_oks master.log.own places)
-          (plain-one (to_outside master.log.own (body.WriteOk place.seg place.offset place.entry.term place.entry.table place.entry.key place.entry.version)) tt) (oks places))
-          (λ _. oks places)
+      v_now : PartView
+      v_now = part_view (with_log master (record master.log { durable = durable_now master.log }))
+
+      among : (place : LogPlace) → In place (new_durable master.log) → In place (places_of master.log)
+      among place at =
+          let found = In-take (durable_now master.log) (places_of master.log) place (In-drop master.log.durable (take (durable_now master.log) (places_of master.log)) place at) in
+          In-get (places_of master.log) found.0 place found.2
+
+      oks : (places : List LogPlace) → ((place : LogPlace) → In place places → In place (places_of master.log)) → (message : Message) → In message (write_oks master.log.own places) → part_said v_now message.to message.body
+      oks [] all message at = absurd at
+      oks (place ∷ places) all message at = by place.client refl (oks places (λ other there. all other (inr there)) message) at
+        where
+          ok : Message
+          ok = to_outside master.log.own (body.WriteOk place.seg place.offset place.entry.term place.entry.table place.entry.key place.entry.version)
+
+          by : (b : Bool) → place.client ≡ b → (In message (write_oks master.log.own places) → part_said v_now message.to message.body) →
+              In message (cond b (ok ∷ write_oks master.log.own places) (write_oks master.log.own places)) → part_said v_now message.to message.body
+          by true client rec (inl same) = subst (λ (one : Message). part_said v_now one.to one.body) (sym same) (record {
+            place = place;
+            among = all place (inl refl);
+            client = client;
+            seg_is = refl;
+            offset_is = refl;
+            term_is = refl;
+            table_is = refl;
+            key_is = refl;
+            version_is = refl;
+          })
+          by true client rec (inr rest) = rec rest
+          by false client rec rest = rec rest
 
   -- Replaying
 
@@ -221,8 +248,8 @@ module _ (sent : List Message) (m : ServerId) where
             });
           }
         where
-          one-says : (message : Message) → (message ≡ to_coordinator master.log.own (body.Recovered (attempt_of term master.tasks) term)) ⊎ ⊥ → HasEnded v_now (attempt_of term master.tasks) term → part_said v_now message.body
-          one-says message (inl is_it) p = subst (λ (it : Message). part_said v_now it.body) (sym is_it) p
+          one-says : (message : Message) → (message ≡ to_coordinator master.log.own (body.Recovered (attempt_of term master.tasks) term)) ⊎ ⊥ → HasEnded v_now (attempt_of term master.tasks) term → part_said v_now message.to message.body
+          one-says message (inl is_it) p = subst (λ (it : Message). part_said v_now it.to it.body) (sym is_it) p
           one-says message (inr never) p = absurd never
 
       by : (some : Option PartState) → find (is_to_answer (durable_entries master)) master.ownership.parts ≡ some → option_map (λ (state : PartState). state.part.term) some ≡ Some term →
@@ -271,10 +298,10 @@ module _ (sent : List Message) (m : ServerId) where
   -- A plan
 
   asked : (v : PartView) (own : ServerId) (task : Task) (rows : List PlanRow) → In task v.tasks → ((row : PlanRow) → In row rows → In row task.rows) → (message : Message) →
-      In message (map (fetch_of own task) rows) → part_said v message.body
+      In message (map (fetch_of own task) rows) → part_said v message.to message.body
   asked v own task rows among all message at =
       let found = In-map (fetch_of own task) message rows at in
-      subst (λ (one : Message). part_said v one.body) (sym found.2) (record {
+      subst (λ (one : Message). part_said v one.to one.body) (sym found.2) (record {
         task = task;
         among = among;
         attempt_is = refl;
@@ -282,6 +309,7 @@ module _ (sent : List Message) (m : ServerId) where
         part_is = refl;
         row = found.0;
         row_among = all found.0 found.1;
+        to_is = refl;
         seg_is = refl;
         len_is = refl;
       })
@@ -371,23 +399,23 @@ module _ (sent : List Message) (m : ServerId) where
 
   -- The timer
 
-  says-fetches : (master : Master) (tasks : List Task) → ((task : Task) → In task tasks → In task master.tasks) → (message : Message) → In message (fetches_again master tasks) → part_said (part_view master) message.body
+  says-fetches : (master : Master) (tasks : List Task) → ((task : Task) → In task tasks → In task master.tasks) → (message : Message) → In message (fetches_again master tasks) → part_said (part_view master) message.to message.body
   says-fetches master [] all message at = absurd at
   says-fetches master (task ∷ tasks) all message at =
       by (In-append message (map (fetch_of master.log.own task) (filter (has_not_come master.ownership task) task.rows)) (fetches_again master tasks) at)
       (says-fetches master tasks (λ other there. all other (inr there)) message)
     where
       by : In message (map (fetch_of master.log.own task) (filter (has_not_come master.ownership task) task.rows)) ⊎ In message (fetches_again master tasks) →
-          (In message (fetches_again master tasks) → part_said (part_view master) message.body) → part_said (part_view master) message.body
+          (In message (fetches_again master tasks) → part_said (part_view master) message.to message.body) → part_said (part_view master) message.to message.body
       by (inl here) rec = asked (part_view master) master.log.own task (filter (has_not_come master.ownership task) task.rows) (all task (inl refl))
           (λ row there. (In-filter (has_not_come master.ownership task) row task.rows there).0) message here
       by (inr there) rec = rec there
 
-  says-recovered : (master : Master) (message : Message) → In message (recovered_again master) → part_said (part_view master) message.body
+  says-recovered : (master : Master) (message : Message) → In message (recovered_again master) → part_said (part_view master) message.to message.body
   says-recovered master message at =
       let found = In-map (λ (state : PartState). to_coordinator master.log.own (body.Recovered (attempt_of state.part.term master.tasks) state.part.term)) message (filter (awaits_grant master) master.ownership.parts) at in
       let p = In-filter (awaits_grant master) found.0 master.ownership.parts found.1 in
-      subst (λ (one : Message). part_said (part_view master) one.body) (sym found.2) (record {
+      subst (λ (one : Message). part_said (part_view master) one.to one.body) (sym found.2) (record {
         complete = complete-is (part_view master) found.0 p.0 (and_parts (is_complete (durable_entries master) found.0) (not (owns_term master.ownership found.0.part.term)) p.1).0;
         attempt_is = refl;
       })
@@ -422,15 +450,15 @@ module _ (sent : List Message) (m : ServerId) where
       plain = plain-both (opens ++ shuts) commits (plain-both opens shuts (plain-reminds_open before master.log (numbers_to master.log.head)) (plain-reminds_shut before master.log (numbers_to master.log.head)))
           (plain-commits_again master.log)
 
-      third : (message : Message) → In message (opens ++ shuts ++ commits) ⊎ In message fetches → part_said v message.body
+      third : (message : Message) → In message (opens ++ shuts ++ commits) ⊎ In message fetches → part_said v message.to message.body
       third message (inl here) = plain-says v (opens ++ shuts ++ commits) plain message here
       third message (inr there) = says-fetches master master.tasks (λ task at. at) message there
 
-      second : (message : Message) → In message (opens ++ shuts ++ commits ++ fetches) ⊎ In message recovered → part_said v message.body
+      second : (message : Message) → In message (opens ++ shuts ++ commits ++ fetches) ⊎ In message recovered → part_said v message.to message.body
       second message (inl here) = third message (In-append message (opens ++ shuts ++ commits) fetches here)
       second message (inr there) = says-recovered master message there
 
-      said : (message : Message) → In message (opens ++ shuts ++ commits ++ fetches ++ recovered) ⊎ In message (ready_again master) → part_said v message.body
+      said : (message : Message) → In message (opens ++ shuts ++ commits ++ fetches ++ recovered) ⊎ In message (ready_again master) → part_said v message.to message.body
       said message (inl here) = second message (In-append message (opens ++ shuts ++ commits ++ fetches) recovered here)
       said message (inr there) = plain-says v (ready_again master) (plain-ready_again master) message there
 

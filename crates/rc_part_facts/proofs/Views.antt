@@ -1,6 +1,7 @@
 -- Moves that leave what the facts read, and moves one after another.
 use Rattle.std.proofs.Common.{◌≡◌, ◌⊎◌, ℕ, ◌≤◌, List, [], ◌∷◌, ◌++◌, take, map, refl, sym, ap, ◌∙◌, subst, inl, inr, arith}
 use Rattle.rc_types.specs.declared.ids.ServerId.{ServerId}
+use Rattle.rc_types.specs.declared.ids.Addr.{Addr}
 use Rattle.rc_types.specs.declared.entries.Entry.{Entry}
 use Rattle.rc_types.specs.declared.rows.Part.{Part}
 use Rattle.rc_types.specs.declared.messages.Message.{Message}
@@ -12,7 +13,7 @@ use Rattle.rc_model.specs.Master.{Master, Task, to_ids}
 use Rattle.rc_model.specs.FollowUps.{attempt_of}
 use Rattle.rc_model.specs.ListRules.{then_does}
 use Rattle.rc_model.specs.Headline.{In}
-use Rattle.rc_model.proofs.Members.{In-append}
+use Rattle.rc_model.proofs.Members.{In-left, In-append}
 use Rattle.rc_facts.proofs.Lists.{begins-refl, begins-trans}
 use Rattle.rc_facts.proofs.Copies.{More}
 use Rattle.rc_master_facts.proofs.Tests.{In-map}
@@ -64,8 +65,8 @@ complete-later v w term later p =
       durable = (let a = p.durable in let b = durable-later v w term later in let c = q.size in omega arith);
     }
 
-pub said-later : (sent : List Message) (m : ServerId) (v w : PartView) → GoodParts sent m v → PartsLater v w → (says : Body) → part_said v says → part_said w says
-said-later sent m v w good later (body.Recovered attempt term) said =
+pub said-later : (sent : List Message) (m : ServerId) (v w : PartView) → GoodParts sent m v → PartsLater v w → (to : Addr) (says : Body) → part_said v to says → part_said w to says
+said-later sent m v w good later to (body.Recovered attempt term) said =
     let state : PartState = said.complete.state in
     let part : IsPart sent m v said.complete.state = good.parts_are said.complete.state said.complete.among in
     let same : part.task.part.term ≡ term = ap (λ (one : Part). one.term) part.part_is ∙ said.complete.term_is in
@@ -73,7 +74,18 @@ said-later sent m v w good later (body.Recovered attempt term) said =
       complete = complete-later v w term later said.complete;
       attempt_is = subst (λ t. attempt_of t w.tasks ≡ attempt_of t v.tasks) same (later.attempts part.task part.among) ∙ said.attempt_is;
     }
-said-later sent m v w good later (body.Fetch attempt master seg len part) said = record {
+said-later sent m v w good later to (body.WriteOk seg offset term table key version) said = record {
+  place = said.place;
+  among = subst (λ places. In said.place places) later.places.1 (In-left said.place v.places later.places.0 said.among);
+  client = said.client;
+  seg_is = said.seg_is;
+  offset_is = said.offset_is;
+  term_is = said.term_is;
+  table_is = said.table_is;
+  key_is = said.key_is;
+  version_is = said.version_is;
+}
+said-later sent m v w good later to (body.Fetch attempt master seg len part) said = record {
   task = said.task;
   among = later.tasks said.task said.among;
   attempt_is = said.attempt_is;
@@ -81,28 +93,31 @@ said-later sent m v w good later (body.Fetch attempt master seg len part) said =
   part_is = said.part_is;
   row = said.row;
   row_among = said.row_among;
+  to_is = said.to_is;
   seg_is = said.seg_is;
   len_is = said.len_is;
 }
-said-later sent m v w good later _ said = tt
+said-later sent m v w good later to _ said = tt
 
 -- Messages that say nothing of parts
 
 abbrev pub IsPlain : Body → Type 0
 IsPlain (body.Recovered attempt term) = ⊥
+IsPlain (body.WriteOk seg offset term table key version) = ⊥
 IsPlain (body.Fetch attempt master seg len part) = ⊥
 IsPlain _ = Unit {0}
 
 abbrev pub AllPlain : List Message → Type 0
 AllPlain messages = (message : Message) → In message messages → IsPlain message.body
 
-plain-said : (v : PartView) (says : Body) → IsPlain says → part_said v says
-plain-said v (body.Recovered attempt term) is = absurd is
-plain-said v (body.Fetch attempt master seg len part) is = absurd is
-plain-said v _ is = tt
+plain-said : (v : PartView) (to : Addr) (says : Body) → IsPlain says → part_said v to says
+plain-said v to (body.Recovered attempt term) is = absurd is
+plain-said v to (body.WriteOk seg offset term table key version) is = absurd is
+plain-said v to (body.Fetch attempt master seg len part) is = absurd is
+plain-said v to _ is = tt
 
-pub plain-says : (v : PartView) (messages : List Message) → AllPlain messages → (message : Message) → In message messages → part_said v message.body
-plain-says v messages all message at = plain-said v message.body (all message at)
+pub plain-says : (v : PartView) (messages : List Message) → AllPlain messages → (message : Message) → In message messages → part_said v message.to message.body
+plain-says v messages all message at = plain-said v message.to message.body (all message at)
 
 pub plain-none : AllPlain []
 plain-none message at = absurd at
@@ -147,8 +162,8 @@ moved-then sent m one done after p q = record {
   says = λ message at. by message (In-append message done.1 after.1 at);
 }
   where
-    by : (message : Message) → In message done.1 ⊎ In message after.1 → part_said (part_view after.0) message.body
-    by message (inl there) = said-later sent m (part_view done.0) (part_view after.0) p.good q.later message.body (p.says message there)
+    by : (message : Message) → In message done.1 ⊎ In message after.1 → part_said (part_view after.0) message.to message.body
+    by message (inl there) = said-later sent m (part_view done.0) (part_view after.0) p.good q.later message.to message.body (p.says message there)
     by message (inr there) = q.says message there
 
 pub moved-then_does : (sent : List Message) (m : ServerId) (one : Master) (done : Master × List Message) (rule : Master → Master × List Message) → PartsMoved sent m one done

@@ -10,7 +10,7 @@ use Rattle.rc_types.specs.declared.messages.Message.{Message}
 use Rattle.rc_types.specs.declared.messages.Body.{Body}
 use Rattle.rc_types.specs.declared.messages.Body.TheVariants as body
 use Rattle.rc_model.specs.Messages.{between}
-use Rattle.rc_model.specs.Log.{Log, is_writing}
+use Rattle.rc_model.specs.Log.{Log, LogPlace, is_writing}
 use Rattle.rc_model.specs.Ownership.{PartState}
 use Rattle.rc_model.specs.Master.{Master, Task}
 use Rattle.rc_model.specs.FollowUps.{attempt_of}
@@ -36,8 +36,8 @@ pub record HasEnded (v : PartView) (attempt term : ℕ) : Type 0 where
   pub complete : IsComplete v term
   pub attempt_is : attempt_of term v.tasks ≡ attempt
 
--- a row of a task is asked for
-pub record HasAsked (v : PartView) (attempt : ℕ) (master : ServerId) (seg len : ℕ) (part : Part) : Type 0 where
+-- a row of a task is asked for, of its holder
+pub record HasAsked (v : PartView) (to : Addr) (attempt : ℕ) (master : ServerId) (seg len : ℕ) (part : Part) : Type 0 where
   pub task : Task
   pub among : In task v.tasks
   pub attempt_is : task.attempt ≡ attempt
@@ -45,13 +45,27 @@ pub record HasAsked (v : PartView) (attempt : ℕ) (master : ServerId) (seg len 
   pub part_is : task.part ≡ part
   pub row : PlanRow
   pub row_among : In row task.rows
+  pub to_is : to ≡ Server row.holder
   pub seg_is : row.seg ≡ seg
   pub len_is : row.len ≡ len
 
-abbrev pub part_said : PartView → Body → Type 0
-part_said v (body.Recovered attempt term) = HasEnded v attempt term
-part_said v (body.Fetch attempt master seg len part) = HasAsked v attempt master seg len part
-part_said v _ = Unit {0}
+-- an acknowledgement is of a client's entry in the log
+pub record HasWritten (v : PartView) (seg offset term table key version : ℕ) : Type 0 where
+  pub place : LogPlace
+  pub among : In place v.places
+  pub client : place.client ≡ true
+  pub seg_is : place.seg ≡ seg
+  pub offset_is : place.offset ≡ offset
+  pub term_is : place.entry.term ≡ term
+  pub table_is : place.entry.table ≡ table
+  pub key_is : place.entry.key ≡ key
+  pub version_is : place.entry.version ≡ version
+
+abbrev pub part_said : PartView → Addr → Body → Type 0
+part_said v to (body.WriteOk seg offset term table key version) = HasWritten v seg offset term table key version
+part_said v to (body.Recovered attempt term) = HasEnded v attempt term
+part_said v to (body.Fetch attempt master seg len part) = HasAsked v to attempt master seg len part
+part_said v to _ = Unit {0}
 
 -- What only grows
 
@@ -77,7 +91,7 @@ pub record PartsMoved (sent : List Message) (m : ServerId) (old : Master) (after
   pub head : HasHead after.0.log
   pub good : GoodParts sent m (part_view after.0)
   pub later : PartsLater (part_view old) (part_view after.0)
-  pub says : (message : Message) → In message after.1 → part_said (part_view after.0) message.body
+  pub says : (message : Message) → In message after.1 → part_said (part_view after.0) message.to message.body
 
 -- what a master hears of its parts was sent to it; and an Own of a part's term comes after its end
 abbrev pub PartsHear : List Message → ServerId → PartView → Addr → Body → Type 0
