@@ -1,0 +1,199 @@
+-- Later owners keep what was acknowledged, and what is durable.
+use Rattle.std.proofs.Common.{◌≡◌, ◌⊎◌, ℕ, zero, suc, ◌+◌, ◌<◌, ◌≤◌, Bool, true, false, ◌||◌, List, [], ◌∷◌, ◌++◌, map, nat_eq, slice_get, Some, refl, sym, ap, ◌∙◌, subst, inl, inr, arith}
+use Rattle.std.proofs.lemmas.Bool.{eqb-true}
+use Rattle.rc_types.specs.declared.ids.ServerId.{ServerId}
+use Rattle.rc_types.specs.declared.ids.Addr.{Addr}
+use Rattle.rc_types.specs.declared.ids.Addr.TheVariants.{Server}
+use Rattle.rc_types.specs.declared.entries.Entry.{Entry}
+use Rattle.rc_types.specs.declared.rows.Part.{Part}
+use Rattle.rc_types.specs.declared.kept.Grant.{Grant}
+use Rattle.rc_types.specs.declared.kept.GrantedRange.{GrantedRange}
+use Rattle.rc_types.specs.declared.messages.Message.{Message}
+use Rattle.rc_types.specs.declared.messages.Body.TheVariants as body
+use Rattle.rc_model.specs.Recovered.{Ack}
+use Rattle.rc_model.specs.Owners.{Granted, granted, IsGranted, covers, grants_of, previous, IsEarlier}
+use Rattle.rc_model.specs.Segment.{Segment}
+use Rattle.rc_model.specs.Log.{places_in, places_to, places_of}
+use Rattle.rc_model.specs.Ownership.{PartState, has_part, owns_term}
+use Rattle.rc_model.specs.Master.{Master}
+use Rattle.rc_model.specs.Attempts.{GivenPart}
+use Rattle.rc_model.specs.Coordinator.{Coordinator}
+use Rattle.rc_model.specs.Deciding.{own_body}
+use Rattle.rc_model.specs.Nodes.{HostNode}
+use Rattle.rc_model.specs.Headline.{In, WasAcknowledged}
+use Rattle.rc_model.proofs.Members.{In-left, In-right, In-get, place_of}
+use Rattle.rc_facts.specs.Words.{log_in}
+use Rattle.rc_facts.specs.Facts.{IsSafe, IsWriteOk}
+use Rattle.rc_facts.proofs.Lists.{true_false}
+use Rattle.rc_master_facts.proofs.Tests.{any-one, filter-In}
+use Rattle.rc_owner_facts.specs.Grants.{IsOwn, own_said}
+use Rattle.rc_term_facts.specs.Terms.{IsGivenBy}
+use Rattle.rc_part_facts.specs.Parts.{part_view, logged, WasGranted, IsPart}
+use Rattle.rc_part_facts.proofs.Lists.{logged-append}
+use Rattle.rc_version_safety.specs.Worlds.{AllHold}
+use Rattle.rc_version_safety.specs.Words.{HasVersion}
+use Rattle.rc_version_safety.proofs.Bases.{IsTaskOf, task-of}
+use Rattle.rc_version_safety.proofs.Rising.{IsRemembered, remembered, has-version, GoesTo, goes-on, IsAcked, acked}
+
+-- What stands in a segment is among the entries of the log's places
+
+logged-in : (seg offset : ℕ) (entries : List (Entry × Bool)) → logged (places_in seg offset entries) ≡ map (λ one. one.0) entries
+logged-in seg offset [] = refl
+logged-in seg offset (one ∷ entries) = ap (λ l. one.0 ∷ l) (logged-in seg (offset + 1) entries)
+
+In-places : (segments : ℕ → Segment) (n s : ℕ) (entry : Entry) → 0 < s → s ≤ n → In entry (map (λ one. one.0) (segments s).entries) → In entry (logged (places_to segments n))
+In-places segments zero s entry above upto at = absurd (omega arith)
+In-places segments (suc n) s entry above upto at =
+    subst (In entry) (sym (logged-append (places_to segments n) (places_in (suc n) 0 (segments (suc n)).entries))) (by (last-or s n upto) (λ less. In-places segments n s entry above less at))
+  where
+    last-or : (s n : ℕ) → s ≤ suc n → (s ≡ suc n) ⊎ (s ≤ n)
+    last-or s n less = grind arith
+
+    by : (s ≡ suc n) ⊎ (s ≤ n) → (s ≤ n → In entry (logged (places_to segments n))) → In entry (logged (places_to segments n) ++ logged (places_in (suc n) 0 (segments (suc n)).entries))
+    by (inl same) rec = In-right entry (logged (places_to segments n)) (logged (places_in (suc n) 0 (segments (suc n)).entries))
+        (subst (In entry) (sym (logged-in (suc n) 0 (segments (suc n)).entries)) (subst (λ k. In entry (map (λ (one : Entry × Bool). one.0) (segments k).entries)) same at))
+    by (inr less) rec = In-left entry (logged (places_to segments n)) (logged (places_in (suc n) 0 (segments (suc n)).entries)) (rec less)
+
+module _ (sent : List Message) (masters : ServerId → Master) (hosts : ℕ → HostNode) (c : Coordinator) (all : AllHold sent masters hosts c) where
+  -- Terms are issued to the log's master
+
+  owner-of : (m : ServerId) (one : GrantedRange) → In one (masters m).ownership.grants → (grant : Grant) × (In grant c.grants) × (m ≡ grant.owner) × (grant.term ≡ one.term)
+  owner-of m one at = (own.grant, own.among, owner own.to_is, sym (terms own.body_is))
+    where
+      was : WasGranted sent m one
+      was = (all.parts.each m).granted one at
+
+      own : IsOwn c (Server m) (body.Own one.range.table one.range.lo one.range.hi one.term was.previous was.attempt)
+      own = subst (λ (to : Addr). own_said c to (body.Own one.range.table one.range.lo one.range.hi one.term was.previous was.attempt)) was.to
+          (subst (own_said c was.message.to) was.says (all.kept.known was.message was.among))
+
+      owner : ◌≡◌ {A = Addr} (Server m) (Server own.grant.owner) → m ≡ own.grant.owner
+      owner e = cc
+
+      terms : body.Own one.range.table one.range.lo one.range.hi one.term was.previous was.attempt ≡ own_body own.grant → one.term ≡ own.grant.term
+      terms e = cc
+
+  -- who has an entry under a term that was granted is its owner
+  issued-here : (m : ServerId) (entry : Entry) → In entry (logged (places_of (masters m).log)) → (grant : Grant) → In grant c.grants → grant.term ≡ entry.term → m ≡ grant.owner
+  issued-here m entry at grant among e = by (has_part (masters m).ownership entry.term) refl (owns_term (masters m).ownership entry.term) refl ((all.parts.each m).logged_known entry at)
+    where
+      in_part : (state : PartState) → In state (masters m).ownership.parts → state.part.term ≡ entry.term → m ≡ grant.owner
+      in_part state there same = which (all.terms.origin grant among)
+        where
+          part : IsPart sent m (part_view (masters m)) state
+          part = (all.parts.each m).parts_are state there
+
+          task : IsTaskOf sent c m part.task
+          task = task-of sent masters hosts c all m part.task part.among
+
+          term : part.task.part.term ≡ grant.term
+          term = ap (λ (one : Part). one.term) part.part_is ∙ same ∙ sym e
+
+          which : ((grant.attempt ≡ 0) × (grant.previous ≡ 0)) ⊎ IsGivenBy sent c grant → m ≡ grant.owner
+          which (inl created) =
+              absurd (all.terms.created_apart grant among created.0 part.task.attempt part.task.master task.decision task.decided (record { to = m; part = part.task.part }) task.given term)
+          which (inr given) =
+              ap (λ (one : GivenPart). one.to)
+              (all.terms.part_once part.task.attempt grant.attempt part.task.master given.master task.decision given.decision (record { to = m; part = part.task.part }) (record { to = grant.owner; part = given.part })
+              task.decided task.given given.decided given.among (term ∙ given.term_is)).1
+
+      in_grants : (one : GrantedRange) → In one (masters m).ownership.grants → one.term ≡ entry.term → m ≡ grant.owner
+      in_grants one there same =
+          let p = owner-of m one there in
+          p.2 ∙ ap (λ (g : Grant). g.owner) (all.terms.grant_once p.0 grant p.1 among (p.3 ∙ same ∙ sym e))
+
+      by : (a : Bool) → has_part (masters m).ownership entry.term ≡ a → (b : Bool) → owns_term (masters m).ownership entry.term ≡ b → (a || b) ≡ true → m ≡ grant.owner
+      by true is b has known = (let found = any-one (λ (state : PartState). nat_eq state.part.term entry.term) (masters m).ownership.parts is in in_part found.0 found.1 (eqb-true found.0.part.term entry.term found.2))
+      by false is true has known = (let found = any-one (λ (one : GrantedRange). nat_eq one.term entry.term) (masters m).ownership.grants has in in_grants found.0 found.1 (eqb-true found.0.term entry.term found.2))
+      by false is false has known = true_false (sym known)
+
+  -- no entry is under term 0
+  term-above : (m : ServerId) (entry : Entry) → In entry (logged (places_of (masters m).log)) → 0 < entry.term
+  term-above m entry at = by (has_part (masters m).ownership entry.term) refl (owns_term (masters m).ownership entry.term) refl ((all.parts.each m).logged_known entry at)
+    where
+      in_part : (state : PartState) → In state (masters m).ownership.parts → state.part.term ≡ entry.term → 0 < entry.term
+      in_part state there same =
+          let part : IsPart sent m (part_view (masters m)) state = (all.parts.each m).parts_are state there in
+          let task : IsTaskOf sent c m part.task = task-of sent masters hosts c all m part.task part.among in
+          subst (λ n. 0 < n) (ap (λ (one : Part). one.term) part.part_is ∙ same)
+          (all.terms.part_issued part.task.attempt part.task.master task.decision task.decided (record { to = m; part = part.task.part }) task.given)
+
+      in_grants : (one : GrantedRange) → In one (masters m).ownership.grants → one.term ≡ entry.term → 0 < entry.term
+      in_grants one there same = (let p = owner-of m one there in subst (λ n. 0 < n) (p.3 ∙ same) (all.terms.issued p.0 p.1).0)
+
+      by : (a : Bool) → has_part (masters m).ownership entry.term ≡ a → (b : Bool) → owns_term (masters m).ownership entry.term ≡ b → (a || b) ≡ true → 0 < entry.term
+      by true is b has known = (let found = any-one (λ (state : PartState). nat_eq state.part.term entry.term) (masters m).ownership.parts is in in_part found.0 found.1 (eqb-true found.0.part.term entry.term found.2))
+      by false is true has known = (let found = any-one (λ (one : GrantedRange). nat_eq one.term entry.term) (masters m).ownership.grants has in in_grants found.0 found.1 (eqb-true found.0.term entry.term found.2))
+      by false is false has known = true_false (sym known)
+
+  -- what stands at a safe place is among the entries of the log
+  safe-logged : (m : ServerId) (s o : ℕ) (entry : Entry) → IsSafe sent m (masters m).log s o → slice_get (log_in (masters m).log s) o ≡ Some entry → In entry (logged (places_of (masters m).log))
+  safe-logged m s o entry safe at =
+      In-places (masters m).log.segments (masters m).log.head s entry safe.opened.above safe.opened.below (In-get (log_in (masters m).log s) o entry at)
+
+  -- Who is granted the point later
+
+  -- a grant that was sent is the one that is remembered under its term
+  of-grant : (grant : Granted) (x : ServerId) → IsGranted sent grant → grant.owner ≡ Server x → (one : Grant) → In one c.grants → one.term ≡ grant.term → one.owner ≡ x
+  of-grant grant x was to one among e = ap (λ (g : Grant). g.owner) same ∙ owner
+    where
+      r : IsRemembered c grant
+      r = remembered c sent all.kept.known grant (In-get (granted sent) was.0 grant was.1)
+
+      same : one ≡ r.grant
+      same = all.terms.grant_once one r.grant among r.among (e ∙ ap (λ (g : Granted). g.term) r.is)
+
+      owner : r.grant.owner ≡ x
+      owner = server (sym (ap (λ (g : Granted). g.owner) r.is) ∙ to)
+        where
+          server : ◌≡◌ {A = Addr} (Server r.grant.owner) (Server x) → r.grant.owner ≡ x
+          server e = cc
+
+  -- what a master has at a safe place under a term, each later owner of its point has, or a greater version
+  pub later-keeps : (m : ServerId) (s o : ℕ) (entry : Entry) → IsSafe sent m (masters m).log s o → slice_get (log_in (masters m).log s) o ≡ Some entry →
+      (grant : Granted) (x : ServerId) → IsGranted sent grant → grant.owner ≡ Server x → IsEarlier sent entry.table entry.key entry.term grant.term →
+      HasVersion sent x (masters x).log grant.term entry.table entry.key entry.version
+  later-keeps m s o entry safe at grant x was to before =
+      subst (λ y. HasVersion sent y (masters y).log grant.term entry.table entry.key entry.version) (of-grant grant x was to goes.grant goes.among goes.term_is)
+      (subst (λ n. HasVersion sent goes.grant.owner (masters goes.grant.owner).log n entry.table entry.key entry.version) goes.term_is
+      (has-version sent masters hosts c all goes.grant entry.table entry.key entry.version goes.starts))
+    where
+      has : (old : Grant) → In old c.grants → old.term ≡ entry.term → HasVersion sent old.owner (masters old.owner).log entry.term entry.table entry.key entry.version
+      has old among e = subst (λ y. HasVersion sent y (masters y).log entry.term entry.table entry.key entry.version) (issued-here m entry (safe-logged m s o entry safe at) old among e) (record {
+        entry = entry;
+        at = record { seg = s; offset = o; safe = safe; holds = at };
+        term_is = refl;
+        table_is = refl;
+        key_is = refl;
+        above = omega arith;
+      })
+
+      goes : GoesTo sent masters hosts c all grant.term entry.table entry.key entry.version
+      goes = goes-on sent masters hosts c all entry.table entry.key entry.version entry.term grant.term before (term-above m entry (safe-logged m s o entry safe at)) has
+
+  -- so it is of what was acknowledged
+  pub later-keeps-acked : (ack : Ack) → WasAcknowledged sent ack → (grant : Granted) (x : ServerId) → IsGranted sent grant → grant.owner ≡ Server x →
+      IsEarlier sent ack.table ack.key ack.term grant.term → HasVersion sent x (masters x).log grant.term ack.table ack.key ack.version
+  later-keeps-acked ack was grant x granted to before =
+      subst (λ v. HasVersion sent x (masters x).log grant.term ack.table ack.key v) w.version_is
+      (subst (λ k. HasVersion sent x (masters x).log grant.term ack.table k w.entry.version) w.key_is
+      (subst (λ t. HasVersion sent x (masters x).log grant.term t w.entry.key w.entry.version) w.table_is
+      (later-keeps p.master ack.seg ack.offset w.entry w.safe w.holds grant x granted to way)))
+    where
+      p : IsAcked sent masters hosts c all ack
+      p = acked sent masters hosts c all ack was
+
+      w : IsWriteOk sent p.master (masters p.master).log ack.seg ack.offset ack.term ack.table ack.key ack.version
+      w = p.write
+
+      way : IsEarlier sent w.entry.table w.entry.key w.entry.term grant.term
+      way = subst (λ n. IsEarlier sent w.entry.table w.entry.key n grant.term) (sym w.term_is)
+          (subst (λ k. IsEarlier sent w.entry.table k ack.term grant.term) (sym w.key_is)
+          (subst (λ t. IsEarlier sent t ack.key ack.term grant.term) (sym w.table_is) before))
+
+  -- a grant's previous term is the earlier one at each of its points
+  pub previous-earlier : (grant : Granted) (table key : ℕ) → IsGranted sent grant → covers table key grant ≡ true → IsEarlier sent table key grant.previous grant.term
+  previous-earlier grant table key was holds =
+      let at : In grant (grants_of sent table key) = filter-In (covers table key) grant (granted sent) (In-get (granted sent) was.0 grant was.1) holds in
+      let found = place_of (grants_of sent table key) grant at in
+      previous found.0 grant found.1

@@ -1,0 +1,61 @@
+-- What is claimed of data, grants, handovers and versions: where the facts hold, and in every world.
+use Rattle.std.specs.Prelude.{◌≡◌, ℕ, List, Some, slice_get}
+use Rattle.rc_types.specs.declared.ids.ServerId.{ServerId}
+use Rattle.rc_types.specs.declared.ids.Addr.TheVariants.{Server}
+use Rattle.rc_types.specs.declared.entries.Entry.{Entry}
+use Rattle.rc_types.specs.declared.messages.Message.{Message}
+use Rattle.rc_types.specs.declared.messages.Body.TheVariants.{Data}
+use Rattle.rc_model.specs.Recovered.{Ack}
+use Rattle.rc_model.specs.Owners.{Granted, IsGranted, IsEarlier}
+use Rattle.rc_model.specs.Master.{Master}
+use Rattle.rc_model.specs.Coordinator.{Coordinator}
+use Rattle.rc_model.specs.Nodes.{HostNode}
+use Rattle.rc_model.specs.Headline.{In, WasAcknowledged, VersionsRise}
+use Rattle.rc_facts.specs.Words.{log_in}
+use Rattle.rc_facts.specs.Facts.{IsSafe}
+use Rattle.rc_version_safety.specs.Worlds.{AllHold}
+use Rattle.rc_version_safety.specs.Words.{HasVersion, IsPlanCut, StartsFromBase}
+
+-- Of the messages sent and the masters' last views
+
+-- each Data is the plan cut to the part
+abbrev pub DataIsCut : List Message → Type 0
+DataIsCut sent = (message : Message) → In message sent → (attempt seg term : ℕ) (entries : List Entry) →
+    message.body ≡ Data attempt seg term entries → IsPlanCut sent message attempt seg term entries
+
+-- each grant of a recovery starts from its base
+abbrev pub GrantsStart : List Message → (ServerId → Master) → Type 0
+GrantsStart sent masters = (grant : Granted) (x : ServerId) → IsGranted sent grant → grant.owner ≡ Server x → (grant.attempt ≡ 0 → ⊥) →
+    StartsFromBase sent x (masters x).log grant
+
+-- what stands at a safe place, each later owner of its point has at one, or a greater version of its key
+abbrev pub SafeIsKept : List Message → (ServerId → Master) → Type 0
+SafeIsKept sent masters = (m : ServerId) (s o : ℕ) (entry : Entry) → IsSafe sent m (masters m).log s o →
+    slice_get (log_in (masters m).log s) o ≡ Some entry → (grant : Granted) (x : ServerId) → IsGranted sent grant → grant.owner ≡ Server x →
+    IsEarlier sent entry.table entry.key entry.term grant.term → HasVersion sent x (masters x).log grant.term entry.table entry.key entry.version
+
+-- and what was acknowledged
+abbrev pub AcknowledgedIsKept : List Message → (ServerId → Master) → Type 0
+AcknowledgedIsKept sent masters = (ack : Ack) → WasAcknowledged sent ack → (grant : Granted) (x : ServerId) → IsGranted sent grant →
+    grant.owner ≡ Server x → IsEarlier sent ack.table ack.key ack.term grant.term →
+    HasVersion sent x (masters x).log grant.term ack.table ack.key ack.version
+
+-- Where all facts hold
+
+abbrev pub WhereFactsHold : (List Message → (ServerId → Master) → Type 0) → Type 0
+WhereFactsHold P = (sent : List Message) (masters : ServerId → Master) (hosts : ℕ → HostNode) (c : Coordinator) → AllHold sent masters hosts c → P sent masters
+
+abbrev pub FactsCutData : Type 0
+FactsCutData = WhereFactsHold (λ sent masters. DataIsCut sent)
+
+abbrev pub FactsStartGrants : Type 0
+FactsStartGrants = WhereFactsHold GrantsStart
+
+abbrev pub FactsKeepWhatIsSafe : Type 0
+FactsKeepWhatIsSafe = WhereFactsHold SafeIsKept
+
+abbrev pub FactsKeepWhatWasAcknowledged : Type 0
+FactsKeepWhatWasAcknowledged = WhereFactsHold AcknowledgedIsKept
+
+abbrev pub FactsLetVersionsRise : Type 0
+FactsLetVersionsRise = WhereFactsHold (λ sent masters. VersionsRise sent)

@@ -1,0 +1,63 @@
+-- Words in which the claims on data, grants and handovers are said.
+use Rattle.std.specs.Prelude.{◌≡◌, ℕ, ◌≤◌, List, filter, take, Some, slice_get}
+use Rattle.rc_types.specs.declared.ids.ServerId.{ServerId}
+use Rattle.rc_types.specs.declared.ids.Addr.TheVariants.{Server}
+use Rattle.rc_types.specs.declared.entries.Entry.{Entry}
+use Rattle.rc_types.specs.declared.rows.Part.{Part}
+use Rattle.rc_types.specs.declared.rows.PlanRow.{PlanRow}
+use Rattle.rc_types.specs.declared.messages.Message.{Message}
+use Rattle.rc_types.specs.declared.messages.Body.TheVariants.{Plan as PlanBody}
+use Rattle.rc_model.specs.Recovered.{Accepted}
+use Rattle.rc_model.specs.Owners.{Granted}
+use Rattle.rc_model.specs.Base.{made_below, base}
+use Rattle.rc_model.specs.Backup.{is_in_part}
+use Rattle.rc_model.specs.Log.{Log, entries_of}
+use Rattle.rc_model.specs.Headline.{In, WasAccepted}
+use Rattle.rc_facts.specs.Words.{Begins, log_in}
+use Rattle.rc_facts.specs.Facts.{IsSafe}
+use Rattle.rc_part_facts.specs.Parts.{under}
+
+-- an entry stands at a safe place of a log
+pub record IsSafelyLogged (sent : List Message) (m : ServerId) (log : Log) (entry : Entry) : Type 0 where
+  pub seg : ℕ
+  pub offset : ℕ
+  pub safe : IsSafe sent m log seg offset
+  pub holds : slice_get (log_in log seg) offset ≡ Some entry
+
+-- a safe place of a log has a version of the key under the term, not below this one
+pub record HasVersion (sent : List Message) (m : ServerId) (log : Log) (term table key version : ℕ) : Type 0 where
+  pub entry : Entry
+  pub at : IsSafelyLogged sent m log entry
+  pub term_is : entry.term ≡ term
+  pub table_is : entry.table ≡ table
+  pub key_is : entry.key ≡ key
+  pub above : version ≤ entry.version
+
+-- A Data is of a plan to its addressee, with a part of its term and a row of its segment whose holder is the sender. Its
+-- entries are those made below that row's length that have the part's previous term and lie in its range, in order.
+pub record IsPlanCut (sent : List Message) (message : Message) (attempt seg term : ℕ) (entries : List Entry) : Type 0 where
+  pub plan : Message
+  pub among : In plan sent
+  pub to : plan.to ≡ message.to
+  pub master : ServerId
+  pub head : ℕ
+  pub rows : List PlanRow
+  pub parts : List Part
+  pub says : plan.body ≡ PlanBody attempt master head rows parts
+  pub part : Part
+  pub part_among : In part parts
+  pub term_is : part.term ≡ term
+  pub row : PlanRow
+  pub row_among : In row rows
+  pub seg_is : row.seg ≡ seg
+  pub from : message.from ≡ Server row.holder
+  pub entries_are : entries ≡ filter (is_in_part part) (made_below sent master seg row.len)
+
+-- The base of the grant, by the accepted recovery of its attempt, is the first that its owner's log has under its term. All
+-- of it is durable, and each of its entries stands at a safe place.
+pub record StartsFromBase (sent : List Message) (x : ServerId) (log : Log) (grant : Granted) : Type 0 where
+  pub plan : Accepted
+  pub accepted : WasAccepted sent plan
+  pub attempt_is : plan.attempt ≡ grant.attempt
+  pub begins : Begins (base sent plan grant) (under grant.term (take log.durable (entries_of log)))
+  pub safe : (entry : Entry) → In entry (base sent plan grant) → IsSafelyLogged sent x log entry
