@@ -11,3 +11,4 @@ pub mod SoundBefore
 pub mod StillBefore
 pub mod Stood
 pub mod ConcernedLemmas
+pub mod ListRuleLemmas

@@ -138,6 +138,7 @@ impl LogHead {
         ensures unchanged { OnErr result (log_of self.new ≡ log_of self.old) }
         ensures before { before_of self.new ≡ before_of self.old }
     {
+        // Read for the proof alone: what is left out are segments of the log.
         let _ = &self.segments;
         self.keep_all(freed)?;
         self.free_and_write(freed);
