@@ -1,0 +1,4 @@
+pub mod Keeping
+pub mod Steps
+pub mod Replays
+pub mod Issued
