@@ -191,9 +191,9 @@ module _ (sent : List Message) (masters : ServerId → Master) (hosts : ℕ → 
           (subst (λ k. IsEarlier sent w.entry.table k ack.term grant.term) (sym w.key_is)
           (subst (λ t. IsEarlier sent t ack.key ack.term grant.term) (sym w.table_is) before))
 
-  -- a grant's previous term is the earlier one at each of its points
-  pub previous-earlier : (grant : Granted) (table key : ℕ) → IsGranted sent grant → covers table key grant ≡ true → IsEarlier sent table key grant.previous grant.term
-  previous-earlier grant table key was holds =
-      let at : In grant (grants_of sent table key) = filter-In (covers table key) grant (granted sent) (In-get (granted sent) was.0 grant was.1) holds in
-      let found = place_of (grants_of sent table key) grant at in
-      previous found.0 grant found.1
+-- a grant's previous term is the earlier one at each of its points
+pub previous-earlier : (sent : List Message) (grant : Granted) (table key : ℕ) → IsGranted sent grant → covers table key grant ≡ true → IsEarlier sent table key grant.previous grant.term
+previous-earlier sent grant table key was holds =
+    let at : In grant (grants_of sent table key) = filter-In (covers table key) grant (granted sent) (In-get (granted sent) was.0 grant was.1) holds in
+    let found = place_of (grants_of sent table key) grant at in
+    previous found.0 grant found.1

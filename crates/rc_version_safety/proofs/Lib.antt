@@ -5,3 +5,4 @@ pub mod Rising
 pub mod Cuts
 pub mod Kept
 pub mod Laws
+pub mod Replays

@@ -1,15 +1,20 @@
 -- What is claimed of data, grants, handovers and versions: where the facts hold, and in every world.
-use Rattle.std.specs.Prelude.{◌≡◌, ℕ, List, Some, slice_get}
+use Rattle.std.specs.Prelude.{◌≡◌, ℕ, true, List, Some, None, slice_get}
 use Rattle.rc_types.specs.declared.ids.ServerId.{ServerId}
 use Rattle.rc_types.specs.declared.ids.Addr.TheVariants.{Server}
 use Rattle.rc_types.specs.declared.entries.Entry.{Entry}
+use Rattle.rc_types.specs.declared.events.Setup.{Setup}
+use Rattle.rc_types.specs.declared.events.Event.{Event}
 use Rattle.rc_types.specs.declared.messages.Message.{Message}
 use Rattle.rc_types.specs.declared.messages.Body.TheVariants.{Data}
 use Rattle.rc_model.specs.Recovered.{Ack}
-use Rattle.rc_model.specs.Owners.{Granted, IsGranted, IsEarlier}
+use Rattle.rc_model.specs.Owners.{Granted, IsGranted, covers, IsEarlier}
 use Rattle.rc_model.specs.Master.{Master}
 use Rattle.rc_model.specs.Coordinator.{Coordinator}
 use Rattle.rc_model.specs.Nodes.{HostNode}
+use Rattle.rc_model.specs.World.{replay}
+use Rattle.rc_model.specs.Durable.{IsDurable}
+use Rattle.rc_model.specs.Breach.{breach}
 use Rattle.rc_model.specs.Headline.{In, WasAcknowledged, VersionsRise}
 use Rattle.rc_facts.specs.Words.{log_in}
 use Rattle.rc_facts.specs.Facts.{IsSafe}
@@ -59,3 +64,38 @@ FactsKeepWhatWasAcknowledged = WhereFactsHold AcknowledgedIsKept
 
 abbrev pub FactsLetVersionsRise : Type 0
 FactsLetVersionsRise = WhereFactsHold (λ sent masters. VersionsRise sent)
+
+-- In every world
+
+abbrev pub FactsAlwaysHold : Type 0
+FactsAlwaysHold = (setup : Setup) (events : List Event) →
+    AllHold (replay setup events).sent (replay setup events).masters (replay setup events).hosts (replay setup events).coordinator
+
+abbrev pub DataIsThePlanCutToThePart : Type 0
+DataIsThePlanCutToThePart = (setup : Setup) (events : List Event) → DataIsCut (replay setup events).sent
+
+abbrev pub GrantsStartFromTheirBase : Type 0
+GrantsStartFromTheirBase = (setup : Setup) (events : List Event) → GrantsStart (replay setup events).sent (replay setup events).masters
+
+abbrev pub HandoversKeepWhatWasAcknowledged : Type 0
+HandoversKeepWhatWasAcknowledged = (setup : Setup) (events : List Event) → AcknowledgedIsKept (replay setup events).sent (replay setup events).masters
+
+-- and what is durable
+abbrev pub HandoversKeepWhatIsDurable : Type 0
+HandoversKeepWhatIsDurable = (setup : Setup) (events : List Event) (m : ServerId) (s o : ℕ) → IsDurable setup events m s o →
+    (entry : Entry) × (slice_get (log_in ((replay setup events).masters m).log s) o ≡ Some entry)
+    × ((grant : Granted) (x : ServerId) → IsGranted (replay setup events).sent grant → grant.owner ≡ Server x →
+    IsEarlier (replay setup events).sent entry.table entry.key entry.term grant.term →
+    HasVersion (replay setup events).sent x ((replay setup events).masters x).log grant.term entry.table entry.key entry.version)
+
+-- a grant's previous term is the earlier one at each point of its range, so all this holds over each single grant
+abbrev pub PreviousIsEarlier : Type 0
+PreviousIsEarlier = (sent : List Message) (grant : Granted) (table key : ℕ) → IsGranted sent grant → covers table key grant ≡ true →
+    IsEarlier sent table key grant.previous grant.term
+
+abbrev pub VersionsRiseOverOwners : Type 0
+VersionsRiseOverOwners = (setup : Setup) (events : List Event) → VersionsRise (replay setup events).sent
+
+-- so no list of events leads to a breach
+abbrev pub ThereIsNoBreach : Type 0
+ThereIsNoBreach = (setup : Setup) (events : List Event) → breach (replay setup events).sent ≡ None

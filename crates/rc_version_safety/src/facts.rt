@@ -1,6 +1,6 @@
-//! What follows where all facts hold.
+//! The facts, and what follows from them in any world.
 
-ghost use Rattle.rc_version_safety.specs.Claims.{FactsCutData, FactsStartGrants, FactsKeepWhatIsSafe, FactsKeepWhatWasAcknowledged, FactsLetVersionsRise};
+ghost use Rattle.rc_version_safety.specs.Claims.{FactsAlwaysHold, FactsCutData, FactsStartGrants, FactsKeepWhatIsSafe, FactsKeepWhatWasAcknowledged, FactsLetVersionsRise};
 
 /// Where all facts hold: each Data is its plan's row, cut to the part; each grant of a recovery starts
 /// from its base, which is durable in the owner's log before anything else of its term; what stands at
@@ -12,4 +12,13 @@ pub fn facts_suffice()
     ensures safe { FactsKeepWhatIsSafe }
     ensures acknowledged { FactsKeepWhatWasAcknowledged }
     ensures rises { FactsLetVersionsRise }
+{}
+
+/// The facts hold after every list of events, of every setup: of each message and each node, of
+/// grants and terms, of data, and of each master's parts. A master owns what was granted to it; its
+/// parts are of plans that were sent to it; until a part's term is owned, what its log and its replay
+/// have under the term is the part's base; a client's entry comes after its term's grant; and the end
+/// of a part is told only where all of its base is durable.
+pub fn facts_hold()
+    ensures { FactsAlwaysHold }
 {}

@@ -1,0 +1,69 @@
+-- All facts hold of every world that a list of events leads to, and so does the headline.
+use Rattle.std.proofs.Common.{◌≡◌, take, Some, slice_get}
+use Rattle.rc_types.specs.declared.entries.Entry.{Entry}
+use Rattle.rc_model.specs.World.{World, replay}
+use Rattle.rc_model.proofs.Headlines.{breach_is_headline}
+use Rattle.rc_facts.specs.Words.{log_in}
+use Rattle.rc_facts.specs.Facts.{IsSafe}
+use Rattle.rc_facts.proofs.Lists.{get-below}
+use Rattle.rc_log_safety.proofs.Replays.{good-world, nothing-is-missing, nothing-is-invented}
+use Rattle.rc_log_words.proofs.Since.{since-take}
+use Rattle.rc_log_words.proofs.SafePlaces.{stored-is-safe}
+use Rattle.rc_owner_facts.proofs.Replays.{OfWorld, grants-world}
+use Rattle.rc_term_facts.proofs.Replays.{terms-world}
+use Rattle.rc_data_facts.proofs.Replays.{data-world}
+use Rattle.rc_version_safety.specs.Claims.{FactsAlwaysHold, DataIsThePlanCutToThePart, GrantsStartFromTheirBase, HandoversKeepWhatWasAcknowledged, HandoversKeepWhatIsDurable, PreviousIsEarlier, VersionsRiseOverOwners, ThereIsNoBreach}
+use Rattle.rc_version_safety.proofs.PartWorlds.{parts-world-by}
+use Rattle.rc_version_safety.proofs.Kept.{previous-earlier}
+use Rattle.rc_version_safety.proofs.Laws.{facts-cut-data, facts-start-grants, facts-keep-what-is-safe, facts-keep-what-was-acknowledged, facts-let-versions-rise}
+
+pub all-world : FactsAlwaysHold
+all-world setup events = let grants : OfWorld (replay setup events) = grants-world setup events in
+    record {
+      good = good-world setup events;
+      grants = grants.good;
+      kept = grants.kept;
+      terms = terms-world setup events;
+      cuts = data-world setup events;
+      parts = parts-world-by terms-world setup events;
+    }
+
+pub data-is-the-plan-cut : DataIsThePlanCutToThePart
+data-is-the-plan-cut setup events = let w : World = replay setup events in
+    facts-cut-data (replay setup events).sent (replay setup events).masters (replay setup events).hosts (replay setup events).coordinator (all-world setup events)
+
+pub grants-start-from-their-base : GrantsStartFromTheirBase
+grants-start-from-their-base setup events =
+    facts-start-grants (replay setup events).sent (replay setup events).masters (replay setup events).hosts (replay setup events).coordinator (all-world setup events)
+
+pub handovers-keep-acknowledged : HandoversKeepWhatWasAcknowledged
+handovers-keep-acknowledged setup events =
+    facts-keep-what-was-acknowledged (replay setup events).sent (replay setup events).masters (replay setup events).hosts (replay setup events).coordinator (all-world setup events)
+
+pub handovers-keep-durable : HandoversKeepWhatIsDurable
+handovers-keep-durable setup events m s o durable = (
+  at.0,
+  at.1,
+  λ grant x was to before.
+      facts-keep-what-is-safe (replay setup events).sent (replay setup events).masters (replay setup events).hosts (replay setup events).coordinator (all-world setup events) m s o at.0 safe at.1 grant x was to before,
+)
+  where
+    safe : IsSafe (replay setup events).sent m ((replay setup events).masters m).log s o
+    safe = (since-take setup events durable.moment m).safe s o (stored-is-safe setup (take durable.moment events) m s o durable.stored)
+
+    at : (entry : Entry) × (slice_get (log_in ((replay setup events).masters m).log s) o ≡ Some entry)
+    at = get-below (log_in ((replay setup events).masters m).log s) o safe.logged
+
+pub versions-rise-over-owners : VersionsRiseOverOwners
+versions-rise-over-owners setup events =
+    facts-let-versions-rise (replay setup events).sent (replay setup events).masters (replay setup events).hosts (replay setup events).coordinator (all-world setup events)
+
+pub there-is-no-breach : ThereIsNoBreach
+there-is-no-breach setup events = (breach_is_headline (replay setup events).sent).1 (record {
+  there = nothing-is-missing setup events;
+  one_entry = nothing-is-invented setup events;
+  rises = versions-rise-over-owners setup events;
+})
+
+pub previous-is-earlier : PreviousIsEarlier
+previous-is-earlier = previous-earlier

@@ -1,0 +1,11 @@
+//! The headline's third clause, and the whole of it.
+
+ghost use Rattle.rc_version_safety.specs.Claims.{VersionsRiseOverOwners, ThereIsNoBreach};
+
+/// After any list of events of the whole protocol, a write that was acknowledged under a later
+/// ownership of a key has a greater version than every write that was acknowledged, then or since,
+/// under an earlier one. With the first two clauses: no list of events leads to a breach.
+pub fn versions_rise_over_owners()
+    ensures rises { VersionsRiseOverOwners }
+    ensures no_breach { ThereIsNoBreach }
+{}
