@@ -28,7 +28,7 @@ use Rattle.rc_model.proofs.Members.{either, In-get}
 use Rattle.rc_facts.specs.Facts.{GoodMaster, GoodHost, Good, body_fine, Fine}
 use Rattle.rc_facts.specs.Moves.{OwnFine, MasterMoved, MayHear, CoordinatorMayHear, BackupMoved}
 use Rattle.rc_facts.proofs.Lists.{true_false, same_id-true, put_same}
-use Rattle.rc_master_facts.proofs.Steps.{master_takes_keeps, master_ticks_keeps, new_master_is_good}
+use Rattle.rc_master_steps.proofs.Steps.{master_takes_keeps, master_ticks_keeps, new_master_is_good}
 use Rattle.rc_coordinator_facts.proofs.Attempting.{new-good}
 use Rattle.rc_coordinator_facts.proofs.Steps.{moved-takes, moved-suspects, moved-decides, moved-creates, moved-splits, moved-ticks}
 use Rattle.rc_backup_facts.proofs.Backups.{Quiet, quiet-none, own-fine, moved-backup, moved-restart}

@@ -13,7 +13,7 @@ use Rattle.rc_facts.specs.Moves.{OwnFine}
 use Rattle.rc_facts.proofs.Lists.{get-below}
 use Rattle.rc_facts.proofs.Copies.{grows-log, final-log}
 use Rattle.rc_master_facts.proofs.Safe.{covered-safe}
-use Rattle.rc_master_facts.proofs.Steps.{view-of}
+use Rattle.rc_master_steps.proofs.Steps.{view-of}
 use Rattle.rc_backup_facts.proofs.Backups.{own-fine}
 use Rattle.rc_backup_facts.proofs.Replicas.{begins-whole}
 use Rattle.rc_log_safety.proofs.Clauses.{made-is, accepted-is, held-made}

@@ -19,7 +19,7 @@ use Rattle.rc_model.proofs.Members.{either}
 use Rattle.rc_facts.proofs.Lists.{get-below}
 use Rattle.rc_master_facts.proofs.Told.{has-opened}
 use Rattle.rc_master_facts.proofs.Safe.{durable_len-tells, covered-safe}
-use Rattle.rc_master_facts.proofs.Steps.{view-of}
+use Rattle.rc_master_steps.proofs.Steps.{view-of}
 
 -- each of these segments is shut
 all_shut-each : (segments : ℕ → Segment) (n t : ℕ) → all_shut_to segments n ≡ true → 0 < t → t ≤ n → (segments t).shut ≡ true

@@ -9,9 +9,4 @@ pub mod Views
 pub mod Openings
 pub mod Rolling
 pub mod Hosts
-pub mod Writing
 pub mod Told
-pub mod ListRules
-pub mod FollowUps
-pub mod Ticks
-pub mod Steps

@@ -1,6 +1,3 @@
-//! Each step of a master keeps what holds of its view, and says only what a master may say. Proved
-//! of the definitions alone: nothing here runs, and the contracts of the empty functions are the
-//! theorems.
+//! What the rules of a master do to what holds of its log, segment by segment: lemmas alone, on which
+//! `rc_master_steps` proves its laws.
 #![tactic(auto)]
-
-pub mod laws;

@@ -25,7 +25,7 @@ use Rattle.rc_model.proofs.Members.{either}
 use Rattle.rc_facts.specs.Facts.{GoodMaster, GoodHost}
 use Rattle.rc_facts.specs.Moves.{MasterMoved}
 use Rattle.rc_facts.proofs.Lists.{true_false, same_id-true, same_id-refl}
-use Rattle.rc_master_facts.proofs.Steps.{master_takes_keeps, master_ticks_keeps}
+use Rattle.rc_master_steps.proofs.Steps.{master_takes_keeps, master_ticks_keeps}
 use Rattle.rc_coordinator_facts.proofs.Steps as coordinator
 use Rattle.rc_log_safety.proofs.Replays.{GoodWorld, IsGiven, is-good, is-fine, hears, is_server-true, work_of-given, may-hear, to-coordinator-is, good-step, good-opening}
 use Rattle.rc_master_words.proofs.Quiet.{is_loud, AllSoft, soft-none, soft-one}

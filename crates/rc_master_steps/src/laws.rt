@@ -1,6 +1,6 @@
 //! What is claimed of each step of a master.
 
-ghost use Rattle.rc_master_facts.specs.Claims.{MasterTakesKeeps, MasterTicksKeeps, NewMasterIsGood};
+ghost use Rattle.rc_master_steps.specs.Claims.{MasterTakesKeeps, MasterTicksKeeps, NewMasterIsGood};
 
 /// Whatever was sent before: where a master's view is good, and its own Places and what it was told
 /// fit its log, a message that it may hear and its timer each lead to a good view again, whose log

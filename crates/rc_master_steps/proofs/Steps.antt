@@ -23,15 +23,15 @@ use Rattle.rc_model.proofs.Members.{either}
 use Rattle.rc_facts.specs.Words.{OnDifferentHosts}
 use Rattle.rc_facts.specs.Facts.{GoodMaster}
 use Rattle.rc_facts.specs.Moves.{OwnFine, MasterMoved, MayHear}
-use Rattle.rc_master_facts.specs.Claims.{MasterTakesKeeps, MasterTicksKeeps, NewMasterIsGood}
+use Rattle.rc_master_steps.specs.Claims.{MasterTakesKeeps, MasterTicksKeeps, NewMasterIsGood}
 use Rattle.rc_facts.proofs.Lists.{true_false}
 use Rattle.rc_master_facts.proofs.LogMoves.{GoodLog}
 use Rattle.rc_master_facts.proofs.Views.{GoodView, Moved, moved-then_does, moved-quiet, quiet-none, still}
-use Rattle.rc_master_facts.proofs.Writing.{moved-writes, moved-reads, moved-refused}
+use Rattle.rc_master_steps.proofs.Writing.{moved-writes, moved-reads, moved-refused}
 use Rattle.rc_master_facts.proofs.Told.{moved-stored, moved-commit}
-use Rattle.rc_master_facts.proofs.ListRules.{moved-takes_list}
-use Rattle.rc_master_facts.proofs.FollowUps.{moved-goes_on}
-use Rattle.rc_master_facts.proofs.Ticks.{fetches-quiet, moved-ticks}
+use Rattle.rc_master_steps.proofs.ListRules.{moved-takes_list}
+use Rattle.rc_master_steps.proofs.FollowUps.{moved-goes_on}
+use Rattle.rc_master_steps.proofs.Ticks.{fetches-quiet, moved-ticks}
 
 -- A good master's view, and back
 

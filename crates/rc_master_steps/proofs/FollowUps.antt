@@ -35,7 +35,7 @@ use Rattle.rc_master_facts.proofs.Safe.{durable-safe}
 use Rattle.rc_master_facts.proofs.Segments.{log-later, later-refl, counted-still, within-still, put-moved, marked-moved}
 use Rattle.rc_master_facts.proofs.Views.{GoodView, Moved, moved-then, moved-quiet, view-after, still, AllQuiet, IsQuietOf, quiet-none, quiet-one, quiet-both, quiet-says, quiet-no_place, quiet-moved, each-to_ids}
 use Rattle.rc_master_facts.proofs.Rolling.{roll-cases, writing-is}
-use Rattle.rc_master_facts.proofs.Writing.{moved-appends, moved-opens_roll}
+use Rattle.rc_master_steps.proofs.Writing.{moved-appends, moved-opens_roll}
 
 -- what a rule does, where it applies, is a move
 abbrev pub Does : List Message → ServerId → Master → Option (Master × List Message) → Type 0

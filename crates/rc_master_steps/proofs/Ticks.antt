@@ -29,7 +29,7 @@ use Rattle.rc_master_facts.proofs.Tests.{In-map, map-In, get-map, map-get}
 use Rattle.rc_master_facts.proofs.LogMoves.{GoodLog}
 use Rattle.rc_master_facts.proofs.Places.{numbers-In}
 use Rattle.rc_master_facts.proofs.Views.{GoodView, Moved, moved-then_does, moved-quiet, same-moved, AllQuiet, IsQuiet, IsQuietOf, quiet-none, quiet-one, quiet-both, quiet-says}
-use Rattle.rc_master_facts.proofs.ListRules.{place-whole, moved-obeys}
+use Rattle.rc_master_steps.proofs.ListRules.{place-whole, moved-obeys}
 
 -- Messages that may be said again: a proper Place among them goes to a member
 

@@ -1,6 +1,6 @@
 -- Each clause is a lemma of `Steps`.
-use Rattle.rc_master_facts.proofs.Steps.{master_takes_keeps, master_ticks_keeps, new_master_is_good}
-use Rattle.rc_master_facts.proofs.laws.master_steps_are_moves.Goals as goal
+use Rattle.rc_master_steps.proofs.Steps.{master_takes_keeps, master_ticks_keeps, new_master_is_good}
+use Rattle.rc_master_steps.proofs.laws.master_steps_are_moves.Goals as goal
 
 pub returns-clause-takes : goal.returns-clause-takes
 returns-clause-takes c = master_takes_keeps

@@ -1,0 +1,5 @@
+pub mod Writing
+pub mod ListRules
+pub mod FollowUps
+pub mod Ticks
+pub mod Steps
