@@ -106,11 +106,14 @@ clients-more sent messages m master p place at client =
 clients-kept : (setup : Setup) → IsKeptByAll setup ClientsAsked
 clients-kept setup = record {
   opened = λ m place at. absurd at;
-  others = λ sent messages m master p others. clients-more sent messages m master p;
-  takes = λ sent m master from body good p at. asks-takes (EntryAsked (sent ++ (master_takes master from body).1) m) master from body
-      (λ table key value under e. asked-more sent (master_takes master from body).1 m table key value (record { message = record { from = from; to = Server m; body = body }; among = at; to = refl; says = e }))
-      (clients-more sent (master_takes master from body).1 m master p);
-  ticks = λ sent m master good p. asks-ticks (EntryAsked (sent ++ (master_ticks master).1) m) master (clients-more sent (master_ticks master).1 m master p);
+  led = record {
+    same = λ sent m master p. p;
+    others = λ sent messages m master p others. clients-more sent messages m master p;
+    takes = λ sent m master from body good p at. asks-takes (EntryAsked (sent ++ (master_takes master from body).1) m) master from body
+        (λ table key value under e. asked-more sent (master_takes master from body).1 m table key value (record { message = record { from = from; to = Server m; body = body }; among = at; to = refl; says = e }))
+        (clients-more sent (master_takes master from body).1 m master p);
+    ticks = λ sent m master good p. asks-ticks (EntryAsked (sent ++ (master_ticks master).1) m) master (clients-more sent (master_ticks master).1 m master p);
+  };
 }
 
 -- Acknowledgements

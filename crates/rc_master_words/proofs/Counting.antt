@@ -262,9 +262,12 @@ acked-after sent m master after good p step =
 acked-kept : (setup : Setup) → IsKeptByAll setup Acked
 acked-kept setup = record {
   opened = λ m. refl;
-  others = acked-others;
-  takes = λ sent m master from body good p at. acked-after sent m master (master_takes master from body) good p (acks-takes master from body);
-  ticks = λ sent m master good p. acked-after sent m master (master_ticks master) good p (acks-ticks master);
+  led = record {
+    same = λ sent m master p. p;
+    others = acked-others;
+    takes = λ sent m master from body good p at. acked-after sent m master (master_takes master from body) good p (acks-takes master from body);
+    ticks = λ sent m master good p. acked-after sent m master (master_ticks master) good p (acks-ticks master);
+  };
 }
 
 pub counted-is-acknowledged : CountedIsAcknowledged

@@ -34,13 +34,18 @@ use Rattle.rc_master_words.proofs.Quiet.{is_loud, AllSoft, soft-none, soft-one}
 abbrev pub OthersSay : ServerId → List Message → Type 0
 OthersSay m messages = (message : Message) → In message messages → message.from ≡ Server m → is_loud message.body ≡ false
 
--- what holds of a new master, and is kept by what others say and by its own steps
+-- what leads from what holds of each master before an event to what holds of it afterwards: what others say, and its own steps
+pub record IsLed (P Q : List Message → ServerId → Master → Type 0) : Type 0 where
+  pub same : (sent : List Message) (m : ServerId) (master : Master) → P sent m master → Q sent m master
+  pub others : (sent messages : List Message) (m : ServerId) (master : Master) → P sent m master → OthersSay m messages → Q (sent ++ messages) m master
+  pub takes : (sent : List Message) (m : ServerId) (master : Master) (from : Addr) (body : Body) → GoodMaster sent m master → P sent m master →
+      In (record { from = from; to = Server m; body = body }) sent → Q (sent ++ (master_takes master from body).1) m (master_takes master from body).0
+  pub ticks : (sent : List Message) (m : ServerId) (master : Master) → GoodMaster sent m master → P sent m master → Q (sent ++ (master_ticks master).1) m (master_ticks master).0
+
+-- what holds of a new master, and is kept so
 pub record IsKeptByAll (setup : Setup) (P : List Message → ServerId → Master → Type 0) : Type 0 where
   pub opened : (m : ServerId) → P [] m (new_master m (master_setup setup m.index))
-  pub others : (sent messages : List Message) (m : ServerId) (master : Master) → P sent m master → OthersSay m messages → P (sent ++ messages) m master
-  pub takes : (sent : List Message) (m : ServerId) (master : Master) (from : Addr) (body : Body) → GoodMaster sent m master → P sent m master →
-      In (record { from = from; to = Server m; body = body }) sent → P (sent ++ (master_takes master from body).1) m (master_takes master from body).0
-  pub ticks : (sent : List Message) (m : ServerId) (master : Master) → GoodMaster sent m master → P sent m master → P (sent ++ (master_ticks master).1) m (master_ticks master).0
+  pub led : IsLed P P
 
 -- Backups
 
@@ -88,16 +93,16 @@ soft-others m messages all message at from = All-In (λ (one : Message). is_loud
 
 -- A world
 
-module _ (setup : Setup) (P : List Message → ServerId → Master → Type 0) (kept : IsKeptByAll setup P) where
-  abbrev OfAll : List Message → (ServerId → Master) → Type 0
-  OfAll sent masters = (m : ServerId) → P sent m (masters m)
+abbrev pub OfAll : (List Message → ServerId → Master → Type 0) → List Message → (ServerId → Master) → Type 0
+OfAll P sent masters = (m : ServerId) → P sent m (masters m)
 
-  quiet-all : (sent messages : List Message) (masters : ServerId → Master) → OfAll sent masters → ((m : ServerId) → OthersSay m messages) → OfAll (sent ++ messages) masters
-  quiet-all sent messages masters p others m = kept.others sent messages m (masters m) (p m) (others m)
+module _ (P Q : List Message → ServerId → Master → Type 0) (led : IsLed P Q) where
+  quiet-all : (sent messages : List Message) (masters : ServerId → Master) → OfAll P sent masters → ((m : ServerId) → OthersSay m messages) → OfAll Q (sent ++ messages) masters
+  quiet-all sent messages masters p others m = led.others sent messages m (masters m) (p m) (others m)
 
   -- the view of a host's master is put in again as it is
-  same-view : (sent : List Message) (masters now : ServerId → Master) → ((m : ServerId) → now m ≡ masters m) → OfAll sent masters → OfAll sent now
-  same-view sent masters now same p m = subst (P sent m) (sym (same m)) (p m)
+  same-view : (sent : List Message) (masters now : ServerId → Master) → ((m : ServerId) → now m ≡ masters m) → OfAll Q sent masters → OfAll Q sent now
+  same-view sent masters now same p m = subst (Q sent m) (sym (same m)) (p m)
 
   not-server : {Q : Type 0} (m : ServerId) → AtCoordinator ≡ Server m → Q
   not-server m e = cc
@@ -125,9 +130,9 @@ module _ (setup : Setup) (P : List Message → ServerId → Master → Type 0) (
   coordinator-from world (Split table at) good given = (coordinator.moved-splits world.sent world.coordinator good.coordinator table at).from
   coordinator-from world _ good given = λ message at. absurd at
 
-  module _ (world : World) (one : Event) (i : ℕ) (good : GoodWorld world) (p : OfAll world.sent world.masters) where
+  module _ (world : World) (one : Event) (i : ℕ) (good : GoodWorld world) (p : OfAll P world.sent world.masters) where
     abbrev Done : HostNode × List Message → Type 0
-    Done after = OfAll (world.sent ++ after.1) (with_last_view world.masters after.0.master)
+    Done after = OfAll Q (world.sent ++ after.1) (with_last_view world.masters after.0.master)
 
     own-is : (master : Master) → (world.hosts i).master ≡ Some master → master.log.own ≡ server_of (world.hosts i)
     own-is master e = (is-good world one i good master e).own
@@ -148,11 +153,11 @@ module _ (setup : Setup) (P : List Message → ServerId → Master → Type 0) (
 
     -- the master moves
     done-moved : (master : Master) → (world.hosts i).master ≡ Some master → (after : Master × List Message) → MasterMoved world.sent (server_of (world.hosts i)) master after →
-        P (world.sent ++ after.1) (server_of (world.hosts i)) after.0 → Done (with_master (world.hosts i) after)
+        Q (world.sent ++ after.1) (server_of (world.hosts i)) after.0 → Done (with_master (world.hosts i) after)
     done-moved master e (now, messages) moved new m =
-        either (P (world.sent ++ messages) m) (same_id now.log.own m) now (world.masters m)
-        (λ is. subst (λ (k : ServerId). P (world.sent ++ messages) k now) (sym moved.good.own ∙ same_id-true now.log.own m is) new)
-        (λ isn't. kept.others world.sent messages m (world.masters m) (p m) (λ message at from. absurd (never (sym (moved.says message at).from ∙ from) isn't)))
+        either (Q (world.sent ++ messages) m) (same_id now.log.own m) now (world.masters m)
+        (λ is. subst (λ (k : ServerId). Q (world.sent ++ messages) k now) (sym moved.good.own ∙ same_id-true now.log.own m is) new)
+        (λ isn't. led.others world.sent messages m (world.masters m) (p m) (λ message at from. absurd (never (sym (moved.says message at).from ∙ from) isn't)))
       where
         never : Server (server_of (world.hosts i)) ≡ Server m → same_id now.log.own m ≡ false → ⊥
         never same isn't =
@@ -169,7 +174,7 @@ module _ (setup : Setup) (P : List Message → ServerId → Master → Type 0) (
         (λ _. as_backup (backup_takes (world.hosts i).backup message.from message.body) (soft-backup (world.hosts i).backup message.from message.body))
         (λ _. done-moved master e (master_takes master message.from message.body)
         (master_takes_keeps world.sent (server_of (world.hosts i)) master message.from message.body (is-good world one i good master e) (is-fine world one i good master e) (hears world one i good message.from message.body at))
-        (kept.takes world.sent (server_of (world.hosts i)) master message.from message.body (is-good world one i good master e) (mine master e) at))
+        (led.takes world.sent (server_of (world.hosts i)) master message.from message.body (is-good world one i good master e) (mine master e) at))
       where
         as_backup : (after : Backup × List Message) → AllSoft after.1 → Done (with_backup (world.hosts i) after)
         as_backup (backup, messages) soft = done-quiet (record (world.hosts i) { backup = backup }) messages refl soft
@@ -185,7 +190,7 @@ module _ (setup : Setup) (P : List Message → ServerId → Master → Type 0) (
     done-ticks None e = done-quiet (world.hosts i) [] refl soft-none
     done-ticks (Some master) e =
         done-moved master e (master_ticks master) (master_ticks_keeps world.sent (server_of (world.hosts i)) master (is-good world one i good master e) (is-fine world one i good master e))
-        (kept.ticks world.sent (server_of (world.hosts i)) master (is-good world one i good master e) (mine master e))
+        (led.ticks world.sent (server_of (world.hosts i)) master (is-good world one i good master e) (mine master e))
 
     done-starts : (list : List (ServerId × ℕ)) → Done (starts_host (world.hosts i) (next_server (world.hosts i)) list)
     done-starts list =
@@ -210,26 +215,32 @@ module _ (setup : Setup) (P : List Message → ServerId → Master → Type 0) (
     done-host (Start list) given = done-starts list
     done-host _ given = done-quiet (world.hosts i) [] refl soft-none
 
-  abbrev AllOf : World → Type 0
-  AllOf world = OfAll world.sent world.masters
+  abbrev Before : World → Type 0
+  Before world = OfAll P world.sent world.masters
 
-  kept-node : (world : World) (one : Event) (node : NodeName) (work : Work) → GoodWorld world → AllOf world → IsGiven world.sent node work → AllOf (node_done world one node work)
-  kept-node world one TheOutside work good p given = quiet-all world.sent (outside_sends work) world.masters p (outside-others work)
-  kept-node world one TheCoordinator work good p given =
+  abbrev After : World → Type 0
+  After world = OfAll Q world.sent world.masters
+
+  led-node : (world : World) (one : Event) (node : NodeName) (work : Work) → GoodWorld world → Before world → IsGiven world.sent node work → After (node_done world one node work)
+  led-node world one TheOutside work good p given = quiet-all world.sent (outside_sends work) world.masters p (outside-others work)
+  led-node world one TheCoordinator work good p given =
       quiet-all world.sent (coordinator_step world.coordinator work).1 world.masters p (λ m message at from. not-server m (sym (coordinator-from world work good given message at) ∙ from))
-  kept-node world one (TheHost i) work good p given = done-host world one i good p work given
+  led-node world one (TheHost i) work good p given = done-host world one i good p work given
 
-  kept-job : (world : World) (one : Event) (found : Option Job) → work_of world.sent one ≡ found → GoodWorld world → AllOf world → AllOf (job_done world one found)
-  kept-job world one None is good p = p
-  kept-job world one (Some job) is good p = kept-node world one job.node job.work good p (work_of-given world.sent one job is)
+  led-job : (world : World) (one : Event) (found : Option Job) → work_of world.sent one ≡ found → GoodWorld world → Before world → After (job_done world one found)
+  led-job world one None is good p = λ m. led.same world.sent m (world.masters m) (p m)
+  led-job world one (Some job) is good p = led-node world one job.node job.work good p (work_of-given world.sent one job is)
 
-  kept-step : (world : World) (one : Event) → GoodWorld world → AllOf world → AllOf (step world one)
-  kept-step world one good p =
-      either AllOf (is_possible world one) (job_done world one (work_of world.sent one)) world (λ _. kept-job world one (work_of world.sent one) refl good p) (λ _. p)
+  -- an event
+  pub led-by : (world : World) (one : Event) → GoodWorld world → Before world → After (step world one)
+  led-by world one good p =
+      either After (is_possible world one) (job_done world one (work_of world.sent one)) world (λ _. led-job world one (work_of world.sent one) refl good p)
+      (λ _ m. led.same world.sent m (world.masters m) (p m))
 
-  kept-from : (world : World) (events : List Event) → GoodWorld world → AllOf world → AllOf (replay_from world events)
+module _ (setup : Setup) (P : List Message → ServerId → Master → Type 0) (kept : IsKeptByAll setup P) where
+  kept-from : (world : World) (events : List Event) → GoodWorld world → OfAll P world.sent world.masters → OfAll P (replay_from world events).sent (replay_from world events).masters
   kept-from world [] good p = p
-  kept-from world (one ∷ events) good p = kept-from (step world one) events (good-step world one good) (kept-step world one good p)
+  kept-from world (one ∷ events) good p = kept-from (step world one) events (good-step world one good) (led-by P P kept.led world one good p)
 
   -- it holds of every world
   pub kept-replay : (events : List Event) (m : ServerId) → P (replay setup events).sent m ((replay setup events).masters m)

@@ -49,9 +49,12 @@ after-step setup sent sent_now m master after p step = record { size = step.size
 of_setup-kept : (setup : Setup) → IsKeptByAll setup (OfSetup setup)
 of_setup-kept setup = record {
   opened = λ m. record { size = refl; limits = record { head = omega arith; epochs = λ s. omega arith; entries = λ s. omega arith } };
-  others = λ sent messages m master p others. record { size = p.size; limits = p.limits };
-  takes = λ sent m master from body good p at. after-step setup sent (sent ++ (master_takes master from body).1) m master (master_takes master from body) p (takes-kept (λ entry. Unit {0}) Limits limits-kept master from body (λ table key value under e. tt));
-  ticks = λ sent m master good p. after-step setup sent (sent ++ (master_ticks master).1) m master (master_ticks master) p (tick-kept (λ entry. Unit {0}) Limits limits-kept master);
+  led = record {
+    same = λ sent m master p. p;
+    others = λ sent messages m master p others. record { size = p.size; limits = p.limits };
+    takes = λ sent m master from body good p at. after-step setup sent (sent ++ (master_takes master from body).1) m master (master_takes master from body) p (takes-kept (λ entry. Unit {0}) Limits limits-kept master from body (λ table key value under e. tt));
+    ticks = λ sent m master good p. after-step setup sent (sent ++ (master_ticks master).1) m master (master_ticks master) p (tick-kept (λ entry. Unit {0}) Limits limits-kept master);
+  };
 }
 
 pub logs-stay-within-limits : LogsStayWithinLimits

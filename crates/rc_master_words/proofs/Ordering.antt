@@ -243,9 +243,12 @@ order-others sent messages m master p others = record {
 order-kept : (setup : Setup) → IsKeptByAll setup InOrder
 order-kept setup = record {
   opened = λ m. record { ordered = λ s never. true_false (sym never); said = λ s e at. absurd at };
-  others = order-others;
-  takes = λ sent m master from body good p at. order-after sent m master (master_takes master from body) good p (takes-kept (λ entry. Unit {0}) Orders orders-kept master from body (λ table key value under e. tt));
-  ticks = λ sent m master good p. order-after sent m master (master_ticks master) good p (tick-kept (λ entry. Unit {0}) Orders orders-kept master);
+  led = record {
+    same = λ sent m master p. p;
+    others = order-others;
+    takes = λ sent m master from body good p at. order-after sent m master (master_takes master from body) good p (takes-kept (λ entry. Unit {0}) Orders orders-kept master from body (λ table key value under e. tt));
+    ticks = λ sent m master good p. order-after sent m master (master_ticks master) good p (tick-kept (λ entry. Unit {0}) Orders orders-kept master);
+  };
 }
 
 pub commits-are-asked-in-order : CommitsAreAskedInOrder

@@ -213,14 +213,17 @@ record IsSettled (setup : Setup) (sent : List Message) (m : ServerId) (master : 
 settled-kept : (setup : Setup) → IsKeptByAll setup (IsSettled setup)
 settled-kept setup = record {
   opened = λ m. record { factor = refl; settled = λ _ _. omega arith };
-  others = λ sent messages m master p others. record { factor = p.factor; settled = p.settled };
-  takes = λ sent m master from body good p at. record {
-    factor = (acks-takes master from body).factor ∙ p.factor;
-    settled = λ some. takes-settled master from body (λ none. some (sym p.factor ∙ none)) (p.settled some);
-  };
-  ticks = λ sent m master good p. record {
-    factor = (acks-ticks master).factor ∙ p.factor;
-    settled = λ some. ticks-settled master (λ none. some (sym p.factor ∙ none)) (p.settled some);
+  led = record {
+    same = λ sent m master p. p;
+    others = λ sent messages m master p others. record { factor = p.factor; settled = p.settled };
+    takes = λ sent m master from body good p at. record {
+      factor = (acks-takes master from body).factor ∙ p.factor;
+      settled = λ some. takes-settled master from body (λ none. some (sym p.factor ∙ none)) (p.settled some);
+    };
+    ticks = λ sent m master good p. record {
+      factor = (acks-ticks master).factor ∙ p.factor;
+      settled = λ some. ticks-settled master (λ none. some (sym p.factor ∙ none)) (p.settled some);
+    };
   };
 }
 
