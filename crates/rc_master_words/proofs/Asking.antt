@@ -73,12 +73,14 @@ module _ (Asked : Entry → Type 0) where
 
   asks-kept : IsKept Asked Asks
   asks-kept = record {
-    both = asks-both;
-    quiet = λ old new messages quiet soft. asks-same old new messages quiet.places;
-    appends = λ master entry client room asked. asks-appends master entry client asked;
+    inputs = record {
+      both = asks-both;
+      quiet = λ old new messages quiet soft. asks-same old new messages quiet.places;
+      appends = λ master entry client room asked. asks-appends master entry client asked;
+      again = λ master. asks-same master master (commits_again master.log) refl;
+    };
     counts = λ master less. asks-same master (with_log master (record master.log { durable = durable_now master.log })) (write_oks master.log.own (new_durable master.log)) refl;
     commits = λ master seg e. asks-commits master seg;
-    again = λ master. asks-same master master (commits_again master.log) refl;
   }
 
   pub asks-takes : (master : Master) (from : Addr) (body : Body) →

@@ -225,7 +225,11 @@ acks-again master =
     (filter (λ seg. awaits_commit (master.log.segments seg)) (numbers_to master.log.head)) (λ k d less. and-false (is_server master.log.own (Server master.log.own)) false refl)))
 
 pub acks-kept : IsKept (λ entry. Unit {0}) Acks
-acks-kept = record { both = acks-both; quiet = acks-quiet; appends = λ master entry client room asked. acks-appends master entry client; counts = acks-counts; commits = λ master seg e. acks-commits master seg; again = acks-again }
+acks-kept = record {
+  inputs = record { both = acks-both; quiet = acks-quiet; appends = λ master entry client room asked. acks-appends master entry client; again = acks-again };
+  counts = acks-counts;
+  commits = λ master seg e. acks-commits master seg;
+}
 
 pub acks-takes : (master : Master) (from : Addr) (body : Body) → Acks master (master_takes master from body)
 acks-takes master from body = takes-kept (λ entry. Unit {0}) Acks acks-kept master from body (λ table key value under e. tt)

@@ -28,15 +28,17 @@ limits-appends master entry client room = record {
 
 limits-kept : IsKept (λ entry. Unit {0}) Limits
 limits-kept = record {
-  both = λ a b first after p q. record { size = q.size ∙ p.size; limits = λ h. q.limits (p.limits h) };
-  quiet = λ old new messages quiet soft. record { size = quiet.size; limits = quiet.limits };
-  appends = λ master entry client room asked. limits-appends master entry client room;
+  inputs = record {
+    both = λ a b first after p q. record { size = q.size ∙ p.size; limits = λ h. q.limits (p.limits h) };
+    quiet = λ old new messages quiet soft. record { size = quiet.size; limits = quiet.limits };
+    appends = λ master entry client room asked. limits-appends master entry client room;
+    again = λ master. record { size = refl; limits = λ h. h };
+  };
   counts = λ master less. record { size = refl; limits = λ h. record { head = h.head; epochs = h.epochs; entries = h.entries } };
   commits = λ master seg e. record {
     size = refl;
     limits = λ h. limits-put master.log seg (record (master.log.segments seg) { commit_sent = true }) h (h.epochs seg) (h.entries seg);
   };
-  again = λ master. record { size = refl; limits = λ h. h };
 }
 
 record OfSetup (setup : Setup) (sent : List Message) (m : ServerId) (master : Master) : Type 0 where

@@ -212,7 +212,11 @@ orders-again master = orders-same master master (commits_again master.log) refl 
         by seg same awaits = subst (IsNext master.log) (sym same) (h seg (and_parts (master.log.segments seg).commit_sent _ awaits).0)
 
 orders-kept : IsKept (λ entry. Unit {0}) Orders
-orders-kept = record { both = orders-both; quiet = orders-quiet; appends = λ master entry client room asked. orders-appends master entry client; counts = λ master less. orders-counts master; commits = orders-commits; again = orders-again }
+orders-kept = record {
+  inputs = record { both = orders-both; quiet = orders-quiet; appends = λ master entry client room asked. orders-appends master entry client; again = orders-again };
+  counts = λ master less. orders-counts master;
+  commits = orders-commits;
+}
 
 -- A world
 

@@ -197,12 +197,12 @@ takes-settled master from body factor was =
     either (λ (after : Master × List Message). Settled after.0) master.deposed (deposed_takes master body) (then_does (master_takes_first master from body) goes_on)
     (λ _. subst Settled (sym (deposed-same master body)) was)
     (λ _. then-settled (master_takes_first master from body)
-    (λ none. factor (sym (first-kept_by (λ entry. Unit {0}) Acks acks-kept master from body (λ table key value under e. tt)).factor ∙ none)))
+    (λ none. factor (sym (first-kept_by (λ entry. Unit {0}) Acks acks-kept.inputs master from body (λ table key value under e. tt)).factor ∙ none)))
 
 ticks-settled : (master : Master) → master.log.factor ≢ 0 → Settled master → Settled (master_ticks master).0
 ticks-settled master factor was =
     either (λ (after : Master × List Message). Settled after.0) master.deposed (master, []) (then_does (ticks master) goes_on) (λ _. was)
-    (λ _. then-settled (ticks master) (λ none. factor (sym (ticks-kept_by (λ entry. Unit {0}) Acks acks-kept master).factor ∙ none)))
+    (λ _. then-settled (ticks master) (λ none. factor (sym (ticks-kept_by (λ entry. Unit {0}) Acks acks-kept.inputs master).factor ∙ none)))
 
 -- A world
 

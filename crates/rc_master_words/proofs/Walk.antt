@@ -31,18 +31,22 @@ use Rattle.rc_model.specs.MasterStep.{begins_task, task_of, takes_plan, says_dep
 use Rattle.rc_model.proofs.Members.{either}
 use Rattle.rc_master_words.proofs.Quiet.{is_loud, AllSoft, soft-none, soft-one, soft-both, soft-ids, QuietLog, quiet-refl, quiet-trans, quiet-put, quiet-first, quiet-roll, quiet-stored, quiet-commit_noted, quiet-loses, quiet-shut, quiet-freed}
 
--- what is kept: by moves one after another, and by a move of each kind
-pub record IsKept (Asked : Entry → Type 0) (R : Master → Master × List Message → Type 0) : Type 0 where
+-- what is kept by inputs: by moves one after another, and by each kind of move
+pub record IsKeptByInputs (Asked : Entry → Type 0) (R : Master → Master × List Message → Type 0) : Type 0 where
   pub both : (a b : Master) (first : List Message) (after : Master × List Message) → R a (b, first) → R b after → R a (after.0, first ++ after.1)
   pub quiet : (old new : Master) (messages : List Message) → QuietLog old.log new.log → AllSoft messages → R old (new, messages)
   -- an entry is appended, by a client only one that was asked
   pub appends : (master : Master) (entry : Entry) (client : Bool) → is_full master.log ≡ false → (client ≡ true → Asked entry) → R master (appends_entry master entry client)
+  pub again : (master : Master) → R master (master, commits_again master.log)
+
+-- and by the rules that follow up
+pub record IsKept (Asked : Entry → Type 0) (R : Master → Master × List Message → Type 0) : Type 0 where
+  pub inputs : IsKeptByInputs Asked R
   pub counts : (master : Master) → master.log.durable < durable_now master.log →
       R master (with_log master (record master.log { durable = durable_now master.log }), write_oks master.log.own (new_durable master.log))
   pub commits : (master : Master) (seg : ℕ) → first_open master.log ≡ Some seg → R master (commits master seg)
-  pub again : (master : Master) → R master (master, commits_again master.log)
 
-module _ (Asked : Entry → Type 0) (R : Master → Master × List Message → Type 0) (kept : IsKept Asked R) where
+module _ (Asked : Entry → Type 0) (R : Master → Master × List Message → Type 0) (kept : IsKeptByInputs Asked R) where
   still : (master : Master) → R master (master, [])
   still master = kept.quiet master master [] (quiet-refl master.log) soft-none
 
@@ -149,103 +153,6 @@ module _ (Asked : Entry → Type 0) (R : Master → Master × List Message → T
   plan-kept attempt crashed rows (part ∷ parts) master =
       then-kept master (begins_task (task_of attempt crashed rows part) master) (takes_plan attempt crashed rows parts) (task-kept (task_of attempt crashed rows part) master) (plan-kept attempt crashed rows parts)
 
-  -- The rules that follow up
-
-  abbrev Does : Master → Option (Master × List Message) → Type 0
-  Does master None = Unit {0}
-  Does master (Some done) = R master done
-
-  does-when : (master : Master) (b : Bool) (done : Master × List Message) → (b ≡ true → R master done) → Does master (when b done)
-  does-when master true done p = p refl
-  does-when master false done p = tt
-
-  does-or : (master : Master) (one other : Option (Master × List Message)) → Does master one → Does master other → Does master (or_rule one other)
-  does-or master None other p q = q
-  does-or master (Some done) other p q = p
-
-  start-does : (master : Master) → Does master (follows_start master)
-  start-does master = does-when master (may_start master.log) (with_log master (starts master.log), to_coordinator master.log.own Ready ∷ [])
-      (λ _. says master (with_log master (starts master.log)) (to_coordinator master.log.own Ready)
-      (record { own = refl; factor = refl; durable = refl; size = refl; limits = λ h. record { head = h.head; epochs = h.epochs; entries = h.entries }; places = refl; head = omega arith; shut = λ s upto e. e; asked = λ s e. e }) refl)
-
-  placed-does : (master : Master) → Does master (follows_placed master)
-  placed-does master = does-when master (may_close master.log) (with_log master (closes_old master.log), [])
-      (λ _. kept.quiet master (with_log master (closes_old master.log)) []
-      (record { own = refl; factor = refl; durable = refl; size = refl; limits = λ h. record { head = h.head; epochs = h.epochs; entries = h.entries }; places = refl; head = omega arith; shut = λ s upto e. e; asked = λ s e. e }) soft-none)
-
-  closing-does : (master : Master) → Does master (follows_closing master)
-  closing-does master = does-when master (close_is_due master.log) (with_log master (close_marked master.log), _)
-      (λ _. kept.quiet master (with_log master (close_marked master.log)) _ (quiet-put master.log (master.log.head - 1) (record (old_head_of master.log) { close_sent = true }) refl (λ e. e) (λ e. e) (λ e. e))
-      (soft-ids master.log.own (ids_of (old_head_of master.log).config.members) (Close (master.log.head - 1) (length (old_head_of master.log).entries)) refl))
-
-  soft-frees : (log : Log) (segs : List ℕ) → AllSoft (frees_segments log segs)
-  soft-frees log [] = soft-none
-  soft-frees log (seg ∷ segs) = soft-both (to_unlost log seg (Free seg)) (frees_segments log segs) (soft-ids log.own (ids_of (not_lost (log.segments seg).config.members)) (Free seg) refl) (soft-frees log segs)
-
-  shut-does : (master : Master) → Does master (follows_shut master)
-  shut-does master = does-when master (may_write master.log) (with_log master (writes_on master.log), frees_segments master.log (left_out master.log))
-      (λ _. kept.quiet master (with_log master (writes_on master.log)) (frees_segments master.log (left_out master.log))
-      (quiet-trans master.log (starts master.log) (writes_on master.log)
-      (record { own = refl; factor = refl; durable = refl; size = refl; limits = λ h. record { head = h.head; epochs = h.epochs; entries = h.entries }; places = refl; head = omega arith; shut = λ s upto e. e; asked = λ s e. e }) (quiet-freed (left_out master.log) (starts master.log)))
-      (soft-frees master.log (left_out master.log)))
-
-  commits-does : (master : Master) (seg : Option ℕ) → first_open master.log ≡ seg → Does master (commits_open master seg)
-  commits-does master None e = tt
-  commits-does master (Some seg) e = does-when master (wants_commit (master.log.segments seg)) (commits master seg) (λ _. kept.commits master seg e)
-
-  stored-does : (master : Master) → Does master (follows_stored master)
-  stored-does master = does-when master (nat_lt master.log.durable (durable_now master.log)) (with_log master (record master.log { durable = durable_now master.log }), write_oks master.log.own (new_durable master.log))
-      (λ e. kept.counts master (ltb-true master.log.durable (durable_now master.log) e))
-
-  rolls-does : (master : Master) (done : Log × Result Bool Fault) → QuietLog master.log done.0 → Does master (rolls_for_replay master done)
-  rolls-does master (log, Ok began) quiet = kept.quiet master (with_log master log) (places_head log) quiet (soft-head log)
-  rolls-does master (log, Err fault) quiet = tt
-
-  not-client : {P : Type 0} → false ≡ true → P
-  not-client e = cc
-
-  replays-does : (master : Master) (entries : List Entry) → Does master (replays master entries)
-  replays-does master [] = tt
-  replays-does master (entry ∷ entries) =
-      either (Does master) (is_full master.log) (rolls_for_replay master (begin_roll master.known (dead_segments master) master.log)) (Some (appends_entry (record master { ownership = after_replay master.ownership }) entry false))
-      (λ e. rolls-does master (begin_roll master.known (dead_segments master) master.log) (quiet-roll master.known (dead_segments master) master.log))
-      (λ e. as-kept master (record master { ownership = after_replay master.ownership }) (appends_entry (record master { ownership = after_replay master.ownership }) entry false) refl
-      (kept.appends (record master { ownership = after_replay master.ownership }) entry false e (λ never. not-client never)))
-
-  data-does : (master : Master) → Does master (follows_data master)
-  data-does master = either (Does master) (is_writing master.log.phase) (replays master master.ownership.replay) None (λ e. replays-does master master.ownership.replay) (λ e. tt)
-
-  answers-does : (master : Master) (term : Option ℕ) → Does master (answers_part master term)
-  answers-does master None = tt
-  answers-does master (Some term) =
-      says master (record master { ownership = after_answer (durable_entries master) master.ownership }) (to_coordinator master.log.own (Recovered (attempt_of term master.tasks) term)) (quiet-refl master.log) refl
-
-  follow_up-does : (master : Master) → Does master (follow_up master)
-  follow_up-does master =
-      does-or master (follows_start master) _ (start-does master)
-      (does-or master (follows_placed master) _ (placed-does master)
-      (does-or master (follows_closing master) _ (closing-does master)
-      (does-or master (follows_shut master) _ (shut-does master)
-      (does-or master (follows_change master) _ (commits-does master (first_open master.log) refl)
-      (does-or master (follows_stored master) _ (stored-does master)
-      (does-or master (follows_data master) (follows_replay master) (data-does master) (answers-does master (to_answer (durable_entries master) master.ownership))))))))
-
-  marks-kept : (master : Master) → R master (marks_shut master, [])
-  marks-kept master = kept.quiet master (marks_shut master) [] (quiet-shut master.log) soft-none
-
-  further-kept : (found : Option (Master × List Message)) (master : Master) (others : Master → Master × List Message) → Does master found → ((next : Master) → R next (others next)) → R master (further found master others)
-  further-kept None master others p q = still master
-  further-kept (Some (next, messages)) master others p q = kept.both master next messages (others next) p (q next)
-
-  followed-kept : (times : ℕ) (master : Master) → R master (followed times master)
-  followed-kept zero master = marks-kept master
-  followed-kept (suc times) master =
-      kept.both master (marks_shut master) [] (further (follow_up (marks_shut master)) (marks_shut master) (followed times)) (marks-kept master)
-      (further-kept (follow_up (marks_shut master)) (marks_shut master) (followed times) (follow_up-does (marks_shut master)) (followed-kept times))
-
-  pub goes-kept : (master : Master) → R master (goes_on master)
-  goes-kept master = either (R master) master.deposed (master, []) (followed (measure master) master) (λ e. still master) (λ e. followed-kept (measure master) master)
-
   -- Messages
 
   pub first-kept_by : (master : Master) (from : Addr) (body : Body) →
@@ -270,13 +177,6 @@ module _ (Asked : Entry → Type 0) (R : Master → Master × List Message → T
   deposed-kept master (Write table key value) = refused-kept master Deposed
   deposed-kept master (Read table key) = refused-kept master Deposed
   deposed-kept master body = still master
-
-  -- a message: by a Write only what was asked is appended for a client
-  pub takes-kept : (master : Master) (from : Addr) (body : Body) →
-      ((table key : ℕ) (value : Option (List ℕ)) (under : ℕ) → body ≡ Write table key value → Asked (written master under table key value)) → R master (master_takes master from body)
-  takes-kept master from body asked =
-      either (R master) master.deposed (deposed_takes master body) (then_does (master_takes_first master from body) goes_on)
-      (λ e. deposed-kept master body) (λ e. then-kept master (master_takes_first master from body) goes_on (first-kept_by master from body asked) goes-kept)
 
   -- The timer
 
@@ -352,6 +252,111 @@ module _ (Asked : Entry → Type 0) (R : Master → Master × List Message → T
       (λ e. then-kept master (obeys_list master) (reminds master.log) (obeys-kept master) (reminds-kept master.log))
       (λ e. says master master (to_coordinator master.log.own Enlist) (quiet-refl master.log) refl)
 
+module _ (Asked : Entry → Type 0) (R : Master → Master × List Message → Type 0) (kept : IsKept Asked R) where
+  -- The rules that follow up
+
+  abbrev Does : Master → Option (Master × List Message) → Type 0
+  Does master None = Unit {0}
+  Does master (Some done) = R master done
+
+  does-when : (master : Master) (b : Bool) (done : Master × List Message) → (b ≡ true → R master done) → Does master (when b done)
+  does-when master true done p = p refl
+  does-when master false done p = tt
+
+  does-or : (master : Master) (one other : Option (Master × List Message)) → Does master one → Does master other → Does master (or_rule one other)
+  does-or master None other p q = q
+  does-or master (Some done) other p q = p
+
+  start-does : (master : Master) → Does master (follows_start master)
+  start-does master = does-when master (may_start master.log) (with_log master (starts master.log), to_coordinator master.log.own Ready ∷ [])
+      (λ _. says Asked R kept.inputs master (with_log master (starts master.log)) (to_coordinator master.log.own Ready)
+      (record { own = refl; factor = refl; durable = refl; size = refl; limits = λ h. record { head = h.head; epochs = h.epochs; entries = h.entries }; places = refl; head = omega arith; shut = λ s upto e. e; asked = λ s e. e }) refl)
+
+  placed-does : (master : Master) → Does master (follows_placed master)
+  placed-does master = does-when master (may_close master.log) (with_log master (closes_old master.log), [])
+      (λ _. kept.inputs.quiet master (with_log master (closes_old master.log)) []
+      (record { own = refl; factor = refl; durable = refl; size = refl; limits = λ h. record { head = h.head; epochs = h.epochs; entries = h.entries }; places = refl; head = omega arith; shut = λ s upto e. e; asked = λ s e. e }) soft-none)
+
+  closing-does : (master : Master) → Does master (follows_closing master)
+  closing-does master = does-when master (close_is_due master.log) (with_log master (close_marked master.log), _)
+      (λ _. kept.inputs.quiet master (with_log master (close_marked master.log)) _ (quiet-put master.log (master.log.head - 1) (record (old_head_of master.log) { close_sent = true }) refl (λ e. e) (λ e. e) (λ e. e))
+      (soft-ids master.log.own (ids_of (old_head_of master.log).config.members) (Close (master.log.head - 1) (length (old_head_of master.log).entries)) refl))
+
+  soft-frees : (log : Log) (segs : List ℕ) → AllSoft (frees_segments log segs)
+  soft-frees log [] = soft-none
+  soft-frees log (seg ∷ segs) = soft-both (to_unlost log seg (Free seg)) (frees_segments log segs) (soft-ids log.own (ids_of (not_lost (log.segments seg).config.members)) (Free seg) refl) (soft-frees log segs)
+
+  shut-does : (master : Master) → Does master (follows_shut master)
+  shut-does master = does-when master (may_write master.log) (with_log master (writes_on master.log), frees_segments master.log (left_out master.log))
+      (λ _. kept.inputs.quiet master (with_log master (writes_on master.log)) (frees_segments master.log (left_out master.log))
+      (quiet-trans master.log (starts master.log) (writes_on master.log)
+      (record { own = refl; factor = refl; durable = refl; size = refl; limits = λ h. record { head = h.head; epochs = h.epochs; entries = h.entries }; places = refl; head = omega arith; shut = λ s upto e. e; asked = λ s e. e }) (quiet-freed (left_out master.log) (starts master.log)))
+      (soft-frees master.log (left_out master.log)))
+
+  commits-does : (master : Master) (seg : Option ℕ) → first_open master.log ≡ seg → Does master (commits_open master seg)
+  commits-does master None e = tt
+  commits-does master (Some seg) e = does-when master (wants_commit (master.log.segments seg)) (commits master seg) (λ _. kept.commits master seg e)
+
+  stored-does : (master : Master) → Does master (follows_stored master)
+  stored-does master = does-when master (nat_lt master.log.durable (durable_now master.log)) (with_log master (record master.log { durable = durable_now master.log }), write_oks master.log.own (new_durable master.log))
+      (λ e. kept.counts master (ltb-true master.log.durable (durable_now master.log) e))
+
+  rolls-does : (master : Master) (done : Log × Result Bool Fault) → QuietLog master.log done.0 → Does master (rolls_for_replay master done)
+  rolls-does master (log, Ok began) quiet = kept.inputs.quiet master (with_log master log) (places_head log) quiet (soft-head Asked R kept.inputs log)
+  rolls-does master (log, Err fault) quiet = tt
+
+  not-client : {P : Type 0} → false ≡ true → P
+  not-client e = cc
+
+  replays-does : (master : Master) (entries : List Entry) → Does master (replays master entries)
+  replays-does master [] = tt
+  replays-does master (entry ∷ entries) =
+      either (Does master) (is_full master.log) (rolls_for_replay master (begin_roll master.known (dead_segments master) master.log)) (Some (appends_entry (record master { ownership = after_replay master.ownership }) entry false))
+      (λ e. rolls-does master (begin_roll master.known (dead_segments master) master.log) (quiet-roll master.known (dead_segments master) master.log))
+      (λ e. as-kept Asked R kept.inputs master (record master { ownership = after_replay master.ownership }) (appends_entry (record master { ownership = after_replay master.ownership }) entry false) refl
+      (kept.inputs.appends (record master { ownership = after_replay master.ownership }) entry false e (λ never. not-client never)))
+
+  data-does : (master : Master) → Does master (follows_data master)
+  data-does master = either (Does master) (is_writing master.log.phase) (replays master master.ownership.replay) None (λ e. replays-does master master.ownership.replay) (λ e. tt)
+
+  answers-does : (master : Master) (term : Option ℕ) → Does master (answers_part master term)
+  answers-does master None = tt
+  answers-does master (Some term) =
+      says Asked R kept.inputs master (record master { ownership = after_answer (durable_entries master) master.ownership }) (to_coordinator master.log.own (Recovered (attempt_of term master.tasks) term)) (quiet-refl master.log) refl
+
+  follow_up-does : (master : Master) → Does master (follow_up master)
+  follow_up-does master =
+      does-or master (follows_start master) _ (start-does master)
+      (does-or master (follows_placed master) _ (placed-does master)
+      (does-or master (follows_closing master) _ (closing-does master)
+      (does-or master (follows_shut master) _ (shut-does master)
+      (does-or master (follows_change master) _ (commits-does master (first_open master.log) refl)
+      (does-or master (follows_stored master) _ (stored-does master)
+      (does-or master (follows_data master) (follows_replay master) (data-does master) (answers-does master (to_answer (durable_entries master) master.ownership))))))))
+
+  marks-kept : (master : Master) → R master (marks_shut master, [])
+  marks-kept master = kept.inputs.quiet master (marks_shut master) [] (quiet-shut master.log) soft-none
+
+  further-kept : (found : Option (Master × List Message)) (master : Master) (others : Master → Master × List Message) → Does master found → ((next : Master) → R next (others next)) → R master (further found master others)
+  further-kept None master others p q = still Asked R kept.inputs master
+  further-kept (Some (next, messages)) master others p q = kept.inputs.both master next messages (others next) p (q next)
+
+  followed-kept : (times : ℕ) (master : Master) → R master (followed times master)
+  followed-kept zero master = marks-kept master
+  followed-kept (suc times) master =
+      kept.inputs.both master (marks_shut master) [] (further (follow_up (marks_shut master)) (marks_shut master) (followed times)) (marks-kept master)
+      (further-kept (follow_up (marks_shut master)) (marks_shut master) (followed times) (follow_up-does (marks_shut master)) (followed-kept times))
+
+  pub goes-kept : (master : Master) → R master (goes_on master)
+  goes-kept master = either (R master) master.deposed (master, []) (followed (measure master) master) (λ e. still Asked R kept.inputs master) (λ e. followed-kept (measure master) master)
+
+  -- a message: by a Write only what was asked is appended for a client
+  pub takes-kept : (master : Master) (from : Addr) (body : Body) →
+      ((table key : ℕ) (value : Option (List ℕ)) (under : ℕ) → body ≡ Write table key value → Asked (written master under table key value)) → R master (master_takes master from body)
+  takes-kept master from body asked =
+      either (R master) master.deposed (deposed_takes master body) (then_does (master_takes_first master from body) goes_on)
+      (λ e. deposed-kept Asked R kept.inputs master body) (λ e. then-kept Asked R kept.inputs master (master_takes_first master from body) goes_on (first-kept_by Asked R kept.inputs master from body asked) goes-kept)
+
   pub tick-kept : (master : Master) → R master (master_ticks master)
   tick-kept master =
-      either (R master) master.deposed (master, []) (then_does (ticks master) goes_on) (λ e. still master) (λ e. then-kept master (ticks master) goes_on (ticks-kept_by master) goes-kept)
+      either (R master) master.deposed (master, []) (then_does (ticks master) goes_on) (λ e. still Asked R kept.inputs master) (λ e. then-kept Asked R kept.inputs master (ticks master) goes_on (ticks-kept_by Asked R kept.inputs master) goes-kept)
