@@ -21,7 +21,7 @@ use Rattle.rc_model.specs.Headline.{In}
 use Rattle.rc_model.proofs.Members.{either, In-append}
 use Rattle.rc_facts.specs.Moves.{MasterMoved, CoordinatorMoved, body_said, coordinator_body_said}
 use Rattle.rc_facts.proofs.Lists.{true_false}
-use Rattle.rc_master_facts.proofs.Steps.{master_takes_keeps, master_ticks_keeps}
+use Rattle.rc_master_steps.proofs.Steps.{master_takes_keeps, master_ticks_keeps}
 use Rattle.rc_coordinator_facts.proofs.Steps as coordinator
 use Rattle.rc_log_safety.proofs.Replays.{GoodWorld, GoodStep, IsGiven, is-good, is-fine, hears, is_server-true, work_of-given, may-hear, to-coordinator-is, led-step, good-step, good-opening}
 use Rattle.rc_data_facts.specs.Data.{data_fine, DataAreCuts}

@@ -29,7 +29,7 @@ use Rattle.rc_facts.specs.Moves.{MasterMoved, BackupMoved, backup_body_said}
 use Rattle.rc_facts.proofs.Lists.{put_same, same_id-true}
 use Rattle.rc_facts.proofs.Copies.{More}
 use Rattle.rc_master_facts.proofs.Rolling.{writing-is}
-use Rattle.rc_master_facts.proofs.Steps.{master_takes_keeps, master_ticks_keeps}
+use Rattle.rc_master_steps.proofs.Steps.{master_takes_keeps, master_ticks_keeps}
 use Rattle.rc_backup_facts.proofs.Backups.{moved-backup}
 use Rattle.rc_coordinator_facts.proofs.Steps as coordinator
 use Rattle.rc_log_safety.proofs.Replays.{GoodWorld, IsGiven, is-good, is-fine, hears, is_server-true, work_of-given, may-hear, to-coordinator-is, good-world}
