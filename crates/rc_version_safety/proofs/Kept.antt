@@ -31,9 +31,9 @@ use Rattle.rc_term_facts.specs.Terms.{IsGivenBy}
 use Rattle.rc_part_facts.specs.Parts.{part_view, logged, WasGranted, IsPart}
 use Rattle.rc_part_facts.proofs.Lists.{logged-append}
 use Rattle.rc_version_safety.specs.Worlds.{AllHold}
-use Rattle.rc_version_safety.specs.Words.{HasVersion}
+use Rattle.rc_version_safety.specs.Words.{Keeps, IsCarriedOn}
 use Rattle.rc_version_safety.proofs.Bases.{IsTaskOf, task-of}
-use Rattle.rc_version_safety.proofs.Rising.{IsRemembered, remembered, has-version, GoesTo, goes-on, IsAcked, acked}
+use Rattle.rc_version_safety.proofs.Rising.{IsRemembered, remembered, starts-keeps, GoesTo, goes-on, IsAcked, acked}
 
 -- What stands in a segment is among the entries of the log's places
 
@@ -152,33 +152,32 @@ module _ (sent : List Message) (masters : ServerId → Master) (hosts : ℕ → 
   -- what a master has at a safe place under a term, each later owner of its point has, or a greater version
   pub later-keeps : (m : ServerId) (s o : ℕ) (entry : Entry) → IsSafe sent m (masters m).log s o → slice_get (log_in (masters m).log s) o ≡ Some entry →
       (grant : Granted) (x : ServerId) → IsGranted sent grant → grant.owner ≡ Server x → IsEarlier sent entry.table entry.key entry.term grant.term →
-      HasVersion sent x (masters x).log grant.term entry.table entry.key entry.version
+      Keeps sent x (masters x).log grant.term entry
   later-keeps m s o entry safe at grant x was to before =
-      subst (λ y. HasVersion sent y (masters y).log grant.term entry.table entry.key entry.version) (of-grant grant x was to goes.grant goes.among goes.term_is)
-      (subst (λ n. HasVersion sent goes.grant.owner (masters goes.grant.owner).log n entry.table entry.key entry.version) goes.term_is
-      (has-version sent masters hosts c all goes.grant entry.table entry.key entry.version goes.starts))
+      subst (λ y. Keeps sent y (masters y).log grant.term entry) (of-grant grant x was to goes.grant goes.among goes.term_is)
+      (subst (λ n. Keeps sent goes.grant.owner (masters goes.grant.owner).log n entry) goes.term_is (starts-keeps sent masters hosts c all goes.grant entry goes.starts))
     where
-      has : (old : Grant) → In old c.grants → old.term ≡ entry.term → HasVersion sent old.owner (masters old.owner).log entry.term entry.table entry.key entry.version
-      has old among e = subst (λ y. HasVersion sent y (masters y).log entry.term entry.table entry.key entry.version) (issued-here m entry (safe-logged m s o entry safe at) old among e) (record {
+      has : (old : Grant) → In old c.grants → old.term ≡ entry.term → Keeps sent old.owner (masters old.owner).log entry.term entry
+      has old among e = subst (λ y. Keeps sent y (masters y).log entry.term entry) (issued-here m entry (safe-logged m s o entry safe at) old among e) (record {
         entry = entry;
         at = record { seg = s; offset = o; safe = safe; holds = at };
         term_is = refl;
-        table_is = refl;
-        key_is = refl;
-        above = omega arith;
+        keeps = record { table_is = refl; key_is = refl; kept = inl (refl, refl) };
       })
 
-      goes : GoesTo sent masters hosts c all grant.term entry.table entry.key entry.version
-      goes = goes-on sent masters hosts c all entry.table entry.key entry.version entry.term grant.term before (term-above m entry (safe-logged m s o entry safe at)) has
+      goes : GoesTo sent masters hosts c all grant.term entry
+      goes = goes-on sent masters hosts c all entry entry.term grant.term before (term-above m entry (safe-logged m s o entry safe at)) has
 
   -- so it is of what was acknowledged
-  pub later-keeps-acked : (ack : Ack) → WasAcknowledged sent ack → (grant : Granted) (x : ServerId) → IsGranted sent grant → grant.owner ≡ Server x →
-      IsEarlier sent ack.table ack.key ack.term grant.term → HasVersion sent x (masters x).log grant.term ack.table ack.key ack.version
-  later-keeps-acked ack was grant x granted to before =
-      subst (λ v. HasVersion sent x (masters x).log grant.term ack.table ack.key v) w.version_is
-      (subst (λ k. HasVersion sent x (masters x).log grant.term ack.table k w.entry.version) w.key_is
-      (subst (λ t. HasVersion sent x (masters x).log grant.term t w.entry.key w.entry.version) w.table_is
-      (later-keeps p.master ack.seg ack.offset w.entry w.safe w.holds grant x granted to way)))
+  pub later-keeps-acked : (ack : Ack) → WasAcknowledged sent ack → IsCarriedOn sent masters ack
+  later-keeps-acked ack was = record {
+    master = p.master;
+    entry = w.entry;
+    stands = w.holds;
+    of_ack = record { term = w.term_is; table = w.table_is; key = w.key_is };
+    version = w.version_is;
+    kept = λ grant x granted to before. later-keeps p.master ack.seg ack.offset w.entry w.safe w.holds grant x granted to (way grant before);
+  }
     where
       p : IsAcked sent masters hosts c all ack
       p = acked sent masters hosts c all ack was
@@ -186,8 +185,8 @@ module _ (sent : List Message) (masters : ServerId → Master) (hosts : ℕ → 
       w : IsWriteOk sent p.master (masters p.master).log ack.seg ack.offset ack.term ack.table ack.key ack.version
       w = p.write
 
-      way : IsEarlier sent w.entry.table w.entry.key w.entry.term grant.term
-      way = subst (λ n. IsEarlier sent w.entry.table w.entry.key n grant.term) (sym w.term_is)
+      way : (grant : Granted) → IsEarlier sent ack.table ack.key ack.term grant.term → IsEarlier sent w.entry.table w.entry.key w.entry.term grant.term
+      way grant before = subst (λ n. IsEarlier sent w.entry.table w.entry.key n grant.term) (sym w.term_is)
           (subst (λ k. IsEarlier sent w.entry.table k ack.term grant.term) (sym w.key_is)
           (subst (λ t. IsEarlier sent t ack.key ack.term grant.term) (sym w.table_is) before))
 

@@ -36,7 +36,7 @@ use Rattle.rc_part_facts.specs.Parts.{PartView, part_view, logged, under, rows_o
 use Rattle.rc_part_facts.specs.Moves.{HasWritten}
 use Rattle.rc_part_facts.proofs.Lists.{under-append, under-In, logged-append, begins-within, begins-more}
 use Rattle.rc_version_safety.specs.Worlds.{AllHold}
-use Rattle.rc_version_safety.specs.Words.{HasVersion}
+use Rattle.rc_version_safety.specs.Words.{IsKeptBy, Keeps}
 use Rattle.rc_version_safety.proofs.Rows.{in-order, CameFor, came-for}
 use Rattle.rc_version_safety.proofs.Bases.{cut_of, IsTaskOf, task-of, task-ascends, row-cut, IsStarted, started, joined-begins, base-safe}
 
@@ -113,13 +113,11 @@ remembered c (message ∷ sent) known one at = by (In-append one (grant_in messa
 
 module _ (sent : List Message) (masters : ServerId → Master) (hosts : ℕ → HostNode) (c : Coordinator) (all : AllHold sent masters hosts c) where
   -- a grant of a recovery whose base has a version of the key, not below this one
-  pub record StartsWith (grant : Grant) (table key version : ℕ) : Type 0 where
+  pub record StartsWith (grant : Grant) (was : Entry) : Type 0 where
     pub given : IsGivenBy sent c grant
     pub entry : Entry
     pub among : In entry (map (under_term (started sent masters hosts c all grant given).state.part.term) (started sent masters hosts c all grant given).joined.entries)
-    pub table_is : entry.table ≡ table
-    pub key_is : entry.key ≡ key
-    pub above : version ≤ entry.version
+    pub keeps : IsKeptBy was entry
 
   pub term-started : (grant : Grant) (given : IsGivenBy sent c grant) → (started sent masters hosts c all grant given).state.part.term ≡ grant.term
   term-started grant given =
@@ -127,31 +125,27 @@ module _ (sent : List Message) (masters : ServerId → Master) (hosts : ℕ → 
       ap (λ (part : Part). part.term) (sym p.part_is ∙ p.given_is) ∙ sym given.term_is
 
   -- so its owner has that version
-  pub has-version : (grant : Grant) (table key version : ℕ) → StartsWith grant table key version → HasVersion sent grant.owner (masters grant.owner).log grant.term table key version
-  has-version grant table key version p =
+  pub starts-keeps : (grant : Grant) (was : Entry) → StartsWith grant was → Keeps sent grant.owner (masters grant.owner).log grant.term was
+  starts-keeps grant was p =
       let s : IsStarted sent masters hosts c all grant p.given = started sent masters hosts c all grant p.given in
       let found = In-map (under_term s.state.part.term) p.entry s.joined.entries p.among in
       record {
         entry = p.entry;
         at = base-safe sent masters hosts c all grant.owner s.task s.state s.joined s.durable p.entry p.among;
         term_is = ap (λ (one : Entry). one.term) found.2 ∙ term-started grant p.given;
-        table_is = p.table_is;
-        key_is = p.key_is;
-        above = p.above;
+        keeps = p.keeps;
       }
 
   -- The handover
 
   -- what the master before has at a safe place of the range, the base has in this or a greater version
-  pub hands-over : (grant : Grant) (given : IsGivenBy sent c grant) (table key version : ℕ) → in_range grant.range table key ≡ true →
-      HasVersion sent given.master (masters given.master).log grant.previous table key version → StartsWith grant table key version
-  hands-over grant given table key version holds has = record {
+  pub hands-over : (grant : Grant) (given : IsGivenBy sent c grant) (was : Entry) → in_range grant.range was.table was.key ≡ true →
+      Keeps sent given.master (masters given.master).log grant.previous was → StartsWith grant was
+  hands-over grant given was holds has = record {
     given = given;
     entry = under_term T there.other;
     among = map-In (under_term T) there.other s.joined.entries (came.among there.other (subst (In there.other) (sym cut.0) in_cut));
-    table_is = table_same;
-    key_is = key_same;
-    above = least there.is_it;
+    keeps = record { table_is = table_same; key_is = key_same; kept = least there.is_it };
   }
     where
       s : IsStarted sent masters hosts c all grant given
@@ -163,29 +157,34 @@ module _ (sent : List Message) (masters : ServerId → Master) (hosts : ℕ → 
       of_task : IsTaskOf sent c grant.owner s.task
       of_task = task-of sent masters hosts c all grant.owner s.task s.task_among
 
-      has_it : HasVersion sent s.task.master (masters s.task.master).log grant.previous table key version
-      has_it = subst (λ m. HasVersion sent m (masters m).log grant.previous table key version) (sym s.master_is) has
+      has_it : Keeps sent s.task.master (masters s.task.master).log grant.previous was
+      has_it = subst (λ m. Keeps sent m (masters m).log grant.previous was) (sym s.master_is) has
 
       there : IsCovered s.task.master (masters s.task.master).log s.task.rows has_it.at.seg has_it.at.offset has_it.entry
       there = covered sent masters hosts c all.good s.task.master s.task.rows
           (accepted-is sent masters hosts c all.good (record { attempt = s.task.attempt; master = s.task.master; rows = s.task.rows }) of_task.accepted)
           has_it.at.seg has_it.at.offset has_it.entry has_it.at.safe has_it.at.holds
 
-      table_same : there.other.table ≡ table
-      table_same = there.table ∙ has_it.table_is
+      table_same : there.other.table ≡ was.table
+      table_same = there.table ∙ has_it.keeps.table_is
 
-      key_same : there.other.key ≡ key
-      key_same = there.key ∙ has_it.key_is
+      key_same : there.other.key ≡ was.key
+      key_same = there.key ∙ has_it.keeps.key_is
 
-      least : ((there.seg ≡ has_it.at.seg) × (there.offset ≡ has_it.at.offset)) ⊎ (has_it.entry.version < there.other.version) → version ≤ there.other.version
+      least : ((there.seg ≡ has_it.at.seg) × (there.offset ≡ has_it.at.offset)) ⊎ (has_it.entry.version < there.other.version) →
+          ((there.other.version ≡ was.version) × (there.other.value ≡ was.value)) ⊎ (was.version < there.other.version)
       least (inl e) =
           let here : slice_get (log_in (masters s.task.master).log has_it.at.seg) has_it.at.offset ≡ Some there.other =
           subst (λ o. slice_get (log_in (masters s.task.master).log has_it.at.seg) o ≡ Some there.other) e.1
           (subst (λ t. slice_get (log_in (masters s.task.master).log t) there.offset ≡ Some there.other) e.0 there.holds) in
-          let was : slice_get (log_in (masters s.task.master).log has_it.at.seg) has_it.at.offset ≡ Some has_it.entry = has_it.at.holds in
+          let stood : slice_get (log_in (masters s.task.master).log has_it.at.seg) has_it.at.offset ≡ Some has_it.entry = has_it.at.holds in
           let same : has_it.entry ≡ there.other = cc in
-          subst (λ (one : Entry). version ≤ one.version) same has_it.above
-      least (inr more) = let a = has_it.above in omega arith
+          subst (λ (one : Entry). ((one.version ≡ was.version) × (one.value ≡ was.value)) ⊎ (was.version < one.version)) same has_it.keeps.kept
+      least (inr more) = inr (greater has_it.keeps.kept)
+        where
+          greater : ((has_it.entry.version ≡ was.version) × (has_it.entry.value ≡ was.value)) ⊎ (was.version < has_it.entry.version) → was.version < there.other.version
+          greater (inl e) = let a = e.0 in omega arith
+          greater (inr less) = omega arith
 
       -- the row that holds it
       row : PlanRow
@@ -203,8 +202,8 @@ module _ (sent : List Message) (masters : ServerId → Master) (hosts : ℕ → 
       in_part = range-holds s.task.part there.other
           (there.term ∙ has_it.term_is ∙ given.previous_is ∙ ap (λ (part : Part). part.previous) (sym s.given_is))
           (subst (λ k. in_range (range_of s.task.part) there.other.table k ≡ true) (sym key_same)
-          (subst (λ t. in_range (range_of s.task.part) t key ≡ true) (sym table_same)
-          (ap (λ (part : Part). in_range (range_of part) table key) s.given_is ∙ ap (λ range. in_range range table key) (sym given.range_is) ∙ holds)))
+          (subst (λ t. in_range (range_of s.task.part) t was.key ≡ true) (sym table_same)
+          (ap (λ (part : Part). in_range (range_of part) was.table was.key) s.given_is ∙ ap (λ range. in_range range was.table was.key) (sym given.range_is) ∙ holds)))
 
       in_cut : In there.other (cut_of masters s.task row)
       in_cut = filter-In (is_in_part s.task.part) there.other (take row.len (log_in (masters s.task.master).log row.seg))
@@ -214,32 +213,32 @@ module _ (sent : List Message) (masters : ServerId → Master) (hosts : ℕ → 
   -- The chain of owners
 
   -- a later owner of the point starts with this version or a greater one
-  pub record GoesTo (later table key version : ℕ) : Type 0 where
+  pub record GoesTo (later : ℕ) (was : Entry) : Type 0 where
     pub grant : Grant
     pub among : In grant c.grants
     pub term_is : grant.term ≡ later
-    pub holds : in_range grant.range table key ≡ true
-    pub starts : StartsWith grant table key version
+    pub holds : in_range grant.range was.table was.key ≡ true
+    pub starts : StartsWith grant was
 
   -- whoever was granted the term has the version
-  abbrev pub OwnersHave : ℕ → ℕ → ℕ → ℕ → Type 0
-  OwnersHave term table key version = (old : Grant) → In old c.grants → old.term ≡ term → HasVersion sent old.owner (masters old.owner).log term table key version
+  abbrev pub OwnersHave : ℕ → Entry → Type 0
+  OwnersHave term was = (old : Grant) → In old c.grants → old.term ≡ term → Keeps sent old.owner (masters old.owner).log term was
 
   -- over one grant, from its previous term
-  step-over : (grant : Grant) (table key version : ℕ) → In grant c.grants → in_range grant.range table key ≡ true → 0 < grant.previous → OwnersHave grant.previous table key version → GoesTo grant.term table key version
-  step-over grant table key version among holds above has = by (all.terms.origin grant among)
+  step-over : (grant : Grant) (was : Entry) → In grant c.grants → in_range grant.range was.table was.key ≡ true → 0 < grant.previous → OwnersHave grant.previous was → GoesTo grant.term was
+  step-over grant was among holds above has = by (all.terms.origin grant among)
     where
-      by : ((grant.attempt ≡ 0) × (grant.previous ≡ 0)) ⊎ IsGivenBy sent c grant → GoesTo grant.term table key version
+      by : ((grant.attempt ≡ 0) × (grant.previous ≡ 0)) ⊎ IsGivenBy sent c grant → GoesTo grant.term was
       by (inl created) = let none : grant.previous ≡ 0 = created.1 in absurd (omega arith)
       by (inr given) =
-          let was : IsGrantedTo c.grants given.master grant.previous table key = given.after table key holds in
+          let before : IsGrantedTo c.grants given.master grant.previous was.table was.key = given.after was.table was.key holds in
           record {
             grant = grant;
             among = among;
             term_is = refl;
             holds = holds;
-            starts = hands-over grant given table key version holds
-                (subst (λ m. HasVersion sent m (masters m).log grant.previous table key version) was.owner_is (has was.grant was.among was.term_is));
+            starts = hands-over grant given was holds
+                (subst (λ m. Keeps sent m (masters m).log grant.previous was) before.owner_is (has before.grant before.among before.term_is));
           }
 
   -- a grant of the point among those that were sent
@@ -249,34 +248,31 @@ module _ (sent : List Message) (masters : ServerId → Master) (hosts : ℕ → 
       let r : IsRemembered c one = remembered c sent all.kept.known one was.0 in
       (r.grant, r.among, r.is, ap (covers table key) (sym r.is) ∙ was.1)
 
-  pub goes-on : (table key version earlier later : ℕ) → IsBefore (grants_of sent table key) earlier later → 0 < earlier → OwnersHave earlier table key version → GoesTo later table key version
-  goes-on table key version earlier later (previous k one e) above has =
-      let p = at-point table key k one e in
+  pub goes-on : (was : Entry) (earlier later : ℕ) → IsBefore (grants_of sent was.table was.key) earlier later → 0 < earlier → OwnersHave earlier was → GoesTo later was
+  goes-on was earlier later (previous k one e) above has =
+      let p = at-point was.table was.key k one e in
       let before : one.previous ≡ p.0.previous = ap (λ (g : Granted). g.previous) p.2 in
-      subst (λ n. GoesTo n table key version) (ap (λ (g : Granted). g.term) (sym p.2))
-      (step-over p.0 table key version p.1 p.3 (subst (λ n. 0 < n) before above) (subst (λ n. OwnersHave n table key version) before has))
-  goes-on table key version earlier later (onward from k one e way) above has =
-      let rest : GoesTo one.previous table key version = goes-on table key version earlier one.previous way above has in
-      let p = at-point table key k one e in
+      subst (λ n. GoesTo n was) (ap (λ (g : Granted). g.term) (sym p.2))
+      (step-over p.0 was p.1 p.3 (subst (λ n. 0 < n) before above) (subst (λ n. OwnersHave n was) before has))
+  goes-on was earlier later (onward from k one e way) above has =
+      let rest : GoesTo one.previous was = goes-on was earlier one.previous way above has in
+      let p = at-point was.table was.key k one e in
       let before : one.previous ≡ p.0.previous = ap (λ (g : Granted). g.previous) p.2 in
       let over : 0 < one.previous = subst (λ n. 0 < n) rest.term_is (all.terms.issued rest.grant rest.among).0 in
-      subst (λ n. GoesTo n table key version) (ap (λ (g : Granted). g.term) (sym p.2))
-      (step-over p.0 table key version p.1 p.3 (subst (λ n. 0 < n) before over) (subst (λ n. OwnersHave n table key version) before (owners rest)))
+      subst (λ n. GoesTo n was) (ap (λ (g : Granted). g.term) (sym p.2))
+      (step-over p.0 was p.1 p.3 (subst (λ n. 0 < n) before over) (subst (λ n. OwnersHave n was) before (owners rest)))
     where
-      owners : GoesTo one.previous table key version → OwnersHave one.previous table key version
+      owners : GoesTo one.previous was → OwnersHave one.previous was
       owners rest old among same =
           let is : rest.grant ≡ old = all.terms.grant_once rest.grant old rest.among among (rest.term_is ∙ sym same) in
-          subst (λ (g : Grant). HasVersion sent g.owner (masters g.owner).log one.previous table key version) is
-          (subst (λ n. HasVersion sent rest.grant.owner (masters rest.grant.owner).log n table key version) rest.term_is (has-version rest.grant table key version rest.starts))
+          subst (λ (g : Grant). Keeps sent g.owner (masters g.owner).log one.previous was) is
+          (subst (λ n. Keeps sent rest.grant.owner (masters rest.grant.owner).log n was) rest.term_is (starts-keeps rest.grant was rest.starts))
 
   -- A client's entry comes after the base, with a greater version
-  above-base : (grant : Grant) (table key version : ℕ) → StartsWith grant table key version → (before after : List LogPlace) (place : LogPlace) →
-      places_of (masters grant.owner).log ≡ before ++ place ∷ after → place.client ≡ true → place.entry.term ≡ grant.term → place.entry.table ≡ table → place.entry.key ≡ key →
-      version < place.entry.version
-  above-base grant table key version p before after place whole client term_is table_is key_is =
-      let less : p.entry.version < place.entry.version = written.rises p.entry there.0 (there.1 ∙ same_term) (p.table_is ∙ sym table_is) (p.key_is ∙ sym key_is) in
-      let least : version ≤ p.entry.version = p.above in
-      omega arith
+  above-base : (grant : Grant) (was : Entry) → StartsWith grant was → (before after : List LogPlace) (place : LogPlace) →
+      places_of (masters grant.owner).log ≡ before ++ place ∷ after → place.client ≡ true → place.entry.term ≡ grant.term → place.entry.table ≡ was.table → place.entry.key ≡ was.key →
+      was.version < place.entry.version
+  above-base grant was p before after place whole client term_is table_is key_is = above p.keeps.kept
     where
       s : IsStarted sent masters hosts c all grant p.given
       s = started sent masters hosts c all grant p.given
@@ -315,6 +311,13 @@ module _ (sent : List Message) (masters : ServerId → Master) (hosts : ℕ → 
 
       there : In p.entry (logged before) × (p.entry.term ≡ T)
       there = under-In T p.entry (logged before) (subst (In p.entry) begins.1 (In-left p.entry base begins.0 p.among))
+
+      less : p.entry.version < place.entry.version
+      less = written.rises p.entry there.0 (there.1 ∙ same_term) (p.keeps.table_is ∙ sym table_is) (p.keeps.key_is ∙ sym key_is)
+
+      above : ((p.entry.version ≡ was.version) × (p.entry.value ≡ was.value)) ⊎ (was.version < p.entry.version) → was.version < place.entry.version
+      above (inl same) = let e = same.0 in let l = less in omega arith
+      above (inr more) = let l = less in omega arith
 
   -- Acknowledgements
 
@@ -391,19 +394,21 @@ module _ (sent : List Message) (masters : ServerId → Master) (hosts : ℕ → 
     old : IsOwned q.master earlier.term earlier.table earlier.key
     old = owner earlier q
 
-    has : HasVersion sent old.grant.owner (masters old.grant.owner).log earlier.term later.table later.key earlier.version
-    has = subst (λ m. HasVersion sent m (masters m).log earlier.term later.table later.key earlier.version) old.owner_is (record {
+    way : IsEarlier sent q.write.entry.table q.write.entry.key earlier.term later.term
+    way = subst (λ k. IsEarlier sent q.write.entry.table k earlier.term later.term) (sym (q.write.key_is ∙ keys))
+        (subst (λ t. IsEarlier sent t later.key earlier.term later.term) (sym (q.write.table_is ∙ tables)) before)
+
+    has : Keeps sent old.grant.owner (masters old.grant.owner).log earlier.term q.write.entry
+    has = subst (λ m. Keeps sent m (masters m).log earlier.term q.write.entry) old.owner_is (record {
       entry = q.write.entry;
       at = record { seg = earlier.seg; offset = earlier.offset; safe = q.write.safe; holds = q.write.holds };
       term_is = q.write.term_is;
-      table_is = q.write.table_is ∙ tables;
-      key_is = q.write.key_is ∙ keys;
-      above = (let e : q.write.entry.version ≡ earlier.version = q.write.version_is in omega arith);
+      keeps = record { table_is = refl; key_is = refl; kept = inl (refl, refl) };
     })
 
-    goes : GoesTo later.term later.table later.key earlier.version
-    goes = goes-on later.table later.key earlier.version earlier.term later.term before (subst (λ n. 0 < n) old.term_is (all.terms.issued old.grant old.among).0)
-        (λ one among same. subst (λ (g : Grant). HasVersion sent g.owner (masters g.owner).log earlier.term later.table later.key earlier.version)
+    goes : GoesTo later.term q.write.entry
+    goes = goes-on q.write.entry earlier.term later.term way (subst (λ n. 0 < n) old.term_is (all.terms.issued old.grant old.among).0)
+        (λ one among same. subst (λ (g : Grant). Keeps sent g.owner (masters g.owner).log earlier.term q.write.entry)
         (all.terms.grant_once old.grant one old.among among (old.term_is ∙ sym same)) has)
 
     new : IsOwned p.master later.term later.table later.key
@@ -416,10 +421,10 @@ module _ (sent : List Message) (masters : ServerId → Master) (hosts : ℕ → 
     rises =
         let at : Stands p.written.place (places_of (masters p.master).log) = written-at later p in
         let whole : places_of (masters goes.grant.owner).log ≡ at.before ++ p.written.place ∷ at.after = ap (λ m. places_of (masters m).log) (sym same_owner) ∙ at.whole in
-        let less : earlier.version < p.written.place.entry.version =
-        above-base goes.grant later.table later.key earlier.version goes.starts at.before at.after p.written.place whole p.written.client
-        (p.written.term_is ∙ sym goes.term_is) p.written.table_is p.written.key_is in
-        subst (λ n. earlier.version < n) p.written.version_is less
+        let less : q.write.entry.version < p.written.place.entry.version =
+        above-base goes.grant q.write.entry goes.starts at.before at.after p.written.place whole p.written.client
+        (p.written.term_is ∙ sym goes.term_is) (p.written.table_is ∙ sym (q.write.table_is ∙ tables)) (p.written.key_is ∙ sym (q.write.key_is ∙ keys)) in
+        subst (λ n. n < later.version) q.write.version_is (subst (λ n. q.write.entry.version < n) p.written.version_is less)
 
   pub versions-rise : VersionsRise sent
   versions-rise later p earlier q tables keys before = rises later earlier (acked later p) (acked earlier q) tables keys before

@@ -19,7 +19,7 @@ use Rattle.rc_model.specs.Headline.{In, WasAcknowledged, VersionsRise}
 use Rattle.rc_facts.specs.Words.{log_in}
 use Rattle.rc_facts.specs.Facts.{IsSafe}
 use Rattle.rc_version_safety.specs.Worlds.{AllHold}
-use Rattle.rc_version_safety.specs.Words.{HasVersion, IsPlanCut, StartsFromBase}
+use Rattle.rc_version_safety.specs.Words.{Keeps, IsPlanCut, StartsFromBase, IsCarriedOn}
 
 -- Of the messages sent and the masters' last views
 
@@ -33,17 +33,16 @@ abbrev pub GrantsStart : List Message → (ServerId → Master) → Type 0
 GrantsStart sent masters = (grant : Granted) (x : ServerId) → IsGranted sent grant → grant.owner ≡ Server x → (grant.attempt ≡ 0 → ⊥) →
     StartsFromBase sent x (masters x).log grant
 
--- what stands at a safe place, each later owner of its point has at one, or a greater version of its key
+-- what stands at a safe place, each later owner of its point keeps: with that version and value, or a greater version
 abbrev pub SafeIsKept : List Message → (ServerId → Master) → Type 0
 SafeIsKept sent masters = (m : ServerId) (s o : ℕ) (entry : Entry) → IsSafe sent m (masters m).log s o →
-    slice_get (log_in (masters m).log s) o ≡ Some entry → (grant : Granted) (x : ServerId) → IsGranted sent grant → grant.owner ≡ Server x →
-    IsEarlier sent entry.table entry.key entry.term grant.term → HasVersion sent x (masters x).log grant.term entry.table entry.key entry.version
+    slice_get (log_in (masters m).log s) o ≡ Some entry → (grant : Granted) (x : ServerId) → IsGranted sent grant →
+    grant.owner ≡ Server x → IsEarlier sent entry.table entry.key entry.term grant.term →
+    Keeps sent x (masters x).log grant.term entry
 
 -- and what was acknowledged
 abbrev pub AcknowledgedIsKept : List Message → (ServerId → Master) → Type 0
-AcknowledgedIsKept sent masters = (ack : Ack) → WasAcknowledged sent ack → (grant : Granted) (x : ServerId) → IsGranted sent grant →
-    grant.owner ≡ Server x → IsEarlier sent ack.table ack.key ack.term grant.term →
-    HasVersion sent x (masters x).log grant.term ack.table ack.key ack.version
+AcknowledgedIsKept sent masters = (ack : Ack) → WasAcknowledged sent ack → IsCarriedOn sent masters ack
 
 -- Where all facts hold
 
@@ -86,7 +85,7 @@ HandoversKeepWhatIsDurable = (setup : Setup) (events : List Event) (m : ServerId
     (entry : Entry) × (slice_get (log_in ((replay setup events).masters m).log s) o ≡ Some entry)
     × ((grant : Granted) (x : ServerId) → IsGranted (replay setup events).sent grant → grant.owner ≡ Server x →
     IsEarlier (replay setup events).sent entry.table entry.key entry.term grant.term →
-    HasVersion (replay setup events).sent x ((replay setup events).masters x).log grant.term entry.table entry.key entry.version)
+    Keeps (replay setup events).sent x ((replay setup events).masters x).log grant.term entry)
 
 -- a grant's previous term is the earlier one at each point of its range, so all this holds over each single grant
 abbrev pub PreviousIsEarlier : Type 0

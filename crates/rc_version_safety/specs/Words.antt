@@ -1,5 +1,5 @@
 -- Words in which the claims on data, grants and handovers are said.
-use Rattle.std.specs.Prelude.{◌≡◌, ℕ, ◌≤◌, List, filter, take, Some, slice_get}
+use Rattle.std.specs.Prelude.{◌≡◌, ◌⊎◌, ℕ, ◌<◌, List, filter, take, Some, slice_get}
 use Rattle.rc_types.specs.declared.ids.ServerId.{ServerId}
 use Rattle.rc_types.specs.declared.ids.Addr.TheVariants.{Server}
 use Rattle.rc_types.specs.declared.entries.Entry.{Entry}
@@ -7,12 +7,13 @@ use Rattle.rc_types.specs.declared.rows.Part.{Part}
 use Rattle.rc_types.specs.declared.rows.PlanRow.{PlanRow}
 use Rattle.rc_types.specs.declared.messages.Message.{Message}
 use Rattle.rc_types.specs.declared.messages.Body.TheVariants.{Plan as PlanBody}
-use Rattle.rc_model.specs.Recovered.{Accepted}
-use Rattle.rc_model.specs.Owners.{Granted}
+use Rattle.rc_model.specs.Recovered.{Ack, Accepted}
+use Rattle.rc_model.specs.Owners.{Granted, IsGranted, IsEarlier}
 use Rattle.rc_model.specs.Base.{made_below, base}
 use Rattle.rc_model.specs.Backup.{is_in_part}
 use Rattle.rc_model.specs.Log.{Log, entries_of}
-use Rattle.rc_model.specs.Headline.{In, WasAccepted}
+use Rattle.rc_model.specs.Master.{Master}
+use Rattle.rc_model.specs.Headline.{In, WasAccepted, IsOfAck}
 use Rattle.rc_facts.specs.Words.{Begins, log_in}
 use Rattle.rc_facts.specs.Facts.{IsSafe}
 use Rattle.rc_part_facts.specs.Parts.{under}
@@ -24,14 +25,18 @@ pub record IsSafelyLogged (sent : List Message) (m : ServerId) (log : Log) (entr
   pub safe : IsSafe sent m log seg offset
   pub holds : slice_get (log_in log seg) offset ≡ Some entry
 
--- a safe place of a log has a version of the key under the term, not below this one
-pub record HasVersion (sent : List Message) (m : ServerId) (log : Log) (term table key version : ℕ) : Type 0 where
+-- the entry is of the same key, and has the same version and value, or a greater version
+pub record IsKeptBy (was entry : Entry) : Type 0 where
+  pub table_is : entry.table ≡ was.table
+  pub key_is : entry.key ≡ was.key
+  pub kept : ((entry.version ≡ was.version) × (entry.value ≡ was.value)) ⊎ (was.version < entry.version)
+
+-- a safe place of a log keeps it so under the term
+pub record Keeps (sent : List Message) (m : ServerId) (log : Log) (term : ℕ) (was : Entry) : Type 0 where
   pub entry : Entry
   pub at : IsSafelyLogged sent m log entry
   pub term_is : entry.term ≡ term
-  pub table_is : entry.table ≡ table
-  pub key_is : entry.key ≡ key
-  pub above : version ≤ entry.version
+  pub keeps : IsKeptBy was entry
 
 -- A Data is of a plan to its addressee, with a part of its term and a row of its segment whose holder is the sender. Its
 -- entries are those made below that row's length that have the part's previous term and lie in its range, in order.
@@ -61,3 +66,13 @@ pub record StartsFromBase (sent : List Message) (x : ServerId) (log : Log) (gran
   pub attempt_is : plan.attempt ≡ grant.attempt
   pub begins : Begins (base sent plan grant) (under grant.term (take log.durable (entries_of log)))
   pub safe : (entry : Entry) → In entry (base sent plan grant) → IsSafelyLogged sent x log entry
+
+-- what was acknowledged stands in its master's log, and each later owner of its point keeps it
+pub record IsCarriedOn (sent : List Message) (masters : ServerId → Master) (ack : Ack) : Type 0 where
+  pub master : ServerId
+  pub entry : Entry
+  pub stands : slice_get (log_in (masters master).log ack.seg) ack.offset ≡ Some entry
+  pub of_ack : IsOfAck ack entry
+  pub version : entry.version ≡ ack.version
+  pub kept : (grant : Granted) (x : ServerId) → IsGranted sent grant → grant.owner ≡ Server x →
+      IsEarlier sent ack.table ack.key ack.term grant.term → Keeps sent x (masters x).log grant.term entry
