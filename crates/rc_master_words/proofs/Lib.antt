@@ -8,3 +8,4 @@ pub mod Once
 pub mod Ordering
 pub mod Leasts
 pub mod Limiting
+pub mod Moments

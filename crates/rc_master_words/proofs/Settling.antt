@@ -175,7 +175,7 @@ nothing-stored master e =
     not_less : (n m : ℕ) → nat_lt n m ≡ false → m ≤ n
     not_less n m isn't = grind (arith, nat_tests)
 
-abbrev Settled : Master → Type 0
+abbrev pub Settled : Master → Type 0
 Settled master = master.deposed ≡ false → durable_now master.log ≤ master.log.durable
 
 goes-settled : (master : Master) → master.log.factor ≢ 0 → Settled (goes_on master).0
@@ -187,7 +187,7 @@ goes-settled master factor =
 then-settled : (first : Master × List Message) → first.0.log.factor ≢ 0 → Settled (then_does first goes_on).0
 then-settled (master, messages) factor = goes-settled master factor
 
-deposed-same : (master : Master) (body : Body) → (deposed_takes master body).0 ≡ master
+pub deposed-same : (master : Master) (body : Body) → (deposed_takes master body).0 ≡ master
 deposed-same master (Write table key value) = refl
 deposed-same master (Read table key) = refl
 deposed-same master _ = refl
@@ -206,11 +206,11 @@ ticks-settled master factor was =
 
 -- A world
 
-record IsSettled (setup : Setup) (sent : List Message) (m : ServerId) (master : Master) : Type 0 where
-  factor : master.log.factor ≡ factor_of setup m.index
-  settled : factor_of setup m.index ≢ 0 → Settled master
+pub record IsSettled (setup : Setup) (sent : List Message) (m : ServerId) (master : Master) : Type 0 where
+  pub factor : master.log.factor ≡ factor_of setup m.index
+  pub settled : factor_of setup m.index ≢ 0 → Settled master
 
-settled-kept : (setup : Setup) → IsKeptByAll setup (IsSettled setup)
+pub settled-kept : (setup : Setup) → IsKeptByAll setup (IsSettled setup)
 settled-kept setup = record {
   opened = λ m. record { factor = refl; settled = λ _ _. omega arith };
   led = record {

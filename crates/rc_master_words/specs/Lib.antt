@@ -1,3 +1,4 @@
 pub mod AckClaims
 pub mod CommitClaims
 pub mod LimitClaims
+pub mod MomentClaims

@@ -1,14 +1,16 @@
 //! Acknowledgements.
 
+ghost use Rattle.rc_master_words.specs.MomentClaims.{CountedWhenStored};
 ghost use Rattle.rc_master_words.specs.AckClaims.{CountedIsAcknowledged, StoredIsAcknowledged, AcknowledgedOnce, AcknowledgedWasAsked};
 
 /// A master has acknowledged exactly the clients' writes at the places that it counts as durable, in the
-/// order of places, each once. A client's write is acknowledged in the very step in which it is stored on
-/// all members of its segment with each earlier segment shut, unless the master is deposed.
+/// order of places, each once. A place is counted in the very event in which it becomes stored on all
+/// members of its segment with each earlier segment shut, unless the master is deposed.
 pub fn writes_are_acknowledged_once()
     ensures counted { CountedIsAcknowledged }
     ensures stored { StoredIsAcknowledged }
     ensures once { AcknowledgedOnce }
+    ensures moment { CountedWhenStored }
 {}
 
 /// What was acknowledged was asked: a Write of that table and key was sent to that master, and the entry

@@ -1,6 +1,7 @@
 use Rattle.rc_master_words.proofs.Counting.{counted-is-acknowledged}
 use Rattle.rc_master_words.proofs.Settling.{stored-is-acknowledged}
 use Rattle.rc_master_words.proofs.Once.{acknowledged-once}
+use Rattle.rc_master_words.proofs.Moments.{counted-when-stored}
 use Rattle.rc_master_words.proofs.acks.writes_are_acknowledged_once.Goals as goal
 
 pub returns-clause-counted : goal.returns-clause-counted
@@ -11,3 +12,6 @@ returns-clause-stored c = stored-is-acknowledged
 
 pub returns-clause-once : goal.returns-clause-once
 returns-clause-once c = acknowledged-once
+
+pub returns-clause-moment : goal.returns-clause-moment
+returns-clause-moment c = counted-when-stored
