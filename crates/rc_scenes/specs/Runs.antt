@@ -1,6 +1,6 @@
 -- A scenario as a run: which events of the world it makes, and where it stops. A run may have room for so many events:
 -- `MAX_EVENTS` are as many as a world takes, and fewer stand for memory that was refused before the next.
-use Rattle.std.specs.Prelude.{ℕ, ◌+◌, Bool, nat_lt, ◌&&◌, if◌then◌else◌, List, [], ◌∷◌, length, Option, Some, None, Result, Ok, Err}
+use Rattle.std.specs.Prelude.{ℕ, ◌+◌, nat_lt, ◌&&◌, if◌then◌else◌, List, [], ◌∷◌, length, Option, Some, None, Result, Ok, Err}
 use Rattle.rc_types.specs.declared.events.Event.{Event}
 use Rattle.rc_types.specs.declared.limits.TheConstants.{MAX_EVENTS}
 use Rattle.rc_model.specs.World.{World, opening, step, is_possible}
