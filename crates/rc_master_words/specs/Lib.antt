@@ -2,3 +2,4 @@ pub mod AckClaims
 pub mod CommitClaims
 pub mod LimitClaims
 pub mod MomentClaims
+pub mod ShownClaims

@@ -6,3 +6,4 @@
 pub mod acks;
 pub mod commits;
 pub mod limits;
+pub mod shown;
