@@ -34,16 +34,18 @@ acks_in m messages = filter (is_ack_of m) messages
 abbrev pub counted_places : Log → List LogPlace
 counted_places log = take log.durable (places_of log)
 
--- a master has acknowledged exactly the clients' writes among the places that it counts as durable, in their order, each once
+-- a master has acknowledged exactly the clients' writes among the places that it counts as durable, in their order,
+-- each once
 abbrev pub CountedIsAcknowledged : Type 0
 CountedIsAcknowledged = (setup : Setup) (events : List Event) (m : ServerId) →
     acks_in m (sent_after setup events) ≡ write_oks m (counted_places (log_of setup events m))
 
--- where a segment has replicas at all, and the master isn't deposed: once all members have told a client's write, and each
--- earlier segment is shut, it is acknowledged, in that very step
+-- where a segment has replicas at all, and the master isn't deposed: once all members have told a client's write, and
+-- each earlier segment is shut, it is acknowledged, in that very step
 abbrev pub StoredIsAcknowledged : Type 0
-StoredIsAcknowledged = (setup : Setup) (events : List Event) (m : ServerId) (s o : ℕ) (entry : Entry) → factor_of setup m.index ≢ 0 →
-    (master_of (replay setup events) m).deposed ≡ false → IsTrue (is_stored_on_all (log_of setup events m) s o) →
+StoredIsAcknowledged = (setup : Setup) (events : List Event) (m : ServerId) (s o : ℕ) (entry : Entry) →
+    factor_of setup m.index ≢ 0 → (master_of (replay setup events) m).deposed ≡ false →
+    IsTrue (is_stored_on_all (log_of setup events m) s o) →
     slice_get ((log_of setup events m).segments s).entries o ≡ Some (entry, true) →
     In (to_outside m (WriteOk s o entry.term entry.table entry.key entry.version)) (sent_after setup events)
 
@@ -57,7 +59,8 @@ acks_place m s o message = is_server m message.from && names_place s o message.b
 
 -- a place is acknowledged once
 abbrev pub AcknowledgedOnce : Type 0
-AcknowledgedOnce = (setup : Setup) (events : List Event) (m : ServerId) (s o : ℕ) → length (filter (acks_place m s o) (sent_after setup events)) ≤ 1
+AcknowledgedOnce = (setup : Setup) (events : List Event) (m : ServerId) (s o : ℕ) →
+    length (filter (acks_place m s o) (sent_after setup events)) ≤ 1
 
 -- the write was asked of the master
 pub record WasAsked (sent : List Message) (m : ServerId) (table key : ℕ) (value : Option (List ℕ)) : Type 0 where

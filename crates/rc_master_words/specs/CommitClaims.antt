@@ -12,12 +12,14 @@ use Rattle.rc_log_words.specs.Claims.{sent_after, log_of}
 -- a master asks for a commit of a segment only where each earlier one is shut
 abbrev pub CommitsAreAskedInOrder : Type 0
 CommitsAreAskedInOrder = (setup : Setup) (events : List Event) (m : ServerId) (s e t : ℕ) →
-    In (to_coordinator m (Commit s e)) (sent_after setup events) → 0 < t → t < s → ((log_of setup events m).segments t).shut ≡ true
+    In (to_coordinator m (Commit s e)) (sent_after setup events) → 0 < t → t < s →
+    ((log_of setup events m).segments t).shut ≡ true
 
 -- so each segment below a granted one is shut
 abbrev pub CommitsAreInOrder : Type 0
 CommitsAreInOrder = (setup : Setup) (events : List Event) (m : ServerId) (s e t : ℕ) →
-    In (from_coordinator m (CommitOk s e)) (sent_after setup events) → 0 < t → t < s → ((log_of setup events m).segments t).shut ≡ true
+    In (from_coordinator m (CommitOk s e)) (sent_after setup events) → 0 < t → t < s →
+    ((log_of setup events m).segments t).shut ≡ true
 
 -- and each below the master's least pair
 abbrev pub LeastPairsAreInOrder : Type 0

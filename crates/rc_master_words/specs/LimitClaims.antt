@@ -18,4 +18,5 @@ LogsStayWithinLimits = (setup : Setup) (events : List Event) (m : ServerId) → 
 
 -- which is what the setup says
 abbrev pub SegmentsTakeWhatIsSetUp : Type 0
-SegmentsTakeWhatIsSetUp = (setup : Setup) (events : List Event) (m : ServerId) → (log_of setup events m).size ≡ setup.segment
+SegmentsTakeWhatIsSetUp = (setup : Setup) (events : List Event) (m : ServerId) →
+    (log_of setup events m).size ≡ setup.segment

@@ -12,10 +12,11 @@ use Rattle.rc_log_words.specs.Claims.{log_of}
 abbrev pub count_of : Setup → List Event → ServerId → ℕ
 count_of setup events m = (log_of setup events m).durable
 
--- Where a segment has replicas at all, and the master isn't deposed: after each event it counts as many places as it did before,
--- or as many as are stored on all just then, whichever is more. So a place is counted, and a client's write at it acknowledged,
--- in the very event in which it becomes stored on all, and in no other.
+-- Where a segment has replicas at all, and the master isn't deposed: after each event it counts as many places as it
+-- did before, or as many as are stored on all just then, whichever is more. So a place is counted, and a client's
+-- write at it acknowledged, in the very event in which it becomes stored on all, and in no other.
 abbrev pub CountedWhenStored : Type 0
 CountedWhenStored = (setup : Setup) (events : List Event) (one : Event) (m : ServerId) → factor_of setup m.index ≢ 0 →
     (master_of (replay setup (events ++ one ∷ [])) m).deposed ≡ false →
-    count_of setup (events ++ one ∷ []) m ≡ max (count_of setup events m) (durable_now (log_of setup (events ++ one ∷ []) m))
+    count_of setup (events ++ one ∷ []) m ≡
+    max (count_of setup events m) (durable_now (log_of setup (events ++ one ∷ []) m))

@@ -1,5 +1,5 @@
--- A run that the words of this crate speak of, computed in the definitions: two segments are written, and the second one takes a
--- new epoch once a member of it is lost.
+-- A run that the words of this crate speak of, computed in the definitions: two segments are written, and the second
+-- one takes a new epoch once a member of it is lost.
 use Rattle.std.specs.Prelude.{◌≡◌, ℕ, true, List, [], ◌∷◌, length, codes}
 use Rattle.rc_model.specs.Log.{Log, durable_now}
 use Rattle.rc_model.specs.World.{World, opening}
@@ -19,7 +19,8 @@ world_of_two_segments = runs (opening of_two) two_segments
 abbrev pub log_of_two_segments : Log
 log_of_two_segments = (world_of_two_segments.masters (id 0 1)).log
 
--- three writes are acknowledged, three places are counted and stored on all, and the least pair is of the second segment
+-- three writes are acknowledged, three places are counted and stored on all, and the least pair is of the second
+-- segment
 abbrev pub numbers_of_two_segments : List ℕ
 numbers_of_two_segments =
     length (acks_in (id 0 1) world_of_two_segments.sent) ∷ log_of_two_segments.durable ∷ durable_now log_of_two_segments

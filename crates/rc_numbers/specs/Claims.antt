@@ -22,7 +22,8 @@ pub record HasRoom (c : Coordinator) : Type 0 where
   pub terms : c.last_term + length c.tablets + 1 < 2 ^ 32
 
 abbrev pub CoordinatorHasRoom : Type 0
-CoordinatorHasRoom = (setup : Setup) (events : List Event) → length events ≤ MAX_EVENTS → HasRoom (replay setup events).coordinator
+CoordinatorHasRoom = (setup : Setup) (events : List Event) → length events ≤ MAX_EVENTS →
+    HasRoom (replay setup events).coordinator
 
 -- a host can be started once more
 abbrev pub GenerationsHaveRoom : Type 0
@@ -32,10 +33,11 @@ GenerationsHaveRoom = (setup : Setup) (events : List Event) → length events �
 -- each entry of the log of a master that runs has a version with room for one more
 abbrev pub VersionsHaveRoom : Type 0
 VersionsHaveRoom = (setup : Setup) (events : List Event) → length events ≤ MAX_EVENTS → (index : ℕ) (master : Master) →
-    ((replay setup events).hosts index).master ≡ Some master → All (λ entry. entry.version < 2 ^ 64 - 1) (entries_of master.log)
+    ((replay setup events).hosts index).master ≡ Some master →
+    All (λ entry. entry.version < 2 ^ 64 - 1) (entries_of master.log)
 
 -- and so has the next one of each key
 abbrev pub NextVersionsHaveRoom : Type 0
-NextVersionsHaveRoom = (setup : Setup) (events : List Event) → length events ≤ MAX_EVENTS → (index : ℕ) (master : Master) →
-    ((replay setup events).hosts index).master ≡ Some master → (term table key : ℕ) →
+NextVersionsHaveRoom = (setup : Setup) (events : List Event) → length events ≤ MAX_EVENTS →
+    (index : ℕ) (master : Master) → ((replay setup events).hosts index).master ≡ Some master → (term table key : ℕ) →
     next_version term table key (entries_of master.log) < 2 ^ 64
