@@ -1,7 +1,7 @@
 -- More places are durable, and an entry is appended: a client's, or the first that waits.
-use Rattle.std.proofs.Common.{◌≡◌, ◌⊎◌, ℕ, ◌<◌, ◌≤◌, Bool, true, false, ◌&&◌, List, [], ◌∷◌, ◌++◌, map, take, nat_eq, find, Option, Some, None, option_map, refl, sym, ap, ◌∙◌, subst, inl, inr, arith}
-use Rattle.std.proofs.lemmas.Bool.{eq-eqb}
-use Rattle.std.proofs.lemmas.List.{append_assoc}
+use Rattle.std.proofs.Common.{◌≡◌, ◌⊎◌, ℕ, ◌+◌, ◌<◌, ◌≤◌, Bool, true, false, ◌&&◌, List, [], ◌∷◌, ◌++◌, length, map, take, nat_eq, find, Option, Some, None, option_map, refl, sym, ap, ◌∙◌, subst, inl, inr, arith}
+use Rattle.std.proofs.lemmas.Bool.{eqb-true, eq-eqb}
+use Rattle.std.proofs.lemmas.List.{append_assoc, length-append, length-map}
 use Rattle.rc_types.specs.declared.ids.ServerId.{ServerId}
 use Rattle.rc_types.specs.declared.entries.Entry.{Entry}
 use Rattle.rc_types.specs.declared.kept.GrantedRange.{GrantedRange}
@@ -15,8 +15,8 @@ use Rattle.rc_model.proofs.Members.{In-append, place_of}
 use Rattle.rc_model.proofs.Numbering.{greatest-above}
 use Rattle.rc_facts.specs.Words.{Begins}
 use Rattle.rc_facts.proofs.Lists.{true_false}
-use Rattle.rc_master_facts.proofs.Tests.{any-here, find-one}
-use Rattle.rc_part_facts.specs.Parts.{PartView, logged, under, durable_under, IsWaiting, HasJoined, IsClients, GoodParts}
+use Rattle.rc_master_facts.proofs.Tests.{any-one, any-here, find-one}
+use Rattle.rc_part_facts.specs.Parts.{PartView, logged, under, durable_under, IsWaiting, HasJoined, IsClients, IsReplayed, GoodParts}
 use Rattle.rc_part_facts.proofs.Lists.{under-append, under-here, under-none, count-take, count-grows, logged-append, begins-more, IsLast, IsBefore, last-or-before}
 
 -- More is durable
@@ -40,9 +40,11 @@ good-durable sent m v n good less = record {
   parts_are = λ state at. (let p = good.parts_are state at in
       record { task = p.task; among = p.among; part_is = p.part_is; attempt_is = p.attempt_is; how = how state p.task p.how });
   logged_known = good.logged_known;
-  waiting_known = good.waiting_known;
+  waiting_part = good.waiting_part;
   clients = λ before after place e client. (let p = good.clients before after place e client in
       record { grant = p.grant; among = p.among; term_is = p.term_is; holds = p.holds; rises = p.rises; after = p.after });
+  replays = λ before after place e client. (let p = good.replays before after place e client in
+      record { state = p.state; among = p.among; term_is = p.term_is; rows = p.rows; first = p.first });
 }
   where
     how : (state : PartState) (task : Task) → IsWaiting sent m v task state ⊎ HasJoined sent m v task state → IsWaiting sent m (with_durable n v) task state ⊎ HasJoined sent m (with_durable n v) task state
@@ -118,6 +120,13 @@ or-right false b e = e
 pub knows-owned : (own : Ownership) (term : ℕ) → owns_term own term ≡ true → knows_term own term ≡ true
 knows-owned own term e = or-right (has_part own term) (owns_term own term) e
 
+or-left : (a b : Bool) → a ≡ true → Rattle.std.specs.Prelude.◌||◌ a b ≡ true
+or-left true b e = refl
+or-left false b e = true_false (sym e)
+
+pub knows-part : (own : Ownership) (term : ℕ) → has_part own term ≡ true → knows_term own term ≡ true
+knows-part own term e = or-left (has_part own term) (owns_term own term) e
+
 -- A client's entry
 
 is-of-true : (term table key : ℕ) (entry : Entry) → entry.term ≡ term → entry.table ≡ table → entry.key ≡ key → is_of term table key entry ≡ true
@@ -128,9 +137,9 @@ is-of-true term table key entry a b c =
     both true b p q = q
     both false b p q = true_false (sym p)
 
-pub good-client : (sent : List Message) (m : ServerId) (v : PartView) (place : LogPlace) → GoodParts sent m v → OwnsPoint v.own place.entry.term place.entry.table place.entry.key →
+pub good-client : (sent : List Message) (m : ServerId) (v : PartView) (place : LogPlace) → place.client ≡ true → GoodParts sent m v → OwnsPoint v.own place.entry.term place.entry.table place.entry.key →
     place.entry.version ≡ next_version place.entry.term place.entry.table place.entry.key (logged v.places) → GoodParts sent m (with_place place v)
-good-client sent m v place good owns numbered = record {
+good-client sent m v place is_client good owns numbered = record {
   granted = good.granted;
   planned = good.planned;
   task_known = good.task_known;
@@ -138,8 +147,9 @@ good-client sent m v place good owns numbered = record {
   parts_are = λ state at. (let p = good.parts_are state at in
       record { task = p.task; among = p.among; part_is = p.part_is; attempt_is = p.attempt_is; how = how state p.task p.how });
   logged_known = λ entry at. known entry (In-append entry (logged v.places) (place.entry ∷ []) (subst (In entry) (logged-place v.places place) at));
-  waiting_known = good.waiting_known;
+  waiting_part = good.waiting_part;
   clients = λ before after one e client. which before after one client (last-or-before v.places place before one after e);
+  replays = λ before after one e client. old_replay before after one client (last-or-before v.places place before one after e);
 }
   where
     owned : owns_term v.own place.entry.term ≡ true
@@ -206,6 +216,12 @@ good-client sent m v place good owns numbered = record {
         let q = good.clients before p.rest one p.whole client in
         record { grant = q.grant; among = q.among; term_is = q.term_is; holds = q.holds; rises = q.rises; after = q.after }
 
+    old_replay : (before after : List LogPlace) (one : LogPlace) → one.client ≡ false → IsLast v.places place before one after ⊎ IsBefore v.places place before one after → IsReplayed (with_place place v) before one.entry
+    old_replay before after one client (inl p) = true_false (sym is_client ∙ (ap (λ (it : LogPlace). it.client) (sym p.is) ∙ client))
+    old_replay before after one client (inr p) =
+        let q = good.replays before p.rest one p.whole client in
+        record { state = q.state; among = q.among; term_is = q.term_is; rows = q.rows; first = q.first }
+
 -- The first that waits
 
 abbrev pub replayed : LogPlace → List Entry → PartView → PartView
@@ -233,13 +249,14 @@ good-replayed sent m v place rest good waits unclient = record {
   parts_are = λ state at. (let p = good.parts_are state at in
       record { task = p.task; among = p.among; part_is = p.part_is; attempt_is = p.attempt_is; how = how state p.task p.how });
   logged_known = λ entry at. known entry (In-append entry (logged v.places) (place.entry ∷ []) (subst (In entry) (logged-place v.places place) at));
-  waiting_known = λ entry at. good.waiting_known entry (subst (In entry) (sym waits) (inr at));
+  waiting_part = λ entry at. good.waiting_part entry (subst (In entry) (sym waits) (inr at));
   clients = λ before after one e client. which before after one client (last-or-before v.places place before one after e);
+  replays = λ before after one e client. which_replay before after one client (last-or-before v.places place before one after e);
 }
   where
     known : (entry : Entry) → In entry (logged v.places) ⊎ ((entry ≡ place.entry) ⊎ ⊥) → knows_term v.own entry.term ≡ true
     known entry (inl old) = good.logged_known entry old
-    known entry (inr (inl same)) = good.waiting_known entry (subst (In entry) (sym waits) (inl same))
+    known entry (inr (inl same)) = knows-part v.own entry.term (good.waiting_part entry (subst (In entry) (sym waits) (inl same)))
     known entry (inr (inr never)) = absurd never
 
     how : (state : PartState) (task : Task) → IsWaiting sent m v task state ⊎ HasJoined sent m v task state → IsWaiting sent m (replayed place rest v) task state ⊎ HasJoined sent m (replayed place rest v) task state
@@ -274,3 +291,31 @@ good-replayed sent m v place rest good waits unclient = record {
     which before after one client (inr p) =
         let q = good.clients before p.rest one p.whole client in
         record { grant = q.grant; among = q.among; term_is = q.term_is; holds = q.holds; rises = q.rises; after = q.after }
+
+    -- the part of the entry that waited first
+    first : (state : PartState) → In state v.own.parts → state.part.term ≡ place.entry.term → (task : Task) → IsWaiting sent m v task state ⊎ HasJoined sent m v task state → IsReplayed (replayed place rest v) v.places place.entry
+    first state at same task (inl p) = absurd ((under-none-one state.part.term place.entry rest (sym (ap (under state.part.term) waits) ∙ p.none_waits)).0 (sym same))
+    first state at same task (inr p) = by (owns_term v.own state.part.term) refl
+      where
+        by : (b : Bool) → owns_term v.own state.part.term ≡ b → IsReplayed (replayed place rest v) v.places place.entry
+        by true owns = absurd ((under-none-one state.part.term place.entry rest (sym (ap (under state.part.term) waits) ∙ (p.owned owns).1)).0 (sym same))
+        by false owns =
+            let whole : under state.part.term (logged v.places) ++ place.entry ∷ under state.part.term rest ≡ map (under_term state.part.term) p.entries =
+            ap (λ l. under state.part.term (logged v.places) ++ l) (sym (under-here state.part.term place.entry rest (sym same)) ∙ ap (under state.part.term) (sym waits)) ∙ p.fresh owns in
+            let long : length (under state.part.term (logged v.places) ++ place.entry ∷ under state.part.term rest) ≡ length (under state.part.term (logged v.places)) + length (place.entry ∷ under state.part.term rest) =
+            length-append (under state.part.term (logged v.places)) (place.entry ∷ under state.part.term rest) in
+            let all : length (map (under_term state.part.term) p.entries) ≡ length p.entries = length-map p.entries (under_term state.part.term) in
+            let size : state.size ≡ length p.entries = p.size in
+            let lengths : length (under state.part.term (logged v.places) ++ place.entry ∷ under state.part.term rest) ≡ length (map (under_term state.part.term) p.entries) = ap length whole in
+            let less : count_under state.part.term (logged v.places) < state.size = omega arith in
+            record { state = state; among = at; term_is = same; rows = p.rows; first = subst (λ t. count_under t (logged v.places) < state.size) same less }
+
+    which_replay : (before after : List LogPlace) (one : LogPlace) → one.client ≡ false → IsLast v.places place before one after ⊎ IsBefore v.places place before one after → IsReplayed (replayed place rest v) before one.entry
+    which_replay before after one client (inl p) =
+        let found = any-one (λ (state : PartState). nat_eq state.part.term place.entry.term) v.own.parts (good.waiting_part place.entry (subst (In place.entry) (sym waits) (inl refl))) in
+        let q = good.parts_are found.0 found.1 in
+        subst (λ (l : List LogPlace). IsReplayed (replayed place rest v) l one.entry) (sym p.before_is)
+        (subst (λ (it : LogPlace). IsReplayed (replayed place rest v) v.places it.entry) (sym p.is) (first found.0 found.1 (eqb-true found.0.part.term place.entry.term found.2) q.task q.how))
+    which_replay before after one client (inr p) =
+        let q = good.replays before p.rest one p.whole client in
+        record { state = q.state; among = q.among; term_is = q.term_is; rows = q.rows; first = q.first }

@@ -1,5 +1,5 @@
 -- A row comes, a range is granted, a part is begun, and its end is told.
-use Rattle.std.proofs.Common.{◌≡◌, ◌⊎◌, ℕ, ◌≤◌, Bool, true, false, cond, ◌||◌, List, [], ◌∷◌, ◌++◌, length, map, take, nat_eq, nat_le, Some, None, refl, sym, ap, ◌∙◌, subst, inl, inr, arith}
+use Rattle.std.proofs.Common.{◌≡◌, ◌⊎◌, ℕ, ◌<◌, ◌≤◌, Bool, true, false, cond, ◌||◌, List, [], ◌∷◌, ◌++◌, length, map, take, nat_eq, nat_le, Some, None, refl, sym, ap, ◌∙◌, subst, inl, inr, arith}
 use Rattle.std.specs.List.{list_any}
 use Rattle.std.proofs.lemmas.Bool.{and_parts, eqb-true, eq-eqb, leb-true}
 use Rattle.std.proofs.lemmas.List.{length-map}
@@ -16,11 +16,11 @@ use Rattle.rc_model.specs.Headline.{In}
 use Rattle.rc_model.proofs.Members.{either, In-append, In-left, In-right}
 use Rattle.rc_facts.specs.Words.{Begins}
 use Rattle.rc_facts.proofs.Lists.{true_false, begins-refl}
-use Rattle.rc_part_facts.specs.Parts.{PartView, logged, under, durable_under, WasGranted, WasPlanned, HasSent, rows_of_task, SomeCame, AllCame, IsWaiting, HasJoined, IsPart, IsClients, GoodParts}
+use Rattle.rc_part_facts.specs.Parts.{PartView, logged, under, durable_under, WasGranted, WasPlanned, HasSent, rows_of_task, SomeCame, AllCame, IsWaiting, HasJoined, IsPart, IsClients, IsReplayed, GoodParts}
 use Rattle.rc_part_facts.specs.Moves.{IsComplete}
 use Rattle.rc_part_facts.proofs.Lists.{append-nil, under-append, under-all, under-none, count-take, nothing-more}
-use Rattle.rc_part_facts.proofs.Appending.{owns-granted}
-use Rattle.rc_part_facts.proofs.States.{has_term, has_term-same, differ-same, one-term, differ-append, awaits-some, awaits-term, same-data, replay-term, IsOther, IsTaker, data-cases, some-with_row, rows-some, all-came, SameState, same-answered, answered-was}
+use Rattle.rc_part_facts.proofs.Appending.{knows-part, owns-granted}
+use Rattle.rc_part_facts.proofs.States.{has_term, has_term-same, differ-same, one-term, differ-append, awaits-some, awaits-term, same-data, replay-term, IsOther, IsTaker, data-cases, some-with_row, rows-some, all-came, SameState, same-answered, answered-was, was-answered, data-stays}
 
 abbrev pub with_own : Ownership → PartView → PartView
 with_own own v = record v { own = own }
@@ -44,6 +44,9 @@ or-parts false b e = (refl, e)
 module _ (sent : List Message) (m : ServerId) (v : PartView) (good : GoodParts sent m v) (term seg : ℕ) (from : ServerId) (entries : List Entry) (was : HasSent sent m from term seg entries) where
   own_now : Ownership
   own_now = put_data term seg from entries v.own
+
+  has-now : (t : ℕ) → has_part (put_data term seg from entries v.own) t ≡ has_part v.own t
+  has-now t = has_term-same t v.own.parts (data_in term seg from entries v.own.parts) (same-data term seg from entries v.own.parts)
 
   knows-now : (t : ℕ) → knows_term (put_data term seg from entries v.own) t ≡ knows_term v.own t
   knows-now t = ap (λ b. b || owns_term v.own t) (has_term-same t v.own.parts (data_in term seg from entries v.own.parts) (same-data term seg from entries v.own.parts))
@@ -154,7 +157,9 @@ module _ (sent : List Message) (m : ServerId) (v : PartView) (good : GoodParts s
     differ = differ-same v.own.parts (data_in term seg from entries v.own.parts) (same-data term seg from entries v.own.parts) good.differ;
     parts_are = λ now at. parts now (data-cases term seg from entries v.own.parts now good.differ at);
     logged_known = λ entry at. knows-now entry.term ∙ good.logged_known entry at;
-    waiting_known = λ entry at. knows-now entry.term ∙ waits entry (In-append entry v.own.replay (replay_in term seg from entries v.own.parts) at);
+    waiting_part = λ entry at. has-now entry.term ∙ waits entry (In-append entry v.own.replay (replay_in term seg from entries v.own.parts) at);
+    replays = λ before after place e client. (let p = good.replays before after place e client in
+        record { state = p.state; among = data-stays term seg from entries v.own.parts p.state p.among p.rows; term_is = p.term_is; rows = p.rows; first = p.first });
     clients = λ before after place e client. (let p = good.clients before after place e client in
         record {
           grant = p.grant;
@@ -171,11 +176,9 @@ module _ (sent : List Message) (m : ServerId) (v : PartView) (good : GoodParts s
       parts now (inl p) = other now p
       parts now (inr p) = taker now p
 
-      waits : (entry : Entry) → In entry v.own.replay ⊎ In entry (replay_in term seg from entries v.own.parts) → knows_term v.own entry.term ≡ true
-      waits entry (inl old) = good.waiting_known entry old
-      waits entry (inr new) =
-          let p = replay-term term seg from entries v.own.parts entry new in
-          or-left (has_part v.own entry.term) (owns_term v.own entry.term) (ap (λ t. has_term t v.own.parts) p.0 ∙ p.1)
+      waits : (entry : Entry) → In entry v.own.replay ⊎ In entry (replay_in term seg from entries v.own.parts) → has_part v.own entry.term ≡ true
+      waits entry (inl old) = good.waiting_part entry old
+      waits entry (inr new) = (let p = replay-term term seg from entries v.own.parts entry new in ap (λ t. has_term t v.own.parts) p.0 ∙ p.1)
 
 -- A range is granted
 
@@ -267,7 +270,9 @@ module _ (sent : List Message) (m : ServerId) (v : PartView) (good : GoodParts s
     parts_are = λ state at. (let p = good.parts_are state at in
         record { task = p.task; among = p.among; part_is = p.part_is; attempt_is = p.attempt_is; how = how-owning state p.task at p.how });
     logged_known = λ entry at. knows-more entry.term (good.logged_known entry at);
-    waiting_known = λ entry at. knows-more entry.term (good.waiting_known entry at);
+    waiting_part = good.waiting_part;
+    replays = λ before after place e client. (let p = good.replays before after place e client in
+        record { state = p.state; among = p.among; term_is = p.term_is; rows = p.rows; first = p.first });
     clients = λ before after place e client. (let p = good.clients before after place e client in
         record { grant = p.grant; among = In-left p.grant v.own.grants (granted ∷ []) p.among; term_is = p.term_is; holds = p.holds; rises = p.rises; after = p.after });
   }
@@ -374,14 +379,14 @@ module _ (sent : List Message) (m : ServerId) (v : PartView) (good : GoodParts s
     entries = [];
     came = subst (λ rows. AllCame sent m task.part.term rows []) (sym e) refl;
     size = refl;
-    fresh = λ unowned. ap (λ l. l ++ under task.part.term v.own.replay) (no-entry (logged v.places) good.logged_known) ∙ no-entry v.own.replay good.waiting_known;
+    fresh = λ unowned. ap (λ l. l ++ under task.part.term v.own.replay) (no-entry (logged v.places) good.logged_known) ∙ no-entry v.own.replay (λ entry at. knows-part v.own entry.term (good.waiting_part entry at));
     owned = λ owns. true_false (sym owns ∙ tests.1);
   })
   how-new (row ∷ rows) e = inl (record {
     rows = some-none sent m task.part.term (rows_of_task task) (none-came (map (λ row. (row.seg, row.holder)) task.rows));
     some = λ none. never (sym e ∙ none);
     none_logged = no-entry (logged v.places) good.logged_known;
-    none_waits = no-entry v.own.replay good.waiting_known;
+    none_waits = no-entry v.own.replay (λ entry at. knows-part v.own entry.term (good.waiting_part entry at));
     unowned = tests.1;
   })
     where
@@ -396,7 +401,9 @@ module _ (sent : List Message) (m : ServerId) (v : PartView) (good : GoodParts s
     differ = differ-append v.own.parts new good.differ tests.0;
     parts_are = λ state at. part state (In-append state v.own.parts (new ∷ []) at);
     logged_known = λ entry at. knows-begun entry.term (good.logged_known entry at);
-    waiting_known = λ entry at. knows-begun entry.term (good.waiting_known entry at);
+    waiting_part = λ entry at. has-more entry.term v.own.parts (good.waiting_part entry at);
+    replays = λ before after place e client. (let p = good.replays before after place e client in
+        record { state = p.state; among = In-left p.state v.own.parts _ p.among; term_is = p.term_is; rows = p.rows; first = p.first });
     clients = λ before after place e client. (let p = good.clients before after place e client in
         record {
           grant = p.grant;
@@ -455,7 +462,8 @@ good-answered sent m v durable good = record {
   differ = differ-same v.own.parts (answered_in durable v.own.parts) (same-answered durable v.own.parts) good.differ;
   parts_are = λ now at. part now (answered-was durable v.own.parts now at);
   logged_known = λ entry at. knows entry.term ∙ good.logged_known entry at;
-  waiting_known = λ entry at. knows entry.term ∙ good.waiting_known entry at;
+  waiting_part = λ entry at. has_term-same entry.term v.own.parts (answered_in durable v.own.parts) (same-answered durable v.own.parts) ∙ good.waiting_part entry at;
+  replays = λ before after place e client. of_replay before place.entry (good.replays before after place e client);
   clients = λ before after place e client. (let p = good.clients before after place e client in
       record {
         grant = p.grant;
@@ -504,6 +512,18 @@ good-answered sent m v durable good = record {
     of_client before entry p now (old, at, same) is =
         let q = p.after old at (ap (λ (one : Part). one.term) (sym same.part) ∙ is) in
         (same.rows ∙ q.0, subst (λ n. n ≤ count_under entry.term (logged before)) (sym same.size) q.1)
+
+    of_replay : (before : List LogPlace) (entry : Entry) → IsReplayed v before entry → IsReplayed (with_own (after_answer durable v.own) v) before entry
+    of_replay before entry p = by (was-answered durable v.own.parts p.state p.among)
+      where
+        by : (now : PartState) × (In now (answered_in durable v.own.parts)) × SameState p.state now → IsReplayed (with_own (after_answer durable v.own) v) before entry
+        by (now, at, same) = record {
+          state = now;
+          among = at;
+          term_is = ap (λ (one : Part). one.term) same.part ∙ p.term_is;
+          rows = same.rows ∙ p.rows;
+          first = subst (λ n. count_under entry.term (logged before) < n) (sym same.size) p.first;
+        }
 
 -- what the test of a complete part says
 pub complete-is : (v : PartView) (state : PartState) → In state v.own.parts → is_complete (take v.durable (logged v.places)) state ≡ true → IsComplete v state.part.term

@@ -92,7 +92,7 @@ module _ (sent : List Message) (m : ServerId) where
           let now : part_view (appends_entry master entry true).0 ≡ with_place place (part_view master) = appended-view master entry true head e in
           record {
             head = head;
-            good = subst (GoodParts sent m) (sym now) (good-client sent m (part_view master) place good owns refl);
+            good = subst (GoodParts sent m) (sym now) (good-client sent m (part_view master) place refl good owns refl);
             later = subst (PartsLater (part_view master)) (sym now) (later-places (part_view master) (place ∷ []) master.ownership refl refl);
             says = plain-says (part_view (appends_entry master entry true).0) (appends_entry master entry true).1
                 (plain-to_ids master.log.own (ids_of (not_lost (master.log.segments master.log.head).config.members)) (body.Append master.log.head (length (head_of master.log).entries) (entry ∷ [])) tt);
@@ -541,8 +541,9 @@ new-has-good-parts m setup = record {
   differ = tt;
   parts_are = λ state at. absurd at;
   logged_known = λ entry at. absurd at;
-  waiting_known = λ entry at. absurd at;
+  waiting_part = λ entry at. absurd at;
   clients = λ before after place e client. absurd (never before after place e);
+  replays = λ before after place e client. absurd (never before after place e);
 }
   where
     never : (before after : List LogPlace) (place : LogPlace) → [] ≡ before ++ place ∷ after → ⊥

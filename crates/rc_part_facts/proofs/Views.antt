@@ -216,6 +216,7 @@ good-more sent sent_now more m v good = record {
   parts_are = λ state at. (let p = good.parts_are state at in
       record { task = p.task; among = p.among; part_is = p.part_is; attempt_is = p.attempt_is; how = how-more sent sent_now more m v p.task state p.how });
   logged_known = good.logged_known;
-  waiting_known = good.waiting_known;
+  waiting_part = good.waiting_part;
   clients = good.clients;
+  replays = good.replays;
 }

@@ -143,6 +143,14 @@ pub record IsClients (v : PartView) (before : List LogPlace) (entry : Entry) : T
   pub after : (state : PartState) → In state v.own.parts → state.part.term ≡ entry.term →
       (state.rows ≡ []) × (state.size ≤ count_under entry.term (logged before))
 
+-- any other entry is one of the first under its term, as many as its part has
+pub record IsReplayed (v : PartView) (before : List LogPlace) (entry : Entry) : Type 0 where
+  pub state : PartState
+  pub among : In state v.own.parts
+  pub term_is : state.part.term ≡ entry.term
+  pub rows : state.rows ≡ []
+  pub first : count_under entry.term (logged before) < state.size
+
 -- All of it
 
 pub record GoodParts (sent : List Message) (m : ServerId) (v : PartView) : Type 0 where
@@ -152,6 +160,8 @@ pub record GoodParts (sent : List Message) (m : ServerId) (v : PartView) : Type 
   pub differ : TermsDiffer v.own.parts
   pub parts_are : (state : PartState) → In state v.own.parts → IsPart sent m v state
   pub logged_known : (entry : Entry) → In entry (logged v.places) → knows_term v.own entry.term ≡ true
-  pub waiting_known : (entry : Entry) → In entry v.own.replay → knows_term v.own entry.term ≡ true
+  pub waiting_part : (entry : Entry) → In entry v.own.replay → has_part v.own entry.term ≡ true
   pub clients : (before after : List LogPlace) (place : LogPlace) → v.places ≡ before ++ place ∷ after → place.client ≡ true →
       IsClients v before place.entry
+  pub replays : (before after : List LogPlace) (place : LogPlace) → v.places ≡ before ++ place ∷ after → place.client ≡ false →
+      IsReplayed v before place.entry

@@ -90,7 +90,7 @@ module _ (sent : List Message) (masters : ServerId → Master) (hosts : ℕ → 
 
 module _ (sent : List Message) (masters : ServerId → Master) (hosts : ℕ → HostNode) (c : Coordinator) (all : AllHold sent masters hosts c) where
   -- what a row of a task holds was made
-  row-made : (x : ServerId) (task : Task) (row : PlanRow) → In task (masters x).tasks → In row task.rows → made_below sent task.master row.seg row.len ≡ take row.len (log_in (masters task.master).log row.seg)
+  pub row-made : (x : ServerId) (task : Task) (row : PlanRow) → In task (masters x).tasks → In row task.rows → made_below sent task.master row.seg row.len ≡ take row.len (log_in (masters task.master).log row.seg)
   row-made x task row at there =
       made-below sent masters hosts c all.good task.master row.seg row.len (λ o less.
       held-made sent masters hosts c task.master task.rows
@@ -150,7 +150,7 @@ module _ (sent : List Message) (masters : ServerId → Master) (hosts : ℕ → 
   -- The base
 
   -- all that came for a task's rows is its master's log, cut to the part
-  all-cut : (x : ServerId) (task : Task) → In task (masters x).tasks → (rows : List PlanRow) → ((row : PlanRow) → In row rows → In row task.rows) → (entries : List Entry) →
+  pub all-cut : (x : ServerId) (task : Task) → In task (masters x).tasks → (rows : List PlanRow) → ((row : PlanRow) → In row rows → In row task.rows) → (entries : List Entry) →
       AllCame sent x task.part.term (waited rows) entries → entries ≡ filter (is_in_part task.part) (recovered_entries sent task.master rows)
   all-cut x task at [] among entries came = came
   all-cut x task at (row ∷ rows) among entries came =

@@ -11,10 +11,11 @@ use Rattle.rc_types.specs.declared.kept.GrantedRange.{GrantedRange}
 use Rattle.rc_types.specs.declared.messages.Message.{Message}
 use Rattle.rc_types.specs.declared.messages.Body.TheVariants as body
 use Rattle.rc_model.specs.Recovered.{Ack}
-use Rattle.rc_model.specs.Owners.{Granted, granted, IsGranted, covers, grants_of, previous, IsEarlier}
+use Rattle.rc_model.specs.Owners.{Granted, grant_in, granted, IsGranted, covers, grants_of, previous, IsEarlier}
 use Rattle.rc_model.specs.Segment.{Segment}
+use Rattle.rc_model.specs.Messages.{from_coordinator}
 use Rattle.rc_model.specs.Log.{places_in, places_to, places_of}
-use Rattle.rc_model.specs.Ownership.{PartState, has_part, owns_term}
+use Rattle.rc_model.specs.Ownership.{PartState, in_range, has_part, owns_term}
 use Rattle.rc_model.specs.Master.{Master}
 use Rattle.rc_model.specs.Attempts.{GivenPart}
 use Rattle.rc_model.specs.Coordinator.{Coordinator}
@@ -26,14 +27,16 @@ use Rattle.rc_facts.specs.Words.{log_in}
 use Rattle.rc_facts.specs.Facts.{IsSafe, IsWriteOk}
 use Rattle.rc_facts.proofs.Lists.{true_false}
 use Rattle.rc_master_facts.proofs.Tests.{any-one, filter-In}
+use Rattle.rc_owner_facts.proofs.Ordered.{one-chain}
 use Rattle.rc_owner_facts.specs.Grants.{IsOwn, own_said}
 use Rattle.rc_term_facts.specs.Terms.{IsGivenBy}
 use Rattle.rc_part_facts.specs.Parts.{part_view, logged, WasGranted, IsPart}
 use Rattle.rc_part_facts.proofs.Lists.{logged-append}
 use Rattle.rc_version_safety.specs.Worlds.{AllHold}
 use Rattle.rc_version_safety.specs.Words.{Keeps, IsCarriedOn}
+use Rattle.rc_version_safety.specs.Claims.{NoVersionTwice}
 use Rattle.rc_version_safety.proofs.Bases.{IsTaskOf, task-of}
-use Rattle.rc_version_safety.proofs.Rising.{IsRemembered, remembered, starts-keeps, GoesTo, goes-on, IsAcked, acked}
+use Rattle.rc_version_safety.proofs.Rising.{granted_of, IsRemembered, remembered, starts-keeps, GoesTo, goes-on, IsAcked, acked, IsOwned, owner, versions-rise}
 
 -- What stands in a segment is among the entries of the log's places
 
@@ -41,7 +44,7 @@ logged-in : (seg offset : ℕ) (entries : List (Entry × Bool)) → logged (plac
 logged-in seg offset [] = refl
 logged-in seg offset (one ∷ entries) = ap (λ l. one.0 ∷ l) (logged-in seg (offset + 1) entries)
 
-In-places : (segments : ℕ → Segment) (n s : ℕ) (entry : Entry) → 0 < s → s ≤ n → In entry (map (λ one. one.0) (segments s).entries) → In entry (logged (places_to segments n))
+pub In-places : (segments : ℕ → Segment) (n s : ℕ) (entry : Entry) → 0 < s → s ≤ n → In entry (map (λ one. one.0) (segments s).entries) → In entry (logged (places_to segments n))
 In-places segments zero s entry above upto at = absurd (omega arith)
 In-places segments (suc n) s entry above upto at =
     subst (In entry) (sym (logged-append (places_to segments n) (places_in (suc n) 0 (segments (suc n)).entries))) (by (last-or s n upto) (λ less. In-places segments n s entry above less at))
@@ -189,6 +192,43 @@ module _ (sent : List Message) (masters : ServerId → Master) (hosts : ℕ → 
       way grant before = subst (λ n. IsEarlier sent w.entry.table w.entry.key n grant.term) (sym w.term_is)
           (subst (λ k. IsEarlier sent w.entry.table k ack.term grant.term) (sym w.key_is)
           (subst (λ t. IsEarlier sent t ack.key ack.term grant.term) (sym w.table_is) before))
+
+  -- No two owners acknowledge one version
+
+  granted-in : (some : List Message) (grant : Grant) → In (from_coordinator grant.owner (own_body grant)) some → In (granted_of grant) (granted some)
+  granted-in [] grant at = absurd at
+  granted-in (message ∷ some) grant (inl same) =
+      In-left (granted_of grant) (grant_in message.to message.body) (granted some) (subst (λ (one : Message). In (granted_of grant) (grant_in one.to one.body)) same (inl refl))
+  granted-in (message ∷ some) grant (inr rest) = In-right (granted_of grant) (grant_in message.to message.body) (granted some) (granted-in some grant rest)
+
+  was-granted : (grant : Grant) → In grant c.grants → IsGranted sent (granted_of grant)
+  was-granted grant at = place_of (granted sent) (granted_of grant) (granted-in sent grant (all.kept.told grant at))
+
+  pub no-version-twice : NoVersionTwice sent
+  no-version-twice one other p q tables keys differ same =
+      by (one-chain sent c all.grants all.kept other.table other.key (granted_of first.grant) (granted_of second.grant) (was-granted first.grant first.among) covers_first (was-granted second.grant second.among) second.holds)
+    where
+      first : IsOwned sent masters hosts c all (acked sent masters hosts c all one p).master one.term one.table one.key
+      first = owner sent masters hosts c all one (acked sent masters hosts c all one p)
+
+      second : IsOwned sent masters hosts c all (acked sent masters hosts c all other q).master other.term other.table other.key
+      second = owner sent masters hosts c all other (acked sent masters hosts c all other q)
+
+      covers_first : in_range first.grant.range other.table other.key ≡ true
+      covers_first = subst (λ k. in_range first.grant.range other.table k ≡ true) keys (subst (λ t. in_range first.grant.range t one.key ≡ true) tables first.holds)
+
+      by : (first.grant.term ≡ second.grant.term) ⊎ (IsEarlier sent other.table other.key first.grant.term second.grant.term ⊎ IsEarlier sent other.table other.key second.grant.term first.grant.term) → ⊥
+      by (inl e) = differ (sym first.term_is ∙ e ∙ second.term_is)
+      by (inr (inl before)) =
+          let less : one.version < other.version = versions-rise sent masters hosts c all other q one p tables keys
+          (subst (λ n. IsEarlier sent other.table other.key one.term n) second.term_is (subst (λ n. IsEarlier sent other.table other.key n second.grant.term) first.term_is before)) in
+          absurd (omega arith)
+      by (inr (inr before)) =
+          let way : IsEarlier sent other.table other.key other.term one.term =
+          subst (λ n. IsEarlier sent other.table other.key other.term n) first.term_is (subst (λ n. IsEarlier sent other.table other.key n first.grant.term) second.term_is before) in
+          let less : other.version < one.version = versions-rise sent masters hosts c all one p other q (sym tables) (sym keys)
+          (subst (λ k. IsEarlier sent one.table k other.term one.term) (sym keys) (subst (λ t. IsEarlier sent t other.key other.term one.term) (sym tables) way)) in
+          absurd (omega arith)
 
 -- a grant's previous term is the earlier one at each of its points
 pub previous-earlier : (sent : List Message) (grant : Granted) (table key : ℕ) → IsGranted sent grant → covers table key grant ≡ true → IsEarlier sent table key grant.previous grant.term

@@ -4,5 +4,6 @@ pub mod Bases
 pub mod Rising
 pub mod Cuts
 pub mod Kept
+pub mod Ordered
 pub mod Laws
 pub mod Replays

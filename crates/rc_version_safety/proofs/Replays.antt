@@ -1,5 +1,5 @@
 -- All facts hold of every world that a list of events leads to, and so does the headline.
-use Rattle.std.proofs.Common.{◌≡◌, take, Some, slice_get}
+use Rattle.std.proofs.Common.{◌≡◌, take, Some, slice_get, refl}
 use Rattle.rc_types.specs.declared.entries.Entry.{Entry}
 use Rattle.rc_model.specs.World.{World, replay}
 use Rattle.rc_model.proofs.Headlines.{breach_is_headline}
@@ -12,9 +12,10 @@ use Rattle.rc_log_words.proofs.SafePlaces.{stored-is-safe}
 use Rattle.rc_owner_facts.proofs.Replays.{OfWorld, grants-world}
 use Rattle.rc_term_facts.proofs.Replays.{terms-world}
 use Rattle.rc_data_facts.proofs.Replays.{data-world}
-use Rattle.rc_version_safety.specs.Claims.{FactsAlwaysHold, DataIsThePlanCutToThePart, GrantsStartFromTheirBase, HandoversKeepWhatWasAcknowledged, HandoversKeepWhatIsDurable, PreviousIsEarlier, VersionsRiseOverOwners, ThereIsNoBreach}
+use Rattle.rc_version_safety.specs.Claims.{FactsAlwaysHold, DataIsThePlanCutToThePart, GrantsStartFromTheirBase, HandoversKeepWhatWasAcknowledged, HandoversKeepWhatIsDurable, PreviousIsEarlier, VersionsRiseOverOwners, VersionsAlwaysRiseWithThePlace, NoVersionIsAcknowledgedTwice, ThereIsNoBreach}
 use Rattle.rc_version_safety.proofs.PartWorlds.{parts-world-by}
-use Rattle.rc_version_safety.proofs.Kept.{previous-earlier}
+use Rattle.rc_version_safety.proofs.Kept.{no-version-twice, previous-earlier}
+use Rattle.rc_version_safety.proofs.Ordered.{logs-rise}
 use Rattle.rc_version_safety.proofs.Laws.{facts-cut-data, facts-start-grants, facts-keep-what-is-safe, facts-keep-what-was-acknowledged, facts-let-versions-rise}
 
 pub all-world : FactsAlwaysHold
@@ -67,3 +68,12 @@ there-is-no-breach setup events = (breach_is_headline (replay setup events).sent
 
 pub previous-is-earlier : PreviousIsEarlier
 previous-is-earlier = previous-earlier
+
+pub versions-rise-with-the-place : VersionsAlwaysRiseWithThePlace
+versions-rise-with-the-place setup events m s o t k entry other here there earlier terms tables keys =
+    logs-rise (replay setup events).sent (replay setup events).masters (replay setup events).hosts (replay setup events).coordinator (all-world setup events) m entry.term s o t k entry other here there earlier
+    (record { term_one = terms; term_other = refl; table = tables; key = keys })
+
+pub no-version-is-acknowledged-twice : NoVersionIsAcknowledgedTwice
+no-version-is-acknowledged-twice setup events =
+    no-version-twice (replay setup events).sent (replay setup events).masters (replay setup events).hosts (replay setup events).coordinator (all-world setup events)

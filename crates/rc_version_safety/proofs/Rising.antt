@@ -377,20 +377,20 @@ module _ (sent : List Message) (masters : ServerId → Master) (hosts : ℕ → 
 
   -- Versions rise
 
+  written-at : (ack : Ack) (is : IsAcked ack) → Stands is.written.place (places_of (masters is.master).log)
+  written-at ack is = stands is.written.place (places_of (masters is.master).log) is.written.among
+
+  clients : (ack : Ack) (is : IsAcked ack) → IsClients (part_view (masters is.master)) (written-at ack is).before is.written.place.entry
+  clients ack is = (all.parts.each is.master).clients (written-at ack is).before (written-at ack is).after is.written.place (written-at ack is).whole is.written.client
+
+  pub owner : (ack : Ack) (is : IsAcked ack) → IsOwned is.master ack.term ack.table ack.key
+  owner ack is =
+      subst (λ k. IsOwned is.master ack.term ack.table k) is.written.key_is
+      (subst (λ t. IsOwned is.master ack.term t is.written.place.entry.key) is.written.table_is
+      (subst (λ n. IsOwned is.master n is.written.place.entry.table is.written.place.entry.key) ((clients ack is).term_is ∙ is.written.term_is)
+      (owned is.master (clients ack is).grant is.written.place.entry.table is.written.place.entry.key (clients ack is).among (clients ack is).holds)))
+
   module _ (later earlier : Ack) (p : IsAcked later) (q : IsAcked earlier) (tables : earlier.table ≡ later.table) (keys : earlier.key ≡ later.key) (before : IsEarlier sent later.table later.key earlier.term later.term) where
-    written-at : (ack : Ack) (is : IsAcked ack) → Stands is.written.place (places_of (masters is.master).log)
-    written-at ack is = stands is.written.place (places_of (masters is.master).log) is.written.among
-
-    clients : (ack : Ack) (is : IsAcked ack) → IsClients (part_view (masters is.master)) (written-at ack is).before is.written.place.entry
-    clients ack is = (all.parts.each is.master).clients (written-at ack is).before (written-at ack is).after is.written.place (written-at ack is).whole is.written.client
-
-    owner : (ack : Ack) (is : IsAcked ack) → IsOwned is.master ack.term ack.table ack.key
-    owner ack is =
-        subst (λ k. IsOwned is.master ack.term ack.table k) is.written.key_is
-        (subst (λ t. IsOwned is.master ack.term t is.written.place.entry.key) is.written.table_is
-        (subst (λ n. IsOwned is.master n is.written.place.entry.table is.written.place.entry.key) ((clients ack is).term_is ∙ is.written.term_is)
-        (owned is.master (clients ack is).grant is.written.place.entry.table is.written.place.entry.key (clients ack is).among (clients ack is).holds)))
-
     old : IsOwned q.master earlier.term earlier.table earlier.key
     old = owner earlier q
 

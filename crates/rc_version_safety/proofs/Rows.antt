@@ -27,7 +27,7 @@ rows-ascend least replies plan e =
     let is : IsPickable least replies plan = pickable-from_picked least replies plan e in
     subst IsAscending (sym (segs-taken least replies is.head (ascending is.head.row.digest) plan.rows is.taken)) (IsAscending-ascending is.head.row.digest)
 
-below-row : (n : ℕ) (rows : List PlanRow) (row : PlanRow) → IsBelow n (segs_of rows) → In row rows → n < row.seg
+pub below-row : (n : ℕ) (rows : List PlanRow) (row : PlanRow) → IsBelow n (segs_of rows) → In row rows → n < row.seg
 below-row n [] row below at = absurd at
 below-row n (first ∷ rows) row below (inl same) = subst (λ (one : PlanRow). n < one.seg) (sym same) below.0
 below-row n (first ∷ rows) row below (inr rest) = below-row n rows row below.1 rest

@@ -1,5 +1,5 @@
 -- What is claimed of data, grants, handovers and versions: where the facts hold, and in every world.
-use Rattle.std.specs.Prelude.{◌≡◌, ℕ, true, List, Some, None, slice_get}
+use Rattle.std.specs.Prelude.{◌≡◌, ◌⊎◌, ℕ, ◌<◌, true, List, Some, None, slice_get}
 use Rattle.rc_types.specs.declared.ids.ServerId.{ServerId}
 use Rattle.rc_types.specs.declared.ids.Addr.TheVariants.{Server}
 use Rattle.rc_types.specs.declared.entries.Entry.{Entry}
@@ -43,6 +43,17 @@ SafeIsKept sent masters = (m : ServerId) (s o : ℕ) (entry : Entry) → IsSafe 
 -- and what was acknowledged
 abbrev pub AcknowledgedIsKept : List Message → (ServerId → Master) → Type 0
 AcknowledgedIsKept sent masters = (ack : Ack) → WasAcknowledged sent ack → IsCarriedOn sent masters ack
+
+-- under one term a key's versions rise with the place, in every log
+abbrev pub VersionsRiseWithThePlace : (ServerId → Master) → Type 0
+VersionsRiseWithThePlace masters = (m : ServerId) (s o t k : ℕ) (entry other : Entry) → slice_get (log_in (masters m).log s) o ≡ Some entry →
+    slice_get (log_in (masters m).log t) k ≡ Some other → (t < s) ⊎ ((t ≡ s) × (k < o)) →
+    other.term ≡ entry.term → other.table ≡ entry.table → other.key ≡ entry.key → other.version < entry.version
+
+-- no two owners acknowledge one version of a key
+abbrev pub NoVersionTwice : List Message → Type 0
+NoVersionTwice sent = (one other : Ack) → WasAcknowledged sent one → WasAcknowledged sent other → one.table ≡ other.table →
+    one.key ≡ other.key → (one.term ≡ other.term → ⊥) → one.version ≡ other.version → ⊥
 
 -- Where all facts hold
 
@@ -94,6 +105,12 @@ PreviousIsEarlier = (sent : List Message) (grant : Granted) (table key : ℕ) �
 
 abbrev pub VersionsRiseOverOwners : Type 0
 VersionsRiseOverOwners = (setup : Setup) (events : List Event) → VersionsRise (replay setup events).sent
+
+abbrev pub VersionsAlwaysRiseWithThePlace : Type 0
+VersionsAlwaysRiseWithThePlace = (setup : Setup) (events : List Event) → VersionsRiseWithThePlace (replay setup events).masters
+
+abbrev pub NoVersionIsAcknowledgedTwice : Type 0
+NoVersionIsAcknowledgedTwice = (setup : Setup) (events : List Event) → NoVersionTwice (replay setup events).sent
 
 -- so no list of events leads to a breach
 abbrev pub ThereIsNoBreach : Type 0
