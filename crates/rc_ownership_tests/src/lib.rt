@@ -1,0 +1,10 @@
+//! Tests of `rc_ownership`, which call what every user of it can call. They stand in a crate of their own
+//! since a crate with tests is proved twice.
+#![tactic(auto)]
+
+#[cfg(test)]
+mod asking;
+#[cfg(test)]
+mod going_back;
+#[cfg(test)]
+mod versions;
