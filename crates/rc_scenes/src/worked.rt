@@ -1,6 +1,7 @@
 //! Worked scenarios: what is printed for these bytes, as contracts of functions that do nothing.
 
-ghost use Rattle.rc_scenes.specs.Worked.{RestartKeptPrints, SplitTwicePrints, ZombiePrints, FreedPrints, FactorsPrints, StopNotRunningPrints, IndexTooGreatPrints};
+ghost use Rattle.rc_scenes.specs.Worked.{RestartKeptPrints, SplitTwicePrints, ZombiePrints, FreedPrints};
+ghost use Rattle.rc_scenes.specs.Worked.{FactorsPrints, StopNotRunningPrints, IndexTooGreatPrints};
 
 /// A backup is started again and keeps an open replica; the recovery finds it.
 pub fn restart_kept()

@@ -1,6 +1,7 @@
 //! Runs in which a choice of the rules shows.
 
-ghost use Rattle.rc_scenes_worked.specs.Doubts.{CloseToALostMemberPrints, CommitAnswersItsOwnPairPrints, StepsOneByOnePrints, IndexOfNoHostPrints};
+ghost use Rattle.rc_scenes_worked.specs.Doubts.{CloseToALostMemberPrints, CommitAnswersItsOwnPairPrints};
+ghost use Rattle.rc_scenes_worked.specs.Doubts.{StepsOneByOnePrints, IndexOfNoHostPrints};
 
 /// Close goes to a lost member too.
 pub fn close_to_a_lost_member()

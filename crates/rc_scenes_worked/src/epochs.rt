@@ -1,6 +1,7 @@
 //! Lost backups, epochs and commits.
 
-ghost use Rattle.rc_scenes_worked.specs.Epochs.{AppendAfterFencePrints, CommitLostNewPrints, CommitLostOldPrints, CommitOfCrashedPrints, StaleReplicaReturnsPrints};
+ghost use Rattle.rc_scenes_worked.specs.Epochs.{AppendAfterFencePrints, CommitLostNewPrints, CommitLostOldPrints};
+ghost use Rattle.rc_scenes_worked.specs.Epochs.{CommitOfCrashedPrints, StaleReplicaReturnsPrints};
 
 /// A master that is believed dead goes on: its fenced backups do not answer.
 pub fn append_after_fence()

@@ -1,6 +1,7 @@
 //! Writes, and events that stop a run.
 
-ghost use Rattle.rc_scenes_worked.specs.First.{FirstWritePrints, LostStoredPrints, NothingPrints, RefusalsPrints, TwiceAndInReversePrints, DeliverUnsentPrints, DeliverTooFarPrints};
+ghost use Rattle.rc_scenes_worked.specs.First.{FirstWritePrints, LostStoredPrints, NothingPrints, RefusalsPrints};
+ghost use Rattle.rc_scenes_worked.specs.First.{TwiceAndInReversePrints, DeliverUnsentPrints, DeliverTooFarPrints};
 
 /// A write is acknowledged, and the recovery of its log covers it.
 pub fn first_write()

@@ -1,6 +1,7 @@
 //! Head roll-over, and restarts.
 
-ghost use Rattle.rc_scenes_worked.specs.Rolls.{RollPrints, NewHeadNowherePrints, SuspectedWhileOpeningPrints, RestartDroppedPrints};
+ghost use Rattle.rc_scenes_worked.specs.Rolls.{RollPrints, NewHeadNowherePrints, SuspectedWhileOpeningPrints};
+ghost use Rattle.rc_scenes_worked.specs.Rolls.{RestartDroppedPrints};
 
 /// A full head is rolled over.
 pub fn roll()

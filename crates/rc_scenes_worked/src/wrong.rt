@@ -1,6 +1,10 @@
 //! Bytes that say no scenario, and the place that is told.
 
-ghost use Rattle.rc_scenes_worked.specs.Wrong.{BadJsonPrints, FreeingInFormat1Prints, Format3Prints, BracketsPrints, MessageTooGreatPrints, EventsAreAnObjectPrints, FactorWithAPointPrints, FactorTooGreatPrints, GenerationZeroPrints, KeptSegmentZeroPrints, MemberTooManyPrints, UnknownMemberPrints, SegmentsOfNonePrints, UnknownEventPrints};
+ghost use Rattle.rc_scenes_worked.specs.Wrong.{BadJsonPrints, FreeingInFormat1Prints, Format3Prints, BracketsPrints};
+ghost use Rattle.rc_scenes_worked.specs.Wrong.{MessageTooGreatPrints, EventsAreAnObjectPrints, FactorWithAPointPrints};
+ghost use Rattle.rc_scenes_worked.specs.Wrong.{FactorTooGreatPrints, GenerationZeroPrints, KeptSegmentZeroPrints};
+ghost use Rattle.rc_scenes_worked.specs.Wrong.{MemberTooManyPrints, UnknownMemberPrints, SegmentsOfNonePrints};
+ghost use Rattle.rc_scenes_worked.specs.Wrong.{UnknownEventPrints};
 
 /// The text ends too soon.
 pub fn bad_json()
