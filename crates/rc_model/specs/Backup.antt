@@ -25,7 +25,7 @@ pub record Held : Type 0 where
 pub record Backup : Type 0 where
   pub own : ServerId
   pub held : ServerId → Held
-  -- the masters of which it has ever kept anything, in order
+  -- the masters of which it has ever kept, fenced or freed anything, in order
   pub masters : List ServerId
 
 abbrev pub nothing_held : Held

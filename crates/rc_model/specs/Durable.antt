@@ -1,4 +1,4 @@
--- Durable places, by the masters' views at the moments of a history; and what an owner starts from.
+-- Durable places, by the masters' views at the moments of a history.
 use Rattle.std.specs.Prelude.{ℕ, ◌-◌, ◌<◌, ◌≤◌, Bool, true, nat_lt, ◌&&◌, List, length, take, IsTrue, zero, suc}
 use Rattle.rc_types.specs.declared.ids.ServerId.{ServerId}
 use Rattle.rc_types.specs.declared.events.Setup.{Setup}
