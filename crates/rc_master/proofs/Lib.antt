@@ -1,0 +1,8 @@
+pub mod Notes
+pub mod Settling
+pub mod Outdated
+pub mod Versions
+pub mod Answering
+pub mod Quiet
+pub mod Repeating
+pub mod Outer

@@ -1,0 +1,175 @@
+-- The rules, repeated until none applies, are the definitions' repetition.
+use Rattle.std.proofs.Common.{◌≡◌, ◌≢◌, ℕ, zero, suc, ◌-◌, ◌<◌, ◌≤◌, Bool, true, false, List, [], ◌++◌, Option, Some, None, Result, IfOk, OnOk, refl, sym, ap, ◌∙◌, subst, arith, append_assoc}
+use Rattle.std.proofs.lemmas.List.{append-nil}
+use Rattle.rc_types.specs.declared.messages.Message.{Message}
+use Rattle.rc_types.specs.declared.faults.Fault.{Fault}
+use Rattle.rc_model.specs.Log.{Log, with_segment, old_head_of}
+use Rattle.rc_model.specs.Heads.{shuts}
+use Rattle.rc_model.specs.Master.{Master}
+use Rattle.rc_model.specs.FollowUps.{or_rule, follow_up, marks_shut, further, followed, measure}
+use Rattle.rc_model.proofs.Tests.{either, true_false}
+use Rattle.rc_model.proofs.Measures.{AllLower, lowers, measure-marks_shut}
+use Rattle.rc_master.specs.Rules.{did, or_still, settled}
+
+-- One rule of several
+
+pub or-done : (one other : Option (Master × List Message)) → did one ≡ true → or_rule one other ≡ one
+or-done None other e = true_false (sym e)
+or-done (Some done) other e = refl
+
+pub or-next : (one other : Option (Master × List Message)) → did one ≡ false → or_rule one other ≡ other
+or-next None other e = refl
+or-next (Some done) other e = true_false e
+
+pub still-none : (master : Master) (one : Option (Master × List Message)) → did one ≡ false → or_still master one ≡ (master, [])
+still-none master None e = refl
+still-none master (Some done) e = true_false e
+
+-- Many times
+
+factor-marked : (master : Master) → (marks_shut master).log.factor ≡ master.log.factor
+factor-marked master =
+    either (λ (log : Log). log.factor ≡ master.log.factor) (shuts master.log) (with_segment (master.log.head - 1) (record (old_head_of master.log) { shut = true }) master.log) master.log
+    (λ _. refl) (λ _. refl)
+
+-- what a rule did after the marks
+pub record LowersMarked (old new : Master) : Type 0 where
+  pub lower : measure new < measure old
+  pub factor : new.log.factor ≡ old.log.factor
+
+abbrev pub AllLowerMarked : Master → Option (Master × List Message) → Type 0
+AllLowerMarked old None = Unit {0}
+AllLowerMarked old (Some done) = LowersMarked old done.0
+
+lower-marked : (master : Master) (done : Option (Master × List Message)) → AllLower (marks_shut master) done → AllLowerMarked master done
+lower-marked master None less = tt
+lower-marked master (Some done) less =
+    let same : measure (marks_shut master) ≡ measure master = measure-marks_shut master in
+    record { lower = omega (arith, less.lower); factor = less.factor ∙ factor-marked master }
+
+pub lowers-marked : (master : Master) → master.log.factor ≢ 0 → AllLowerMarked master (follow_up (marks_shut master))
+lowers-marked master factor =
+    lower-marked master (follow_up (marks_shut master)) (lowers (marks_shut master) (λ e. factor (sym (factor-marked master) ∙ e)))
+
+none-left : (master : Master) (done : Option (Master × List Message)) → AllLowerMarked master done → measure master ≤ 0 → done ≡ None
+none-left master None less most = refl
+none-left master (Some done) less most = absurd (omega (arith, less.lower))
+
+-- any number of times that suffices gives the same
+pub same-enough : (n k : ℕ) (master : Master) → master.log.factor ≢ 0 → measure master ≤ n → measure master ≤ k → followed n master ≡ followed k master
+same-enough zero zero master factor a b = refl
+same-enough zero (suc k) master factor a b =
+    sym (ap (λ (done : Option (Master × List Message)). further done (marks_shut master) (λ next. followed k next))
+    (none-left master (follow_up (marks_shut master)) (lowers-marked master factor) a))
+same-enough (suc n) zero master factor a b =
+    ap (λ (done : Option (Master × List Message)). further done (marks_shut master) (λ next. followed n next))
+    (none-left master (follow_up (marks_shut master)) (lowers-marked master factor) b)
+same-enough (suc n) (suc k) master factor a b =
+    by (follow_up (marks_shut master)) (lowers-marked master factor) (same-enough n k)
+  where
+    by : (done : Option (Master × List Message)) → AllLowerMarked master done →
+        ((next : Master) → next.log.factor ≢ 0 → measure next ≤ n → measure next ≤ k → followed n next ≡ followed k next) →
+        further done (marks_shut master) (λ next. followed n next) ≡ further done (marks_shut master) (λ next. followed k next)
+    by None less rec = refl
+    by (Some done) less rec =
+        ap (λ (after : Master × List Message). (after.0, done.1 ++ after.1))
+        (rec done.0 (λ z. factor (sym less.factor ∙ z)) (omega (arith, less.lower)) (omega (arith, less.lower)))
+
+once-more : (master : Master) → master.log.factor ≢ 0 →
+    settled master ≡ further (follow_up (marks_shut master)) (marks_shut master) (λ next. followed (measure master) next)
+once-more master factor = same-enough (measure master) (suc (measure master)) master factor (omega arith) (omega arith)
+
+-- where the code is: what is still to be done from here leads where all of it leads from the start
+pub record IsOnTheWay (start now : Master) (before sent : List Message) : Type 0 where
+  pub state : (settled start).0 ≡ (settled now).0
+  pub sends : before ++ (settled start).1 ≡ sent ++ (settled now).1
+  pub factor : now.log.factor ≢ 0
+
+pub way-start : (start : Master) (before : List Message) → start.log.factor ≢ 0 → IsOnTheWay start start before before
+way-start start before factor = record { state = refl; sends = refl; factor = factor }
+
+-- one rule further
+pub way-on : (start now : Master) (before sent : List Message) (done : Master × List Message) → IsOnTheWay start now before sent →
+    follow_up (marks_shut now) ≡ Some done → IsOnTheWay start done.0 before (sent ++ done.1) × (measure done.0 < measure now)
+way-on start now before sent done way e =
+    let less : LowersMarked now done.0 = subst (AllLowerMarked now) e (lowers-marked now way.factor) in
+    let apart : done.0.log.factor ≢ 0 = λ z. way.factor (sym less.factor ∙ z) in
+    let step : settled now ≡ ((followed (measure now) done.0).0, done.1 ++ (followed (measure now) done.0).1) =
+    once-more now way.factor ∙ ap (λ (d : Option (Master × List Message)). further d (marks_shut now) (λ next. followed (measure now) next)) e in
+    let rest : followed (measure now) done.0 ≡ settled done.0 =
+    same-enough (measure now) (measure done.0) done.0 apart (omega (arith, less.lower)) (omega arith) in
+    let whole : settled now ≡ ((settled done.0).0, done.1 ++ (settled done.0).1) =
+    step ∙ ap (λ (after : Master × List Message). (after.0, done.1 ++ after.1)) rest in (
+      record {
+        state = way.state ∙ ap (λ (after : Master × List Message). after.0) whole;
+        sends = way.sends ∙ (ap (λ (after : Master × List Message). sent ++ after.1) whole ∙ sym (append_assoc sent done.1 (settled done.0).1));
+        factor = apart;
+      },
+      less.lower,
+    )
+
+-- at the end
+pub way-end : (start now : Master) (before sent : List Message) → IsOnTheWay start now before sent → follow_up (marks_shut now) ≡ None →
+    ((settled start).0 ≡ marks_shut now) × (before ++ (settled start).1 ≡ sent)
+way-end start now before sent way e =
+    let whole : settled now ≡ (marks_shut now, []) =
+    once-more now way.factor ∙ ap (λ (d : Option (Master × List Message)). further d (marks_shut now) (λ next. followed (measure now) next)) e in (
+      way.state ∙ ap (λ (after : Master × List Message). after.0) whole,
+      way.sends ∙ (ap (λ (after : Master × List Message). sent ++ after.1) whole ∙ append-nil sent),
+    )
+
+-- Rounds, as the code says what they did
+
+did-some : (done : Option (Master × List Message)) → did done ≡ true → (what : Master × List Message) × (done ≡ Some what)
+did-some None e = true_false (sym e)
+did-some (Some done) e = (done, refl)
+
+did-none : (done : Option (Master × List Message)) → did done ≡ false → done ≡ None
+did-none None e = refl
+did-none (Some done) e = true_false e
+
+pub round-on : (start now next : Master) (before sent more : List Message) → IsOnTheWay start now before sent → true ≡ did (follow_up (marks_shut now)) →
+    next ≡ (or_still (marks_shut now) (follow_up (marks_shut now))).0 → more ≡ sent ++ (or_still (marks_shut now) (follow_up (marks_shut now))).1 →
+    IsOnTheWay start next before more × (measure next < measure now)
+round-on start now next before sent more way applied state sends =
+    let some = did-some (follow_up (marks_shut now)) (sym applied) in
+    let done : Master × List Message = some.0 in
+    let on : IsOnTheWay start done.0 before (sent ++ done.1) × (measure done.0 < measure now) = way-on start now before sent done way some.1 in
+    let to : next ≡ done.0 = state ∙ ap (λ (d : Option (Master × List Message)). (or_still (marks_shut now) d).0) some.1 in
+    let says : more ≡ sent ++ done.1 = sends ∙ ap (λ (d : Option (Master × List Message)). sent ++ (or_still (marks_shut now) d).1) some.1 in (
+      subst (λ (m : Master). IsOnTheWay start m before more) (sym to) (subst (λ (s : List Message). IsOnTheWay start done.0 before s) (sym says) on.0),
+      subst (λ (m : Master). measure m < measure now) (sym to) on.1,
+    )
+
+pub round-end : (start now next : Master) (before sent more : List Message) → IsOnTheWay start now before sent → false ≡ did (follow_up (marks_shut now)) →
+    next ≡ (or_still (marks_shut now) (follow_up (marks_shut now))).0 → more ≡ sent ++ (or_still (marks_shut now) (follow_up (marks_shut now))).1 →
+    (next ≡ (settled start).0) × (more ≡ before ++ (settled start).1)
+round-end start now next before sent more way applied state sends =
+    let none : follow_up (marks_shut now) ≡ None = did-none (follow_up (marks_shut now)) (sym applied) in
+    let ended = way-end start now before sent way none in (
+      state ∙ (ap (λ (d : Option (Master × List Message)). (or_still (marks_shut now) d).0) none ∙ sym ended.0),
+      sends ∙ (ap (λ (d : Option (Master × List Message)). sent ++ (or_still (marks_shut now) d).1) none ∙ (append-nil sent ∙ sym ended.1)),
+    )
+
+-- A rule that didn't apply, and then the others
+
+pub or-else-applied : (m next : Master) (one : Option (Master × List Message)) (rest : Master → Option (Master × List Message)) (r : Result Bool Fault) →
+    false ≡ did one → next ≡ (or_still m one).0 → IfOk r (λ applied. applied ≡ did (rest next)) → IfOk r (λ applied. applied ≡ did (or_rule one (rest m)))
+or-else-applied m next None rest r isn't state is = subst (λ (n : Master). IfOk r (λ applied. applied ≡ did (rest n))) state is
+or-else-applied m next (Some done) rest r isn't state is = true_false (sym isn't)
+
+pub or-else-state : (m next after : Master) (one : Option (Master × List Message)) (rest : Master → Option (Master × List Message)) (r : Result Bool Fault) →
+    false ≡ did one → next ≡ (or_still m one).0 → OnOk r (after ≡ (or_still next (rest next)).0) → OnOk r (after ≡ (or_still m (or_rule one (rest m))).0)
+or-else-state m next after None rest r isn't state is = subst (λ (n : Master). OnOk r (after ≡ (or_still n (rest n)).0)) state is
+or-else-state m next after (Some done) rest r isn't state is = true_false (sym isn't)
+
+pub or-else-sends : (m next : Master) (sent mid new : List Message) (one : Option (Master × List Message)) (rest : Master → Option (Master × List Message)) (r : Result Bool Fault) →
+    false ≡ did one → next ≡ (or_still m one).0 → mid ≡ sent ++ (or_still m one).1 →
+    OnOk r (new ≡ mid ++ (or_still next (rest next)).1) → OnOk r (new ≡ sent ++ (or_still m (or_rule one (rest m))).1)
+or-else-sends m next sent mid new None rest r isn't state sends is =
+    subst (λ (s : List Message). OnOk r (new ≡ s ++ (or_still m (rest m)).1)) (sends ∙ append-nil sent)
+    (subst (λ (n : Master). OnOk r (new ≡ mid ++ (or_still n (rest n)).1)) state is)
+or-else-sends m next sent mid new (Some done) rest r isn't state sends is = true_false (sym isn't)
+
+pub apart-some : (n : ℕ) → 0 < n → n ≢ 0
+apart-some n some e = omega arith

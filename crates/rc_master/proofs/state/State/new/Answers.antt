@@ -1,0 +1,24 @@
+use Rattle.std.proofs.Common.{◌≡◌, false, refl, sym, subst}
+use Rattle.rc_model.specs.Master.{Master, new_master}
+use Rattle.rc_model.proofs.Tests.{true_false}
+use Rattle.rc_headroll.specs.LogData.{log_of}
+use Rattle.rc_master.specs.Quiet.{IsQuiet}
+use Rattle.rc_master.proofs.Quiet.{new-quiet}
+use Rattle.rc_master.proofs.state.State.new.Goals as goal
+
+pub returns-clause-noted : goal.returns-clause-noted
+returns-clause-noted c = rw (c.new-2.ensures.log, c.new-3.ensures)
+    (record { entries = refl; durable_are = refl; opened = λ writing. true_false (sym writing); replicas = c.requires.some })
+
+pub returns-clause-quiet : goal.returns-clause-quiet
+returns-clause-quiet c =
+    let made : Master = record {
+      known = c.new.result;
+      log = log_of c.new-2.result;
+      free = c.args.free;
+      ownership = c.new-3.result.own;
+      tasks = c.new-4.result.items;
+      deposed = false;
+    } in
+    let is : made ≡ new_master c.args.own (record { factor = c.args.factor; size = c.args.size; free = c.args.free }) = cc in
+    subst IsQuiet (sym is) (new-quiet c.args.own (record { factor = c.args.factor; size = c.args.size; free = c.args.free }))

@@ -1,0 +1,90 @@
+//! A master, as its callers see it.
+
+ghost use Rattle.std.specs.Prelude.{◌≡◌, ◌++◌, ◌<◌, ◌≤◌, OnOk, OnErr, IfErr};
+ghost use Rattle.rc_types.specs.declared.faults.Fault.TheVariants.{OutOfMemory};
+ghost use Rattle.rc_types.specs.declared.limits.TheConstants.{MAX_FACTOR as FACTOR, MAX_SEGMENT as SEGMENT};
+ghost use Rattle.rc_model.specs.Master.{new_master};
+ghost use Rattle.rc_model.specs.MasterStep.{master_takes};
+ghost use Rattle.rc_master.specs.Data.{master_of};
+ghost use Rattle.rc_master.specs.Numbers.{HasVersions};
+
+use crate::state::State;
+use rc_types::{Addr, Body, Fault, Message, ServerId};
+use std::alloc::Global;
+use std::marker::Model;
+
+/// One master. It keeps a log of which each segment has replicas on other hosts, takes writes and
+/// reads of the ranges that it was granted, and recovers parts of crashed masters' logs. Contracts
+/// see its log as the list of its segments.
+#[derive(Drop)]
+pub struct Master {
+    state: State,
+}
+
+impl Model for Master {
+    ghost use Rattle.rc_master.specs.Data.{MasterData};
+
+    ghost Value = { MasterData };
+
+    ghost use Rattle.rc_master.specs.View.{data_of, IsWaiting};
+
+    ghost view = { λ m. data_of m.state };
+
+    ghost invariant = { λ m. IsWaiting m.state };
+}
+
+impl Master {
+    /// A master that knows nobody, owns nothing and has no head. Each segment is to have `factor`
+    /// replicas and take `size` entries; `free` says whether dead segments are freed. It takes no
+    /// memory.
+    pub fn new(alloc: Global, own: ServerId, factor: u8, size: u16, free: bool) -> Master
+        requires some { 0 < factor }
+        requires factor { factor ≤ FACTOR }
+        requires size { size ≤ SEGMENT }
+        ensures { master_of result ≡ new_master own (record { factor = factor; size = size; free = free }) }
+    {
+        Master {
+            state: State::new(alloc, own, factor, size, free),
+        }
+    }
+
+    /// Whose log it is.
+    pub fn id(&self) -> ServerId
+        ensures { result ≡ (master_of self.now).log.own }
+    {
+        self.state.log.own()
+    }
+
+    /// Whether it has learnt that the coordinator holds it for dead.
+    pub fn is_deposed(&self) -> bool
+        ensures { result ≡ (master_of self.now).deposed }
+    {
+        self.state.deposed
+    }
+
+    /// Takes a message, follows up until no rule applies, and adds what it sends to those sent.
+    ///
+    /// - A Write is refused for its length (F7), for its owner (F2), for the phase (F3) or because the
+    ///   head is full (F3 where a roll begins by it, else F6 or F4), in this order; else it is appended,
+    ///   and acknowledged once it is durable. A Read is refused for its owner (F2); else it is answered
+    ///   by the greatest durable version.
+    /// - A List that is newer than the known one is taken: lost members are replaced, and the first head
+    ///   is opened. A Stored and a CommitOk are noted. A Plan's parts are fetched; Data of a part is
+    ///   replayed once all of it has come. An Own grants a range.
+    /// - A master that the coordinator refuses by F5 is deposed: from then on it refuses clients (F5) and
+    ///   does nothing else.
+    ///
+    /// # Errors
+    ///
+    /// `OutOfMemory` (F1): memory was refused. Then the master and what was sent are as before.
+    pub fn take(&mut self, from: Addr, body: &Body, sent: &mut Vec<Message>) -> Result<(), Fault>
+        requires { HasVersions (master_of self.old) }
+        ensures state { OnOk result (master_of self.new ≡ (master_takes (master_of self.old) from body.now).0) }
+        ensures sends { OnOk result (sent.new.items ≡ sent.old.items ++ (master_takes (master_of self.old) from body.now).1) }
+        ensures err { OnErr result (master_of self.new ≡ master_of self.old) }
+        ensures unsent { OnErr result (sent.new.items ≡ sent.old.items) }
+        ensures no_memory { IfErr result (λ fault. fault ≡ OutOfMemory) }
+    {
+        self.state.take(from, body, sent)
+    }
+}

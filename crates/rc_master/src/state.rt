@@ -1,0 +1,146 @@
+//! The master's state, and what its rules have in common.
+
+ghost use Rattle.std.specs.Prelude.{◌≡◌, ◌++◌, ◌∷◌, [], ◌<◌, ◌≤◌, None, map, IfOk, OnOk, IfErr};
+ghost use Rattle.rc_types.specs.declared.faults.Fault.TheVariants.{OutOfMemory};
+ghost use Rattle.rc_types.specs.declared.limits.TheConstants.{MAX_FACTOR as FACTOR, MAX_SEGMENT as SEGMENT};
+ghost use Rattle.rc_model.specs.Messages.{refuses};
+ghost use Rattle.rc_model.specs.Heads.{append_fault};
+ghost use Rattle.rc_model.specs.Versions.{is_dead};
+ghost use Rattle.rc_ownership.specs.Owner.{durable_of};
+ghost use Rattle.rc_model.specs.Master.{new_master, appends_entry, is_dead_segment, dead_segments};
+ghost use Rattle.rc_headroll.specs.LogData.{log_of};
+ghost use Rattle.rc_master.specs.Quiet.{IsQuiet};
+ghost use Rattle.rc_master.specs.View.{state_view, before_step, IsNoted};
+
+use rc_headroll::LogHead;
+use rc_notices::{Task, add_append, refusal};
+use rc_ownership::Ownership;
+use rc_serverlist::ServerList;
+use rc_types::{Entry, Fault, Message, ServerId};
+use std::alloc::Global;
+use std::slice;
+
+/// What a master knows.
+#[derive(Drop)]
+pub(crate) struct State {
+    pub(crate) alloc: Global,
+    /// The greatest server list that it has taken.
+    pub(crate) known: ServerList,
+    /// The list that it knew when the step began, where it has taken a greater one since.
+    pub(crate) earlier: Option<ServerList>,
+    pub(crate) log: LogHead,
+    /// Whether it frees segments that are dead.
+    pub(crate) free: bool,
+    /// What it owns and replays, and the notes of its log.
+    pub(crate) ownership: Ownership,
+    /// The parts that it was given, in the order in which they were begun.
+    pub(crate) tasks: Vec<Task>,
+    /// How many of them it had when the step began.
+    pub(crate) kept: usize,
+    /// Whether it has learnt that the coordinator holds it for dead.
+    pub(crate) deposed: bool,
+}
+
+impl State {
+    /// A master that knows nobody, owns nothing and has no head. It takes no memory.
+    pub(crate) fn new(alloc: Global, own: ServerId, factor: u8, size: u16, free: bool) -> State
+        requires some { 0 < factor }
+        requires factor { factor ≤ FACTOR }
+        requires size { size ≤ SEGMENT }
+        ensures state { state_view result ≡ new_master own (record { factor = factor; size = size; free = free }) }
+        ensures noted { IsNoted result }
+        ensures quiet { IsQuiet (state_view result) }
+    {
+        State {
+            alloc,
+            known: ServerList::new(alloc),
+            earlier: None,
+            log: LogHead::new(alloc, own, factor, size),
+            free,
+            ownership: Ownership::new(alloc),
+            tasks: Vec::new(alloc),
+            kept: 0,
+            deposed: false,
+        }
+    }
+
+    /// Says no to a client.
+    pub(crate) fn refuse(&self, fault: Fault, sent: &mut Vec<Message>) -> Result<(), Fault>
+        ensures sends { OnOk result (sent.new.items ≡ sent.old.items ++ refuses self.now.log.own fault ∷ []) }
+        ensures no_memory { IfErr result (λ error. error ≡ OutOfMemory) }
+    {
+        sent.push(refusal(self.log.own(), fault))?;
+        Ok(())
+    }
+
+    /// Appends an entry to the head, and sends it to the head's members. `client` says whether a client
+    /// wrote it.
+    pub(crate) fn append(
+        &mut self,
+        entry: Entry,
+        client: bool,
+        sent: &mut Vec<Message>,
+    ) -> Result<(), Fault>
+        requires possible { append_fault (log_of self.old.log) ≡ None }
+        requires noted { IsNoted self.old }
+        ensures state { OnOk result (state_view self.new ≡ (appends_entry (state_view self.old) entry client).0) }
+        ensures sends { OnOk result (sent.new.items ≡ sent.old.items ++ (appends_entry (state_view self.old) entry client).1) }
+        ensures noted { OnOk result (IsNoted self.new) }
+        ensures before { before_step self.new ≡ before_step self.old }
+        ensures no_memory { IfErr result (λ fault. fault ≡ OutOfMemory) }
+    {
+        add_append(self.alloc, &self.log, &entry, sent)?;
+        self.ownership.note(self.alloc, &entry)?;
+        if client {
+            self.log.append_write(entry)?;
+        } else {
+            self.log.append(entry)?;
+        }
+        Ok(())
+    }
+
+    /// The dead segments of the head's digest, where the master frees any.
+    pub(crate) fn dead_segments(&self) -> Result<Vec<u16>, Fault>
+        requires noted { IsNoted self.now }
+        requires some { 0 < (log_of self.now.log).head }
+        ensures ok { IfOk result (λ segs. segs.items ≡ dead_segments (state_view self.now)) }
+        ensures no_memory { IfErr result (λ fault. fault ≡ OutOfMemory) }
+    {
+        let mut dead = Vec::new(self.alloc);
+        if !self.free {
+            return Ok(dead);
+        }
+        let digest = self.log.newest().digest();
+        for seg in digest {
+            if self.is_dead_segment(*seg) {
+                dead.push(*seg)?;
+            }
+        }
+        Ok(dead)
+    }
+
+    /// Whether the segment is shut and each of its entries has a greater version of its key under its
+    /// term among the durable ones.
+    fn is_dead_segment(&self, seg: u16) -> bool
+        requires noted { IsNoted self.now }
+        ensures { result ≡ is_dead_segment (state_view self.now) seg }
+    {
+        let Some(segment) = self.log.segment(seg) else {
+            return false;
+        };
+        segment.is_shut() && self.are_outdated(segment.entries())
+    }
+
+    /// Whether each of these entries has a greater version of its key under its term among the durable
+    /// ones.
+    fn are_outdated(&self, entries: &[(Entry, bool)]) -> bool
+        ensures { result ≡ is_dead (durable_of self.now.ownership) (map (λ one. one.0) entries.now) }
+    {
+        for (entry, _) in entries {
+            if !self.ownership.is_dead(slice::from_ref(entry)) {
+                return false;
+            }
+        }
+        true
+    }
+}

@@ -1,0 +1,65 @@
+//! What members, the coordinator and other backups tell a master.
+
+ghost use Rattle.std.specs.Prelude.{◌≡◌, OnOk, IfErr};
+ghost use Rattle.rc_types.specs.declared.faults.Fault.TheVariants.{OutOfMemory};
+ghost use Rattle.rc_model.specs.Heads.{stored, commit_noted};
+ghost use Rattle.rc_model.specs.Ownership.{put_data};
+ghost use Rattle.rc_model.specs.Master.{with_log};
+ghost use Rattle.rc_headroll.specs.LogData.{log_of};
+ghost use Rattle.rc_master.specs.View.{state_view, before_step, IsNoted};
+
+use crate::state::State;
+use rc_types::{Entry, Fault, ServerId};
+
+impl State {
+    /// What a member stores of a segment.
+    pub(crate) fn take_stored(
+        &mut self,
+        from: ServerId,
+        seg: u16,
+        epoch: u16,
+        len: usize,
+        closed: bool,
+    ) -> Result<(), Fault>
+        requires noted { IsNoted self.old }
+        ensures state { OnOk result (state_view self.new ≡ with_log (state_view self.old) (stored seg from epoch len closed (log_of self.old.log))) }
+        ensures noted { OnOk result (IsNoted self.new) }
+        ensures before { before_step self.new ≡ before_step self.old }
+        ensures no_memory { IfErr result (λ fault. fault ≡ OutOfMemory) }
+    {
+        self.log.stored(seg, from, epoch, len, closed)?;
+        Ok(())
+    }
+
+    /// An epoch of a segment is committed.
+    pub(crate) fn take_committed(&mut self, seg: u16, epoch: u16) -> Result<(), Fault>
+        requires noted { IsNoted self.old }
+        ensures state { OnOk result (state_view self.new ≡ with_log (state_view self.old) (commit_noted seg epoch (log_of self.old.log))) }
+        ensures noted { OnOk result (IsNoted self.new) }
+        ensures before { before_step self.new ≡ before_step self.old }
+        ensures no_memory { IfErr result (λ fault. fault ≡ OutOfMemory) }
+    {
+        self.log.committed_at(seg, epoch)?;
+        Ok(())
+    }
+
+    /// The entries of a row of a crashed master's log.
+    pub(crate) fn take_data(
+        &mut self,
+        from: ServerId,
+        seg: u16,
+        term: u32,
+        entries: &[Entry],
+    ) -> Result<(), Fault>
+        requires noted { IsNoted self.old }
+        ensures state { OnOk result (state_view self.new ≡
+            record (state_view self.old) { ownership = put_data term seg from entries.now self.old.ownership.own }) }
+        ensures noted { OnOk result (IsNoted self.new) }
+        ensures before { before_step self.new ≡ before_step self.old }
+        ensures no_memory { IfErr result (λ fault. fault ≡ OutOfMemory) }
+    {
+        self.ownership
+            .put_data(self.alloc, term, seg, from, entries)?;
+        Ok(())
+    }
+}
