@@ -1,10 +1,13 @@
 -- What a step's contract says of the fields, said of what callers see.
-use Rattle.std.proofs.Common.{◌≡◌, ◌++◌, List, Result, OnOk, ap, subst}
+use Rattle.std.proofs.Common.{◌≡◌, ◌++◌, false, cond, List, [], Result, OnOk, sym, ap, ◌∙◌, subst}
 use Rattle.rc_types.specs.declared.ids.Addr.{Addr}
 use Rattle.rc_types.specs.declared.messages.Message.{Message}
 use Rattle.rc_types.specs.declared.messages.Body.{Body}
 use Rattle.rc_model.specs.Master.{Master}
-use Rattle.rc_model.specs.MasterStep.{master_takes}
+use Rattle.rc_model.specs.MasterStep.{master_takes, master_ticks}
+use Rattle.rc_model.specs.ListRules.{then_does}
+use Rattle.rc_model.specs.FollowUps.{goes_on}
+use Rattle.rc_model.specs.MasterTick.{ticks}
 use Rattle.rc_master.specs.declared.state.State.{State}
 use Rattle.rc_master.specs.Data.{MasterData, master_of}
 use Rattle.rc_master.specs.View.{state_view, data_of}
@@ -19,3 +22,17 @@ taken-state r inside seen after from body e = subst (λ (m : Master). OnOk r (af
 pub taken-sends : {T E : Type 0} (r : Result T E) (inside seen : Master) (before after : List Message) (from : Addr) (body : Body) → inside ≡ seen →
     OnOk r (after ≡ before ++ (master_takes inside from body).1) → OnOk r (after ≡ before ++ (master_takes seen from body).1)
 taken-sends r inside seen before after from body e = subst (λ (m : Master). OnOk r (after ≡ before ++ (master_takes m from body).1)) e
+
+pub ticked-state : {T E : Type 0} (r : Result T E) (inside seen after : Master) → inside ≡ seen →
+    OnOk r (after ≡ (master_ticks inside).0) → OnOk r (after ≡ (master_ticks seen).0)
+ticked-state r inside seen after e = subst (λ (m : Master). OnOk r (after ≡ (master_ticks m).0)) e
+
+pub ticked-sends : {T E : Type 0} (r : Result T E) (inside seen : Master) (before after : List Message) → inside ≡ seen →
+    OnOk r (after ≡ before ++ (master_ticks inside).1) → OnOk r (after ≡ before ++ (master_ticks seen).1)
+ticked-sends r inside seen before after e = subst (λ (m : Master). OnOk r (after ≡ before ++ (master_ticks m).1)) e
+
+-- the timer of a master that isn't deposed
+pub ticks-up : (begun old : Master) → begun ≡ old → old.deposed ≡ false → then_does (ticks begun) goes_on ≡ master_ticks old
+ticks-up begun old e up =
+    ap (λ (m : Master). then_does (ticks m) goes_on) e
+    ∙ sym (ap (λ b. cond b (old, []) (then_does (ticks old) goes_on)) up)

@@ -1,15 +1,16 @@
 //! A master, as its callers see it.
 
-ghost use Rattle.std.specs.Prelude.{◌≡◌, ◌++◌, ◌<◌, ◌≤◌, OnOk, OnErr, IfErr};
+ghost use Rattle.std.specs.Prelude.{◌≡◌, ◌++◌, ◌<◌, ◌≤◌, IfOk, OnOk, OnErr, IfErr};
 ghost use Rattle.rc_types.specs.declared.faults.Fault.TheVariants.{OutOfMemory};
 ghost use Rattle.rc_types.specs.declared.limits.TheConstants.{MAX_FACTOR as FACTOR, MAX_SEGMENT as SEGMENT};
 ghost use Rattle.rc_model.specs.Master.{new_master};
-ghost use Rattle.rc_model.specs.MasterStep.{master_takes};
+ghost use Rattle.rc_model.specs.MasterStep.{master_takes, master_ticks};
 ghost use Rattle.rc_master.specs.Data.{master_of};
 ghost use Rattle.rc_master.specs.Numbers.{HasVersions};
+ghost use Rattle.rc_master.specs.Steps.{steps};
 
 use crate::state::State;
-use rc_types::{Addr, Body, Fault, Message, ServerId};
+use rc_types::{Addr, Body, Fault, Input, Message, ServerId};
 use std::alloc::Global;
 use std::marker::Model;
 
@@ -86,5 +87,58 @@ impl Master {
         ensures no_memory { IfErr result (λ fault. fault ≡ OutOfMemory) }
     {
         self.state.take(from, body, sent)
+    }
+
+    /// Takes the timer: a master that isn't up by its list enlists; another replaces members that are
+    /// lost, and says again what was not answered. Then it follows up until no rule applies.
+    ///
+    /// # Errors
+    ///
+    /// `OutOfMemory` (F1): memory was refused. Then the master and what was sent are as before.
+    pub fn tick(&mut self, sent: &mut Vec<Message>) -> Result<(), Fault>
+        ensures state { OnOk result (master_of self.new ≡ (master_ticks (master_of self.old)).0) }
+        ensures sends { OnOk result (sent.new.items ≡ sent.old.items ++ (master_ticks (master_of self.old)).1) }
+        ensures err { OnErr result (master_of self.new ≡ master_of self.old) }
+        ensures unsent { OnErr result (sent.new.items ≡ sent.old.items) }
+        ensures no_memory { IfErr result (λ fault. fault ≡ OutOfMemory) }
+    {
+        self.state.tick(sent)
+    }
+
+    /// Takes an input: a message or the timer. Another input is for other nodes, and does nothing.
+    ///
+    /// # Errors
+    ///
+    /// `OutOfMemory` (F1): memory was refused. Then the master and what was sent are as before.
+    pub fn step_into(&mut self, input: &Input, sent: &mut Vec<Message>) -> Result<(), Fault>
+        requires { HasVersions (master_of self.old) }
+        ensures state { OnOk result (master_of self.new ≡ (steps (master_of self.old) input.now).0) }
+        ensures sends { OnOk result (sent.new.items ≡ sent.old.items ++ (steps (master_of self.old) input.now).1) }
+        ensures err { OnErr result (master_of self.new ≡ master_of self.old) }
+        ensures unsent { OnErr result (sent.new.items ≡ sent.old.items) }
+        ensures no_memory { IfErr result (λ fault. fault ≡ OutOfMemory) }
+    {
+        match input {
+            Input::Message(message) => self.take(message.from, &message.body, sent),
+            Input::Tick => self.tick(sent),
+            _ => Ok(()),
+        }
+    }
+
+    /// Takes an input, and gives what follows, as `step_into` does.
+    ///
+    /// # Errors
+    ///
+    /// `OutOfMemory` (F1): memory was refused. Then the master is as before.
+    pub fn step(&mut self, input: &Input) -> Result<Vec<Message>, Fault>
+        requires { HasVersions (master_of self.old) }
+        ensures state { OnOk result (master_of self.new ≡ (steps (master_of self.old) input.now).0) }
+        ensures sends { IfOk result (λ sent. sent.items ≡ (steps (master_of self.old) input.now).1) }
+        ensures err { OnErr result (master_of self.new ≡ master_of self.old) }
+        ensures no_memory { IfErr result (λ fault. fault ≡ OutOfMemory) }
+    {
+        let mut sent = Vec::new(self.state.alloc);
+        self.step_into(input, &mut sent)?;
+        Ok(sent)
     }
 }

@@ -5,13 +5,15 @@ ghost use Rattle.std.specs.Prelude.{◌≡◌, ◌++◌, [], true, false, OnOk, 
 ghost use Rattle.rc_types.specs.declared.faults.Fault.TheVariants.{OutOfMemory};
 ghost use Rattle.rc_model.specs.ListRules.{then_does};
 ghost use Rattle.rc_model.specs.FollowUps.{goes_on};
-ghost use Rattle.rc_model.specs.MasterStep.{master_takes_first, deposed_takes, master_takes};
+ghost use Rattle.rc_model.specs.MasterStep.{master_takes_first, deposed_takes, master_takes, master_ticks};
+ghost use Rattle.rc_model.specs.MasterTick.{reminds, ticks};
+ghost use Rattle.rc_headroll.specs.LogData.{before_of};
 ghost use Rattle.rc_master.specs.Numbers.{HasVersions};
 ghost use Rattle.rc_master.specs.Quiet.{IsQuiet, is_quiet_message};
 ghost use Rattle.rc_master.specs.View.{state_view, now_of, before_step, IsNoted, IsAtStart};
 
 use crate::state::State;
-use rc_notices::refusal;
+use rc_notices::{add_reminders, enlist, refusal};
 use rc_types::{Addr, Body, Code, Fault, KeyRange, Message};
 
 impl State {
@@ -221,6 +223,83 @@ impl State {
             return self.take_quiet(from, body);
         }
         self.take_or_restore(from, body, sent)
+    }
+
+    /// Takes the timer, before the rules that follow up: a master that isn't up by its list enlists;
+    /// another obeys its list anew, and says again what was not answered.
+    fn tick_first(&mut self, sent: &mut Vec<Message>) -> Result<(), Fault>
+        requires noted { IsNoted self.old }
+        requires start { IsAtStart self.old }
+        ensures state { OnOk result (state_view self.new ≡ (ticks (state_view self.old)).0) }
+        ensures sends { OnOk result (sent.new.items ≡ sent.old.items ++ (ticks (state_view self.old)).1) }
+        ensures noted { OnOk result (IsNoted self.new) }
+        ensures before { before_step self.new ≡ before_step self.old }
+        ensures no_memory { IfErr result (λ fault. fault ≡ OutOfMemory) }
+    {
+        if !self.known.is_up(self.log.own()) {
+            sent.push(enlist(self.log.own()))?;
+            return Ok(());
+        }
+        self.obey_list(sent)?;
+        self.remind(sent)
+    }
+
+    /// Says again what was not answered, but for what the list rules have just sent.
+    fn remind(&self, sent: &mut Vec<Message>) -> Result<(), Fault>
+        requires noted { IsNoted self.now }
+        ensures sends { OnOk result (sent.new.items ≡ sent.old.items ++ (reminds (before_of self.now.log) (state_view self.now)).1) }
+        ensures no_memory { IfErr result (λ fault. fault ≡ OutOfMemory) }
+    {
+        add_reminders(
+            self.alloc,
+            &self.log,
+            &self.ownership,
+            self.tasks.as_slice(),
+            sent,
+        )?;
+        Ok(())
+    }
+
+    /// Takes the timer and follows up. Where memory is refused, the state is any.
+    fn try_tick(&mut self, sent: &mut Vec<Message>) -> Result<(), Fault>
+        requires noted { IsNoted self.old }
+        requires start { IsAtStart self.old }
+        ensures state { OnOk result (state_view self.new ≡ (then_does (ticks (state_view self.old)) goes_on).0) }
+        ensures sends { OnOk result (sent.new.items ≡ sent.old.items ++ (then_does (ticks (state_view self.old)) goes_on).1) }
+        ensures unsent { OnErr result (sent.new.items ≡ sent.old.items) }
+        ensures noted { OnOk result (IsNoted self.new) }
+        ensures quiet { OnOk result (IsQuiet (state_view self.new)) }
+        ensures before { before_step self.new ≡ before_step self.old }
+        ensures no_memory { IfErr result (λ fault. fault ≡ OutOfMemory) }
+    {
+        let mut messages = Vec::new(self.alloc);
+        self.tick_first(&mut messages)?;
+        self.go_on(&mut messages)?;
+        sent.append(&mut messages)?;
+        Ok(())
+    }
+
+    /// Takes the timer. Where memory is refused, nothing has changed.
+    pub(crate) fn tick(&mut self, sent: &mut Vec<Message>) -> Result<(), Fault>
+        requires noted { IsNoted self.old }
+        requires quiet { IsQuiet (state_view self.old) }
+        ensures state { OnOk result (state_view self.new ≡ (master_ticks (state_view self.old)).0) }
+        ensures sends { OnOk result (sent.new.items ≡ sent.old.items ++ (master_ticks (state_view self.old)).1) }
+        ensures err { OnErr result (state_view self.new ≡ state_view self.old) }
+        ensures unsent { OnErr result (sent.new.items ≡ sent.old.items) }
+        ensures noted { IsNoted self.new }
+        ensures quiet { IsQuiet (state_view self.new) }
+        ensures no_memory { IfErr result (λ fault. fault ≡ OutOfMemory) }
+    {
+        if self.deposed {
+            return Ok(());
+        }
+        self.begin();
+        if let Err(fault) = self.try_tick(sent) {
+            self.restore();
+            return Err(fault);
+        }
+        Ok(())
     }
 }
 

@@ -1,0 +1,20 @@
+use Rattle.std.proofs.Common.{◌++◌, List, sym, ap, ◌∙◌}
+use Rattle.rc_types.specs.declared.messages.Message.{Message}
+use Rattle.rc_headroll.specs.LogData.{log_of, before_of}
+use Rattle.rc_model.specs.Master.{Task}
+use Rattle.rc_model.specs.MasterTick.{reminds}
+use Rattle.rc_notices.specs.Sender.{sender}
+use Rattle.rc_notices.proofs.Senders.{reminds-sender}
+use Rattle.rc_master.specs.View.{state_view}
+use Rattle.rc_master.proofs.Notes.{durable-same}
+use Rattle.rc_master.proofs.state.State.remind.Goals as goal
+
+pub add_reminders-requires : goal.add_reminders-requires
+add_reminders-requires c = durable-same _ _ _ c.requires.noted
+
+pub returns-clause-sends : goal.returns-clause-sends
+returns-clause-sends c =
+    let s = c.args.self.now in
+    c.in_ok-add_reminders.ensures.ok
+    ∙ (ap (λ (tasks : List Task). c.args.sent.now.items ++ (reminds (before_of s.log) (sender (log_of s.log) s.ownership.own tasks)).1) c.as_slice.ensures.value
+    ∙ ap (λ (more : List Message). c.args.sent.now.items ++ more) (sym (reminds-sender (before_of s.log) (state_view s))))
