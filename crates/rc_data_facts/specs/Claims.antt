@@ -6,4 +6,5 @@ use Rattle.rc_model.specs.World.{replay}
 use Rattle.rc_data_facts.specs.Data.{DataAreCuts}
 
 abbrev pub DataAreAlwaysCuts : Type 0
-DataAreAlwaysCuts = (setup : Setup) (events : List Event) → DataAreCuts (replay setup events).sent (replay setup events).masters
+DataAreAlwaysCuts = (setup : Setup) (events : List Event) →
+    DataAreCuts (replay setup events).sent (replay setup events).masters

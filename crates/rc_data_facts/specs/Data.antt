@@ -35,4 +35,5 @@ data_fine sent masters from to _ = Unit {0}
 
 -- each Data that was sent is a cut
 abbrev pub DataAreCuts : List Message → (ServerId → Master) → Type 0
-DataAreCuts sent masters = (message : Message) → In message sent → data_fine sent masters message.from message.to message.body
+DataAreCuts sent masters = (message : Message) → In message sent →
+    data_fine sent masters message.from message.to message.body

@@ -30,8 +30,8 @@ DataIsCut sent = (message : Message) → In message sent → (attempt seg term :
 
 -- each grant of a recovery starts from its base
 abbrev pub GrantsStart : List Message → (ServerId → Master) → Type 0
-GrantsStart sent masters = (grant : Granted) (x : ServerId) → IsGranted sent grant → grant.owner ≡ Server x → (grant.attempt ≡ 0 → ⊥) →
-    StartsFromBase sent x (masters x).log grant
+GrantsStart sent masters = (grant : Granted) (x : ServerId) → IsGranted sent grant → grant.owner ≡ Server x →
+    (grant.attempt ≡ 0 → ⊥) → StartsFromBase sent x (masters x).log grant
 
 -- what stands at a safe place, each later owner of its point keeps: with that version and value, or a greater version
 abbrev pub SafeIsKept : List Message → (ServerId → Master) → Type 0
@@ -46,19 +46,21 @@ AcknowledgedIsKept sent masters = (ack : Ack) → WasAcknowledged sent ack → I
 
 -- under one term a key's versions rise with the place, in every log
 abbrev pub VersionsRiseWithThePlace : (ServerId → Master) → Type 0
-VersionsRiseWithThePlace masters = (m : ServerId) (s o t k : ℕ) (entry other : Entry) → slice_get (log_in (masters m).log s) o ≡ Some entry →
-    slice_get (log_in (masters m).log t) k ≡ Some other → (t < s) ⊎ ((t ≡ s) × (k < o)) →
+VersionsRiseWithThePlace masters = (m : ServerId) (s o t k : ℕ) (entry other : Entry) →
+    slice_get (log_in (masters m).log s) o ≡ Some entry → slice_get (log_in (masters m).log t) k ≡ Some other →
+    (t < s) ⊎ ((t ≡ s) × (k < o)) →
     other.term ≡ entry.term → other.table ≡ entry.table → other.key ≡ entry.key → other.version < entry.version
 
 -- no two owners acknowledge one version of a key
 abbrev pub NoVersionTwice : List Message → Type 0
-NoVersionTwice sent = (one other : Ack) → WasAcknowledged sent one → WasAcknowledged sent other → one.table ≡ other.table →
-    one.key ≡ other.key → (one.term ≡ other.term → ⊥) → one.version ≡ other.version → ⊥
+NoVersionTwice sent = (one other : Ack) → WasAcknowledged sent one → WasAcknowledged sent other →
+    one.table ≡ other.table → one.key ≡ other.key → (one.term ≡ other.term → ⊥) → one.version ≡ other.version → ⊥
 
 -- Where all facts hold
 
 abbrev pub WhereFactsHold : (List Message → (ServerId → Master) → Type 0) → Type 0
-WhereFactsHold P = (sent : List Message) (masters : ServerId → Master) (hosts : ℕ → HostNode) (c : Coordinator) → AllHold sent masters hosts c → P sent masters
+WhereFactsHold P = (sent : List Message) (masters : ServerId → Master) (hosts : ℕ → HostNode) (c : Coordinator) →
+    AllHold sent masters hosts c → P sent masters
 
 abbrev pub FactsCutData : Type 0
 FactsCutData = WhereFactsHold (λ sent masters. DataIsCut sent)
@@ -85,14 +87,17 @@ abbrev pub DataIsThePlanCutToThePart : Type 0
 DataIsThePlanCutToThePart = (setup : Setup) (events : List Event) → DataIsCut (replay setup events).sent
 
 abbrev pub GrantsStartFromTheirBase : Type 0
-GrantsStartFromTheirBase = (setup : Setup) (events : List Event) → GrantsStart (replay setup events).sent (replay setup events).masters
+GrantsStartFromTheirBase = (setup : Setup) (events : List Event) →
+    GrantsStart (replay setup events).sent (replay setup events).masters
 
 abbrev pub HandoversKeepWhatWasAcknowledged : Type 0
-HandoversKeepWhatWasAcknowledged = (setup : Setup) (events : List Event) → AcknowledgedIsKept (replay setup events).sent (replay setup events).masters
+HandoversKeepWhatWasAcknowledged = (setup : Setup) (events : List Event) →
+    AcknowledgedIsKept (replay setup events).sent (replay setup events).masters
 
 -- and what is durable
 abbrev pub HandoversKeepWhatIsDurable : Type 0
-HandoversKeepWhatIsDurable = (setup : Setup) (events : List Event) (m : ServerId) (s o : ℕ) → IsDurable setup events m s o →
+HandoversKeepWhatIsDurable = (setup : Setup) (events : List Event) (m : ServerId) (s o : ℕ) →
+    IsDurable setup events m s o →
     (entry : Entry) × (slice_get (log_in ((replay setup events).masters m).log s) o ≡ Some entry)
     × ((grant : Granted) (x : ServerId) → IsGranted (replay setup events).sent grant → grant.owner ≡ Server x →
     IsEarlier (replay setup events).sent entry.table entry.key entry.term grant.term →
@@ -100,14 +105,15 @@ HandoversKeepWhatIsDurable = (setup : Setup) (events : List Event) (m : ServerId
 
 -- a grant's previous term is the earlier one at each point of its range, so all this holds over each single grant
 abbrev pub PreviousIsEarlier : Type 0
-PreviousIsEarlier = (sent : List Message) (grant : Granted) (table key : ℕ) → IsGranted sent grant → covers table key grant ≡ true →
-    IsEarlier sent table key grant.previous grant.term
+PreviousIsEarlier = (sent : List Message) (grant : Granted) (table key : ℕ) → IsGranted sent grant →
+    covers table key grant ≡ true → IsEarlier sent table key grant.previous grant.term
 
 abbrev pub VersionsRiseOverOwners : Type 0
 VersionsRiseOverOwners = (setup : Setup) (events : List Event) → VersionsRise (replay setup events).sent
 
 abbrev pub VersionsAlwaysRiseWithThePlace : Type 0
-VersionsAlwaysRiseWithThePlace = (setup : Setup) (events : List Event) → VersionsRiseWithThePlace (replay setup events).masters
+VersionsAlwaysRiseWithThePlace = (setup : Setup) (events : List Event) →
+    VersionsRiseWithThePlace (replay setup events).masters
 
 abbrev pub NoVersionIsAcknowledgedTwice : Type 0
 NoVersionIsAcknowledgedTwice = (setup : Setup) (events : List Event) → NoVersionTwice (replay setup events).sent

@@ -1,6 +1,7 @@
 //! The facts, and what follows from them in any world.
 
-ghost use Rattle.rc_version_safety.specs.Claims.{FactsAlwaysHold, FactsCutData, FactsStartGrants, FactsKeepWhatIsSafe, FactsKeepWhatWasAcknowledged, FactsLetVersionsRise};
+ghost use Rattle.rc_version_safety.specs.Claims.{FactsAlwaysHold, FactsCutData, FactsStartGrants};
+ghost use Rattle.rc_version_safety.specs.Claims.{FactsKeepWhatIsSafe, FactsKeepWhatWasAcknowledged, FactsLetVersionsRise};
 
 /// Where all facts hold: each Data is its plan's row, cut to the part; each grant of a recovery starts
 /// from its base, which is durable in the owner's log before anything else of its term; what stands at

@@ -1,6 +1,7 @@
 //! What goes from owner to owner.
 
-ghost use Rattle.rc_version_safety.specs.Claims.{HandoversKeepWhatWasAcknowledged, HandoversKeepWhatIsDurable, PreviousIsEarlier};
+ghost use Rattle.rc_version_safety.specs.Claims.{HandoversKeepWhatWasAcknowledged, HandoversKeepWhatIsDurable};
+ghost use Rattle.rc_version_safety.specs.Claims.{PreviousIsEarlier};
 
 /// After any list of events, over each handover and over each chain of them: what was acknowledged
 /// under an earlier term of a point, and what is durable under one, each later owner of that point has

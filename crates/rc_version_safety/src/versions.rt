@@ -1,6 +1,7 @@
 //! The headline's third clause, and the whole of it.
 
-ghost use Rattle.rc_version_safety.specs.Claims.{VersionsRiseOverOwners, ThereIsNoBreach, VersionsAlwaysRiseWithThePlace, NoVersionIsAcknowledgedTwice};
+ghost use Rattle.rc_version_safety.specs.Claims.{VersionsRiseOverOwners, ThereIsNoBreach};
+ghost use Rattle.rc_version_safety.specs.Claims.{VersionsAlwaysRiseWithThePlace, NoVersionIsAcknowledgedTwice};
 
 /// After any list of events of the whole protocol, a write that was acknowledged under a later
 /// ownership of a key has a greater version than every write that was acknowledged, then or since,
