@@ -1,0 +1,15 @@
+-- The headline: of every world that a setup and a list of events lead to.
+use Rattle.std.specs.Prelude.{◌≡◌, false, List, None}
+use Rattle.rc_types.specs.declared.events.Setup.{Setup}
+use Rattle.rc_types.specs.declared.events.Event.{Event}
+use Rattle.rc_model.specs.World.{replay}
+use Rattle.rc_model.specs.Breach.{breach}
+use Rattle.rc_model.specs.Headline.{NothingIsDropped}
+
+-- the messages sent hold no breach
+abbrev pub NoBreach : Type 0
+NoBreach = (setup : Setup) (events : List Event) → breach (replay setup events).sent ≡ None
+
+-- and where masters free nothing, each accepted recovery has every acknowledged write of its master at its own place
+abbrev pub Strong : Type 0
+Strong = (setup : Setup) (events : List Event) → setup.free ≡ false → NothingIsDropped (replay setup events).sent
