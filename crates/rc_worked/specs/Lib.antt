@@ -8,3 +8,4 @@ pub mod Recoveries
 pub mod Freeing
 pub mod Doubts
 pub mod Shown
+pub mod Happening

@@ -5,6 +5,7 @@ pub mod doubts;
 pub mod epochs;
 pub mod first_path;
 pub mod freeing;
+pub mod happening;
 pub mod recoveries;
 pub mod restarts;
 pub mod rolls;
