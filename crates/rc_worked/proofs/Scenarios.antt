@@ -16,38 +16,47 @@ IsReplay setup world = replay setup world.events ≡ world
 replay-step : (setup : Setup) (world : World) (one : Event) → IsReplay setup world → IsReplay setup (step world one)
 replay-step setup world one is = by (is_possible world one) refl
   where
-    noted_as : (b : Bool) → is_possible world one ≡ b → (step world one).events ≡ cond b (world.events ++ one ∷ []) world.events
-    noted_as b e = noted world one ∙ ap (λ (possible : Bool). cond possible (world.events ++ one ∷ []) world.events) e
+    noted_as : (b : Bool) → is_possible world one ≡ b →
+        (step world one).events ≡ cond b (world.events ++ one ∷ []) world.events
+    noted_as b e = noted world one
+        ∙ ap (λ (possible : Bool). cond possible (world.events ++ one ∷ []) world.events) e
 
     by : (b : Bool) → is_possible world one ≡ b → IsReplay setup (step world one)
-    by true e = ap (replay setup) (noted_as true e) ∙ (replay_from-push (opening setup) world.events one ∙ ap (λ (w : World). step w one) is)
+    by true e = ap (replay setup) (noted_as true e)
+        ∙ (replay_from-push (opening setup) world.events one ∙ ap (λ (w : World). step w one) is)
     by false e = ap (replay setup) (noted_as false e) ∙ (is ∙ sym (step-impossible world one e))
 
-replay-deliver : (setup : Setup) (passes : Bool) (number : ℕ) (world : World) → IsReplay setup world → IsReplay setup (deliver_unless passes number world)
+replay-deliver : (setup : Setup) (passes : Bool) (number : ℕ) (world : World) → IsReplay setup world →
+    IsReplay setup (deliver_unless passes number world)
 replay-deliver setup true number world is = is
 replay-deliver setup false number world is = replay-step setup world (event.Deliver number) is
 
 -- one round of settling, where the rounds after it keep it
-replay-found : (setup : Setup) (found : Option Message) (world : World) (goes_on : Message → World) → IsReplay setup world →
+replay-found : (setup : Setup) (found : Option Message) (world : World) (goes_on : Message → World) →
+    IsReplay setup world →
     ((message : Message) → IsReplay setup (goes_on message)) → IsReplay setup (until_end found world goes_on)
 replay-found setup None world goes_on is on = is
 replay-found setup (Some message) world goes_on is on = on message
 
-replay-settles : (setup : Setup) (times : ℕ) (passes : Message → Bool) (number : ℕ) (world : World) → IsReplay setup world →
-    IsReplay setup (settles times passes number world)
+replay-settles : (setup : Setup) (times : ℕ) (passes : Message → Bool) (number : ℕ) (world : World) →
+    IsReplay setup world → IsReplay setup (settles times passes number world)
 replay-settles setup zero passes number world is = is
 replay-settles setup (suc times) passes number world is =
     replay-found setup (slice_get world.sent number) world
     (λ message. settles times passes (number + 1)
-    (deliver_unless (is_to_outside message.to || (passes message || is_delivered number world.events)) number world))
+    (deliver_unless (is_to_outside message.to || (passes message || is_delivered number world.events))
+    number world))
     is
     (λ message. replay-settles setup times passes (number + 1)
-    (deliver_unless (is_to_outside message.to || (passes message || is_delivered number world.events)) number world)
-    (replay-deliver setup (is_to_outside message.to || (passes message || is_delivered number world.events)) number world is))
+    (deliver_unless (is_to_outside message.to || (passes message || is_delivered number world.events))
+    number world)
+    (replay-deliver setup (is_to_outside message.to || (passes message || is_delivered number world.events))
+    number world is))
 
 replay-runs : (setup : Setup) (world : World) (lines : List Line) → IsReplay setup world → IsReplay setup (runs world lines)
 replay-runs setup world [] is = is
-replay-runs setup world (Once one ∷ lines) is = replay-runs setup (step world one) lines (replay-step setup world one is)
+replay-runs setup world (Once one ∷ lines) is =
+    replay-runs setup (step world one) lines (replay-step setup world one is)
 replay-runs setup world (Settle passes ∷ lines) is =
     replay-runs setup (settles many passes 0 world) lines (replay-settles setup many passes 0 world is)
 

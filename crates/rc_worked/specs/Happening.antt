@@ -48,7 +48,8 @@ rolled_plan = record {
 }
 
 abbrev pub RolledIsAcknowledged : Type 0
-RolledIsAcknowledged = acknowledged (sent_in of_two replaced_then_rolled) (id 0 1) ≡ ack 1 0 1 1 1 ∷ ack 1 1 1 2 1 ∷ ack 2 0 1 3 1 ∷ []
+RolledIsAcknowledged =
+    acknowledged (sent_in of_two replaced_then_rolled) (id 0 1) ≡ ack 1 0 1 1 1 ∷ ack 1 1 1 2 1 ∷ ack 2 0 1 3 1 ∷ []
 
 abbrev pub RolledIsRecovered : Type 0
 RolledIsRecovered = accepted (sent_in of_two replaced_then_rolled) ≡ rolled_plan ∷ []
@@ -119,7 +120,8 @@ ThreeOwnersTell =
 
 -- the same as values
 abbrev pub ThreeOwnersAcknowledge : Type 0
-ThreeOwnersAcknowledge = all_acknowledged (sent_in (of_eight 2) three_owners) ≡ ack 1 1 2 5 2 ∷ ack 1 0 1 5 1 ∷ ack 1 2 3 5 3 ∷ []
+ThreeOwnersAcknowledge =
+    all_acknowledged (sent_in (of_eight 2) three_owners) ≡ ack 1 1 2 5 2 ∷ ack 1 0 1 5 1 ∷ ack 1 2 3 5 3 ∷ []
 
 -- the first one's term is the earlier one of the third's, over two grants
 abbrev pub ThreeOwnersAreInTurn : Type 0
