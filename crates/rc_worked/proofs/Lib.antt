@@ -1,1 +1,2 @@
 pub mod Scenarios
+pub mod Dropping

@@ -10,6 +10,7 @@ use Rattle.rc_model.specs.Recovered.{Ack, acknowledged, all_acknowledged, Accept
 use Rattle.rc_model.specs.Owners.{is_earlier}
 use Rattle.rc_model.specs.Durable.{IsDurable}
 use Rattle.rc_model.specs.Breach.{is_superseded}
+use Rattle.rc_model.specs.Headline.{NothingIsDropped}
 use Rattle.rc_model.specs.Report.{message_lines}
 use Rattle.rc_worked.specs.Settling.{Line, runs, of_two, of_eight, create, decide, deliver, id, settle, settle_without, settle_without_ready, start, stop, suspect, write}
 use Rattle.rc_worked.specs.Rolls.{replaced_then_rolled}
@@ -80,9 +81,11 @@ freed_plan = record {
   rows = record { seg = 2; holder = id 2 1; len = 2 } ∷ record { seg = 3; holder = id 1 1; len = 0 } ∷ [];
 }
 
+abbrev pub freed_acks : List Ack
+freed_acks = ack 1 0 1 1 1 ∷ ack 1 1 1 1 2 ∷ ack 2 0 1 1 3 ∷ ack 2 1 1 1 4 ∷ []
+
 abbrev pub FreedIsAcknowledged : Type 0
-FreedIsAcknowledged =
-    acknowledged (sent_in freeing freed) (id 0 1) ≡ ack 1 0 1 1 1 ∷ ack 1 1 1 1 2 ∷ ack 2 0 1 1 3 ∷ ack 2 1 1 1 4 ∷ []
+FreedIsAcknowledged = acknowledged (sent_in freeing freed) (id 0 1) ≡ freed_acks
 
 abbrev pub FreedIsRecovered : Type 0
 FreedIsRecovered = accepted (sent_in freeing freed) ≡ freed_plan ∷ []
@@ -93,6 +96,10 @@ FreedIsLeftOut = is_recovered freed_plan.rows 1 0 ≡ false
 -- for a greater version of the key is there
 abbrev pub FreedIsSuperseded : Type 0
 FreedIsSuperseded = is_superseded (sent_in freeing freed) freed_plan (ack 1 0 1 1 1) ≡ true
+
+-- so where segments are freed, an acknowledged write need not be at its own place
+abbrev pub FreedIsDropped : Type 0
+FreedIsDropped = NothingIsDropped (sent_in freeing freed) → ⊥
 
 -- Three owners in turn acknowledge writes of one key, the first of them after the second one's grant
 

@@ -1,7 +1,7 @@
 //! The theorems are about something: runs of `specs/Happening.antt`.
 
 ghost use Rattle.rc_worked.specs.Rolls.{ReplacedThenRolledChanged};
-ghost use Rattle.rc_worked.specs.Happening.{ScenariosAreReplays, RolledIsAcknowledged, RolledIsRecovered, RolledHasItsHeadAbove, RolledIsCovered, RolledIsDurable, FreedIsAcknowledged, FreedIsRecovered, FreedIsLeftOut, FreedIsSuperseded, ThreeOwnersTell, ThreeOwnersAcknowledge, ThreeOwnersAreInTurn};
+ghost use Rattle.rc_worked.specs.Happening.{ScenariosAreReplays, RolledIsAcknowledged, RolledIsRecovered, RolledHasItsHeadAbove, RolledIsCovered, RolledIsDurable, FreedIsAcknowledged, FreedIsRecovered, FreedIsLeftOut, FreedIsSuperseded, FreedIsDropped, ThreeOwnersTell, ThreeOwnersAcknowledge, ThreeOwnersAreInTurn};
 
 /// A scenario is what a list of events leads to, so that each theorem on every list of events speaks
 /// of it.
@@ -11,7 +11,8 @@ pub fn scenarios_are_replays()
 
 /// A write is acknowledged, the members of its segment are replaced, and the log rolls: the recovery
 /// has its head at segment 2, and covers the write. In another run a segment was freed, and the
-/// recovery leaves it out, with the write that was acknowledged there; a greater version is in it.
+/// recovery leaves it out, with the write that was acknowledged there; a greater version is in it. So
+/// where segments are freed, an acknowledged write need not be recovered at its own place.
 pub fn recoveries_happen()
     ensures acknowledged { RolledIsAcknowledged }
     ensures changed { ReplacedThenRolledChanged }
@@ -23,6 +24,7 @@ pub fn recoveries_happen()
     ensures freed_recovered { FreedIsRecovered }
     ensures freed_left_out { FreedIsLeftOut }
     ensures freed_superseded { FreedIsSuperseded }
+    ensures freed_dropped { FreedIsDropped }
 {}
 
 /// Three owners in turn acknowledge writes of one key, under versions that rise; the first one's
