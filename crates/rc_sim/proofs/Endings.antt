@@ -9,22 +9,23 @@ use Rattle.rc_types.specs.declared.faults.Fault.TheVariants as fault
 use Rattle.rc_types.specs.declared.faults.Code.{Code}
 use Rattle.rc_types.specs.declared.faults.Code.TheVariants.{BadEvent, OutOfMemory}
 use Rattle.rc_types.specs.declared.limits.TheConstants.{MAX_EVENTS}
-use Rattle.rc_first_model.specs.Breach.{breach}
-use Rattle.rc_first_model.specs.Report.{report}
-use Rattle.rc_first_safety.proofs.Headlines.{no_breach}
-use Rattle.rc_scenario.specs.declared.scenarios.Scenario.{Scenario}
-use Rattle.rc_scenario.specs.declared.scenarios.ScenarioEvent.{ScenarioEvent}
-use Rattle.rc_scenario.specs.Scenario.{reading}
-use Rattle.rc_scenario.specs.Lines.{stopped_line}
-use Rattle.rc_scenario.specs.Run.{scenario_run, run_within, ended_text}
-use Rattle.rc_scenario.proofs.Runs.{scenario_is_run}
-use Rattle.rc_first_world.specs.Happened.{Happened, replayed, sent_in}
+use Rattle.rc_model.specs.Breach.{breach}
+use Rattle.rc_model.specs.Report.{report}
+use Rattle.rc_version_safety.proofs.Replays.{there-is-no-breach}
+use Rattle.rc_reading.specs.declared.scenarios.Scenario.{Scenario}
+use Rattle.rc_reading.specs.declared.scenarios.ScenarioEvent.{ScenarioEvent}
+use Rattle.rc_reading.specs.Scenario.{reading}
+use Rattle.rc_report.specs.Ends.{stopped_line}
+use Rattle.rc_scenes.specs.Runs.{scenario_run, run_within}
+use Rattle.rc_scenes.specs.Printed.{ended_text}
+use Rattle.rc_scenes.proofs.Runs.{scenario_is_run}
+use Rattle.rc_world.specs.Happened.{Happened, replayed, sent_in}
 use Rattle.rc_sim.specs.declared.verdicts.Verdict.{Verdict}
 use Rattle.rc_sim.specs.declared.verdicts.Verdict.TheVariants.{Clean, Breach, Bad, Stopped}
 use Rattle.rc_sim.specs.declared.verdicts.SimFault.{SimFault}
 use Rattle.rc_sim.specs.declared.verdicts.SimFault.TheVariants as sim_fault
 use Rattle.rc_sim.specs.declared.answers.Answer.{Answer}
-use Rattle.rc_sim.specs.Steps.{RunsThrough, StopsAt}
+use Rattle.rc_runs.specs.Steps.{RunsThrough, StopsAt}
 use Rattle.rc_sim.specs.Written.{IsBegun}
 use Rattle.rc_sim.specs.Verdicts.{audited, unless_stopped, ended_verdict, Comes}
 
@@ -96,7 +97,7 @@ not_told code (Some place) = refl
 run_not_breach : (most : ℕ) (code : Code) (scenario : Scenario) → is_breach (ended_verdict code (run_within most scenario)) ≡ false
 run_not_breach most code scenario =
     let world = (run_within most scenario).world in
-    let none : breach world.sent ≡ None = ap (λ w. breach w.sent) (scenario_is_run most scenario).replayed ∙ no_breach scenario.setup world.events in
+    let none : breach world.sent ≡ None = ap (λ w. breach w.sent) (scenario_is_run most scenario).replayed ∙ there-is-no-breach scenario.setup world.events in
     rw none (not_told code (run_within most scenario).stopped)
 
 breach_is_none : (read : Result Scenario ℕ) (verdict : Verdict) (text : List ℕ) → Comes read verdict text → is_breach verdict ≡ false

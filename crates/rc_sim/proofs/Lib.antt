@@ -1,7 +1,4 @@
-mod Waitings
-mod Steppings
-mod Passes
-mod Scenes
+mod Limits
 mod Written
 mod Endings
 mod Closings

@@ -1,7 +1,4 @@
 pub mod Failures
-pub mod Waiting
-pub mod RunHolds
-pub mod Steps
 pub mod Verdicts
 pub mod Written
 pub mod Statuses

@@ -3,7 +3,7 @@ use Rattle.std.specs.Prelude.{◌≡◌, ℕ, List, Option, Result, Ok, Err}
 use Rattle.std.specs.Option.{IfSome}
 use Rattle.std.specs.Io.KnownBytes.{Keeps}
 use Rattle.rc_types.specs.declared.faults.Code.TheVariants.{OutOfMemory}
-use Rattle.rc_scenario.specs.Scenario.{reading}
+use Rattle.rc_reading.specs.Scenario.{reading}
 use Rattle.rc_sim.specs.declared.verdicts.Verdict.{Verdict}
 use Rattle.rc_sim.specs.declared.verdicts.Verdict.TheVariants.{Clean, Breach, Bad, Stopped}
 use Rattle.rc_sim.specs.declared.verdicts.SimFault.{SimFault}

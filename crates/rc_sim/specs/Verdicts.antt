@@ -4,10 +4,11 @@ use Rattle.rc_types.specs.declared.faults.Code.{Code}
 use Rattle.rc_types.specs.declared.faults.Code.TheVariants.{OutOfMemory, BadEvent}
 use Rattle.rc_types.specs.declared.limits.TheConstants.{MAX_EVENTS}
 use Rattle.rc_types.specs.declared.verdicts.Breach.{Breach as Found}
-use Rattle.rc_first_model.specs.Breach.{breach}
-use Rattle.rc_scenario.specs.declared.scenarios.Scenario.{Scenario}
-use Rattle.rc_scenario.specs.Lines.{error_line}
-use Rattle.rc_scenario.specs.Run.{Ended, scenario_run, run_within, ended_text}
+use Rattle.rc_model.specs.Breach.{breach}
+use Rattle.rc_reading.specs.declared.scenarios.Scenario.{Scenario}
+use Rattle.rc_report.specs.Ends.{error_line}
+use Rattle.rc_scenes.specs.Runs.{Ended, scenario_run, run_within}
+use Rattle.rc_scenes.specs.Printed.{ended_text}
 use Rattle.rc_sim.specs.declared.verdicts.Verdict.{Verdict}
 use Rattle.rc_sim.specs.declared.verdicts.Verdict.TheVariants.{Clean, Breach, Bad, Stopped}
 

@@ -1,7 +1,7 @@
 -- What a writer holds after a call: a text that comes of a scenario, or the beginning of one.
 use Rattle.std.specs.Prelude.{ℕ, ◌<◌, List, length, take, Option, Result}
 use Rattle.std.specs.Io.KnownBytes.{Appends}
-use Rattle.rc_scenario.specs.declared.scenarios.Scenario.{Scenario}
+use Rattle.rc_reading.specs.declared.scenarios.Scenario.{Scenario}
 use Rattle.rc_sim.specs.declared.verdicts.Verdict.{Verdict}
 use Rattle.rc_sim.specs.Verdicts.{Comes}
 

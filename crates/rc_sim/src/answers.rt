@@ -1,20 +1,23 @@
 //! What is answered to the bytes of a scenario.
 
 ghost use Rattle.std.specs.Prelude.{◌≡◌, ◌++◌, string_bytes, Ok, IfOk, IfErr};
-ghost use Rattle.rc_first_model.specs.Breach.{breach};
-ghost use Rattle.rc_first_model.specs.Report.{report};
-ghost use Rattle.rc_first_world.specs.Happened.{sent_in};
-ghost use Rattle.rc_scenario.specs.Lines.{stopped_line, error_line};
-ghost use Rattle.rc_scenario.specs.Scenario.{reading};
+ghost use Rattle.rc_model.specs.Breach.{breach};
+ghost use Rattle.rc_model.specs.Report.{report};
+ghost use Rattle.rc_world.specs.Happened.{sent_in};
+ghost use Rattle.rc_world.specs.HostView.{IsWithinLimits};
+ghost use Rattle.rc_report.specs.Ends.{stopped_line, error_line};
+ghost use Rattle.rc_reading.specs.Scenario.{reading};
 ghost use Rattle.rc_sim.specs.declared.verdicts.SimFault.TheVariants.{Memory};
 ghost use Rattle.rc_sim.specs.declared.verdicts.Verdict.TheVariants.{Bad, Stopped};
 ghost use Rattle.rc_sim.specs.Verdicts.{audited, Comes};
 
-use crate::runs::Run;
 use crate::verdicts::{SimFault, Verdict};
-use rc_first_world::{World, audit};
-use rc_scenario::{ReadFault, Scenario, add_stopped, error_text, read_scenario, report_of};
+use rc_audit::audit;
+use rc_reading::{ReadFault, Scenario, read_scenario};
+use rc_report::{add_stopped, error_text, report_of};
+use rc_runs::Run;
 use rc_types::Code;
+use rc_world::World;
 use std::alloc::{Allocator, Global};
 
 /// What is answered, and what is printed.
@@ -26,37 +29,48 @@ pub struct Answer {
 
 /// The answer to these bytes. The run's tablets lie in memory of the second allocator. It fails only
 /// where memory was refused outside a step of the run.
-pub fn answer_to<A: Allocator>(alloc: Global, bytes: &[u8], tablets: A) -> Result<Answer, SimFault>
+pub fn answer_to<A: Allocator + Clone>(
+    alloc: Global,
+    bytes: &[u8],
+    tablets: A,
+) -> Result<Answer, SimFault>
     ensures ok { IfOk result (λ answer. Comes (reading bytes.now) answer.verdict (string_bytes answer.text)) }
     ensures fault { IfErr result (λ fault. fault ≡ Memory) }
 {
     match read_scenario(alloc, bytes) {
-        Ok(scenario) => played(alloc, &scenario, tablets),
-        Err(ReadFault::Memory) => Err(SimFault::Memory),
-        Err(ReadFault::Bad(place)) => bad(alloc, place),
+        Ok(scenario) => played(alloc, scenario, tablets),
+        Err(ReadFault::OutOfMemory) => Err(SimFault::Memory),
+        Err(ReadFault::BadScenario(place)) => bad(alloc, place),
     }
 }
 
 /// The answer to a scenario.
-fn played<A: Allocator>(alloc: Global, scenario: &Scenario, tablets: A) -> Result<Answer, SimFault>
-    ensures ok { IfOk result (λ answer. Comes (Ok scenario.now) answer.verdict (string_bytes answer.text)) }
+fn played<A: Allocator + Clone>(
+    alloc: Global,
+    scenario: Scenario,
+    tablets: A,
+) -> Result<Answer, SimFault>
+    requires { IsWithinLimits scenario.setup }
+    ensures ok { IfOk result (λ answer. Comes (Ok scenario) answer.verdict (string_bytes answer.text)) }
     ensures fault { IfErr result (λ fault. fault ≡ Memory) }
 {
-    let mut run = Run::new(alloc, scenario.setup, tablets);
-    match run.play_all(alloc, scenario.events.as_slice()) {
+    let Scenario { setup, events } = scenario;
+    let mut run = Run::new(alloc, setup, tablets);
+    match run.play_all(alloc, events.as_slice()) {
         Ok(()) => ended(alloc, run.world()),
         Err((place, fault)) => stopped(alloc, run.world(), place, fault.code()),
     }
 }
 
 /// The answer to a run whose events have all happened.
-fn ended<A: Allocator>(alloc: Global, world: &World<A>) -> Result<Answer, SimFault>
+fn ended<A: Allocator + Clone>(alloc: Global, world: &World<A>) -> Result<Answer, SimFault>
     ensures verdict { IfOk result (λ answer. answer.verdict ≡ audited (breach (sent_in world.now))) }
     ensures text { IfOk result (λ answer. string_bytes answer.text ≡ report (sent_in world.now)) }
     ensures fault { IfErr result (λ fault. fault ≡ Memory) }
 {
-    let found = audit(alloc, world.sent()).map_err(|_| SimFault::Memory)?;
-    let text = report_of(alloc, world.sent(), found).map_err(|_| SimFault::Memory)?;
+    let sent = world.sent();
+    let found = audit(alloc, sent).map_err(|_| SimFault::Memory)?;
+    let text = report_of(alloc, sent, found).map_err(|_| SimFault::Memory)?;
     let verdict = match found {
         None => Verdict::Clean,
         Some(_) => Verdict::Breach,
@@ -65,7 +79,7 @@ fn ended<A: Allocator>(alloc: Global, world: &World<A>) -> Result<Answer, SimFau
 }
 
 /// The answer to a run that stopped at this event of the scenario.
-fn stopped<A: Allocator>(
+fn stopped<A: Allocator + Clone>(
     alloc: Global,
     world: &World<A>,
     place: usize,

@@ -4,9 +4,7 @@
 mod answers;
 mod commanding;
 mod counted;
-mod mail;
 mod outlets;
-mod runs;
 mod simulating;
 mod verdicts;
 

@@ -2,13 +2,13 @@
 
 ghost use Rattle.std.specs.Prelude.{◌≡◌, ◌≢◌, ◌<◌, ℕ, length, take, Ok, Err, OnOk, IfOk, IfErr, IfSome};
 ghost use Rattle.std.specs.Io.KnownBytes.{Appends};
-ghost use Rattle.rc_scenario.specs.Scenario.{reading};
+ghost use Rattle.rc_reading.specs.Scenario.{reading};
 ghost use Rattle.rc_sim.specs.declared.verdicts.SimFault.TheVariants.{Memory, Read as ReadFailed, Write as WriteFailed};
 ghost use Rattle.rc_sim.specs.Failures.{failed_reads, failed_writes};
 
 use crate::counted::Counted;
 use crate::verdicts::SimFault;
-use rc_scenario::MOST_BYTES;
+use rc_reading::limits::MOST_BYTES;
 use std::alloc::Global;
 use std::io::{Read, Write};
 

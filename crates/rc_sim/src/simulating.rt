@@ -2,7 +2,7 @@
 
 ghost use Rattle.std.specs.Prelude.{◌≡◌, ◌≢◌, ℕ, IfOk, IfSome, Ok, Err};
 ghost use Rattle.std.specs.Io.KnownBytes.{Keeps};
-ghost use Rattle.rc_scenario.specs.Scenario.{reading};
+ghost use Rattle.rc_reading.specs.Scenario.{reading};
 ghost use Rattle.rc_sim.specs.declared.verdicts.SimFault.TheVariants.{Memory, Read as ReadFailed, Write as WriteFailed};
 ghost use Rattle.rc_sim.specs.declared.verdicts.Verdict.TheVariants.{Breach};
 ghost use Rattle.rc_sim.specs.Failures.{failed_reads, failed_writes};
@@ -23,7 +23,7 @@ use std::io::{Read, Write};
 /// After `Memory` and `Read` nothing was written, after `Write(n)` the first n bytes of the text. `Read`
 /// and `Write` come only where the reader or the writer has failed in this very call; no failure is
 /// tried again.
-pub fn simulate<R: Read, W: Write, A: Allocator>(
+pub fn simulate<R: Read, W: Write, A: Allocator + Clone>(
     alloc: Global,
     reader: &mut Counted<R>,
     writer: &mut Counted<W>,

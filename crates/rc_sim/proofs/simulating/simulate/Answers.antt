@@ -1,6 +1,6 @@
 use Rattle.std.proofs.Common.{◌∙◌, Err, sym, ap, string_bytes}
 use Rattle.std.proofs.lemmas.Result.{err_from_is_err_and}
-use Rattle.rc_scenario.specs.Scenario.{reading}
+use Rattle.rc_reading.specs.Scenario.{reading}
 use Rattle.rc_sim.proofs.Endings.{never_breach, told_verdict, told_fault, begun_of}
 use Rattle.rc_sim.proofs.simulating.simulate.Goals as goal
 

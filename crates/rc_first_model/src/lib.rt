@@ -1,6 +1,0 @@
-//! The protocol as pure definitions, in `specs/`. Nothing here runs: the functions of this crate
-//! have empty bodies, and their contracts are laws of the definitions.
-#![tactic(auto)]
-
-pub mod laws;
-pub mod worked;

@@ -1,3 +1,0 @@
-pub mod NumbersLengths
-pub mod NumbersRules
-pub mod NumbersWorld

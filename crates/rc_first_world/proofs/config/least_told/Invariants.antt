@@ -1,8 +1,0 @@
-use Rattle.std.proofs.Common.{◌≡◌, ◌∷◌, take}
-use Rattle.rc_types.specs.declared.kept.Member.{Member}
-use Rattle.rc_first_model.specs.Config.{least_told}
-use Rattle.rc_first_world.proofs.config.least_told.Given as goal
-
--- the least of the first member and the others so far
-abbrev pub invariant-loop-member : goal.invariant-loop-member
-invariant-loop-member l = (first : Member) × (l.fn.members ≡ first ∷ l.others) × (l.least ≡ least_told (first ∷ take l.member-index l.others))

@@ -1,9 +1,0 @@
-use Rattle.std.proofs.Common.{◌≡◌, ◌++◌, drop}
-use Rattle.rc_types.specs.declared.messages.Body.TheVariants.{Gather}
-use Rattle.rc_model.specs.Messages.{to_each}
-use Rattle.rc_first_world.proofs.coordinator.notices.add_gathers.Given as goal
-
--- the messages so far, and then those to the ids that are left
-abbrev pub invariant-loop-id : goal.invariant-loop-id
-invariant-loop-id l =
-    l.messages.items ++ to_each (drop l.id-index l.id-items) (Gather l.attempt l.master) ≡ l.initial.messages.items ++ to_each l.id-items (Gather l.attempt l.master)

@@ -1,9 +1,0 @@
-use Rattle.std.proofs.Common.{◌≡◌, ◌++◌, drop}
-use Rattle.rc_types.specs.declared.messages.Body.TheVariants.{List as Listed}
-use Rattle.rc_model.specs.Messages.{to_each}
-use Rattle.rc_first_world.proofs.coordinator.notices.spread_list.Given as goal
-
--- the messages so far, and then those to the ids that are left
-abbrev pub invariant-loop-id : goal.invariant-loop-id
-invariant-loop-id l =
-    l.messages.items ++ to_each (drop l.id-index l.id-items) (Listed l.servers.version l.servers.rows) ≡ to_each l.id-items (Listed l.servers.version l.servers.rows)

@@ -1,7 +1,0 @@
-use Rattle.std.proofs.Common.{◌≡◌, take}
-use Rattle.rc_first_world.specs.Happened.{with_events, AllHappen}
-use Rattle.rc_first_world.proofs.worlds.run.Given as goal
-
--- the events so far have happened
-abbrev pub invariant-loop-index : goal.invariant-loop-index
-invariant-loop-index g l = (l.world ≡ with_events l.fn.world (take l.index l.events)) × AllHappen l.fn.world (take l.index l.events)

@@ -1,0 +1,2 @@
+pub mod RunHolds
+pub mod Steps

@@ -1,5 +1,0 @@
-use Rattle.rc_scenario.proofs.Bytes.{value_has_bytes}
-use Rattle.rc_scenario.proofs.reading.read_scenario.Goals as goal
-
-pub returns-clause-memory : goal.returns-clause-memory
-returns-clause-memory c _ = value_has_bytes c.args.bytes.now _ c.in_ok-value.ensures.ok

@@ -1,0 +1,26 @@
+-- What a host's master does is what the host does.
+use Rattle.std.proofs.Common.{◌≡◌, Some, None, Result, Ok, Err, OnOk, refl, ap, option_map}
+use Rattle.rc_model.specs.Nodes.{ticks_if_running}
+use Rattle.rc_model.specs.Master.{Master}
+use Rattle.rc_model.specs.MasterStep.{master_ticks}
+use Rattle.rc_master.specs.Data.{MasterData, master_of}
+use Rattle.rc_world.specs.HostView.{HostData, host_of}
+
+one_tick : (host : HostData) (was now : MasterData) → host.master ≡ Some was → master_of now ≡ (master_ticks (master_of was)).0 →
+    host_of (record host { master = Some now }) ≡ (ticks_if_running (host_of host) (option_map master_of host.master)).0
+one_tick host was now is h = rw is (ap (λ (m : Master). record (host_of host) { master = Some m }) h)
+
+no_tick : (host : HostData) → host.master ≡ None → host_of host ≡ (ticks_if_running (host_of host) (option_map master_of host.master)).0
+no_tick host none = rw none refl
+
+-- its timer goes off
+pub ticked : {T E : Type 0} (result r : Result T E) (host seen after : HostData) (was now : MasterData) → result ≡ r → host ≡ seen →
+    after ≡ record host { master = Some now } → host.master ≡ Some was → OnOk r (master_of now ≡ (master_ticks (master_of was)).0) →
+    OnOk result (host_of after ≡ (ticks_if_running (host_of seen) (option_map master_of seen.master)).0)
+ticked result (Ok x) host seen after was now e same gone is h = rw (e, gone, ← same) (one_tick host was now is h)
+ticked result (Err x) host seen after was now e same gone is h = rw e tt
+
+-- where none runs, nothing happens
+pub idle : {T E : Type 0} (result : Result T E) (x : T) (host seen after : HostData) → result ≡ Ok x → host ≡ seen → after ≡ host → host.master ≡ None →
+    OnOk result (host_of after ≡ (ticks_if_running (host_of seen) (option_map master_of seen.master)).0)
+idle result x host seen after e same gone none = rw (e, gone, ← same) (no_tick host none)

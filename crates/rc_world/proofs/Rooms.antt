@@ -1,0 +1,29 @@
+-- The numbers of a world's nodes suffice for one more step.
+use Rattle.std.proofs.Common.{ℕ, ◌≤◌, List, length, sym, subst}
+use Rattle.rc_types.specs.declared.limits.TheConstants.{MAX_EVENTS}
+use Rattle.rc_types.specs.declared.events.Setup.{Setup}
+use Rattle.rc_types.specs.declared.events.Event.{Event}
+use Rattle.rc_model.specs.Coordinator.{Coordinator}
+use Rattle.rc_model.specs.Nodes.{HostNode}
+use Rattle.rc_model.specs.World.{World, replay}
+use Rattle.rc_numbers.specs.Claims.{HasRoom}
+use Rattle.rc_numbers.proofs.Rooms.{coordinator-has-room, generations-have-room, versions-have-room}
+use Rattle.rc_coordinator.specs.Steps.{HasNumbers}
+use Rattle.rc_world.specs.HostView.{HostHasRoom}
+use Rattle.rc_world.specs.WorldView.{IsSame, WorldHasRoom}
+
+numbers-from : (c : Coordinator) → HasRoom c → HasNumbers c
+numbers-from c room = record { versions = room.versions; attempts = room.attempts; terms = room.terms }
+
+host-room : (setup : Setup) (events : List Event) → length events ≤ MAX_EVENTS → (index : ℕ) → HostHasRoom ((replay setup events).hosts index)
+host-room setup events few index = record {
+  generation = generations-have-room setup events few index;
+  versions = versions-have-room setup events few index;
+}
+
+pub has_room : (setup : Setup) (events : List Event) (world : World) → IsSame world (replay setup events) → length events ≤ MAX_EVENTS → WorldHasRoom world
+has_room setup events world same few = record {
+  coordinator = subst (λ (c : Coordinator). HasNumbers c) (sym same.coordinator)
+      (numbers-from (replay setup events).coordinator (coordinator-has-room setup events few));
+  hosts = λ index. subst (λ (hosts : ℕ → HostNode). HostHasRoom (hosts index)) (sym same.hosts) (host-room setup events few index);
+}

@@ -1,0 +1,21 @@
+use Rattle.std.proofs.Common.{◌≡◌, List, None, sym, subst, ◌∙◌}
+use Rattle.rc_types.specs.declared.messages.Message.{Message}
+use Rattle.rc_model.specs.World.{replay}
+use Rattle.rc_model.specs.Breach.{breach}
+use Rattle.rc_model.specs.Headline.{NothingIsDropped}
+use Rattle.rc_log_words.proofs.KeptWorlds.{nothing-is-dropped}
+use Rattle.rc_version_safety.proofs.Replays.{there-is-no-breach}
+use Rattle.rc_world.proofs.world.World.sent.Goals as goal
+
+pub returns-clause-headline : goal.returns-clause-headline
+returns-clause-headline g c =
+    let same : c.as_slice.result.now ≡ (replay c.self.inside.nodes.setup c.self.inside.events.items).sent =
+    c.as_slice.ensures.value ∙ c.self.invariant.same.sent in
+    subst (λ (sent : List Message). breach sent ≡ None) (sym same) (there-is-no-breach c.self.inside.nodes.setup c.self.inside.events.items)
+
+pub returns-clause-strong : goal.returns-clause-strong
+returns-clause-strong g c =
+    let same : c.as_slice.result.now ≡ (replay c.self.inside.nodes.setup c.self.inside.events.items).sent =
+    c.as_slice.ensures.value ∙ c.self.invariant.same.sent in
+    λ free. subst (λ (sent : List Message). NothingIsDropped sent) (sym same)
+    (nothing-is-dropped c.self.inside.nodes.setup c.self.inside.events.items (rw (← c.self.view_is) at free))

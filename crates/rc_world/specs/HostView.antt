@@ -1,0 +1,53 @@
+-- What a contract sees of a host: plain data, since a function cannot be the value of a type.
+use Rattle.std.specs.Prelude.{◌≡◌, ℕ, ◌-◌, ◌^◌, ◌<◌, ◌≤◌, List, Option, Some, option_map, All}
+use Rattle.rc_types.specs.declared.ids.Addr.TheVariants.{Server}
+use Rattle.rc_types.specs.declared.events.Setup.{Setup}
+use Rattle.rc_types.specs.declared.messages.Message.{Message}
+use Rattle.rc_types.specs.declared.limits.TheConstants.{MAX_FACTOR, MAX_SEGMENT}
+use Rattle.rc_model.specs.Master.{Master, MasterSetup}
+use Rattle.rc_model.specs.Nodes.{HostNode, Tick, host_step, server_of}
+use Rattle.rc_backup.specs.BackupView.{Holdings, backup_of}
+use Rattle.rc_master.specs.Data.{MasterData, master_of}
+use Rattle.rc_master.specs.Numbers.{HasVersions}
+
+pub record HostData : Type 0 where
+  pub index : ℕ
+  pub setup : MasterSetup
+  pub generation : ℕ
+  pub backup : Holdings
+  pub master : Option MasterData
+
+-- as the definitions see it
+abbrev pub host_of : HostData → HostNode
+host_of host = record {
+  index = host.index;
+  setup = host.setup;
+  generation = host.generation;
+  backup = backup_of host.backup;
+  master = option_map master_of host.master;
+}
+
+-- masters can be made with these numbers
+pub record IsMasterSetup (setup : MasterSetup) : Type 0 where
+  pub some : 0 < setup.factor
+  pub factor : setup.factor ≤ MAX_FACTOR
+  pub size : setup.size ≤ MAX_SEGMENT
+
+-- a number of replicas that a segment can have
+abbrev pub IsFactor : ℕ → Type 0
+IsFactor factor = (0 < factor) × (factor ≤ MAX_FACTOR)
+
+-- the numbers of a setup are within the limits
+pub record IsWithinLimits (setup : Setup) : Type 0 where
+  pub factor : IsFactor setup.factor
+  pub segment : setup.segment ≤ MAX_SEGMENT
+  pub factors : All IsFactor setup.factors
+
+-- the host's numbers suffice for one more step
+pub record HostHasRoom (host : HostNode) : Type 0 where
+  pub generation : host.generation < 2 ^ 32 - 1
+  pub versions : (master : Master) → host.master ≡ Some master → HasVersions master
+
+-- the timer of the server that runs on the host goes off
+abbrev pub own_tick : HostNode → HostNode × List Message
+own_tick host = host_step host (Tick (Server (server_of host)))

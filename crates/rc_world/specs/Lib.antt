@@ -1,0 +1,7 @@
+pub mod HostView
+pub mod NodeView
+pub mod NodeFields
+pub mod WorldView
+pub mod Happened
+pub mod Lending
+pub mod WorldHolds

@@ -1,0 +1,96 @@
+-- A node, and what it can be given, as the definitions see them.
+use Rattle.std.specs.Prelude.{Bool, List}
+use Rattle.rc_types.specs.declared.ids.ServerId.{ServerId}
+use Rattle.rc_types.specs.declared.ids.Addr.{Addr}
+use Rattle.rc_types.specs.declared.ids.Addr.TheVariants.{Server, Coordinator as AtCoordinator, Outside}
+use Rattle.rc_types.specs.declared.messages.Message.{Message}
+use Rattle.rc_model.specs.Coordinator.{Coordinator}
+use Rattle.rc_model.specs.Nodes.{HostNode, Work, outside_can, outside_sends, coordinator_can, coordinator_step}
+use Rattle.rc_model.specs.Nodes.{host_can, host_step, server_of}
+use Rattle.rc_model.specs.Nodes as model
+use Rattle.rc_coordinator.specs.Book.{Book, coordinator_of}
+use Rattle.rc_coordinator.specs.Steps.{HasNumbers}
+use Rattle.rc_world.specs.HostView.{HostData, HostHasRoom, host_of}
+use Rattle.rc_world.specs.declared.work.NodeWork.{NodeWork}
+use Rattle.rc_world.specs.declared.work.NodeWork.TheVariants as work
+
+-- what a contract sees of a node
+pub data NodeData : Type 0 where
+  OutsideData : NodeData
+  CoordinatorData : (book : Book) → NodeData
+  HostNodeData : (host : HostData) → NodeData
+
+-- a node as the definitions see it
+pub data Node : Type 0 where
+  TheOutside : Node
+  TheCoordinator : (c : Coordinator) → Node
+  TheHost : (host : HostNode) → Node
+
+abbrev pub node_of : NodeData → Node
+node_of OutsideData = TheOutside
+node_of (CoordinatorData book) = TheCoordinator (coordinator_of book)
+node_of (HostNodeData host) = TheHost (host_of host)
+
+-- whether the node can be given this, and what it does with it
+abbrev pub node_can : Node → Work → Bool
+node_can TheOutside given = outside_can given
+node_can (TheCoordinator c) given = coordinator_can given
+node_can (TheHost host) given = host_can host given
+
+abbrev pub with_coordinator : Coordinator × List Message → Node × List Message
+with_coordinator (c, messages) = (TheCoordinator c, messages)
+
+abbrev pub with_host : HostNode × List Message → Node × List Message
+with_host (host, messages) = (TheHost host, messages)
+
+abbrev pub node_step : Node → Work → Node × List Message
+node_step TheOutside given = (TheOutside, outside_sends given)
+node_step (TheCoordinator c) given = with_coordinator (coordinator_step c given)
+node_step (TheHost host) given = with_host (host_step host given)
+
+-- the node's own server; the outside and the coordinator have none
+abbrev pub own_server : Node → ServerId
+own_server (TheHost host) = server_of host
+own_server _ = record { index = 0; generation = 0 }
+
+abbrev pub own_addr : Node → Addr
+own_addr TheOutside = Outside
+own_addr (TheCoordinator c) = AtCoordinator
+own_addr (TheHost host) = Server (server_of host)
+
+-- a timer and a stop are those of the node's own server
+abbrev pub work_at : Node → NodeWork → Work
+work_at node (work.Ask to body) = model.Ask to body
+work_at node (work.Deliver message) = model.Take message
+work_at node work.Tick = model.Tick (own_addr node)
+work_at node work.Stop = model.Stop (own_server node)
+work_at node (work.Start kept) = model.Start kept
+work_at node (work.Suspect id) = model.Suspect id
+work_at node (work.Decide id) = model.Decide id
+work_at node (work.Create table owner) = model.Create table owner
+work_at node (work.Split table at) = model.Split table at
+
+-- whether each node can be given this, and what it does with it
+abbrev pub may_take : Node → NodeWork → Bool
+may_take node given = node_can node (work_at node given)
+
+abbrev pub after_work : Node → NodeWork → Node × List Message
+after_work node given = node_step node (work_at node given)
+
+abbrev pub coordinator_may : Coordinator → NodeWork → Bool
+coordinator_may c given = coordinator_can (work_at (TheCoordinator c) given)
+
+abbrev pub coordinator_after : Coordinator → NodeWork → Coordinator × List Message
+coordinator_after c given = coordinator_step c (work_at (TheCoordinator c) given)
+
+abbrev pub host_may : HostNode → NodeWork → Bool
+host_may host given = host_can host (work_at (TheHost host) given)
+
+abbrev pub host_after : HostNode → NodeWork → HostNode × List Message
+host_after host given = host_step host (work_at (TheHost host) given)
+
+-- the node's numbers suffice for one more step
+abbrev pub NodeHasRoom : Node → Type 0
+NodeHasRoom TheOutside = Unit {0}
+NodeHasRoom (TheCoordinator c) = HasNumbers c
+NodeHasRoom (TheHost host) = HostHasRoom host

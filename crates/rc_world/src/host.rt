@@ -1,0 +1,237 @@
+//! A host: its backup, and its master where it runs.
+
+ghost use Rattle.std.specs.Prelude.{◌≡◌, ◌++◌, [], None, OnOk, OnErr, IfOk, IfErr};
+ghost use Rattle.rc_types.specs.declared.faults.Fault.TheVariants.{OutOfMemory};
+ghost use Rattle.rc_types.specs.declared.messages.Body.TheVariants.{Enlist};
+ghost use Rattle.rc_model.specs.Messages.{to_coordinator};
+ghost use Rattle.rc_model.specs.Ids.{is_server};
+ghost use Rattle.rc_model.specs.Backup.{open_names};
+ghost use Rattle.rc_model.specs.Nodes.{new_host, master_setup, factor_of, Take, Start, host_can, host_step};
+ghost use Rattle.rc_model.specs.Nodes.{server_of, runs, is_running_at, is_for_backup};
+ghost use Rattle.rc_world.specs.HostView.{host_of, IsWithinLimits, IsFactor, HostHasRoom, own_tick};
+
+use rc_backup::Backup;
+use rc_master::Master;
+use rc_types::limits::MAX_HOSTS;
+use rc_types::{Addr, Body, Fault, Message, ServerId, Setup};
+use std::alloc::Global;
+use std::marker::Model;
+use std::mem;
+
+/// A host: what its masters are made with, how often it was started, what it keeps as a backup, and
+/// its master where it runs.
+#[derive(Drop)]
+pub(crate) struct Host {
+    alloc: Global,
+    index: u8,
+    factor: u8,
+    size: u16,
+    free: bool,
+    generation: u32,
+    backup: Backup,
+    master: Option<Master>,
+}
+
+impl Model for Host {
+    ghost use Rattle.rc_model.specs.Master.{MasterSetup};
+    ghost use Rattle.rc_world.specs.HostView.{HostData, IsMasterSetup};
+
+    ghost Value = { HostData };
+
+    ghost view = { λ h. record {
+      index = h.index;
+      setup = record { factor = h.factor; size = h.size; free = h.free };
+      generation = h.generation;
+      backup = h.backup;
+      master = h.master;
+    } };
+
+    ghost invariant = { λ h. IsMasterSetup (record { factor = h.factor; size = h.size; free = h.free }) };
+}
+
+impl Host {
+    /// A host that was never started. It takes no memory.
+    pub(crate) fn new(alloc: Global, index: u8, setup: &Setup) -> Host
+        requires { IsWithinLimits setup.now }
+        ensures { host_of result ≡ new_host index (master_setup setup.now index) }
+    {
+        Host {
+            alloc,
+            index,
+            factor: factor_of(setup, index),
+            size: setup.segment,
+            free: setup.free,
+            generation: 0,
+            backup: Backup::new(
+                alloc,
+                ServerId {
+                    index,
+                    generation: 0,
+                },
+            ),
+            master: None,
+        }
+    }
+
+    /// The server of the host's last start.
+    pub(crate) fn server(&self) -> ServerId
+        ensures { result ≡ server_of (host_of self.now) }
+    {
+        ServerId {
+            index: self.index,
+            generation: self.generation,
+        }
+    }
+
+    /// How often the host was started.
+    pub(crate) fn generation(&self) -> u32
+        ensures { result ≡ (host_of self.now).generation }
+    {
+        self.generation
+    }
+
+    /// Whether a server runs on the host.
+    pub(crate) fn runs(&self) -> bool
+        ensures { result ≡ runs (host_of self.now) }
+    {
+        self.master.is_some()
+    }
+
+    /// Whether the host can be started: its index is one of those that there are, and it does not run.
+    pub(crate) fn can_start(&self) -> bool
+        ensures { result ≡ host_can (host_of self.now) (Start []) }
+    {
+        self.index < MAX_HOSTS && !self.runs()
+    }
+
+    /// Whether the address is that of the server that runs on the host.
+    pub(crate) fn is_running_at(&self, addr: Addr) -> bool
+        ensures { result ≡ is_running_at (host_of self.now) addr }
+    {
+        self.runs() && is_server(self.server(), addr)
+    }
+
+    /// The names of the host's open replicas, in order of master and then of segment.
+    pub(crate) fn open_names(&self) -> Result<Vec<(ServerId, u16)>, Fault>
+        ensures ok { IfOk result (λ names. names.items ≡ open_names (host_of self.now).backup) }
+        ensures no_memory { IfErr result (λ fault. fault ≡ OutOfMemory) }
+    {
+        self.backup.open_names()
+    }
+
+    /// A message reaches the host. Where its addressee does not run, it does nothing.
+    pub(crate) fn take(&mut self, message: &Message, sent: &mut Vec<Message>) -> Result<(), Fault>
+        requires { HostHasRoom (host_of self.old) }
+        ensures state { OnOk result (host_of self.new ≡ (host_step (host_of self.old) (Take message.now)).0) }
+        ensures sends { OnOk result (sent.new.items ≡
+            sent.old.items ++ (host_step (host_of self.old) (Take message.now)).1) }
+        ensures err { OnErr result (host_of self.new ≡ host_of self.old) }
+        ensures unsent { OnErr result (sent.new.items ≡ sent.old.items) }
+        ensures no_memory { IfErr result (λ fault. fault ≡ OutOfMemory) }
+    {
+        let own = self.server();
+        match &mut self.master {
+            Some(master) if is_server(own, message.to) => {
+                if is_for_backup(&message.body) {
+                    self.backup.step_into(message, sent)
+                } else {
+                    master.take(message.from, &message.body, sent)
+                }
+            }
+            _ => Ok(()),
+        }
+    }
+
+    /// The timer of the server that runs on the host goes off.
+    pub(crate) fn tick(&mut self, sent: &mut Vec<Message>) -> Result<(), Fault>
+        ensures state { OnOk result (host_of self.new ≡ (own_tick (host_of self.old)).0) }
+        ensures sends { OnOk result (sent.new.items ≡ sent.old.items ++ (own_tick (host_of self.old)).1) }
+        ensures err { OnErr result (host_of self.new ≡ host_of self.old) }
+        ensures unsent { OnErr result (sent.new.items ≡ sent.old.items) }
+        ensures no_memory { IfErr result (λ fault. fault ≡ OutOfMemory) }
+    {
+        match &mut self.master {
+            Some(master) => master.tick(sent),
+            None => Ok(()),
+        }
+    }
+
+    /// The server that runs on the host stops. What it keeps as a backup stays.
+    pub(crate) fn stop(&mut self)
+        ensures { host_of self.new ≡ record (host_of self.old) { master = None } }
+    {
+        self.master = None;
+    }
+
+    /// The next start of the host: a new master, the backup restarted, and an Enlist.
+    pub(crate) fn start(
+        &mut self,
+        kept: &[(ServerId, u16)],
+        sent: &mut Vec<Message>,
+    ) -> Result<(), Fault>
+        requires { HostHasRoom (host_of self.old) }
+        ensures state { OnOk result (host_of self.new ≡ (host_step (host_of self.old) (Start kept.now)).0) }
+        ensures sends { OnOk result (sent.new.items ≡
+            sent.old.items ++ (host_step (host_of self.old) (Start kept.now)).1) }
+        ensures err { OnErr result (host_of self.new ≡ host_of self.old) }
+        ensures unsent { OnErr result (sent.new.items ≡ sent.old.items) }
+        ensures no_memory { IfErr result (λ fault. fault ≡ OutOfMemory) }
+    {
+        sent.reserve(1)?;
+        self.generation += 1;
+        let own = self.server();
+        let backup = mem::replace(&mut self.backup, Backup::new(self.alloc, own));
+        self.backup = backup.restart(own, kept);
+        self.master = Some(Master::new(self.alloc, own, self.factor, self.size, self.free));
+        sent.push(enlist(own)).unwrap();
+        Ok(())
+    }
+}
+
+/// How many replicas each segment of the host's masters has.
+fn factor_of(setup: &Setup, index: u8) -> u8
+    requires { IsWithinLimits setup.now }
+    ensures factor { result ≡ factor_of setup.now index }
+    ensures within { IsFactor result }
+{
+    match setup.factors.get(usize::from(index)) {
+        Some(factor) => *factor,
+        None => setup.factor,
+    }
+}
+
+/// Whether the address is the server's.
+fn is_server(id: ServerId, addr: Addr) -> bool
+    ensures { result ≡ is_server id addr }
+{
+    match addr {
+        Addr::Server(other) => other == id,
+        Addr::Coordinator | Addr::Outside => false,
+    }
+}
+
+/// Whether a message is for the backup, and not for the master.
+fn is_for_backup(body: &Body) -> bool
+    ensures { result ≡ is_for_backup body.now }
+{
+    matches!(
+        body,
+        Body::Place { .. }
+            | Body::Append { .. }
+            | Body::Close { .. }
+            | Body::Gather { .. }
+            | Body::Fetch { .. }
+            | Body::Free { .. }
+    )
+}
+
+/// The Enlist of a server.
+fn enlist(own: ServerId) -> Message
+    ensures { result ≡ to_coordinator own Enlist }
+{
+    Message {
+        from: Addr::Server(own),
+        to: Addr::Coordinator,
+        body: Body::Enlist,
+    }
+}

@@ -1,0 +1,16 @@
+//! A world: all nodes of the protocol in one value, and runs of it over lists of events. Each node
+//! follows the rules of `rc_model` to the letter, so a world is what the definitions say that its
+//! events lead to, and what is proved of these holds of it.
+#![tactic(auto)]
+
+mod host;
+mod lending;
+mod node;
+mod nodes;
+mod outside;
+mod work;
+mod world;
+
+pub use node::NodeState;
+pub use work::NodeWork;
+pub use world::{World, run};

@@ -1,0 +1,211 @@
+//! One node of a world, for those who run the nodes apart.
+
+ghost use Rattle.std.specs.Prelude.{◌≡◌, ◌⊎◌, ◌↔◌, ◌++◌, false, OnOk, OnErr, IfOk, IfErr};
+ghost use Rattle.rc_types.specs.declared.faults.Fault.TheVariants.{OutOfMemory, BadEvent};
+ghost use Rattle.rc_model.specs.Nodes.{outside_can, outside_sends, new_host, master_setup};
+ghost use Rattle.rc_model.specs.Coordinator.{new_coordinator};
+ghost use Rattle.rc_coordinator.specs.Book.{coordinator_of};
+ghost use Rattle.rc_coordinator.specs.Steps.{HasNumbers};
+ghost use Rattle.rc_world.specs.HostView.{host_of, HostHasRoom, IsWithinLimits};
+ghost use Rattle.rc_world.specs.NodeView.{TheOutside, TheCoordinator, TheHost, node_of, work_at, NodeHasRoom};
+ghost use Rattle.rc_world.specs.NodeView.{may_take, after_work, coordinator_may, coordinator_after};
+ghost use Rattle.rc_world.specs.NodeView.{host_may, host_after};
+
+use crate::host::Host;
+use crate::outside::{ask, can_ask};
+use crate::work::NodeWork;
+use rc_coordinator::Coordinator;
+use rc_types::{Fault, Input, Message, Setup, TryClone};
+use std::alloc::{Allocator, Global};
+use std::marker::Model;
+
+/// One node: the outside, the coordinator, or a host with its generation, its backup and, where it
+/// runs, its master.
+#[derive(Drop)]
+pub struct NodeState<A: Allocator> {
+    alloc: Global,
+    node: Node<A>,
+}
+
+/// Which node it is.
+#[derive(Drop)]
+enum Node<A: Allocator> {
+    Outside,
+    Coordinator(Coordinator<A>),
+    Host(Host),
+}
+
+impl<A: Allocator> Model for NodeState<A> {
+    ghost use Rattle.rc_world.specs.NodeView.{NodeData};
+
+    ghost Value = { NodeData };
+
+    ghost use Rattle.rc_world.specs.NodeFields.{node_data};
+
+    ghost view = { λ n. node_data n.node };
+}
+
+impl<A: Allocator + Clone> NodeState<A> {
+    /// The outside, which asks servers, and takes answers without a word.
+    pub fn outside(alloc: Global) -> NodeState<A>
+        ensures { node_of result ≡ TheOutside }
+    {
+        NodeState {
+            alloc,
+            node: Node::Outside,
+        }
+    }
+
+    /// The coordinator before anything has happened. Its tablets lie in memory of the second
+    /// allocator. It takes no memory.
+    pub fn coordinator(alloc: Global, tablets: A) -> NodeState<A>
+        ensures { node_of result ≡ TheCoordinator new_coordinator }
+    {
+        NodeState {
+            alloc,
+            node: Node::Coordinator(Coordinator::new(alloc, tablets)),
+        }
+    }
+
+    /// The host of this index, which was never started. It takes no memory.
+    pub fn host(alloc: Global, index: u8, setup: &Setup) -> NodeState<A>
+        requires { IsWithinLimits setup.now }
+        ensures { node_of result ≡ TheHost (new_host index (master_setup setup.now index)) }
+    {
+        NodeState {
+            alloc,
+            node: Node::Host(Host::new(alloc, index, setup)),
+        }
+    }
+
+    /// Gives the node this, and adds what it sends to those sent.
+    ///
+    /// # Errors
+    ///
+    /// `BadEvent` (F18): the node can't be given this now. `OutOfMemory` (F1): memory was refused.
+    /// After either the node and what was sent are as before.
+    pub fn step_into(&mut self, work: &NodeWork, sent: &mut Vec<Message>) -> Result<(), Fault>
+        requires { NodeHasRoom (node_of self.old) }
+        ensures state { OnOk result (node_of self.new ≡ (after_work (node_of self.old) work.now).0) }
+        ensures sends { OnOk result (sent.new.items ≡ sent.old.items ++ (after_work (node_of self.old) work.now).1) }
+        ensures bad { (result ≡ Err BadEvent) ↔ (may_take (node_of self.old) work.now ≡ false) }
+        ensures fault { IfErr result (λ fault. (fault ≡ OutOfMemory) ⊎ (fault ≡ BadEvent)) }
+        ensures err { OnErr result (node_of self.new ≡ node_of self.old) }
+        ensures unsent { OnErr result (sent.new.items ≡ sent.old.items) }
+    {
+        match &mut self.node {
+            Node::Outside => outside_step(self.alloc, work, sent),
+            Node::Coordinator(coordinator) => {
+                coordinator_step(self.alloc, coordinator, work, sent)
+            }
+            Node::Host(host) => host_step(host, work, sent),
+        }
+    }
+
+    /// Gives the node this, and gives back what it sends, as `step_into` does.
+    ///
+    /// # Errors
+    ///
+    /// `BadEvent` (F18): the node can't be given this now. `OutOfMemory` (F1): memory was refused.
+    /// After either the node is as before.
+    pub fn step(&mut self, work: &NodeWork) -> Result<Vec<Message>, Fault>
+        requires { NodeHasRoom (node_of self.old) }
+        ensures state { OnOk result (node_of self.new ≡ (after_work (node_of self.old) work.now).0) }
+        ensures sends { IfOk result (λ sent. sent.items ≡ (after_work (node_of self.old) work.now).1) }
+        ensures bad { (result ≡ Err BadEvent) ↔ (may_take (node_of self.old) work.now ≡ false) }
+        ensures fault { IfErr result (λ fault. (fault ≡ OutOfMemory) ⊎ (fault ≡ BadEvent)) }
+        ensures err { OnErr result (node_of self.new ≡ node_of self.old) }
+    {
+        let mut sent = Vec::new(self.alloc);
+        self.step_into(work, &mut sent)?;
+        Ok(sent)
+    }
+}
+
+/// The outside's step.
+fn outside_step(alloc: Global, work: &NodeWork, sent: &mut Vec<Message>) -> Result<(), Fault>
+    ensures sends { OnOk result (sent.new.items ≡ sent.old.items ++ outside_sends (work_at TheOutside work.now)) }
+    ensures bad { (result ≡ Err BadEvent) ↔ (outside_can (work_at TheOutside work.now) ≡ false) }
+    ensures fault { IfErr result (λ fault. (fault ≡ OutOfMemory) ⊎ (fault ≡ BadEvent)) }
+    ensures unsent { OnErr result (sent.new.items ≡ sent.old.items) }
+{
+    match work {
+        NodeWork::Ask { to, body } if can_ask(*to, body) => ask(alloc, *to, body, sent),
+        NodeWork::Deliver(_) => Ok(()),
+        _ => Err(Fault::BadEvent),
+    }
+}
+
+/// The coordinator's step.
+fn coordinator_step<A: Allocator + Clone>(
+    alloc: Global,
+    coordinator: &mut Coordinator<A>,
+    work: &NodeWork,
+    sent: &mut Vec<Message>,
+) -> Result<(), Fault>
+    requires { HasNumbers (coordinator_of coordinator.old) }
+    ensures state { OnOk result (coordinator_of coordinator.new ≡
+        (coordinator_after (coordinator_of coordinator.old) work.now).0) }
+    ensures sends { OnOk result (sent.new.items ≡
+        sent.old.items ++ (coordinator_after (coordinator_of coordinator.old) work.now).1) }
+    ensures bad { (result ≡ Err BadEvent) ↔ (coordinator_may (coordinator_of coordinator.old) work.now ≡ false) }
+    ensures fault { IfErr result (λ fault. (fault ≡ OutOfMemory) ⊎ (fault ≡ BadEvent)) }
+    ensures err { OnErr result (coordinator.new ≡ coordinator.old) }
+    ensures unsent { OnErr result (sent.new.items ≡ sent.old.items) }
+{
+    let input = match work {
+        NodeWork::Deliver(message) => Input::Message(message.try_clone(alloc)?),
+        NodeWork::Tick => Input::Tick,
+        NodeWork::Suspect(id) => Input::Suspect(*id),
+        NodeWork::Decide(id) => Input::Decide(*id),
+        NodeWork::Create { table, owner } => Input::Create {
+            table: *table,
+            owner: *owner,
+        },
+        NodeWork::Split { table, at } => Input::Split {
+            table: *table,
+            at: *at,
+        },
+        NodeWork::Ask { .. } | NodeWork::Stop | NodeWork::Start { .. } => {
+            return Err(Fault::BadEvent);
+        }
+    };
+    coordinator.step_into(&input, sent)
+}
+
+/// A host's step.
+fn host_step(host: &mut Host, work: &NodeWork, sent: &mut Vec<Message>) -> Result<(), Fault>
+    requires { HostHasRoom (host_of host.old) }
+    ensures state { OnOk result (host_of host.new ≡ (host_after (host_of host.old) work.now).0) }
+    ensures sends { OnOk result (sent.new.items ≡ sent.old.items ++ (host_after (host_of host.old) work.now).1) }
+    ensures bad { (result ≡ Err BadEvent) ↔ (host_may (host_of host.old) work.now ≡ false) }
+    ensures fault { IfErr result (λ fault. (fault ≡ OutOfMemory) ⊎ (fault ≡ BadEvent)) }
+    ensures err { OnErr result (host_of host.new ≡ host_of host.old) }
+    ensures unsent { OnErr result (sent.new.items ≡ sent.old.items) }
+{
+    if !can_take(host, work) {
+        return Err(Fault::BadEvent);
+    }
+    match work {
+        NodeWork::Deliver(message) => host.take(message, sent),
+        NodeWork::Tick => host.tick(sent),
+        NodeWork::Stop => {
+            host.stop();
+            Ok(())
+        }
+        NodeWork::Start { kept } => host.start(kept.as_slice(), sent),
+        _ => unreachable!(),
+    }
+}
+
+/// Whether the host can be given this.
+fn can_take(host: &Host, work: &NodeWork) -> bool
+    ensures { result ≡ host_may (host_of host.now) work.now }
+{
+    match work {
+        NodeWork::Deliver(_) => true,
+        NodeWork::Tick | NodeWork::Stop => host.runs(),
+        NodeWork::Start { .. } => host.can_start(),
+        _ => false,
+    }
+}

@@ -1,0 +1,160 @@
+//! A world, and runs of it.
+
+ghost use Rattle.std.specs.Prelude.{◌≡◌, ◌⊎◌, ◌↔◌, ◌∷◌, ◌<◌, ◌≤◌, [], true, false, None, length, take, slice_get};
+ghost use Rattle.std.specs.Prelude.{IfOk, IfErr, OnOk, OnErr};
+ghost use Rattle.std.specs.Option.{IfSome};
+ghost use Rattle.rc_types.specs.declared.faults.Fault.TheVariants.{OutOfMemory, BadEvent};
+ghost use Rattle.rc_types.specs.declared.ids.Addr.TheVariants.{Server};
+ghost use Rattle.rc_types.specs.declared.limits.TheConstants.{MAX_EVENTS};
+ghost use Rattle.rc_model.specs.Backup.{open_names};
+ghost use Rattle.rc_model.specs.Nodes.{is_running_at};
+ghost use Rattle.rc_model.specs.Breach.{breach};
+ghost use Rattle.rc_model.specs.Headline.{NothingIsDropped};
+ghost use Rattle.rc_world.specs.HostView.{IsWithinLimits};
+ghost use Rattle.rc_world.specs.Happened.{opened, replayed, with_events, sent_in, can_happen, AllHappen};
+
+use crate::nodes::Nodes;
+use rc_types::limits::MAX_EVENTS;
+use rc_types::{Event, Fault, Message, ServerId, Setup, TryClone};
+use std::alloc::{Allocator, Global};
+use std::marker::Model;
+
+/// All nodes, and all that has happened. As a value it is what it was opened with and its list of
+/// events: all else in it is what these events lead to.
+#[derive(Drop)]
+pub struct World<A: Allocator> {
+    nodes: Nodes<A>,
+    sent: Vec<Message>,
+    events: Vec<Event>,
+}
+
+impl<A: Allocator> Model for World<A> {
+    ghost use Rattle.rc_world.specs.Happened.{Happened};
+
+    ghost Value = { Happened };
+
+    ghost use Rattle.rc_world.specs.WorldHolds.{WorldHolds};
+
+    ghost view = { λ w. record { setup = w.nodes.setup; events = w.events.items } };
+
+    ghost invariant = { λ w. WorldHolds w.nodes w.sent.items w.events.items };
+}
+
+impl<A: Allocator + Clone> World<A> {
+    /// A world in which nothing has happened. Its tablets lie in memory of the second allocator. It
+    /// takes no memory.
+    pub fn new(alloc: Global, setup: Setup, tablets: A) -> World<A>
+        requires { IsWithinLimits setup }
+        ensures { result ≡ opened setup }
+    {
+        World {
+            nodes: Nodes::new(alloc, setup, tablets),
+            sent: Vec::new(alloc),
+            events: Vec::new(alloc),
+        }
+    }
+
+    /// All messages ever sent, in order; a message's number is its place, from 0.
+    ///
+    /// The headline holds of them. For each accepted recovery of a master, whatever has happened: each
+    /// write that this master has acknowledged, then or since, is in the recovered log at its place, or a
+    /// greater version of its key under its term is; each recovered entry is the one that this master sent
+    /// for that place; and a write acknowledged under a later ownership of a key has a greater version than
+    /// each one acknowledged, then or since, under an earlier one. Where masters free nothing, each
+    /// acknowledged write itself is at its own place.
+    pub fn sent(&self) -> &[Message]
+        ensures messages { result.now ≡ sent_in self.now }
+        ensures headline { breach result.now ≡ None }
+        ensures strong { self.now.setup.free ≡ false → NothingIsDropped result.now }
+    {
+        self.sent.as_slice()
+    }
+
+    /// All events that have happened, in order.
+    pub fn events(&self) -> &[Event]
+        ensures events { result.now ≡ self.now.events }
+        ensures possible { AllHappen (opened self.now.setup) result.now }
+        ensures few { length result.now ≤ MAX_EVENTS }
+    {
+        self.events.as_slice()
+    }
+
+    /// Whether the server runs. It takes no memory.
+    pub fn is_running(&self, id: ServerId) -> bool
+        ensures { result ≡ is_running_at ((replayed self.now).hosts id.index) (Server id) }
+    {
+        self.nodes.is_running(id)
+    }
+
+    /// The newest generation of a host, 0 where it never started. It takes no memory.
+    pub fn newest(&self, host: u8) -> u32
+        ensures { result ≡ ((replayed self.now).hosts host).generation }
+    {
+        self.nodes.newest(host)
+    }
+
+    /// The names of the host's open replicas, master and segment, in order of master and then of
+    /// segment.
+    ///
+    /// # Errors
+    ///
+    /// `OutOfMemory` (F1): the memory for the list was refused.
+    pub fn open_replicas(&self, host: u8) -> Result<Vec<(ServerId, u16)>, Fault>
+        ensures ok { IfOk result (λ names. names.items ≡ open_names ((replayed self.now).hosts host).backup) }
+        ensures no_memory { IfErr result (λ fault. fault ≡ OutOfMemory) }
+    {
+        self.nodes.open_replicas(host)
+    }
+
+    /// One more event.
+    ///
+    /// # Errors
+    ///
+    /// `BadEvent` (F18): the event is not possible, or 200,000 events have happened. `OutOfMemory`
+    /// (F1): memory was refused. After either the world is as it was.
+    pub fn take(&mut self, alloc: Global, event: &Event) -> Result<(), Fault>
+        ensures ok { OnOk result (self.new ≡ with_events self.old (event.now ∷ [])) }
+        ensures possible { OnOk result (can_happen self.old event.now ≡ true) }
+        ensures bad { (result ≡ Err BadEvent) ↔ (can_happen self.old event.now ≡ false) }
+        ensures fault { IfErr result (λ fault. (fault ≡ OutOfMemory) ⊎ (fault ≡ BadEvent)) }
+        ensures err { OnErr result (self.new ≡ self.old) }
+    {
+        if self.events.len() >= MAX_EVENTS || !self.nodes.is_possible(event, self.sent.as_slice()) {
+            return Err(Fault::BadEvent);
+        }
+        let copy = event.try_clone(alloc)?;
+        self.events.reserve(1)?;
+        self.nodes.take(event, &mut self.sent)?;
+        self.events.push(copy).unwrap();
+        Ok(())
+    }
+}
+
+/// Takes these events, one after another.
+///
+/// # Errors
+///
+/// The world after the events before event n, with n and the fault: `BadEvent` (F18) where event n
+/// is not possible or 200,000 events have happened, `OutOfMemory` (F1) where memory was refused.
+pub fn run<A: Allocator + Clone>(
+    alloc: Global,
+    world: World<A>,
+    events: &[Event],
+) -> Result<World<A>, (World<A>, usize, Fault)>
+    ensures ok { IfOk result (λ after. after ≡ with_events world events.now) }
+    ensures possible { OnOk result (AllHappen world events.now) }
+    ensures stopped { IfErr result (λ stop.
+        (stop.1 < length events.now) × (stop.0 ≡ with_events world (take stop.1 events.now))) }
+    ensures begun { IfErr result (λ stop. AllHappen world (take stop.1 events.now)) }
+    ensures bad { IfErr result (λ stop. (stop.2 ≡ BadEvent) ↔
+        IfSome (slice_get events.now stop.1) (λ event. can_happen stop.0 event ≡ false)) }
+    ensures fault { IfErr result (λ stop. (stop.2 ≡ OutOfMemory) ⊎ (stop.2 ≡ BadEvent)) }
+{
+    let mut world = world;
+    for (index, event) in events.iter().enumerate() {
+        if let Err(fault) = world.take(alloc, event) {
+            return Err((world, index, fault));
+        }
+    }
+    Ok(world)
+}
