@@ -1,2 +1,6 @@
+pub mod Decimals
 pub mod Words
 pub mod Lines
+pub mod Parsed
+pub mod Heap
+pub mod ByWords

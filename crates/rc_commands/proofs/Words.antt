@@ -2,7 +2,7 @@
 use Rattle.std.proofs.Common.{◌≡◌, ◌∙◌, ◌⊎◌, inl, inr, ⊎_elim, is_some, eqb, ◌==◌, ◌&&◌, ◌||◌, ℕ, Bool, true, false, not, cond, suc, arith, ◌+◌, take, List, [], ◌∷◌, Option, Some, None, codes, length, refl, sym, ap, ap₂, subst, true≢false}
 use Rattle.std.proofs.Math.Bool.{or-false}
 use Rattle.std.proofs.lemmas.Bool.Decides.{eqb_tells}
-use Rattle.std.specs.List.{list_all, before_first, after_first, prefix_len}
+use Rattle.std.specs.List.{list_all, list_any, before_first, after_first, prefix_len}
 use Rattle.std.specs.Prelude.{drop, encode_utf8, slice_get, if◌then◌else◌}
 use Rattle.std.specs.Option.{option_map_or}
 use Rattle.std.specs.Str.{bytes_eq, chars}
@@ -10,11 +10,12 @@ use Rattle.std.specs.Cmp.Lexicographic.{same_text}
 use Rattle.clap.specs.Lexer.{long_of, short_of, has_byte}
 use Rattle.clap.specs.Kinds.{Kinds, or_else}
 use Rattle.clap.specs.Walk.{arg_by_index, done, short_met, Held, Names, Rule, Step, Text, nothing_held, walk_from, idle, subcommand_met, long_or_other, short_or_plain, after_flag, subcommand_or_other, arg_by_long, arg_by_short, bundle_step, bundle_met, long_met, plain, trailing, value}
-use Rattle.clap.specs.Simple.{Shape, built, built_leaf, filled, help_rule, new_shape, version_rule}
+use Rattle.clap.specs.Simple.{Shape, built, built_leaf, filled, help_rule, version_rule}
 use Rattle.clap.specs.Faults.{positional_fault, short_fault, turn_fault, walk_fault, flag_word_fault, other_fault, step_fault, stray_fault, level_fault, flags_fault, bundle_step_fault, bundle_fault, long_fault}
 use Rattle.clap.proofs.OnLiterals.{clap_on_literals}
-use Rattle.rc_commands.specs.Asking.{is_help, is_version}
-use Rattle.rc_commands.specs.Commands.{is_request, ramseg}
+use Rattle.rc_commands.specs.Asking.{is_help, is_option, is_request, is_version}
+use Rattle.rc_commands.specs.Commands as command
+use Rattle.rc_commands.specs.Commands.{ramseg}
 
 -- ---- kinds of errors that all are requests, or none is
 
@@ -64,8 +65,9 @@ version = filled version_rule
 abbrev pub top : Shape
 top = (built ramseg).top
 
-abbrev pub run_level : Shape
-run_level = built_leaf (record (new_shape (codes "run")) { no_binary_name = true })
+-- a command below it
+abbrev pub leaf : Shape → Shape
+leaf s = built_leaf (record s { no_binary_name = true })
 
 -- the flag that has the name: `--help`, else `--version`, else none
 abbrev pub flag_of : Bool → Bool → Option Rule
@@ -79,28 +81,58 @@ top_short : (x : ℕ) → arg_by_short top.rules x ≡ flag_of (104 == x) (86 ==
 unfolding clap_on_literals
 top_short x = refl
 
-run_long : (name : Text) → arg_by_long run_level.rules name ≡ flag_of (bytes_eq (codes "help") name) false
-unfolding clap_on_literals
-run_long name = refl
+or_parts : (a b : Bool) → (a || b) ≡ false → (a ≡ false) × (b ≡ false)
+or_parts true b e = absurd (true≢false e)
+or_parts false b e = (refl, e)
 
-run_short : (x : ℕ) → arg_by_short run_level.rules x ≡ flag_of (104 == x) false
-unfolding clap_on_literals
-run_short x = refl
-
--- a level of `--help`, and perhaps of `--version`
-pub record IsLevel (s : Shape) (has_version : Bool) : Type 0 where
-  pub long : (name : Text) → arg_by_long s.rules name ≡ flag_of (bytes_eq (codes "help") name) (has_version && bytes_eq (codes "version") name)
+-- a level of these options and `--help`, and perhaps of `--version`
+pub record IsLevel (s : Shape) (has_version : Bool) (options : List Text) : Type 0 where
+  pub long : (name : Text) → list_any (λ option. bytes_eq option name) options ≡ false
+      → arg_by_long s.rules name ≡ flag_of (bytes_eq (codes "help") name) (has_version && bytes_eq (codes "version") name)
   pub short : (x : ℕ) → arg_by_short s.rules x ≡ flag_of (104 == x) (has_version && (86 == x))
   pub strays : tells false (stray_fault s) ≡ true
   pub positional : arg_by_index s.rules 1 ≡ None
 
-pub top_is : IsLevel top true
+pub top_is : IsLevel top true []
 unfolding clap_on_literals
-top_is = record { long = top_long; short = top_short; strays = refl; positional = refl }
+top_is = record { long = λ name _. top_long name; short = top_short; strays = refl; positional = refl }
 
-pub run_is : IsLevel run_level false
+-- an option that hasn't the name is passed over
+passed : (b : Bool) (here past : Option Rule) → b ≡ false → cond (b || false) here past ≡ past
+passed b here past e = ap (λ c. cond (c || false) here past) e
+
+pub run_is : IsLevel (leaf command.run.top) false (codes "heap" ∷ [])
 unfolding clap_on_literals
-run_is = record { long = run_long; short = run_short; strays = refl; positional = refl }
+run_is = record { long = λ name e. passed (bytes_eq (codes "heap") name) _ _ (or_parts _ _ e).0; short = λ x. refl; strays = refl; positional = refl }
+
+pub trace_is : IsLevel (leaf command.trace.top) false []
+unfolding clap_on_literals
+trace_is = record { long = λ name _. refl; short = λ x. refl; strays = refl; positional = refl }
+
+pub audit_is : IsLevel (leaf command.audit.top) false []
+unfolding clap_on_literals
+audit_is = record { long = λ name _. refl; short = λ x. refl; strays = refl; positional = refl }
+
+pub stops_is : IsLevel (leaf command.stops.top) false (codes "seed" ∷ codes "steps" ∷ [])
+unfolding clap_on_literals
+stops_is = record { long = long; short = λ x. refl; strays = refl; positional = refl }
+  where
+    long : (name : Text) → list_any (λ option. bytes_eq option name) (codes "seed" ∷ codes "steps" ∷ []) ≡ false
+        → arg_by_long (leaf command.stops.top).rules name ≡ flag_of (bytes_eq (codes "help") name) false
+    long name e =
+        let p = or_parts _ _ e in
+        passed (bytes_eq (codes "seed") name) _ _ p.0 ∙ passed (bytes_eq (codes "steps") name) _ _ (or_parts _ _ p.1).0
+
+pub fuzz_is : IsLevel (leaf command.fuzz.top) false (codes "seed" ∷ codes "steps" ∷ codes "free" ∷ [])
+unfolding clap_on_literals
+fuzz_is = record { long = long; short = λ x. refl; strays = refl; positional = refl }
+  where
+    long : (name : Text) → list_any (λ option. bytes_eq option name) (codes "seed" ∷ codes "steps" ∷ codes "free" ∷ []) ≡ false
+        → arg_by_long (leaf command.fuzz.top).rules name ≡ flag_of (bytes_eq (codes "help") name) false
+    long name e =
+        let p = or_parts _ _ e in
+        let q = or_parts _ _ p.1 in
+        passed (bytes_eq (codes "seed") name) _ _ p.0 ∙ passed (bytes_eq (codes "steps") name) _ _ q.0 ∙ passed (bytes_eq (codes "free") name) _ _ (or_parts _ _ q.1).0
 
 -- whether the word asks for help, or where there is one for the version
 abbrev pub asks : Bool → Text → Bool
@@ -116,7 +148,7 @@ and-false : (b : Bool) → (b && false) ≡ false
 and-false true = refl
 and-false false = refl
 
-module _ (s : Shape) (v : Bool) (level : IsLevel s v) (word : Text) where
+module _ (s : Shape) (v : Bool) (options : List Text) (level : IsLevel s v options) (word : Text) where
   untold : (k : Kinds) → tells false k ≡ true → tells (false || (v && false)) k ≡ true
   untold k e = ap (λ b. tells b k) (and-false v) ∙ e
 
@@ -206,10 +238,6 @@ word_forms (x ∷ y ∷ ys) e = ⊎_elim (λ h. ⊎_elim (λ g. go ys h g e) (λ
     go [] h g e = let bad : true ≡ false = rw (h.0, g.0) at e in absurd (true≢false bad)
     go (z ∷ zs) h g e = inr ((z, zs), ap₂ (λ a b. a ∷ b ∷ z ∷ zs) h.1 g.1)
 
-or_parts : (a b : Bool) → (a || b) ≡ false → (a ≡ false) × (b ≡ false)
-or_parts true b e = absurd (true≢false e)
-or_parts false b e = (refl, e)
-
 -- where no `=` stands, all stands before it
 before_none : (xs : Text) → has_byte 61 xs ≡ false → before_first (λ x. x == 61) xs ≡ xs
 before_none [] e = refl
@@ -222,7 +250,7 @@ before_none (x ∷ xs) e =
 without_equals : (a word : Text) → has_byte 61 a ≡ false → has_byte 61 word ≡ true → bytes_eq a word ≡ false
 without_equals a word lacks has = ⊎_elim (λ h. absurd (true≢false (sym has ∙ ap (has_byte 61) (sym h.1) ∙ lacks))) (λ e. e) (text_tells a word)
 
-module _ (s : Shape) (v : Bool) (level : IsLevel s v) where
+module _ (s : Shape) (v : Bool) (options : List Text) (level : IsLevel s v options) where
   module _ (z : ℕ) (zs : Text) where
     abbrev dashed : Text
     dashed = 45 ∷ 45 ∷ z ∷ zs
@@ -236,41 +264,45 @@ module _ (s : Shape) (v : Bool) (level : IsLevel s v) where
     abbrev found : Text → Option Rule
     found t = flag_of (bytes_eq (codes "help") t) (v && bytes_eq (codes "version") t)
 
+    abbrev NoOption : Type 0
+    NoOption = list_any (λ option. bytes_eq option name) options ≡ false
+
     abbrev by_given : Bool → Kinds
-    by_given b = by_long s v level dashed (arg_by_long s.rules name) (if b then Some given else None)
+    by_given b = by_long s v options level dashed (arg_by_long s.rules name) (if b then Some given else None)
 
-    valued_word : has_byte 61 (z ∷ zs) ≡ true → tells (asks v dashed) (by_flag s dashed (long_of dashed)) ≡ true
-    valued_word e =
+    valued_word : NoOption → has_byte 61 (z ∷ zs) ≡ true → tells (asks v dashed) (by_flag s dashed (long_of dashed)) ≡ true
+    valued_word none e =
         ap (λ b. tells (asks v dashed) (by_given b)) e
-        ∙ ap (λ f. tells (asks v dashed) (by_long s v level dashed f (Some given))) (level.long name)
-        ∙ ap₂ (λ b1 b2. tells ((b1 || false) || (v && (b2 || false))) (by_long s v level dashed (found name) (Some given)))
+        ∙ ap (λ f. tells (asks v dashed) (by_long s v options level dashed f (Some given))) (level.long name none)
+        ∙ ap₂ (λ b1 b2. tells ((b1 || false) || (v && (b2 || false))) (by_long s v options level dashed (found name) (Some given)))
         (without_equals (codes "help") (z ∷ zs) refl e) (without_equals (codes "version") (z ∷ zs) refl e)
-        ∙ untold s v level dashed _ (valued s v level dashed (bytes_eq (codes "help") name) (v && bytes_eq (codes "version") name) given)
+        ∙ untold s v options level dashed _ (valued s v options level dashed (bytes_eq (codes "help") name) (v && bytes_eq (codes "version") name) given)
 
-    bare_word : has_byte 61 (z ∷ zs) ≡ false → tells (asks v dashed) (by_flag s dashed (long_of dashed)) ≡ true
-    bare_word e =
+    bare_word : NoOption → has_byte 61 (z ∷ zs) ≡ false → tells (asks v dashed) (by_flag s dashed (long_of dashed)) ≡ true
+    bare_word none e =
         ap (λ b. tells (asks v dashed) (by_given b)) e
-        ∙ ap (λ f. tells (asks v dashed) (by_long s v level dashed f None)) (level.long name)
-        ∙ ap (λ t. tells (asks v dashed) (by_long s v level dashed (found t) None)) (before_none (z ∷ zs) e)
-        ∙ ap₂ (λ b1 b2. tells (b1 || (v && b2)) (by_long s v level dashed (found (z ∷ zs)) None)) (or-false (bytes_eq (codes "help") (z ∷ zs))) (or-false (bytes_eq (codes "version") (z ∷ zs)))
-        ∙ alone s v level dashed (bytes_eq (codes "help") (z ∷ zs)) (v && bytes_eq (codes "version") (z ∷ zs))
+        ∙ ap (λ f. tells (asks v dashed) (by_long s v options level dashed f None)) (level.long name none)
+        ∙ ap (λ t. tells (asks v dashed) (by_long s v options level dashed (found t) None)) (before_none (z ∷ zs) e)
+        ∙ ap₂ (λ b1 b2. tells (b1 || (v && b2)) (by_long s v options level dashed (found (z ∷ zs)) None)) (or-false (bytes_eq (codes "help") (z ∷ zs))) (or-false (bytes_eq (codes "version") (z ∷ zs)))
+        ∙ alone s v options level dashed (bytes_eq (codes "help") (z ∷ zs)) (v && bytes_eq (codes "version") (z ∷ zs))
 
-    long_told : tells (asks v dashed) (by_flag s dashed (long_of dashed)) ≡ true
-    long_told = go (has_byte 61 (z ∷ zs)) refl
+    long_told : NoOption → tells (asks v dashed) (by_flag s dashed (long_of dashed)) ≡ true
+    long_told none = go (has_byte 61 (z ∷ zs)) refl
       where
         go : (b : Bool) → b ≡ has_byte 61 (z ∷ zs) → tells (asks v dashed) (by_flag s dashed (long_of dashed)) ≡ true
-        go true e = valued_word (sym e)
-        go false e = bare_word (sym e)
+        go true e = valued_word none (sym e)
+        go false e = bare_word none (sym e)
 
-  word_told : (word : Text) → bytes_eq word (45 ∷ 45 ∷ []) ≡ false → tells (asks v word) (by_flag s word (long_of word)) ≡ true
-  word_told word other =
-      ⊎_elim (λ e. no_long s v level word (not_named (codes "--help") word refl e) (not_named (codes "--version") word refl e) e)
-      (λ h. subst (λ w. tells (asks v w) (by_flag s w (long_of w)) ≡ true) (sym h.1) (long_told h.0.0 h.0.1)) (word_forms word other)
+  word_told : (word : Text) → is_option options word ≡ false → bytes_eq word (45 ∷ 45 ∷ []) ≡ false → tells (asks v word) (by_flag s word (long_of word)) ≡ true
+  word_told word none other =
+      ⊎_elim (λ e. no_long s v options level word (not_named (codes "--help") word refl e) (not_named (codes "--version") word refl e) e)
+      (λ h. subst (λ w. tells (asks v w) (by_flag s w (long_of w)) ≡ true) (sym h.1) (long_told h.0.0 h.0.1 (ap (is_option options) (sym h.1) ∙ none))) (word_forms word other)
 
   -- a line whose first word is no subcommand and not `--` is told of that word
-  pub line_told : (names : Names) (word : Text) (rest : List Text) (has_subcommand : Bool) (below : Kinds) → subcommand_met names idle word ≡ None → bytes_eq word (45 ∷ 45 ∷ []) ≡ false
+  pub line_told : (names : Names) (word : Text) (rest : List Text) (has_subcommand : Bool) (below : Kinds) → subcommand_met names idle word ≡ None
+      → is_option options word ≡ false → bytes_eq word (45 ∷ 45 ∷ []) ≡ false
       → tells (asks v word) (level_fault s names nothing_held (word ∷ rest) has_subcommand below) ≡ true
   unfolding walk_fault
-  line_told names word rest has_subcommand below none other =
-      let now = ap (tells (asks v word)) (turn_is s word names none other) ∙ word_told word other in
+  line_told names word rest has_subcommand below none no_option other =
+      let now = ap (tells (asks v word)) (turn_is s word names none other) ∙ word_told word no_option other in
       tells_first (asks v word) _ _ (tells_first (asks v word) (turn_fault s names (walk_from nothing_held) word) _ now)

@@ -1,52 +1,171 @@
 -- What a command line asks for, by its words, of which the program's name is none.
-use Rattle.std.specs.Prelude.{◌==◌, ◌&&◌, ◌||◌, ℕ, Bool, true, false, List, [], ◌∷◌, codes, slice_get, if◌then◌else◌}
+use Rattle.std.specs.Prelude.{◌≡◌, ◌≤◌, ◌==◌, ◌&&◌, ◌||◌, ⊤, ℕ, Bool, true, false, not, List, [], ◌∷◌, ◌++◌}
+use Rattle.std.specs.Prelude.{Option, Some, None, codes, slice_get, unwrap_or, option_map, option_and_then}
+use Rattle.std.specs.Prelude.{if◌then◌else◌}
+use Rattle.std.specs.List.{list_any}
 use Rattle.std.specs.Option.{option_map_or}
 use Rattle.std.specs.Str.{byte, bytes_eq, chars}
-use Rattle.clap.specs.Lexer.{short_of}
+use Rattle.clap.specs.Lexer.{long_of, short_of}
+use Rattle.clap.specs.Kinds.{IsAmong, Kinds}
+use Rattle.clap.specs.Walk.{Row, Text, first_of}
+use Rattle.clap.specs.Simple.{subcommand_of}
+use Rattle.clap.specs.Faults.{fault_of}
+use Rattle.clap.specs.declared.error.kind.ErrorKind.{ErrorKind}
+use Rattle.clap.specs.declared.error.kind.ErrorKind.TheVariants as kind
 use Rattle.rc_commands.specs.declared.asking.Asked.{Asked}
 use Rattle.rc_commands.specs.declared.asking.Asked.TheVariants as asked
-
--- ---- the words
-
--- no word stands there, or `--` alone, which ends the options
-abbrev pub is_end : List (List ℕ) → Bool
-is_end [] = true
-is_end (word ∷ []) = bytes_eq word (codes "--")
-is_end (word ∷ other ∷ rest) = false
-
-abbrev pub asks_for_run : List (List ℕ) → Bool
-asks_for_run [] = false
-asks_for_run (word ∷ rest) = bytes_eq (codes "run") word && is_end rest
-
--- a hyphen and letters, of which this is the first, as `-h` and `-hx` for `h`
-abbrev pub is_letter_flag : ℕ → List ℕ → Bool
-is_letter_flag letter word =
-    option_map_or (λ letters. option_map_or (λ first. letter == first) (slice_get (chars letters) 0) false) (short_of word) false
-
--- `--help` or `-h`
-abbrev pub is_help : List ℕ → Bool
-is_help word = bytes_eq (codes "--help") word || is_letter_flag (byte "h") word
-
--- `--version` or `-V`
-abbrev pub is_version : List ℕ → Bool
-is_version word = bytes_eq (codes "--version") word || is_letter_flag (byte "V") word
-
-abbrev pub begins_with_help : List (List ℕ) → Bool
-begins_with_help [] = false
-begins_with_help (word ∷ rest) = is_help word
-
--- the first word asks for help or the version, or that after `run` for help
-abbrev pub asks_for_text : List (List ℕ) → Bool
-asks_for_text [] = false
-asks_for_text (word ∷ rest) = if bytes_eq (codes "run") word then begins_with_help rest else (is_help word || is_version word)
-
--- the first word is `help`: what follows it may name a command, or not
-abbrev pub asks_about : List (List ℕ) → Bool
-asks_about [] = false
-asks_about (word ∷ rest) = bytes_eq (codes "help") word
+use Rattle.rc_commands.specs.Commands.{ramseg}
+use Rattle.rc_commands.specs.Numbers.{IsWithin, decimal_in}
 
 -- ---- the answer
 
 abbrev pub is_text : Asked → Bool
 is_text (asked.Tell text) = true
 is_text _ = false
+
+-- the answer as a command: a text is none
+abbrev pub as_command : Asked → Option Asked
+as_command (asked.Tell text) = None
+as_command (asked.Wrong text) = None
+as_command command = Some command
+
+-- the numbers of a command are in their ranges
+abbrev pub IsInRange : Asked → Type 0
+IsInRange (asked.Run heap) = IsWithin 16 1048576 heap
+IsInRange (asked.Fuzz seed steps free) = steps ≤ 100000
+IsInRange (asked.Stops seed steps) = steps ≤ 1000
+IsInRange _ = ⊤
+
+-- ---- the command, as `clap` reads the words
+
+-- the number that was given for an option, if one was; None where it is no number of the range
+abbrev pub number_given : Text → ℕ → ℕ → List Row → Option (Option ℕ)
+number_given name least most rows =
+    option_map_or (λ text. option_map Some (decimal_in least most text)) (first_of name rows) (Some None)
+
+-- the seed of a command that draws events
+abbrev pub seed_given : List Row → Option (Option ℕ)
+seed_given = number_given (codes "seed") 0 18446744073709551615
+
+abbrev pub has_flag : Text → List Row → Bool
+has_flag name rows = option_map_or (λ text. bytes_eq text (codes "true")) (first_of name rows) false
+
+abbrev pub run_in : List Row → Option Asked
+run_in rows = option_map asked.Run (number_given (codes "heap") 16 1048576 rows)
+
+abbrev pub fuzz_in : List Row → Option Asked
+fuzz_in rows = option_and_then (λ seed. option_map
+    (λ steps. asked.Fuzz (unwrap_or seed 1) (unwrap_or steps 1000) (has_flag (codes "free") rows))
+    (number_given (codes "steps") 0 100000 rows)) (seed_given rows)
+
+abbrev pub stops_in : List Row → Option Asked
+stops_in rows = option_and_then (λ seed. option_map
+    (λ steps. asked.Stops (unwrap_or seed 1) (unwrap_or steps 300))
+    (number_given (codes "steps") 0 1000 rows)) (seed_given rows)
+
+-- the command of this name, with what was given for its options
+abbrev pub command_in : Text → List Row → Option Asked
+command_in name rows =
+    if bytes_eq name (codes "run") then run_in rows
+    else (if bytes_eq name (codes "trace") then Some asked.Trace
+    else (if bytes_eq name (codes "audit") then Some asked.Audit
+    else (if bytes_eq name (codes "fuzz") then fuzz_in rows
+    else (if bytes_eq name (codes "stops") then stops_in rows else None))))
+
+-- nothing, where `clap` finds a fault in the words
+abbrev pub where_taken : Kinds → Option Asked → Option Asked
+where_taken [] command = command
+where_taken (k ∷ ks) command = None
+
+-- the command that the words ask for
+abbrev pub asked_in : List Text → Option Asked
+asked_in words = where_taken (fault_of ramseg words)
+    (option_and_then (λ found. command_in found.0 found.1) (subcommand_of ramseg words))
+
+-- ---- the texts
+
+-- help and the version are no mistakes
+abbrev pub is_request : ErrorKind → Bool
+is_request kind.DisplayHelp = true
+is_request kind.DisplayVersion = true
+is_request _ = false
+
+-- help or the version is told where the words ask for it, and nothing else is
+abbrev pub Tells : Kinds → Asked → Type 0
+Tells [] a = is_text a ≡ false
+Tells (k ∷ ks) a = (one : ErrorKind) × IsAmong one (k ∷ ks) × (is_request one ≡ is_text a)
+
+-- ---- lines without options, by their words alone
+
+-- no word stands there, or `--` alone, which ends the options
+abbrev pub is_end : List Text → Bool
+is_end [] = true
+is_end (word ∷ []) = bytes_eq word (codes "--")
+is_end (word ∷ other ∷ rest) = false
+
+-- the command's name, with nothing after it
+abbrev pub is_alone : Text → List Text → Bool
+is_alone name [] = false
+is_alone name (word ∷ rest) = bytes_eq name word && is_end rest
+
+abbrev pub names : List Text
+names = codes "run" ∷ codes "trace" ∷ codes "audit" ∷ codes "fuzz" ∷ codes "stops" ∷ []
+
+abbrev pub is_command : Text → Bool
+is_command word = list_any (λ name. bytes_eq name word) names
+
+-- a hyphen and letters, of which this is the first, as `-h` and `-hx` for `h`
+abbrev pub is_letter_flag : ℕ → Text → Bool
+is_letter_flag letter word = option_map_or
+    (λ letters. option_map_or (λ first. letter == first) (slice_get (chars letters) 0) false) (short_of word) false
+
+-- `--help` or `-h`
+abbrev pub is_help : Text → Bool
+is_help word = bytes_eq (codes "--help") word || is_letter_flag (byte "h") word
+
+-- `--version` or `-V`
+abbrev pub is_version : Text → Bool
+is_version word = bytes_eq (codes "--version") word || is_letter_flag (byte "V") word
+
+abbrev pub begins_with_help : List Text → Bool
+begins_with_help [] = false
+begins_with_help (word ∷ rest) = is_help word
+
+-- the first word asks for help or the version, or that after a command for help
+abbrev pub asks_for_text : List Text → Bool
+asks_for_text [] = false
+asks_for_text (word ∷ rest) = if is_command word then begins_with_help rest else (is_help word || is_version word)
+
+-- the options of a command
+abbrev pub options_of : Text → List Text
+options_of name =
+    if bytes_eq (codes "run") name then codes "heap" ∷ []
+    else (if bytes_eq (codes "fuzz") name then codes "seed" ∷ codes "steps" ∷ codes "free" ∷ []
+    else (if bytes_eq (codes "stops") name then codes "seed" ∷ codes "steps" ∷ [] else []))
+
+-- `--NAME` or `--NAME=VALUE`, for one of these options
+abbrev pub is_option : List Text → Text → Bool
+is_option options word =
+    option_map_or (λ flag. list_any (λ option. bytes_eq option flag.0) options) (long_of word) false
+
+-- neither is the first word `help`, nor the second an option of a command that is the first
+abbrev pub is_plain : List Text → Bool
+is_plain [] = true
+is_plain (word ∷ []) = not (bytes_eq (codes "help") word)
+is_plain (word ∷ next ∷ rest) = not (bytes_eq (codes "help") word) && not (is_option (options_of word) next)
+
+-- ---- lines with each option once
+
+abbrev pub heap_line : Text → List Text
+heap_line bytes = codes "run" ∷ (codes "--heap=" ++ bytes) ∷ []
+
+abbrev pub fuzz_line : Text → Text → List Text
+fuzz_line seed steps =
+    codes "fuzz" ∷ (codes "--seed=" ++ seed) ∷ (codes "--steps=" ++ steps) ∷ codes "--free" ∷ []
+
+abbrev pub stops_line : Text → Text → List Text
+stops_line seed steps = codes "stops" ∷ (codes "--seed=" ++ seed) ∷ (codes "--steps=" ++ steps) ∷ []
+
+-- both, where both are there
+abbrev pub option_zip_with : {X : Type 0} → (ℕ → ℕ → X) → Option ℕ → Option ℕ → Option X
+option_zip_with f one other = option_and_then (λ x. option_map (f x) other) one

@@ -1,29 +1,43 @@
--- The program's commands, as `clap` reads them.
-use Rattle.std.specs.Prelude.{◌≡◌, ◌≢◌, Bool, true, false, codes}
-use Rattle.clap.specs.Simple.{App, new_app, on_top, with_subcommand}
-use Rattle.clap.specs.declared.error.kind.ErrorKind.{ErrorKind}
-use Rattle.clap.specs.declared.error.kind.ErrorKind.TheVariants as kind
-use Rattle.rc_commands.specs.declared.asking.Asked.{Asked}
-use Rattle.rc_commands.specs.declared.asking.Asked.TheVariants as asked
-use Rattle.rc_commands.specs.Asking.{is_text}
+-- The program's commands and their options, as `clap` reads them.
+use Rattle.std.specs.Prelude.{◌≡◌, true, false, codes, Some}
+use Rattle.clap.specs.Walk.{Rule, Text}
+use Rattle.clap.specs.Simple.{App, app_of, new_app, new_rule, on_top, with_rule, with_subcommand}
+use Rattle.clap.specs.declared.builder.action.ArgAction.TheVariants.{SetTrue}
+use Rattle.clap.specs.declared.builder.command.Command.{Command}
+use Rattle.clap.specs.declared.builder.command.Command.TheViews.{out-Command}
+
+-- `--NAME VALUE`
+abbrev pub option : Text → Rule
+option name = record (new_rule name) { long = Some name; value_names = 1 }
+
+-- `--NAME`
+abbrev pub flag : Text → Rule
+flag name = record (new_rule name) { long = Some name; action = Some SetTrue }
 
 abbrev pub run : App
-run = new_app (codes "run")
+run = with_rule (new_app (codes "run")) (option (codes "heap"))
+
+abbrev pub trace : App
+trace = new_app (codes "trace")
+
+abbrev pub audit : App
+audit = new_app (codes "audit")
+
+abbrev pub fuzz : App
+fuzz = with_rule (with_rule (with_rule (new_app (codes "fuzz")) (option (codes "seed"))) (option (codes "steps")))
+    (flag (codes "free"))
+
+abbrev pub stops : App
+stops = with_rule (with_rule (new_app (codes "stops")) (option (codes "seed"))) (option (codes "steps"))
+
+abbrev pub alone : App
+alone = on_top (λ top. record top { has_version = true; no_binary_name = true; subcommand_required = true })
+    (new_app (codes "ramseg"))
 
 abbrev pub ramseg : App
-ramseg = with_subcommand
-    (on_top (λ top. record top { has_version = true; no_binary_name = true; subcommand_required = true }) (new_app (codes "ramseg")))
-    run.top
+ramseg = with_subcommand (with_subcommand (with_subcommand (with_subcommand (with_subcommand alone
+    run.top) trace.top) audit.top) fuzz.top) stops.top
 
--- ---- what is told of an error of this kind
-
--- help and the version are no mistakes
-abbrev pub is_request : ErrorKind → Bool
-is_request kind.DisplayHelp = true
-is_request kind.DisplayVersion = true
-is_request _ = false
-
-pub record Tells (k : ErrorKind) (a : Asked) : Type 0 where
-  pub had_memory : k ≢ kind.OutOfMemory
-  pub no_run : a ≢ asked.Run
-  pub text : is_text a ≡ is_request k
+-- a command that is built so, and has no option for its subcommands
+abbrev pub IsBuiltAs : App → Command → Type 0
+IsBuiltAs app command = (app_of command ≡ app) × ((out-Command command).has_globals ≡ false)

@@ -1,2 +1,3 @@
-pub mod Asking
+pub mod Numbers
 pub mod Commands
+pub mod Asking

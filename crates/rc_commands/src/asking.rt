@@ -1,73 +1,158 @@
 //! What the command line of `ramseg` asks for, read with `clap`.
 
-ghost use Rattle.std.specs.Prelude.{◌≡◌, ◌↔◌, Some, true, false, map, codes, string_bytes, IfOk, IfErr};
-ghost use Rattle.clap.specs.Words.{app_of, kind_of, subcommand_name_of};
+ghost use Rattle.std.specs.Prelude.{◌≡◌, ◌≢◌, ◌↔◌, Some, None, true, false, map, codes, string_bytes, IfOk, IfErr};
+ghost use Rattle.std.specs.Prelude.{option_map, MatchResult, option_and_then, List, ℕ};
+ghost use Rattle.clap.specs.Faults.{fault_of};
+ghost use Rattle.clap.specs.Words.{app_of, found_of, kind_of, rows_of, subcommand_name_of, subcommand_rows_of};
 ghost use Rattle.rc_types.specs.declared.faults.Fault.TheVariants.{OutOfMemory};
-ghost use Rattle.rc_commands.specs.Asking.{asks_about, asks_for_run, asks_for_text, is_text};
-ghost use Rattle.rc_commands.specs.Commands.{Tells, ramseg};
+ghost use Rattle.rc_commands.specs.Asking.{IsInRange, Tells, as_command, asked_in, asks_for_text, command_in};
+ghost use Rattle.rc_commands.specs.Asking.{fuzz_in, fuzz_line, heap_line, option_zip_with, is_alone, is_command};
+ghost use Rattle.rc_commands.specs.Asking.{is_plain, is_request, is_text, run_in, stops_in, stops_line};
+ghost use Rattle.rc_commands.specs.Numbers.{decimal_in};
+ghost use Rattle.rc_commands.specs.Commands.{ramseg};
 
+use crate::commands::program;
+use crate::numbers::{BadNumber, has_flag, number_of};
 use clap::error::ErrorKind;
-use clap::{ArgMatches, Command, Error};
+use clap::{ArgMatches, Error};
 use rc_types::Fault;
-use std::alloc::{AllocError, Global};
+use std::alloc::Global;
 
 /// What a command line asks for.
 #[derive(Debug, PartialEq, Drop)]
 pub enum Asked {
-    /// Replay a scenario.
-    Run,
+    /// Replay a scenario; where a heap is given, the coordinator's tree stands in one of so many bytes.
+    Run { heap: Option<usize> },
+    /// Replay a scenario, and write the trace of what was sent.
+    Trace,
+    /// Judge a trace.
+    Audit,
+    /// Run events that are drawn from a seed, with freed segments where `free` says so.
+    Fuzz { seed: u64, steps: u32, free: bool },
+    /// Draw events from a seed, and cut the power after each of them.
+    Stops { seed: u64, steps: u32 },
     /// Nothing but this text, for standard output: help, or the version.
     Tell(String),
     /// It is wrong; this text is for standard error.
     Wrong(String),
 }
 
-/// What the words after the program's name ask for. A run is asked for by `run` alone, or with `--`
-/// after it, which ends the options. Fails only where memory was refused (F1).
+/// What the words after the program's name ask for. Fails only where memory was refused (F1).
 pub fn asked_for(alloc: Global, words: &[String]) -> Result<Asked, Fault>
-    ensures run { IfOk result (λ a. (a ≡ Asked.Run) ↔ (asks_for_run (map string_bytes words.now) ≡ true)) }
+    // Exactly the command that `clap` finds in the words, with its options; else a text.
+    ensures command { IfOk result (λ a. as_command a ≡ asked_in (map string_bytes words.now)) }
+    ensures tells { IfOk result (Tells (fault_of ramseg (map string_bytes words.now))) }
+    ensures ranges { IfOk result IsInRange }
 
-    // Of lines that begin with `help` this says only that no run is asked for.
-    ensures tell { IfOk result
-        (λ a. asks_about (map string_bytes words.now) ≡ false → is_text a ≡ asks_for_text (map string_bytes words.now)) }
+    // Lines without options, by their words alone.
+    ensures run { IfOk result
+        (λ a. (a ≡ Asked.Run None) ↔ (is_alone (codes "run") (map string_bytes words.now) ≡ true)) }
+    ensures trace { IfOk result
+        (λ a. (a ≡ Asked.Trace) ↔ (is_alone (codes "trace") (map string_bytes words.now) ≡ true)) }
+    ensures audit { IfOk result
+        (λ a. (a ≡ Asked.Audit) ↔ (is_alone (codes "audit") (map string_bytes words.now) ≡ true)) }
+    ensures fuzz { IfOk result
+        (λ a. is_alone (codes "fuzz") (map string_bytes words.now) ≡ true → a ≡ Asked.Fuzz 1 1000 false) }
+    ensures stops { IfOk result
+        (λ a. is_alone (codes "stops") (map string_bytes words.now) ≡ true → a ≡ Asked.Stops 1 300) }
+    ensures texts { IfOk result (λ a. is_plain (map string_bytes words.now) ≡ true
+        → is_text a ≡ asks_for_text (map string_bytes words.now)) }
+
+    // Lines with each option of a command once, by their words.
+    ensures heap { IfOk result (λ a. (bytes : List ℕ) → map string_bytes words.now ≡ heap_line bytes
+        → as_command a ≡ option_map Asked.Run (option_map Some (decimal_in 16 1048576 bytes))) }
+    ensures drawn { IfOk result (λ a. (seed steps : List ℕ) → map string_bytes words.now ≡ fuzz_line seed steps
+        → as_command a ≡ option_zip_with (λ s n. Asked.Fuzz s n true)
+        (decimal_in 0 18446744073709551615 seed) (decimal_in 0 100000 steps)) }
+    ensures cut { IfOk result (λ a. (seed steps : List ℕ) → map string_bytes words.now ≡ stops_line seed steps
+        → as_command a ≡ option_zip_with (λ s n. Asked.Stops s n)
+        (decimal_in 0 18446744073709551615 seed) (decimal_in 0 1000 steps)) }
     ensures memory { IfErr result (λ e. e ≡ OutOfMemory) }
 {
     match program(alloc)?.try_get_matches_from(words) {
-        Ok(matches) => Ok(command_of(&matches)),
+        Ok(matches) => found(alloc, &matches),
         Err(error) => refused(alloc, &error),
     }
 }
 
-/// The program with its commands.
-fn program<'a>(alloc: Global) -> Result<Command<'a>, AllocError>
-    ensures { IfOk result (λ command. app_of command ≡ ramseg) }
+/// The command that was found, or what is wrong with one of its numbers.
+fn found(alloc: Global, matches: &ArgMatches<'_>) -> Result<Asked, Fault>
+    requires { option_map is_command (subcommand_name_of matches.now) ≡ Some true }
+    ensures command { IfOk result (λ a. as_command a
+        ≡ option_and_then (λ p. command_in p.0 p.1) (subcommand_rows_of matches.now)) }
+    ensures text { IfOk result (λ a. is_text a ≡ false) }
+    ensures ranges { IfOk result IsInRange }
+    ensures memory { IfErr result (λ e. e ≡ OutOfMemory) }
 {
-    let run = Command::new(alloc, "run").about(
-        "Replays a scenario that it reads from standard input, and prints the report",
-    );
-    Command::new(alloc, "ramseg")
-        .bin_name("ramseg")?
-        .version("0.1.0")
-        .about("A replicated log, simulated event by event")
-        .no_binary_name(true)
-        .subcommand_required(true)
-        .subcommand(run)
+    match command_of(matches) {
+        Ok(command) => Ok(command),
+        Err(number) => Ok(Asked::Wrong(number.to_string(alloc)?)),
+    }
 }
 
-/// The command that was found.
-fn command_of(matches: &ArgMatches<'_>) -> Asked
-    requires { subcommand_name_of matches.now ≡ Some (codes "run") }
-    ensures { result ≡ Asked.Run }
+/// The command with its options.
+fn command_of<'a>(matches: &ArgMatches<'a>) -> Result<Asked, BadNumber<'a>>
+    requires { option_map is_command (subcommand_name_of matches.now) ≡ Some true }
+    ensures command { let asked = option_and_then (λ p. command_in p.0 p.1) (subcommand_rows_of matches.now) in
+        MatchResult result (λ a. as_command a ≡ asked) (λ _. asked ≡ None) }
+    ensures text { IfOk result (λ a. is_text a ≡ false) }
+    ensures ranges { IfOk result IsInRange }
 {
-    match matches.subcommand_name() {
-        Some("run") => Asked::Run,
+    match matches.subcommand() {
+        Some(("run", given)) => run_of(given),
+        Some(("trace", _)) => Ok(Asked::Trace),
+        Some(("audit", _)) => Ok(Asked::Audit),
+        Some(("fuzz", given)) => fuzz_of(given),
+        Some(("stops", given)) => stops_of(given),
         _ => unreachable!(),
     }
 }
 
+/// `run` with its option.
+fn run_of<'a>(given: &ArgMatches<'a>) -> Result<Asked, BadNumber<'a>>
+    ensures command { let asked = run_in (rows_of (found_of given.now)) in
+        MatchResult result (λ a. as_command a ≡ asked) (λ _. asked ≡ None) }
+    ensures text { IfOk result (λ a. is_text a ≡ false) }
+    ensures ranges { IfOk result IsInRange }
+{
+    let heap = match number_of(given, "heap", 16, 1_048_576)? {
+        Some(bytes) => Some(bytes as usize),
+        None => None,
+    };
+    Ok(Asked::Run { heap })
+}
+
+/// `fuzz` with its options.
+fn fuzz_of<'a>(given: &ArgMatches<'a>) -> Result<Asked, BadNumber<'a>>
+    ensures command { let asked = fuzz_in (rows_of (found_of given.now)) in
+        MatchResult result (λ a. as_command a ≡ asked) (λ _. asked ≡ None) }
+    ensures text { IfOk result (λ a. is_text a ≡ false) }
+    ensures ranges { IfOk result IsInRange }
+{
+    let seed = number_of(given, "seed", 0, u64::MAX)?.unwrap_or(1);
+    let steps = number_of(given, "steps", 0, 100_000)?.unwrap_or(1_000) as u32;
+    let free = has_flag(given, "free");
+    Ok(Asked::Fuzz { seed, steps, free })
+}
+
+/// `stops` with its options.
+fn stops_of<'a>(given: &ArgMatches<'a>) -> Result<Asked, BadNumber<'a>>
+    ensures command { let asked = stops_in (rows_of (found_of given.now)) in
+        MatchResult result (λ a. as_command a ≡ asked) (λ _. asked ≡ None) }
+    ensures text { IfOk result (λ a. is_text a ≡ false) }
+    ensures ranges { IfOk result IsInRange }
+{
+    let seed = number_of(given, "seed", 0, u64::MAX)?.unwrap_or(1);
+    let steps = number_of(given, "steps", 0, 1_000)?.unwrap_or(300) as u32;
+    Ok(Asked::Stops { seed, steps })
+}
+
 /// What is told in place of a command's work: help and the version, or what is wrong.
 fn refused(alloc: Global, error: &Error) -> Result<Asked, Fault>
-    ensures ok { IfOk result (λ a. Tells (kind_of error.now) a) }
+    ensures command { IfOk result (λ a. as_command a ≡ None) }
+    ensures kind { IfOk result (λ a. (kind_of error.now ≢ ErrorKind.OutOfMemory)
+        × (is_request (kind_of error.now) ≡ is_text a)) }
+    ensures ranges { IfOk result IsInRange }
     ensures memory { IfErr result (λ e. e ≡ OutOfMemory) }
 {
     if error.kind() == ErrorKind::OutOfMemory {

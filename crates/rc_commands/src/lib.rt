@@ -2,6 +2,8 @@
 #![tactic(auto)]
 
 mod asking;
+mod commands;
+mod numbers;
 #[cfg(test)]
 mod tests;
 

@@ -1,13 +1,14 @@
--- A simulation that failed, as the program tells it.
-use Rattle.std.proofs.Common.{◌≡◌, ℕ, List, Option, Some, None, Result, Err, refl}
+-- A command that failed, as the program tells it.
+use Rattle.std.proofs.Common.{◌≡◌, ◌≢◌, ◌∙◌, ℕ, List, Option, Some, None, is_some, unwrap_or, true≢false, Result, Ok, Err, IfOk, refl, sym, ap, subst}
 use Rattle.std.specs.Option.{IfSome}
 use Rattle.std.specs.Io.KnownBytes.{Keeps}
-use Rattle.rc_reading.specs.Scenario.{reading}
+use Rattle.rc_commands.specs.declared.asking.Asked.{Asked}
+use Rattle.rc_commands.specs.declared.asking.Asked.TheVariants as asked
 use Rattle.rc_sim.specs.declared.verdicts.Verdict.{Verdict}
 use Rattle.rc_sim.specs.declared.verdicts.SimFault.{SimFault}
 use Rattle.rc_sim.specs.declared.verdicts.SimFault.TheVariants.{Memory, Read, Write}
-use Rattle.rc_sim.specs.Written.{IsBegun}
-use Rattle.rc_sim.specs.Statuses.{Simulated}
+use Rattle.rc_sim.specs.Written.{IsWritten, IsBegun}
+use Rattle.rc_sim.specs.Statuses.{fault_status, outcome_status, Answered, EndsBy, Does}
 
 pub keeps_same : (known : Option (List ℕ)) → Keeps known known
 keeps_same None = tt
@@ -16,10 +17,65 @@ keeps_same (Some bytes) = refl
 abbrev pub failing : SimFault → Result Verdict SimFault
 failing fault = Err fault
 
-pub failed_simulation : (fault : SimFault) (input old new : Option (List ℕ))
-    → ((count : ℕ) → failing fault ≡ Err (Write count) → IfSome input (λ bytes. IsBegun (reading bytes) count old new))
+failed_answer : (F : List ℕ → Verdict → List ℕ → Type 0) (fault : SimFault) (input old new : Option (List ℕ))
+    → ((count : ℕ) → failing fault ≡ Err (Write count) → IfSome input (λ bytes. IsBegun (F bytes) count old new))
     → (failing fault ≡ Err Memory → Keeps old new) → (failing fault ≡ Err Read → Keeps old new)
-    → Simulated (Err fault) input old new
-failed_simulation Memory input old new cut memory unread = memory refl
-failed_simulation Read input old new cut memory unread = unread refl
-failed_simulation (Write count) input old new cut memory unread = cut count refl
+    → Answered F (Err fault) input old new
+failed_answer F Memory input old new cut memory unread = memory refl
+failed_answer F Read input old new cut memory unread = unread refl
+failed_answer F (Write count) input old new cut memory unread = cut count refl
+
+answered : (F : List ℕ → Verdict → List ℕ → Type 0) (outcome : Result Verdict SimFault) (input old new : Option (List ℕ))
+    → IfOk outcome (λ verdict. IfSome input (λ bytes. IsWritten (F bytes) verdict old new))
+    → ((count : ℕ) → outcome ≡ Err (Write count) → IfSome input (λ bytes. IsBegun (F bytes) count old new))
+    → (outcome ≡ Err Memory → Keeps old new) → (outcome ≡ Err Read → Keeps old new)
+    → Answered F outcome input old new
+answered F (Ok verdict) input old new ok cut memory unread = ok
+answered F (Err fault) input old new ok cut memory unread = failed_answer F fault input old new cut memory unread
+
+-- what came of a command that reads
+pub ends_so : (F : List ℕ → Verdict → List ℕ → Type 0) (outcome : Result Verdict SimFault) (status : ℕ) (input old new : Option (List ℕ))
+    → status ≡ outcome_status outcome → IfOk outcome (λ verdict. IfSome input (λ bytes. IsWritten (F bytes) verdict old new))
+    → ((count : ℕ) → outcome ≡ Err (Write count) → IfSome input (λ bytes. IsBegun (F bytes) count old new))
+    → (outcome ≡ Err Memory → Keeps old new) → (outcome ≡ Err Read → Keeps old new)
+    → EndsBy F status input old new
+ends_so F outcome status input old new is ok cut memory unread = (outcome, is, answered F outcome input old new ok cut memory unread)
+
+always : (P : Type 0) (input : Option (List ℕ)) → P → IfSome input (λ _. P)
+always P None p = tt
+always P (Some bytes) p = p
+
+always_ok : (G : Verdict → List ℕ → Type 0) (outcome : Result Verdict SimFault) (input old new : Option (List ℕ))
+    → IfOk outcome (λ verdict. IsWritten G verdict old new) → IfOk outcome (λ verdict. IfSome input (λ bytes. IsWritten G verdict old new))
+always_ok G (Ok verdict) input old new h = always (IsWritten G verdict old new) input h
+always_ok G (Err fault) input old new h = tt
+
+-- and of one that reads nothing
+pub ends_alone : (G : Verdict → List ℕ → Type 0) (outcome : Result Verdict SimFault) (status : ℕ) (input old new : Option (List ℕ))
+    → status ≡ outcome_status outcome → IfOk outcome (λ verdict. IsWritten G verdict old new)
+    → ((count : ℕ) → outcome ≡ Err (Write count) → IsBegun G count old new)
+    → (outcome ≡ Err Memory → Keeps old new) → outcome ≢ Err Read
+    → EndsBy (λ _. G) status input old new
+ends_alone G outcome status input old new is ok cut memory unread =
+    ends_so (λ _. G) outcome status input old new is (always_ok G outcome input old new ok)
+    (λ count e. always (IsBegun G count old new) input (cut count e)) memory (λ e. absurd (unread e))
+
+-- the command that was found is the one that the words ask for
+pub does_so : (found command : Asked) (asked : Option Asked) (status : ℕ) (input old new : Option (List ℕ))
+    → Some found ≡ asked → asked ≡ Some command → Does found status input old new → Does command status input old new
+does_so found command asked status input old new is same done =
+    subst (λ one. Does one status input old new) (ap (λ o. unwrap_or o found) (is ∙ same)) done
+
+-- where a text is told, no command was asked for
+pub no_command : {P : Type 0} (command : Asked) (asked : Option Asked) → None ≡ asked → asked ≡ Some command → P
+no_command command asked is same = absurd (true≢false (sym (ap is_some (is ∙ same))))
+
+-- no command has begun where memory was refused before it
+pub not_begun : (command : Asked) (status : ℕ) (input known : Option (List ℕ)) → status ≡ fault_status Memory → Does command status input known known
+not_begun (asked.Run heap) status input known is = (Err Memory, is, keeps_same known)
+not_begun asked.Trace status input known is = (Err Memory, is, keeps_same known)
+not_begun asked.Audit status input known is = (Err Memory, is, keeps_same known)
+not_begun (asked.Fuzz seed steps free) status input known is = (Err Memory, is, keeps_same known)
+not_begun (asked.Stops seed steps) status input known is = (Err Memory, is, keeps_same known)
+not_begun (asked.Tell text) status input known is = tt
+not_begun (asked.Wrong text) status input known is = tt

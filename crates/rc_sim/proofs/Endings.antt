@@ -10,52 +10,53 @@ use Rattle.rc_types.specs.declared.faults.Code.{Code}
 use Rattle.rc_types.specs.declared.faults.Code.TheVariants.{BadEvent, OutOfMemory}
 use Rattle.rc_types.specs.declared.limits.TheConstants.{MAX_EVENTS}
 use Rattle.rc_model.specs.Breach.{breach}
-use Rattle.rc_model.specs.Report.{report}
 use Rattle.rc_version_safety.proofs.Replays.{there-is-no-breach}
 use Rattle.rc_reading.specs.declared.scenarios.Scenario.{Scenario}
 use Rattle.rc_reading.specs.declared.scenarios.ScenarioEvent.{ScenarioEvent}
-use Rattle.rc_reading.specs.Scenario.{reading}
-use Rattle.rc_report.specs.Ends.{stopped_line}
+use Rattle.rc_reading.specs.Scenario.{of_value, value_in}
+use Rattle.rc_traces.specs.Trace as trace
+use Rattle.rc_judging.specs.Judged.{finding_of, text_of}
 use Rattle.rc_scenes.specs.Runs.{scenario_run, run_within}
-use Rattle.rc_scenes.specs.Printed.{ended_text}
 use Rattle.rc_scenes.proofs.Runs.{scenario_is_run}
 use Rattle.rc_world.specs.Happened.{Happened, replayed, sent_in}
 use Rattle.rc_sim.specs.declared.verdicts.Verdict.{Verdict}
 use Rattle.rc_sim.specs.declared.verdicts.Verdict.TheVariants.{Clean, Breach, Bad, Stopped}
 use Rattle.rc_sim.specs.declared.verdicts.SimFault.{SimFault}
 use Rattle.rc_sim.specs.declared.verdicts.SimFault.TheVariants as sim_fault
+use Rattle.rc_sim.specs.declared.verdicts.Output.{Output}
+use Rattle.rc_sim.specs.declared.verdicts.Output.TheVariants.{Report}
 use Rattle.rc_sim.specs.declared.answers.Answer.{Answer}
 use Rattle.rc_runs.specs.Steps.{RunsThrough, StopsAt}
-use Rattle.rc_sim.specs.Written.{IsBegun}
-use Rattle.rc_sim.specs.Verdicts.{audited, unless_stopped, ended_verdict, Comes}
+use Rattle.rc_sim.specs.Written.{IsWritten, IsBegun}
+use Rattle.rc_sim.specs.Verdicts.{verdict_of, printed_of, last_line, unless_stopped, ended_verdict, ended_output, found_verdict, Comes, Played, Judged, Drawn}
 
 -- nothing has happened yet
 abbrev pub start_of : Scenario → Happened
 start_of scenario = record { setup = scenario.setup; events = [] }
 
 -- all events have happened
-whole_of : (scenario : Scenario) (new : Happened) (verdict : Verdict) (text : List ℕ) → RunsThrough scenario.events (start_of scenario) new
-    → length new.events ≤ MAX_EVENTS → verdict ≡ audited (breach (sent_in new)) → text ≡ report (sent_in new) → Comes (Ok scenario) verdict text
-whole_of scenario new verdict text through few judged printed =
+whole_of : (output : Output) (scenario : Scenario) (new : Happened) (verdict : Verdict) (text : List ℕ) → RunsThrough scenario.events (start_of scenario) new
+    → length new.events ≤ MAX_EVENTS → verdict ≡ verdict_of output (sent_in new) → text ≡ printed_of output (sent_in new) → Comes output (Ok scenario) verdict text
+whole_of output scenario new verdict text through few judged printed =
     let run : scenario_run scenario ≡ record { world = replayed new; stopped = None } = through MAX_EVENTS few in
     inl (record {
-      answered = judged ∙ sym (ap (ended_verdict BadEvent) run);
-      printed = printed ∙ sym (append-nil (report (sent_in new))) ∙ sym (ap (ended_text BadEvent) run);
+      answered = judged ∙ sym (ap (ended_verdict output BadEvent) run);
+      printed = printed ∙ sym (append-nil (printed_of output (sent_in new))) ∙ sym (ap (ended_output output BadEvent) run);
     })
 
-pub whole_answer : {E : Type 0} (result : Result Answer E) (scenario : Scenario) (events : List ScenarioEvent) (start new world : Happened)
+pub whole_answer : {E : Type 0} (output : Output) (result : Result Answer E) (scenario : Scenario) (events : List ScenarioEvent) (start new world : Happened)
     → events ≡ scenario.events → start ≡ start_of scenario → world ≡ new → RunsThrough events start new
-    → length new.events ≤ MAX_EVENTS → IfOk result (λ a. a.verdict ≡ audited (breach (sent_in world))) → IfOk result (λ a. string_bytes a.text ≡ report (sent_in world))
-    → IfOk result (λ a. Comes (Ok scenario) a.verdict (string_bytes a.text))
-whole_answer (Ok a) scenario events start new world same begun seen through few judged printed =
-    whole_of scenario new a.verdict (string_bytes a.text) (rw (same, begun) at through) few (judged ∙ ap (λ w. audited (breach (sent_in w))) seen) (printed ∙ ap (λ w. report (sent_in w)) seen)
-whole_answer (Err e) scenario events start new world same begun seen through few judged printed = tt
+    → length new.events ≤ MAX_EVENTS → IfOk result (λ a. a.verdict ≡ verdict_of output (sent_in world)) → IfOk result (λ a. string_bytes a.text ≡ printed_of output (sent_in world))
+    → IfOk result (λ a. Comes output (Ok scenario) a.verdict (string_bytes a.text))
+whole_answer output (Ok a) scenario events start new world same begun seen through few judged printed =
+    whole_of output scenario new a.verdict (string_bytes a.text) (rw (same, begun) at through) few (judged ∙ ap (λ w. verdict_of output (sent_in w)) seen) (printed ∙ ap (λ w. printed_of output (sent_in w)) seen)
+whole_answer output (Err e) scenario events start new world same begun seen through few judged printed = tt
 
 -- the run stopped
-stopped_of : (scenario : Scenario) (new : Happened) (place : ℕ) (why : Fault) (verdict : Verdict) (text : List ℕ) → StopsAt scenario.events place why (start_of scenario) new
+stopped_of : (output : Output) (scenario : Scenario) (new : Happened) (place : ℕ) (why : Fault) (verdict : Verdict) (text : List ℕ) → StopsAt scenario.events place why (start_of scenario) new
     → (why ≡ fault.OutOfMemory) ⊎ (why ≡ fault.BadEvent) → (replayed new).events ≡ new.events → length new.events ≤ MAX_EVENTS
-    → verdict ≡ Stopped place (code_of why) → text ≡ report (sent_in new) ++ stopped_line (code_of why) place → Comes (Ok scenario) verdict text
-stopped_of scenario new place why verdict text stops (inl memory) taken few judged printed =
+    → verdict ≡ Stopped place (code_of why) → text ≡ printed_of output (sent_in new) ++ last_line output (code_of why) place → Comes output (Ok scenario) verdict text
+stopped_of output scenario new place why verdict text stops (inl memory) taken few judged printed =
     let run : run_within (length new.events) scenario ≡ record { world = replayed new; stopped = Some place } = rw memory at stops in
     inr (record {
       most = length new.events;
@@ -64,24 +65,24 @@ stopped_of scenario new place why verdict text stops (inl memory) taken few judg
       full = ap (λ ended. length ended.world.events) run ∙ ap length taken;
       stopped = ap (λ ended. ended.stopped) run;
       answered = judged ∙ ap (λ f. Stopped place (code_of f)) memory;
-      printed = printed ∙ ap (λ f. report (sent_in new) ++ stopped_line (code_of f) place) memory ∙ sym (ap (ended_text OutOfMemory) run);
+      printed = printed ∙ ap (λ f. printed_of output (sent_in new) ++ last_line output (code_of f) place) memory ∙ sym (ap (ended_output output OutOfMemory) run);
     })
-stopped_of scenario new place why verdict text stops (inr bad) taken few judged printed =
+stopped_of output scenario new place why verdict text stops (inr bad) taken few judged printed =
     let run : scenario_run scenario ≡ record { world = replayed new; stopped = Some place } = rw bad at stops in
     inl (record {
-      answered = judged ∙ ap (λ f. Stopped place (code_of f)) bad ∙ sym (ap (ended_verdict BadEvent) run);
-      printed = printed ∙ ap (λ f. report (sent_in new) ++ stopped_line (code_of f) place) bad ∙ sym (ap (ended_text BadEvent) run);
+      answered = judged ∙ ap (λ f. Stopped place (code_of f)) bad ∙ sym (ap (ended_verdict output BadEvent) run);
+      printed = printed ∙ ap (λ f. printed_of output (sent_in new) ++ last_line output (code_of f) place) bad ∙ sym (ap (ended_output output BadEvent) run);
     })
 
-pub stopped_answer : {E : Type 0} (result : Result Answer E) (scenario : Scenario) (events : List ScenarioEvent) (start new world : Happened) (place : ℕ) (why : Fault) (code : Code)
+pub stopped_answer : {E : Type 0} (output : Output) (result : Result Answer E) (scenario : Scenario) (events : List ScenarioEvent) (start new world : Happened) (place : ℕ) (why : Fault) (code : Code)
     → events ≡ scenario.events → start ≡ start_of scenario → world ≡ new → code ≡ code_of why → StopsAt events place why start new
     → (why ≡ fault.OutOfMemory) ⊎ (why ≡ fault.BadEvent) → (replayed new).events ≡ new.events → length new.events ≤ MAX_EVENTS
-    → IfOk result (λ a. a.verdict ≡ Stopped place code) → IfOk result (λ a. string_bytes a.text ≡ report (sent_in world) ++ stopped_line code place)
-    → IfOk result (λ a. Comes (Ok scenario) a.verdict (string_bytes a.text))
-stopped_answer (Ok a) scenario events start new world place why code same begun seen coded stops which taken few judged printed =
-    stopped_of scenario new place why a.verdict (string_bytes a.text) (rw (same, begun) at stops) which taken few (judged ∙ ap (Stopped place) coded)
-    (printed ∙ ap (λ w. report (sent_in w) ++ stopped_line code place) seen ∙ ap (λ k. report (sent_in new) ++ stopped_line k place) coded)
-stopped_answer (Err e) scenario events start new world place why code same begun seen coded stops which taken few judged printed = tt
+    → IfOk result (λ a. a.verdict ≡ Stopped place code) → IfOk result (λ a. string_bytes a.text ≡ printed_of output (sent_in world) ++ last_line output code place)
+    → IfOk result (λ a. Comes output (Ok scenario) a.verdict (string_bytes a.text))
+stopped_answer output (Ok a) scenario events start new world place why code same begun seen coded stops which taken few judged printed =
+    stopped_of output scenario new place why a.verdict (string_bytes a.text) (rw (same, begun) at stops) which taken few (judged ∙ ap (Stopped place) coded)
+    (printed ∙ ap (λ w. printed_of output (sent_in w) ++ last_line output code place) seen ∙ ap (λ k. printed_of output (sent_in new) ++ last_line output k place) coded)
+stopped_answer output (Err e) scenario events start new world place why code same begun seen coded stops which taken few judged printed = tt
 
 -- no run ends with a breach
 
@@ -94,13 +95,13 @@ unfolding is_breach
 not_told code None = refl
 not_told code (Some place) = refl
 
-run_not_breach : (most : ℕ) (code : Code) (scenario : Scenario) → is_breach (ended_verdict code (run_within most scenario)) ≡ false
+run_not_breach : (most : ℕ) (code : Code) (scenario : Scenario) → is_breach (ended_verdict Report code (run_within most scenario)) ≡ false
 run_not_breach most code scenario =
     let world = (run_within most scenario).world in
     let none : breach world.sent ≡ None = ap (λ w. breach w.sent) (scenario_is_run most scenario).replayed ∙ there-is-no-breach scenario.setup world.events in
     rw none (not_told code (run_within most scenario).stopped)
 
-breach_is_none : (read : Result Scenario ℕ) (verdict : Verdict) (text : List ℕ) → Comes read verdict text → is_breach verdict ≡ false
+breach_is_none : (read : Result Scenario ℕ) (verdict : Verdict) (text : List ℕ) → Comes Report read verdict text → is_breach verdict ≡ false
 unfolding is_breach
 breach_is_none (Err place) verdict text comes = rw comes.0 (bad_is_none place)
   where
@@ -112,31 +113,53 @@ breach_is_none (Ok scenario) verdict text (inr cut) = ap is_breach cut.answered 
     stopped_is_none : (place : ℕ) → is_breach (Stopped place OutOfMemory) ≡ false
     stopped_is_none place = refl
 
-pub never_breach : (read : Result Scenario ℕ) (verdict : Verdict) (text : List ℕ) → Comes read verdict text → verdict ≢ Breach
+pub never_breach : (read : Result Scenario ℕ) (verdict : Verdict) (text : List ℕ) → Comes Report read verdict text → verdict ≢ Breach
 unfolding is_breach
 never_breach read verdict text comes same = true≢false (sym (ap is_breach same ∙ told) ∙ breach_is_none read verdict text comes)
   where
     told : is_breach Breach ≡ true
     told = refl
 
--- what a call told, whether it is a verdict or a fault
+-- what a call told, where it is a verdict
 abbrev pub told_verdict : Result Verdict SimFault → Verdict
 told_verdict (Ok verdict) = verdict
 told_verdict (Err e) = Clean
 
-abbrev pub told_fault : Result Verdict SimFault → SimFault
-told_fault (Ok verdict) = sim_fault.Memory
+-- or the fault
+abbrev pub told_fault : {T : Type 0} → Result T SimFault → SimFault
+told_fault (Ok x) = sim_fault.Memory
 told_fault (Err e) = e
 
--- a beginning of what comes of the bytes that were read is one of what comes of all bytes
-pub begun_of : (remaining : Option (List ℕ)) (bytes slice : List ℕ) (verdict : Verdict) (text written : List ℕ) (count : ℕ) (old new : Option (List ℕ))
-    → IfSome remaining (λ all. reading bytes ≡ reading all) → slice ≡ bytes → written ≡ text → Comes (reading slice) verdict text
-    → (count < length written) × Appends old new (take count written) → IfSome remaining (λ all. IsBegun (reading all) count old new)
-begun_of None bytes slice verdict text written count old new same sliced spelled comes begun = tt
-begun_of (Some all) bytes slice verdict text written count old new same sliced spelled comes begun = (
-  verdict,
-  text,
-  subst (λ read. Comes read verdict text) (ap reading sliced ∙ same) comes,
-  subst (λ t. count < length t) spelled begun.0,
-  subst (λ t. Appends old new (take count t)) spelled begun.1,
-)
+-- What is written
+
+-- the whole text of an answer
+pub written_of : (remaining : Option (List ℕ)) (bytes slice : List ℕ) (F : List ℕ → Verdict → List ℕ → Type 0) (result : Result Verdict SimFault) (verdict : Verdict) (text : List ℕ) (old new : Option (List ℕ))
+    → IfSome remaining (λ all. value_in bytes ≡ value_in all) → slice ≡ bytes → ((one other : List ℕ) → value_in one ≡ value_in other → F one verdict text → F other verdict text)
+    → F slice verdict text → IfOk result (λ v. v ≡ verdict) → IfOk result (λ _. Appends old new text)
+    → IfOk result (λ v. IfSome remaining (λ all. IsWritten (F all) v old new))
+written_of remaining bytes slice F (Err e) verdict text old new same sliced goes comes told appends = tt
+written_of None bytes slice F (Ok v) verdict text old new same sliced goes comes told appends = tt
+written_of (Some all) bytes slice F (Ok v) verdict text old new same sliced goes comes told appends =
+    rw told (text, goes slice all (ap value_in sliced ∙ same) comes, appends)
+
+-- a beginning of it
+pub begun_of : (remaining : Option (List ℕ)) (bytes slice : List ℕ) (F : List ℕ → Verdict → List ℕ → Type 0) (verdict : Verdict) (text : List ℕ) (count : ℕ) (old new : Option (List ℕ))
+    → IfSome remaining (λ all. value_in bytes ≡ value_in all) → slice ≡ bytes → ((one other : List ℕ) → value_in one ≡ value_in other → F one verdict text → F other verdict text)
+    → F slice verdict text → (count < length text) × Appends old new (take count text) → IfSome remaining (λ all. IsBegun (F all) count old new)
+begun_of None bytes slice F verdict text count old new same sliced goes comes begun = tt
+begun_of (Some all) bytes slice F verdict text count old new same sliced goes comes begun =
+    (verdict, text, goes slice all (ap value_in sliced ∙ same) comes, begun.0, begun.1)
+
+-- bytes that are one value come to the same
+pub played_so : (output : Output) (verdict : Verdict) (text : List ℕ) (one other : List ℕ) → value_in one ≡ value_in other → Played output one verdict text → Played output other verdict text
+played_so output verdict text one other same h = subst (λ d. Comes output (of_value d) verdict text) same h
+
+pub judged_so : (verdict : Verdict) (text : List ℕ) (one other : List ℕ) → value_in one ≡ value_in other → Judged one verdict text → Judged other verdict text
+judged_so verdict text one other same h =
+    subst (λ d. (verdict ≡ found_verdict (finding_of (trace.of_value d))) × (text ≡ text_of (trace.of_value d))) same h
+
+-- the report of a drawing is that of its world
+pub drawn_of : {E : Type 0} (result : Result Answer E) (world : Happened) → IfOk result (λ a. a.verdict ≡ verdict_of Report (sent_in world))
+    → IfOk result (λ a. string_bytes a.text ≡ printed_of Report (sent_in world)) → IfOk result (λ a. Drawn a.verdict (string_bytes a.text))
+drawn_of (Ok a) world judged printed = (world, judged, printed)
+drawn_of (Err e) world judged printed = tt

@@ -1,13 +1,16 @@
 -- Exit statuses, and what a call of the program has done.
-use Rattle.std.specs.Prelude.{◌≡◌, ℕ, List, Option, Result, Ok, Err}
+use Rattle.std.specs.Prelude.{◌≡◌, ⊤, ℕ, List, Option, Result, Ok, Err}
 use Rattle.std.specs.Option.{IfSome}
 use Rattle.std.specs.Io.KnownBytes.{Keeps}
 use Rattle.rc_types.specs.declared.faults.Code.TheVariants.{OutOfMemory}
-use Rattle.rc_reading.specs.Scenario.{reading}
+use Rattle.rc_commands.specs.declared.asking.Asked.{Asked}
+use Rattle.rc_commands.specs.declared.asking.Asked.TheVariants as asked
+use Rattle.rc_sim.specs.declared.verdicts.Output.TheVariants.{Report, Trace}
 use Rattle.rc_sim.specs.declared.verdicts.Verdict.{Verdict}
 use Rattle.rc_sim.specs.declared.verdicts.Verdict.TheVariants.{Clean, Breach, Bad, Stopped}
 use Rattle.rc_sim.specs.declared.verdicts.SimFault.{SimFault}
 use Rattle.rc_sim.specs.declared.verdicts.SimFault.TheVariants.{Memory, Read, Write}
+use Rattle.rc_sim.specs.Verdicts.{Played, Judged, Drawn, PowerCut}
 use Rattle.rc_sim.specs.Written.{IsWritten, IsBegun}
 
 abbrev pub verdict_status : Verdict → ℕ
@@ -27,12 +30,21 @@ outcome_status (Ok verdict) = verdict_status verdict
 outcome_status (Err fault) = fault_status fault
 
 -- what is written for this input, by what was told of it
-abbrev pub Simulated : Result Verdict SimFault → Option (List ℕ) → Option (List ℕ) → Option (List ℕ) → Type 0
-Simulated (Ok verdict) input old new = IfSome input (λ bytes. IsWritten (reading bytes) verdict old new)
-Simulated (Err (Write count)) input old new = IfSome input (λ bytes. IsBegun (reading bytes) count old new)
-Simulated (Err Memory) input old new = Keeps old new
-Simulated (Err Read) input old new = Keeps old new
+abbrev pub Answered : (List ℕ → Verdict → List ℕ → Type 0) → Result Verdict SimFault → Option (List ℕ) → Option (List ℕ) → Option (List ℕ) → Type 0
+Answered Comes (Ok verdict) input old new = IfSome input (λ bytes. IsWritten (Comes bytes) verdict old new)
+Answered Comes (Err (Write count)) input old new = IfSome input (λ bytes. IsBegun (Comes bytes) count old new)
+Answered Comes (Err Memory) input old new = Keeps old new
+Answered Comes (Err Read) input old new = Keeps old new
 
--- the program ended by this status, after a simulation
-abbrev pub EndsBy : ℕ → Option (List ℕ) → Option (List ℕ) → Option (List ℕ) → Type 0
-EndsBy status input old new = (outcome : Result Verdict SimFault) × (status ≡ outcome_status outcome) × Simulated outcome input old new
+-- the program ended by this status, after what comes of the input was written
+abbrev pub EndsBy : (List ℕ → Verdict → List ℕ → Type 0) → ℕ → Option (List ℕ) → Option (List ℕ) → Option (List ℕ) → Type 0
+EndsBy Comes status input old new = (outcome : Result Verdict SimFault) × (status ≡ outcome_status outcome) × Answered Comes outcome input old new
+
+-- the program ended by this status, after it has done this command
+abbrev pub Does : Asked → ℕ → Option (List ℕ) → Option (List ℕ) → Option (List ℕ) → Type 0
+Does (asked.Run heap) status input old new = EndsBy (Played Report) status input old new
+Does asked.Trace status input old new = EndsBy (Played Trace) status input old new
+Does asked.Audit status input old new = EndsBy Judged status input old new
+Does (asked.Fuzz seed steps free) status input old new = EndsBy (λ _. Drawn) status input old new
+Does (asked.Stops seed steps) status input old new = EndsBy (λ _. PowerCut) status input old new
+Does _ status input old new = ⊤

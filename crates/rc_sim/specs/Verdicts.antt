@@ -1,14 +1,24 @@
--- What comes of a scenario: what is printed, and what is answered.
-use Rattle.std.specs.Prelude.{◌≡◌, ◌⊎◌, ◌≤◌, ℕ, List, length, Option, Some, None, Result, Ok, Err}
+-- What comes of a scenario, a trace, or drawn events: what is printed, and what is answered.
+use Rattle.std.specs.Prelude.{◌≡◌, ◌⊎◌, ◌≤◌, ℕ, List, [], ◌++◌, length, Option, Some, None, Result, Ok, Err}
 use Rattle.rc_types.specs.declared.faults.Code.{Code}
 use Rattle.rc_types.specs.declared.faults.Code.TheVariants.{OutOfMemory, BadEvent}
 use Rattle.rc_types.specs.declared.limits.TheConstants.{MAX_EVENTS}
+use Rattle.rc_types.specs.declared.messages.Message.{Message}
 use Rattle.rc_types.specs.declared.verdicts.Breach.{Breach as Found}
 use Rattle.rc_model.specs.Breach.{breach}
+use Rattle.rc_model.specs.Report.{report}
 use Rattle.rc_reading.specs.declared.scenarios.Scenario.{Scenario}
-use Rattle.rc_report.specs.Ends.{error_line}
+use Rattle.rc_reading.specs.Scenario.{reading}
+use Rattle.rc_report.specs.Ends.{stopped_line, error_line}
 use Rattle.rc_scenes.specs.Runs.{Ended, scenario_run, run_within}
-use Rattle.rc_scenes.specs.Printed.{ended_text}
+use Rattle.rc_traces.specs.Trace as trace
+use Rattle.rc_traces.specs.Written.{trace_text}
+use Rattle.rc_judging.specs.declared.judging.Finding.{Finding}
+use Rattle.rc_judging.specs.declared.judging.Finding.TheVariants as finding
+use Rattle.rc_judging.specs.Judged.{finding_of, text_of}
+use Rattle.rc_world.specs.Happened.{Happened, sent_in}
+use Rattle.rc_sim.specs.declared.verdicts.Output.{Output}
+use Rattle.rc_sim.specs.declared.verdicts.Output.TheVariants.{Report, Trace}
 use Rattle.rc_sim.specs.declared.verdicts.Verdict.{Verdict}
 use Rattle.rc_sim.specs.declared.verdicts.Verdict.TheVariants.{Clean, Breach, Bad, Stopped}
 
@@ -17,30 +27,72 @@ abbrev pub audited : Option Found → Verdict
 audited None = Clean
 audited (Some found) = Breach
 
+-- what is answered and printed of these messages: a trace is not judged
+abbrev pub verdict_of : Output → List Message → Verdict
+verdict_of Report sent = audited (breach sent)
+verdict_of Trace sent = Clean
+
+abbrev pub printed_of : Output → List Message → List ℕ
+printed_of Report sent = report sent
+printed_of Trace sent = trace_text sent
+
+-- a report has a last line where the run stopped
+abbrev pub last_line : Output → Code → ℕ → List ℕ
+last_line Report code place = stopped_line code place
+last_line Trace code place = []
+
+abbrev pub line_if_stopped : Output → Code → Option ℕ → List ℕ
+line_if_stopped output code None = []
+line_if_stopped output code (Some place) = last_line output code place
+
 -- a run that stopped is told as stopped, whatever the audit found
 abbrev pub unless_stopped : Code → Option ℕ → Verdict → Verdict
 unless_stopped code None verdict = verdict
 unless_stopped code (Some place) verdict = Stopped place code
 
-abbrev pub ended_verdict : Code → Ended → Verdict
-ended_verdict code ended = unless_stopped code ended.stopped (audited (breach ended.world.sent))
+abbrev pub ended_verdict : Output → Code → Ended → Verdict
+ended_verdict output code ended = unless_stopped code ended.stopped (verdict_of output ended.world.sent)
+
+abbrev pub ended_output : Output → Code → Ended → List ℕ
+ended_output output code ended = printed_of output ended.world.sent ++ line_if_stopped output code ended.stopped
 
 -- memory was not refused in a step
-pub record Whole (scenario : Scenario) (verdict : Verdict) (text : List ℕ) : Type 0 where
-  pub answered : verdict ≡ ended_verdict BadEvent (scenario_run scenario)
-  pub printed : text ≡ ended_text BadEvent (scenario_run scenario)
+pub record Whole (output : Output) (scenario : Scenario) (verdict : Verdict) (text : List ℕ) : Type 0 where
+  pub answered : verdict ≡ ended_verdict output BadEvent (scenario_run scenario)
+  pub printed : text ≡ ended_output output BadEvent (scenario_run scenario)
 
 -- memory was refused in a step: the run is that with room for no more events than have happened
-pub record Cut (scenario : Scenario) (verdict : Verdict) (text : List ℕ) : Type 0 where
+pub record Cut (output : Output) (scenario : Scenario) (verdict : Verdict) (text : List ℕ) : Type 0 where
   pub most : ℕ
   pub place : ℕ
   pub few : most ≤ MAX_EVENTS
   pub full : length (run_within most scenario).world.events ≡ most
   pub stopped : (run_within most scenario).stopped ≡ Some place
   pub answered : verdict ≡ Stopped place OutOfMemory
-  pub printed : text ≡ ended_text OutOfMemory (run_within most scenario)
+  pub printed : text ≡ ended_output output OutOfMemory (run_within most scenario)
 
--- what can come of what was read
-abbrev pub Comes : Result Scenario ℕ → Verdict → List ℕ → Type 0
-Comes (Ok scenario) verdict text = Whole scenario verdict text ⊎ Cut scenario verdict text
-Comes (Err place) verdict text = (verdict ≡ Bad place) × (text ≡ error_line place)
+-- what can come of what was read as a scenario
+abbrev pub Comes : Output → Result Scenario ℕ → Verdict → List ℕ → Type 0
+Comes output (Ok scenario) verdict text = Whole output scenario verdict text ⊎ Cut output scenario verdict text
+Comes output (Err place) verdict text = (verdict ≡ Bad place) × (text ≡ error_line place)
+
+-- of these bytes as a scenario
+abbrev pub Played : Output → List ℕ → Verdict → List ℕ → Type 0
+Played output bytes verdict text = Comes output (reading bytes) verdict text
+
+abbrev pub found_verdict : Finding → Verdict
+found_verdict finding.Clean = Clean
+found_verdict finding.Breach = Breach
+found_verdict (finding.Bad place) = Bad place
+
+-- of these bytes as a trace
+abbrev pub Judged : List ℕ → Verdict → List ℕ → Type 0
+Judged bytes verdict text = (verdict ≡ found_verdict (finding_of (trace.reading bytes))) × (text ≡ text_of (trace.reading bytes))
+
+-- of drawn events: the report of a world
+abbrev pub Drawn : Verdict → List ℕ → Type 0
+Drawn verdict text = (world : Happened) × (verdict ≡ audited (breach (sent_in world))) × (text ≡ report (sent_in world))
+
+-- of power failures: there is never a breach
+abbrev pub PowerCut : Verdict → List ℕ → Type 0
+PowerCut verdict text = verdict ≡ Clean

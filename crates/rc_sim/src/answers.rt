@@ -1,22 +1,24 @@
-//! What is answered to the bytes of a scenario.
+//! What is answered to the bytes of a scenario or of a trace.
 
 ghost use Rattle.std.specs.Prelude.{◌≡◌, ◌++◌, string_bytes, Ok, IfOk, IfErr};
 ghost use Rattle.rc_model.specs.Breach.{breach};
 ghost use Rattle.rc_model.specs.Report.{report};
 ghost use Rattle.rc_world.specs.Happened.{sent_in};
 ghost use Rattle.rc_world.specs.HostView.{IsWithinLimits};
-ghost use Rattle.rc_report.specs.Ends.{stopped_line, error_line};
+ghost use Rattle.rc_report.specs.Ends.{error_line};
 ghost use Rattle.rc_reading.specs.Scenario.{reading};
 ghost use Rattle.rc_sim.specs.declared.verdicts.SimFault.TheVariants.{Memory};
 ghost use Rattle.rc_sim.specs.declared.verdicts.Verdict.TheVariants.{Bad, Stopped};
-ghost use Rattle.rc_sim.specs.Verdicts.{audited, Comes};
+ghost use Rattle.rc_sim.specs.Verdicts.{audited, verdict_of, printed_of, last_line, Comes, Judged};
 
-use crate::verdicts::{SimFault, Verdict};
+use crate::verdicts::{Output, SimFault, Verdict};
 use rc_audit::audit;
+use rc_judging::Finding;
 use rc_reading::{ReadFault, Scenario, read_scenario};
 use rc_report::{add_stopped, error_text, report_of};
 use rc_runs::Run;
-use rc_types::Code;
+use rc_traces::write_trace;
+use rc_types::{Code, Message};
 use rc_world::World;
 use std::alloc::{Allocator, Global};
 
@@ -27,18 +29,19 @@ pub struct Answer {
     pub(crate) text: String,
 }
 
-/// The answer to these bytes. The run's tablets lie in memory of the second allocator. It fails only
-/// where memory was refused outside a step of the run.
+/// The answer to these bytes as a scenario. The run's tablets lie in memory of the second allocator. It
+/// fails only where memory was refused outside a step of the run.
 pub fn answer_to<A: Allocator + Clone>(
     alloc: Global,
     bytes: &[u8],
     tablets: A,
+    output: Output,
 ) -> Result<Answer, SimFault>
-    ensures ok { IfOk result (λ answer. Comes (reading bytes.now) answer.verdict (string_bytes answer.text)) }
+    ensures ok { IfOk result (λ answer. Comes output (reading bytes.now) answer.verdict (string_bytes answer.text)) }
     ensures fault { IfErr result (λ fault. fault ≡ Memory) }
 {
     match read_scenario(alloc, bytes) {
-        Ok(scenario) => played(alloc, scenario, tablets),
+        Ok(scenario) => played(alloc, scenario, tablets, output),
         Err(ReadFault::OutOfMemory) => Err(SimFault::Memory),
         Err(ReadFault::BadScenario(place)) => bad(alloc, place),
     }
@@ -49,26 +52,42 @@ fn played<A: Allocator + Clone>(
     alloc: Global,
     scenario: Scenario,
     tablets: A,
+    output: Output,
 ) -> Result<Answer, SimFault>
     requires { IsWithinLimits scenario.setup }
-    ensures ok { IfOk result (λ answer. Comes (Ok scenario) answer.verdict (string_bytes answer.text)) }
+    ensures ok { IfOk result (λ answer. Comes output (Ok scenario) answer.verdict (string_bytes answer.text)) }
     ensures fault { IfErr result (λ fault. fault ≡ Memory) }
 {
     let Scenario { setup, events } = scenario;
     let mut run = Run::new(alloc, setup, tablets);
     match run.play_all(alloc, events.as_slice()) {
-        Ok(()) => ended(alloc, run.world()),
-        Err((place, fault)) => stopped(alloc, run.world(), place, fault.code()),
+        Ok(()) => ended(alloc, run.world(), output),
+        Err((place, fault)) => stopped(alloc, run.world(), output, place, fault.code()),
     }
 }
 
 /// The answer to a run whose events have all happened.
-fn ended<A: Allocator + Clone>(alloc: Global, world: &World<A>) -> Result<Answer, SimFault>
-    ensures verdict { IfOk result (λ answer. answer.verdict ≡ audited (breach (sent_in world.now))) }
-    ensures text { IfOk result (λ answer. string_bytes answer.text ≡ report (sent_in world.now)) }
+pub(crate) fn ended<A: Allocator + Clone>(
+    alloc: Global,
+    world: &World<A>,
+    output: Output,
+) -> Result<Answer, SimFault>
+    ensures verdict { IfOk result (λ answer. answer.verdict ≡ verdict_of output (sent_in world.now)) }
+    ensures text { IfOk result (λ answer. string_bytes answer.text ≡ printed_of output (sent_in world.now)) }
     ensures fault { IfErr result (λ fault. fault ≡ Memory) }
 {
-    let sent = world.sent();
+    match output {
+        Output::Report => reported(alloc, world.sent()),
+        Output::Trace => traced(alloc, world.sent()),
+    }
+}
+
+/// The answer with a report of these messages.
+fn reported(alloc: Global, sent: &[Message]) -> Result<Answer, SimFault>
+    ensures verdict { IfOk result (λ answer. answer.verdict ≡ audited (breach sent.now)) }
+    ensures text { IfOk result (λ answer. string_bytes answer.text ≡ report sent.now) }
+    ensures fault { IfErr result (λ fault. fault ≡ Memory) }
+{
     let found = audit(alloc, sent).map_err(|_| SimFault::Memory)?;
     let text = report_of(alloc, sent, found).map_err(|_| SimFault::Memory)?;
     let verdict = match found {
@@ -78,21 +97,51 @@ fn ended<A: Allocator + Clone>(alloc: Global, world: &World<A>) -> Result<Answer
     Ok(Answer { verdict, text })
 }
 
+/// The answer with a trace of these messages.
+fn traced(alloc: Global, sent: &[Message]) -> Result<Answer, SimFault>
+    ensures verdict { IfOk result (λ answer. answer.verdict ≡ verdict_of Output.Trace sent.now) }
+    ensures text { IfOk result (λ answer. string_bytes answer.text ≡ printed_of Output.Trace sent.now) }
+    ensures fault { IfErr result (λ fault. fault ≡ Memory) }
+{
+    let text = write_trace(alloc, sent)?;
+    let verdict = Verdict::Clean;
+    Ok(Answer { verdict, text })
+}
+
 /// The answer to a run that stopped at this event of the scenario.
 fn stopped<A: Allocator + Clone>(
     alloc: Global,
     world: &World<A>,
+    output: Output,
     place: usize,
     code: Code,
 ) -> Result<Answer, SimFault>
     ensures verdict { IfOk result (λ answer. answer.verdict ≡ Stopped place code) }
-    ensures text { IfOk result (λ answer. string_bytes answer.text ≡ report (sent_in world.now) ++ stopped_line code place) }
+    ensures text { IfOk result (λ answer. string_bytes answer.text
+        ≡ printed_of output (sent_in world.now) ++ last_line output code place) }
     ensures fault { IfErr result (λ fault. fault ≡ Memory) }
 {
-    let Answer { mut text, .. } = ended(alloc, world)?;
-    add_stopped(alloc, &mut text, code, place).map_err(|_| SimFault::Memory)?;
+    let Answer { mut text, .. } = ended(alloc, world, output)?;
+    add_last_line(alloc, &mut text, output, place, code)?;
     let verdict = Verdict::Stopped(place, code);
     Ok(Answer { verdict, text })
+}
+
+/// Adds the last line of what is printed of a run that stopped: a report has one.
+fn add_last_line(
+    alloc: Global,
+    text: &mut String,
+    output: Output,
+    place: usize,
+    code: Code,
+) -> Result<(), SimFault>
+    ensures ok { IfOk result (λ _. string_bytes text.new ≡ string_bytes text.old ++ last_line output code place) }
+    ensures fault { IfErr result (λ fault. fault ≡ Memory) }
+{
+    match output {
+        Output::Report => { add_stopped(alloc, text, code, place).map_err(|_| SimFault::Memory) }
+        Output::Trace => Ok(()),
+    }
 }
 
 /// The answer to a scenario that is wrong at this place.
@@ -104,4 +153,21 @@ fn bad(alloc: Global, place: usize) -> Result<Answer, SimFault>
     let text = error_text(alloc, place).map_err(|_| SimFault::Memory)?;
     let verdict = Verdict::Bad(place);
     Ok(Answer { verdict, text })
+}
+
+/// The answer to these bytes as a trace. It fails only where memory was refused.
+pub fn judgement_of(alloc: Global, bytes: &[u8]) -> Result<Answer, SimFault>
+    ensures ok { IfOk result (λ answer. Judged bytes.now answer.verdict (string_bytes answer.text)) }
+    ensures fault { IfErr result (λ fault. fault ≡ Memory) }
+{
+    let judged = rc_judging::judge(alloc, bytes).map_err(|_| SimFault::Memory)?;
+    let verdict = match judged.finding {
+        Finding::Clean => Verdict::Clean,
+        Finding::Breach => Verdict::Breach,
+        Finding::Bad(place) => Verdict::Bad(place),
+    };
+    Ok(Answer {
+        verdict,
+        text: judged.text,
+    })
 }

@@ -1,23 +1,29 @@
 //! The whole program, on the words of its command line.
 
-ghost use Rattle.std.specs.Prelude.{◌≡◌, ◌≤◌, true, false, map, string_bytes};
-ghost use Rattle.rc_commands.specs.Asking.{asks_for_run};
-ghost use Rattle.rc_sim.specs.Statuses.{fault_status, EndsBy};
+ghost use Rattle.std.specs.Prelude.{◌≡◌, ◌≤◌, Some, None, map, string_bytes};
+ghost use Rattle.rc_commands.specs.declared.asking.Asked.{Asked as AskedModel};
+ghost use Rattle.rc_commands.specs.Asking.{asked_in};
+ghost use Rattle.rc_sim.specs.declared.verdicts.Output.TheVariants.{Report};
+ghost use Rattle.rc_sim.specs.Statuses.{fault_status, outcome_status, EndsBy, Does};
+ghost use Rattle.rc_sim.specs.Verdicts.{Played};
 
 use crate::counted::Counted;
+use crate::drawing::{fuzz, stops};
 use crate::outlets::write_all;
-use crate::simulating::simulate;
-use crate::verdicts::SimFault;
+use crate::simulating::{judge, simulate, trace};
+use crate::verdicts::{SimFault, Verdict};
+use linked_list_allocator::LocalHeap;
 use rc_commands::{Asked, asked_for};
 use std::alloc::Global;
 use std::io::{Read, Write};
 
 /// Does what the words after the program's name ask for, and gives the exit status: 0 where all is
-/// well, 1 where an audit found a breach, 2 for a wrong command line or scenario and for an event that
-/// was not possible, 3 where memory was refused, 4 where a read or a write failed.
+/// well, 1 where an audit found a breach, 2 for a wrong command line, scenario or trace and for an event
+/// that was not possible, 3 where memory was refused, 4 where a read or a write failed.
 ///
-/// `run` simulates the scenario that the reader gives (see [`simulate`]). Help and the version go to the
-/// writer. What is wrong with the command line, and the line of a fault (`memory`, `read`, `write N`),
+/// `run` and `trace` run the scenario that the reader gives (see [`simulate`] and [`trace`]), `audit`
+/// judges the trace that it gives ([`judge`]); `fuzz` and `stops` read nothing. Help and the version go to
+/// the writer. What is wrong with the command line, and the line of a fault (`memory`, `read`, `write N`),
 /// go to `errors`; where that can't be written, the status alone tells.
 pub fn command<R: Read, W: Write, E: Write>(
     alloc: Global,
@@ -26,13 +32,21 @@ pub fn command<R: Read, W: Write, E: Write>(
     writer: &mut Counted<W>,
     errors: &mut Counted<E>,
 ) -> u8
-    ensures run { asks_for_run (map string_bytes words.now) ≡ true
-        → EndsBy result (R.remaining reader.old.inner) (W.contents writer.old.inner) (W.contents writer.new.inner) }
-    ensures unread { asks_for_run (map string_bytes words.now) ≡ false → reader.new ≡ reader.old }
+    ensures does { (asked : AskedModel) → asked_in (map string_bytes words.now) ≡ Some asked
+        → Does asked result (R.remaining reader.old.inner) (W.contents writer.old.inner) (W.contents writer.new.inner) }
+    ensures unread { asked_in (map string_bytes words.now) ≡ None → reader.new ≡ reader.old }
     ensures known { result ≤ 4 }
 {
     match asked_for(alloc, words) {
-        Ok(Asked::Run) => run(alloc, reader, writer, errors),
+        Ok(Asked::Run { heap }) => run(alloc, heap, reader, writer, errors),
+        Ok(Asked::Trace) => ended(trace(alloc, reader, writer), errors),
+        Ok(Asked::Audit) => ended(judge(alloc, reader, writer), errors),
+        Ok(Asked::Fuzz { seed, steps, free }) => {
+            ended(fuzz(alloc, seed, steps as usize, free, writer), errors)
+        }
+        Ok(Asked::Stops { seed, steps }) => {
+            ended(stops(alloc, seed, steps as usize, writer), errors)
+        }
         Ok(Asked::Tell(text)) => tell(text.as_str(), writer, errors),
         Ok(Asked::Wrong(text)) => {
             let _ = write_all(errors, text.as_bytes());
@@ -42,17 +56,32 @@ pub fn command<R: Read, W: Write, E: Write>(
     }
 }
 
-/// Simulates the scenario that the reader gives.
+/// Simulates the scenario that the reader gives; where a heap is asked for, with the tablets in one of so
+/// many bytes.
 fn run<R: Read, W: Write, E: Write>(
     alloc: Global,
+    heap: Option<usize>,
     reader: &mut Counted<R>,
     writer: &mut Counted<W>,
     errors: &mut Counted<E>,
 ) -> u8
-    ensures done { EndsBy result (R.remaining reader.old.inner) (W.contents writer.old.inner) (W.contents writer.new.inner) }
+    ensures done { EndsBy (Played Report) result (R.remaining reader.old.inner) (W.contents writer.old.inner) (W.contents writer.new.inner) }
     ensures known { result ≤ 4 }
 {
-    match simulate(alloc, reader, writer, alloc) {
+    let Some(bytes) = heap else {
+        return ended(simulate(alloc, reader, writer, alloc), errors);
+    };
+    match LocalHeap::new(alloc, bytes) {
+        Ok(heap) => ended(simulate(alloc, reader, writer, &heap), errors),
+        Err(_) => failed(&SimFault::Memory, errors),
+    }
+}
+
+/// The status of what came of a command; a fault is told.
+fn ended<E: Write>(outcome: Result<Verdict, SimFault>, errors: &mut Counted<E>) -> u8
+    ensures { result ≡ outcome_status outcome }
+{
+    match outcome {
         Ok(verdict) => verdict.status(),
         Err(fault) => failed(&fault, errors),
     }

@@ -2,7 +2,7 @@
 
 ghost use Rattle.std.specs.Prelude.{◌≡◌, ◌≢◌, ◌<◌, ℕ, length, take, Ok, Err, OnOk, IfOk, IfErr, IfSome};
 ghost use Rattle.std.specs.Io.KnownBytes.{Appends};
-ghost use Rattle.rc_reading.specs.Scenario.{reading};
+ghost use Rattle.rc_reading.specs.Scenario.{value_in};
 ghost use Rattle.rc_sim.specs.declared.verdicts.SimFault.TheVariants.{Memory, Read as ReadFailed, Write as WriteFailed};
 ghost use Rattle.rc_sim.specs.Failures.{failed_reads, failed_writes};
 
@@ -17,7 +17,7 @@ const CHUNK: usize = 4096;
 
 /// What the reader gives up to its end, or up to where a scenario is too long.
 pub fn read_all<R: Read>(alloc: Global, reader: &mut Counted<R>) -> Result<Vec<u8>, SimFault>
-    ensures ok { IfOk result (λ bytes. IfSome (R.remaining reader.old.inner) (λ all. reading bytes.items ≡ reading all)) }
+    ensures ok { IfOk result (λ bytes. IfSome (R.remaining reader.old.inner) (λ all. value_in bytes.items ≡ value_in all)) }
     ensures failures { reader.new.failures ≡ failed_reads result reader.old.failures }
     ensures fault { (count : ℕ) → result ≢ Err (WriteFailed count) }
 {

@@ -1,17 +1,18 @@
-//! From bytes to report.
+//! From bytes to bytes: a scenario to its report or its trace, a trace to its judgement.
 
-ghost use Rattle.std.specs.Prelude.{◌≡◌, ◌≢◌, ℕ, IfOk, IfSome, Ok, Err};
-ghost use Rattle.std.specs.Io.KnownBytes.{Keeps};
-ghost use Rattle.rc_reading.specs.Scenario.{reading};
+ghost use Rattle.std.specs.Prelude.{◌≡◌, ◌≢◌, ◌<◌, ℕ, length, take, string_bytes, IfOk, IfSome, Ok, Err};
+ghost use Rattle.std.specs.Io.KnownBytes.{Appends, Keeps};
+ghost use Rattle.rc_sim.specs.declared.verdicts.Output.TheVariants.{Report, Trace};
 ghost use Rattle.rc_sim.specs.declared.verdicts.SimFault.TheVariants.{Memory, Read as ReadFailed, Write as WriteFailed};
 ghost use Rattle.rc_sim.specs.declared.verdicts.Verdict.TheVariants.{Breach};
 ghost use Rattle.rc_sim.specs.Failures.{failed_reads, failed_writes};
+ghost use Rattle.rc_sim.specs.Verdicts.{Played, Judged};
 ghost use Rattle.rc_sim.specs.Written.{IsWritten, IsBegun};
 
-use crate::answers::answer_to;
+use crate::answers::{Answer, answer_to, judgement_of};
 use crate::counted::Counted;
 use crate::outlets::{read_all, write_all};
-use crate::verdicts::{SimFault, Verdict};
+use crate::verdicts::{Output, SimFault, Verdict};
 use std::alloc::{Allocator, Global};
 use std::io::{Read, Write};
 
@@ -31,9 +32,9 @@ pub fn simulate<R: Read, W: Write, A: Allocator + Clone>(
 ) -> Result<Verdict, SimFault>
     // what is written is what the definitions say of the bytes that the reader had
     ensures ok { IfOk result (λ verdict. IfSome (R.remaining reader.old.inner)
-        (λ bytes. IsWritten (reading bytes) verdict (W.contents writer.old.inner) (W.contents writer.new.inner))) }
+        (λ bytes. IsWritten (Played Report bytes) verdict (W.contents writer.old.inner) (W.contents writer.new.inner))) }
     ensures cut_short { (count : ℕ) → result ≡ Err (WriteFailed count) → IfSome (R.remaining reader.old.inner)
-        (λ bytes. IsBegun (reading bytes) count (W.contents writer.old.inner) (W.contents writer.new.inner)) }
+        (λ bytes. IsBegun (Played Report bytes) count (W.contents writer.old.inner) (W.contents writer.new.inner)) }
     ensures nothing_without_memory { result ≡ Err Memory → Keeps (W.contents writer.old.inner) (W.contents writer.new.inner) }
     ensures nothing_unread { result ≡ Err ReadFailed → Keeps (W.contents writer.old.inner) (W.contents writer.new.inner) }
 
@@ -45,7 +46,70 @@ pub fn simulate<R: Read, W: Write, A: Allocator + Clone>(
     ensures no_breach { result ≢ Ok Breach }
 {
     let bytes = read_all(alloc, reader)?;
-    let answer = answer_to(alloc, bytes.as_slice(), tablets)?;
-    write_all(writer, answer.text.as_bytes())?;
-    Ok(answer.verdict)
+    let answer = answer_to(alloc, bytes.as_slice(), tablets, Output::Report)?;
+    write_answer(writer, &answer)
+}
+
+/// Reads a scenario, runs it as `simulate` does, and writes the trace of what was sent, or the one line
+/// of a scenario that is wrong. The trace is not judged, and no line tells where the run stopped.
+///
+/// It fails as `simulate` does.
+pub fn trace<R: Read, W: Write>(
+    alloc: Global,
+    reader: &mut Counted<R>,
+    writer: &mut Counted<W>,
+) -> Result<Verdict, SimFault>
+    ensures ok { IfOk result (λ verdict. IfSome (R.remaining reader.old.inner)
+        (λ bytes. IsWritten (Played Trace bytes) verdict (W.contents writer.old.inner) (W.contents writer.new.inner))) }
+    ensures cut_short { (count : ℕ) → result ≡ Err (WriteFailed count) → IfSome (R.remaining reader.old.inner)
+        (λ bytes. IsBegun (Played Trace bytes) count (W.contents writer.old.inner) (W.contents writer.new.inner)) }
+    ensures nothing_without_memory { result ≡ Err Memory → Keeps (W.contents writer.old.inner) (W.contents writer.new.inner) }
+    ensures nothing_unread { result ≡ Err ReadFailed → Keeps (W.contents writer.old.inner) (W.contents writer.new.inner) }
+    ensures reads { reader.new.failures ≡ failed_reads result reader.old.failures }
+    ensures writes { writer.new.failures ≡ failed_writes result writer.old.failures }
+{
+    let bytes = read_all(alloc, reader)?;
+    let answer = answer_to(alloc, bytes.as_slice(), alloc, Output::Trace)?;
+    write_answer(writer, &answer)
+}
+
+/// Reads a trace, judges it, and writes how many messages it has and what the audit found; or the one
+/// line of a trace that is wrong.
+///
+/// It fails as `simulate` does.
+pub fn judge<R: Read, W: Write>(
+    alloc: Global,
+    reader: &mut Counted<R>,
+    writer: &mut Counted<W>,
+) -> Result<Verdict, SimFault>
+    ensures ok { IfOk result (λ verdict. IfSome (R.remaining reader.old.inner)
+        (λ bytes. IsWritten (Judged bytes) verdict (W.contents writer.old.inner) (W.contents writer.new.inner))) }
+    ensures cut_short { (count : ℕ) → result ≡ Err (WriteFailed count) → IfSome (R.remaining reader.old.inner)
+        (λ bytes. IsBegun (Judged bytes) count (W.contents writer.old.inner) (W.contents writer.new.inner)) }
+    ensures nothing_without_memory { result ≡ Err Memory → Keeps (W.contents writer.old.inner) (W.contents writer.new.inner) }
+    ensures nothing_unread { result ≡ Err ReadFailed → Keeps (W.contents writer.old.inner) (W.contents writer.new.inner) }
+    ensures reads { reader.new.failures ≡ failed_reads result reader.old.failures }
+    ensures writes { writer.new.failures ≡ failed_writes result writer.old.failures }
+{
+    let bytes = read_all(alloc, reader)?;
+    let answer = judgement_of(alloc, bytes.as_slice())?;
+    write_answer(writer, &answer)
+}
+
+/// Writes the text of an answer, and gives its verdict.
+pub(crate) fn write_answer<W: Write>(
+    writer: &mut Counted<W>,
+    answer: &Answer,
+) -> Result<Verdict, SimFault>
+    ensures verdict { IfOk result (λ verdict. verdict ≡ answer.now.verdict) }
+    ensures ok { IfOk result (λ _. Appends (W.contents writer.old.inner) (W.contents writer.new.inner) (string_bytes answer.now.text)) }
+    ensures cut_short { (count : ℕ) → result ≡ Err (WriteFailed count) → (count < length (string_bytes answer.now.text))
+        × Appends (W.contents writer.old.inner) (W.contents writer.new.inner) (take count (string_bytes answer.now.text)) }
+    ensures writes { writer.new.failures ≡ failed_writes result writer.old.failures }
+    ensures fault { (result ≢ Err Memory) × (result ≢ Err ReadFailed) }
+{
+    match write_all(writer, answer.text.as_bytes()) {
+        Ok(()) => Ok(answer.verdict),
+        Err(fault) => Err(fault),
+    }
 }

@@ -6,14 +6,23 @@ use rc_types::Code;
 use std::alloc::{AllocError, AllocFailed};
 use thiserror::Error;
 
-/// What came of a scenario.
+/// What is printed of a scenario's run.
+#[derive(Clone, Copy, Debug, PartialEq, Eq)]
+pub enum Output {
+    /// The report, with the audit's answer.
+    Report,
+    /// The trace of what was sent.
+    Trace,
+}
+
+/// What came of a scenario, of a trace, or of drawn events.
 #[derive(Clone, Copy, Debug, PartialEq, Eq)]
 pub enum Verdict {
-    /// Every event happened, and the audit found no breach.
+    /// Every event happened, and the audit found no breach; or the trace of what was sent was written.
     Clean,
     /// Every event happened, and the audit found a breach.
     Breach,
-    /// The scenario is wrong at this place (F17).
+    /// The scenario or the trace is wrong at this place (F17).
     Bad(usize),
     /// The run stopped at this event of the scenario: F18 where it was not possible, F1 where its step
     /// found no memory.

@@ -214,6 +214,39 @@ fn a_reader_of_single_bytes(rt: HostRuntime) -> Result<(), Fail> {
 }
 
 #[test]
+fn a_trace_is_written(rt: HostRuntime) -> Result<(), Fail> {
+    let scenario = b"{\"format\":1,\"factor\":1,\"segment\":1,\"events\":[]}".as_slice();
+    let trace = b"{\"format\":1,\"messages\":[]}\n".as_slice();
+    holds!(rt; ends(rt.alloc(), &["trace"], scenario, 0, trace));
+    Ok(())
+}
+
+#[test]
+fn a_trace_is_judged(rt: HostRuntime) -> Result<(), Fail> {
+    let trace =
+        b"{\"format\":1,\"messages\":[{\"m\":\"plan\",\"attempt\":1,\"of\":[0,1],\"rows\":[[1,[2,1],1]]}]}".as_slice();
+    let judgement = b"messages 1\naudit breach invented attempt 1 of 0.1 seg 1 at 0\n".as_slice();
+    holds!(rt; ends(rt.alloc(), &["audit"], trace, 1, judgement));
+    Ok(())
+}
+
+// 52 events: five starts, a creation, and 46 deliveries, so 46 messages
+#[test]
+fn nothing_is_drawn(rt: HostRuntime) -> Result<(), Fail> {
+    let report =
+        b"own 0.1 term 1 table 1 from 0 to 18446744073709551615 after 0 attempt 0\nmessages 46\nacknowledged 0\nrefused 0\nplans 0\ngrants 1\naudit clean\n".as_slice();
+    holds!(rt; ends(rt.alloc(), &["fuzz", "--steps", "0"], b"".as_slice(), 0, report));
+    Ok(())
+}
+
+#[test]
+fn power_fails_after_the_beginning(rt: HostRuntime) -> Result<(), Fail> {
+    let numbers = b"cuts 156\nbreaches 0\n".as_slice();
+    holds!(rt; ends(rt.alloc(), &["stops", "--steps", "0"], b"".as_slice(), 0, numbers));
+    Ok(())
+}
+
+#[test]
 fn wrong_command_lines(rt: HostRuntime) -> Result<(), Fail> {
     let lines: [&[&str]; 4] = [&[], &["fly"], &["run", "x"], &["run", "--heap"]];
     for line in lines {

@@ -1,0 +1,98 @@
+//! The program's commands and their options, for `clap`.
+
+ghost use Rattle.std.specs.Prelude.{◌≡◌, IfOk, codes, false};
+ghost use Rattle.clap.specs.Words.{app_of, rule_of};
+ghost use Rattle.rc_commands.specs.Commands as spec;
+ghost use Rattle.rc_commands.specs.Commands.{IsBuiltAs, ramseg};
+
+use clap::{Arg, ArgAction, Command};
+use std::alloc::{AllocError, Global};
+
+/// The program with its commands.
+pub fn program<'a>(alloc: Global) -> Result<Command<'a>, AllocError>
+    ensures { IfOk result (λ command. app_of command ≡ ramseg) }
+{
+    Command::new(alloc, "ramseg")
+        .bin_name("ramseg")?
+        .version("0.1.0")
+        .about("A replicated log, simulated event by event")
+        .no_binary_name(true)
+        .subcommand_required(true)
+        .subcommand(run(alloc)?)?
+        .subcommand(Command::new(alloc, "trace").about(
+            "Replays a scenario that it reads from standard input, and prints the trace of what was sent",
+        ))?
+        .subcommand(Command::new(alloc, "audit").about(
+            "Judges a trace that it reads from standard input",
+        ))?
+        .subcommand(fuzz(alloc)?)?
+        .subcommand(stops(alloc)?)
+}
+
+/// `run` with its option.
+fn run<'a>(alloc: Global) -> Result<Command<'a>, AllocError>
+    ensures { IfOk result (IsBuiltAs spec.run) }
+{
+    Command::new(alloc, "run")
+        .about("Replays a scenario that it reads from standard input, and prints the report")
+        .arg(option(
+            alloc,
+            "heap",
+            "BYTES",
+            "Keeps the coordinator's tablets in a heap of so many bytes, 16 to 1048576",
+        ))
+}
+
+/// `fuzz` with its options.
+fn fuzz<'a>(alloc: Global) -> Result<Command<'a>, AllocError>
+    ensures { IfOk result (IsBuiltAs spec.fuzz) }
+{
+    let free = Arg::new(alloc, "free")
+        .long("free")
+        .action(ArgAction::SetTrue)
+        .help("Lets masters free segments");
+    Command::new(alloc, "fuzz")
+        .about("Runs events that are drawn from a seed, and prints the report")
+        .arg(seed(alloc))?
+        .arg(option(
+            alloc,
+            "steps",
+            "N",
+            "How many steps are drawn, 0 to 100000; 1000 if not given",
+        ))?
+        .arg(free)
+}
+
+/// `stops` with its options.
+fn stops<'a>(alloc: Global) -> Result<Command<'a>, AllocError>
+    ensures { IfOk result (IsBuiltAs spec.stops) }
+{
+    Command::new(alloc, "stops")
+        .about(
+            "Cuts the power after each of the events that are drawn from a seed, and counts the breaches",
+        )
+        .arg(seed(alloc))?
+        .arg(option(
+            alloc,
+            "steps",
+            "N",
+            "How many steps are drawn, 0 to 1000; 300 if not given",
+        ))
+}
+
+/// The seed of a command that draws events.
+fn seed<'a>(alloc: Global) -> Arg<'a>
+    ensures { (rule_of result ≡ spec.option (codes "seed")) × (result.global ≡ false) }
+{
+    option(alloc, "seed", "N", "The seed, below 2^64; 1 if not given")
+}
+
+/// An option `--NAME VALUE`.
+fn option<'a>(alloc: Global, name: &'a str, value: &'a str, help: &'a str) -> Arg<'a>
+    ensures { (rule_of result ≡ spec.option name.now) × (result.global ≡ false) }
+{
+    Arg::new(alloc, name)
+        .long(name)
+        .value_name(value)
+        .help(help)
+}

@@ -1,0 +1,5 @@
+pub mod Generator
+pub mod Words
+pub mod Draw
+pub mod Stops
+pub mod Claims

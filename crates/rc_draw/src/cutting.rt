@@ -1,0 +1,151 @@
+//! What follows a power failure: all servers stop, all hosts start again, and all crashed servers are
+//! recovered as far as that goes.
+
+ghost use Rattle.std.specs.Prelude.{◌≡◌, ◌++◌, ℕ, IfOk, OnOk, IfErr};
+ghost use Rattle.rc_types.specs.declared.faults.Fault.TheVariants.{OutOfMemory};
+ghost use Rattle.rc_world.specs.Happened.{replayed};
+ghost use Rattle.rc_draw.specs.Draw.{newest_server};
+ghost use Rattle.rc_draw.specs.Stops.{keeps, gathered, stop_of, start_of, decision_of, decisions_of, cut_scene};
+
+use crate::choosing::HOSTS;
+use crate::playing::settled;
+use rc_reading::ScenarioEvent;
+use rc_types::{Addr, Fault, Seq, ServerId};
+use rc_world::World;
+use std::alloc::Global;
+
+/// Which of its open replicas a host keeps.
+#[derive(Clone, Copy, Debug, PartialEq, Eq)]
+pub(crate) enum Keeping {
+    /// All of them.
+    All,
+    /// Those of segments with odd numbers.
+    OddSegments,
+    /// None.
+    Nothing,
+}
+
+impl Keeping {
+    /// What is kept of these.
+    fn of(self, names: Vec<(ServerId, u16)>) -> Vec<(ServerId, u16)>
+        ensures { result.items ≡ keeps self names.items }
+    {
+        let mut names = names;
+        match self {
+            Keeping::All => {}
+            Keeping::OddSegments => names.retain(|name| name.1 % 2 == 1),
+            Keeping::Nothing => names.clear(),
+        }
+        names
+    }
+}
+
+/// What follows a power failure in this world.
+pub(crate) fn cut_scene(
+    alloc: Global,
+    world: &World<Global>,
+    keeping: Keeping,
+) -> Result<Vec<ScenarioEvent>, Fault>
+    ensures ok { IfOk result (λ scene. scene.items ≡ cut_scene keeping (replayed world.now)) }
+    ensures no_memory { IfErr result (λ fault. fault ≡ OutOfMemory) }
+{
+    let mut scene = Vec::new(alloc);
+    add_stops(world, &mut scene)?;
+    add_starts(world, keeping, &mut scene)?;
+    scene.push(settled())?;
+    scene.push(ScenarioEvent::Tick(Addr::Coordinator))?;
+    scene.push(settled())?;
+    add_decisions(world, &mut scene)?;
+    scene.push(settled())?;
+    Ok(scene)
+}
+
+/// Each running server stops.
+fn add_stops(world: &World<Global>, scene: &mut Vec<ScenarioEvent>) -> Result<(), Fault>
+    ensures ok { OnOk result (scene.new.items ≡ scene.old.items ++ gathered (stop_of (replayed world.now)) 5) }
+    ensures no_memory { IfErr result (λ fault. fault ≡ OutOfMemory) }
+{
+    for host in 0..HOSTS {
+        add_stop(world, host, scene)?;
+    }
+    Ok(())
+}
+
+/// The newest server of the host stops, where it runs.
+fn add_stop(world: &World<Global>, host: u8, scene: &mut Vec<ScenarioEvent>) -> Result<(), Fault>
+    ensures ok { OnOk result (scene.new.items ≡ scene.old.items ++ stop_of (replayed world.now) host) }
+    ensures no_memory { IfErr result (λ fault. fault ≡ OutOfMemory) }
+{
+    let id = newest_server(world, host);
+    if world.is_running(id) {
+        scene.push(ScenarioEvent::Stop(id))?;
+    }
+    Ok(())
+}
+
+/// Each host that was ever started starts again.
+fn add_starts(
+    world: &World<Global>,
+    keeping: Keeping,
+    scene: &mut Vec<ScenarioEvent>,
+) -> Result<(), Fault>
+    ensures ok { OnOk result (scene.new.items ≡ scene.old.items ++ gathered (start_of keeping (replayed world.now)) 5) }
+    ensures no_memory { IfErr result (λ fault. fault ≡ OutOfMemory) }
+{
+    for host in 0..HOSTS {
+        add_start(world, keeping, host, scene)?;
+    }
+    Ok(())
+}
+
+/// The host starts again, where it was ever started.
+fn add_start(
+    world: &World<Global>,
+    keeping: Keeping,
+    host: u8,
+    scene: &mut Vec<ScenarioEvent>,
+) -> Result<(), Fault>
+    ensures ok { OnOk result (scene.new.items ≡ scene.old.items ++ start_of keeping (replayed world.now) host) }
+    ensures no_memory { IfErr result (λ fault. fault ≡ OutOfMemory) }
+{
+    if world.newest(host) > 0 {
+        let kept = Seq::from_vec(keeping.of(world.open_replicas(host)?));
+        scene.push(ScenarioEvent::Start { host, kept })?;
+    }
+    Ok(())
+}
+
+/// The recovery of each server that has stopped is decided.
+fn add_decisions(world: &World<Global>, scene: &mut Vec<ScenarioEvent>) -> Result<(), Fault>
+    ensures ok { OnOk result (scene.new.items ≡ scene.old.items ++ gathered (decisions_of (replayed world.now)) 5) }
+    ensures no_memory { IfErr result (λ fault. fault ≡ OutOfMemory) }
+{
+    for host in 0..HOSTS {
+        add_decisions_of(host, world.newest(host), scene)?;
+    }
+    Ok(())
+}
+
+/// The recovery of each of the host's servers up to this one is decided.
+fn add_decisions_of(host: u8, newest: u32, scene: &mut Vec<ScenarioEvent>) -> Result<(), Fault>
+    ensures ok { OnOk result (scene.new.items ≡ scene.old.items ++ gathered (decision_of host) newest) }
+    ensures no_memory { IfErr result (λ fault. fault ≡ OutOfMemory) }
+{
+    for before in 0..newest {
+        scene.push(ScenarioEvent::Decide(ServerId {
+            index: host,
+            generation: before + 1,
+        }))?;
+    }
+    Ok(())
+}
+
+/// The newest server of a host.
+fn newest_server(world: &World<Global>, host: u8) -> ServerId
+    ensures { result ≡ newest_server (replayed world.now) host }
+{
+    ServerId {
+        index: host,
+        generation: world.newest(host),
+    }
+}

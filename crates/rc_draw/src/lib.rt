@@ -1,0 +1,14 @@
+//! Drawn events: runs whose events come from a seed. After a beginning that is the same for all, three
+//! words of a generator choose each event. And power failure after each event of such a run.
+#![tactic(auto)]
+
+mod choosing;
+mod cutting;
+mod drawing;
+pub mod laws;
+mod playing;
+mod stopping;
+mod words;
+
+pub use drawing::{draw, drawn_run};
+pub use stopping::stops;

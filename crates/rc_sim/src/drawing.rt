@@ -1,0 +1,90 @@
+//! From a seed to bytes: drawn events are run and reported, or the power is cut after each of them.
+
+ghost use Rattle.std.specs.Prelude.{◌≡◌, ◌≢◌, ℕ, string_bytes, IfOk, IfErr, Err};
+ghost use Rattle.std.specs.Io.KnownBytes.{Keeps};
+ghost use Rattle.rc_sim.specs.declared.verdicts.SimFault.TheVariants.{Memory, Read as ReadFailed, Write as WriteFailed};
+ghost use Rattle.rc_sim.specs.Failures.{failed_writes};
+ghost use Rattle.rc_sim.specs.Verdicts.{Drawn, PowerCut};
+ghost use Rattle.rc_sim.specs.Written.{IsWritten, IsBegun};
+
+use crate::answers::{Answer, ended};
+use crate::counted::Counted;
+use crate::simulating::write_answer;
+use crate::verdicts::{Output, SimFault, Verdict};
+use rc_draw::drawn_run;
+use std::alloc::{AllocError, Global};
+use std::io::Write;
+
+/// Runs so many steps of events that are drawn from the seed, and writes the report.
+///
+/// After `Memory` nothing was written, after `Write(n)` the first n bytes of the report. `Write` comes only
+/// where the writer has failed in this very call.
+pub fn fuzz<W: Write>(
+    alloc: Global,
+    seed: u64,
+    steps: usize,
+    free: bool,
+    writer: &mut Counted<W>,
+) -> Result<Verdict, SimFault>
+    ensures ok { IfOk result (λ verdict.
+        IsWritten Drawn verdict (W.contents writer.old.inner) (W.contents writer.new.inner)) }
+    ensures cut_short { (count : ℕ) → result ≡ Err (WriteFailed count) →
+        IsBegun Drawn count (W.contents writer.old.inner) (W.contents writer.new.inner) }
+    ensures nothing_without_memory { result ≡ Err Memory → Keeps (W.contents writer.old.inner) (W.contents writer.new.inner) }
+    ensures writes { writer.new.failures ≡ failed_writes result writer.old.failures }
+    ensures unread { result ≢ Err ReadFailed }
+{
+    let answer = drawn_answer(alloc, seed, steps, free)?;
+    write_answer(writer, &answer)
+}
+
+/// The report of a drawing.
+fn drawn_answer(alloc: Global, seed: u64, steps: usize, free: bool) -> Result<Answer, SimFault>
+    ensures ok { IfOk result (λ answer. Drawn answer.verdict (string_bytes answer.text)) }
+    ensures fault { IfErr result (λ fault. fault ≡ Memory) }
+{
+    let run = drawn_run(alloc, seed, steps, free).map_err(|_| SimFault::Memory)?;
+    ended(alloc, run.world(), Output::Report)
+}
+
+/// Cuts the power after each event that is drawn from the seed, in three ways, and writes how often that
+/// was done and in how many of these a breach was found, which is none.
+///
+/// It fails as `fuzz` does.
+pub fn stops<W: Write>(
+    alloc: Global,
+    seed: u64,
+    steps: usize,
+    writer: &mut Counted<W>,
+) -> Result<Verdict, SimFault>
+    ensures ok { IfOk result (λ verdict.
+        IsWritten PowerCut verdict (W.contents writer.old.inner) (W.contents writer.new.inner)) }
+    ensures cut_short { (count : ℕ) → result ≡ Err (WriteFailed count) →
+        IsBegun PowerCut count (W.contents writer.old.inner) (W.contents writer.new.inner) }
+    ensures nothing_without_memory { result ≡ Err Memory → Keeps (W.contents writer.old.inner) (W.contents writer.new.inner) }
+    ensures writes { writer.new.failures ≡ failed_writes result writer.old.failures }
+    ensures unread { result ≢ Err ReadFailed }
+{
+    let answer = stops_answer(alloc, seed, steps)?;
+    write_answer(writer, &answer)
+}
+
+/// What is printed of power failures.
+fn stops_answer(alloc: Global, seed: u64, steps: usize) -> Result<Answer, SimFault>
+    ensures ok { IfOk result (λ answer. PowerCut answer.verdict (string_bytes answer.text)) }
+    ensures fault { IfErr result (λ fault. fault ≡ Memory) }
+{
+    let (cuts, breaches) = rc_draw::stops(alloc, seed, steps).map_err(|_| SimFault::Memory)?;
+    let text = cuts_text(alloc, cuts, breaches)?;
+    let verdict = if breaches == 0 {
+        Verdict::Clean
+    } else {
+        Verdict::Breach
+    };
+    Ok(Answer { verdict, text })
+}
+
+/// The two lines of numbers.
+fn cuts_text(alloc: Global, cuts: usize, breaches: usize) -> Result<String, AllocError> {
+    format!(in alloc; "cuts {cuts}\nbreaches {breaches}\n")
+}
