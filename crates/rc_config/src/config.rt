@@ -4,6 +4,7 @@ ghost use Rattle.std.specs.Prelude.{◌≡◌, ◌⊎◌, ◌≤◌, ◌<◌, Ok
 ghost use Rattle.std.specs.Option.{option_map};
 ghost use Rattle.rc_types.specs.declared.faults.Fault.TheVariants.{OutOfMemory, NoBackups, EpochsExhausted};
 
+use crate::ids::MemberIds;
 use crate::{choosing, members, replacing};
 use rc_serverlist::ServerList;
 use rc_types::limits::{LAST_EPOCH, MAX_FACTOR};
@@ -50,6 +51,7 @@ impl Model for Config {
 }
 
 impl Config {
+    ghost use Rattle.rc_model.specs.Master.{ids_of};
     ghost use Rattle.rc_model.specs.Config.{new_config, notes, noted, committed_at, all_placed, all_closed, durable_len, with_lost, any_lost, substitutes_for, changed, changes_to, refills_with, lose, refill};
 
     /// A segment's first members, under epoch 0, which is committed from the start.
@@ -76,6 +78,13 @@ impl Config {
         ensures { result.now ≡ self.now.members }
     {
         &self.slots[..self.count]
+    }
+
+    /// The ids of the members, in that order.
+    pub fn ids(&self) -> MemberIds
+        ensures { result ≡ ids_of self.now.members }
+    {
+        MemberIds::of(&self.slots[..self.count])
     }
 
     /// The present epoch.

@@ -4,6 +4,7 @@
 
 mod choosing;
 mod config;
+mod ids;
 mod members;
 mod replacing;
 #[cfg(test)]
@@ -11,3 +12,4 @@ mod tests;
 
 pub use choosing::choose;
 pub use config::{Config, MAX_MEMBERS};
+pub use ids::MemberIds;

@@ -129,6 +129,18 @@ fn choosing(rt: HostRuntime) -> Result<(), Fail> {
 }
 
 #[test]
+fn ids_of_members(rt: HostRuntime) -> Result<(), Fail> {
+    let config = Config::new(1, &[id(1), id(2)]);
+    let ids = config.ids().copy();
+    assert_eq!(rt;
+        (ids.has(id(1)), ids.has(id(2)), ids.has(id(3))),
+        (true, true, false)
+    );
+    assert!(rt; !MemberIds::none().has(id(0)));
+    Ok(())
+}
+
+#[test]
 fn members_tell(rt: HostRuntime) -> Result<(), Fail> {
     let mut config = Config::new(1, &[id(1), id(2)]);
     let nothing = [member(1, false, None), member(2, false, None), None];

@@ -58,8 +58,7 @@ pub fn draw(alloc: Global, seed: u64, steps: usize, free: bool) -> Result<Vec<Ev
 }
 
 /// The run before the first step.
-fn begun(alloc: Global, free: bool) -> Result<Run<Global>, Fault>
-{
+fn begun(alloc: Global, free: bool) -> Result<Run<Global>, Fault> {
     let mut run = Run::new(alloc, drawing_setup(alloc, free), alloc);
     let beginning = [
         fresh_start(alloc, 0),

@@ -44,7 +44,7 @@ with_state-same s x y digest entries j = record {
   entries = entries j;
   config = s.config;
   commit_sent = s.commit_sent;
-  close_sent = s.close_sent;
+  closes_sent = s.closes_sent;
   shut = s.shut;
   freed = s.freed;
 }

@@ -5,7 +5,7 @@ use Rattle.std.proofs.lemmas.Bool.{cond-true, and_parts, ltb-true, false≢true,
 use Rattle.std.proofs.lemmas.List.Elements.{All-filter}
 use Rattle.rc_types.specs.declared.kept.Phase.{Phase}
 use Rattle.rc_types.specs.declared.kept.Phase.TheVariants.{Opening, Closing, Writing}
-use Rattle.rc_model.specs.Segment.{Segment, no_segment, is_all_closed, is_ready}
+use Rattle.rc_model.specs.Segment.{Segment, no_segment, is_all_closed, is_ready, has_unclosed, with_closes_sent}
 use Rattle.rc_model.specs.Config.{all_placed}
 use Rattle.rc_model.specs.Tables.{put}
 use Rattle.rc_model.specs.Log.{Log, head_of, old_head_of, has_old_head, has_segment, with_segment, is_opening, is_closing, is_writing}
@@ -29,7 +29,7 @@ may_start-parts log e =
 
 pub close_is_due-parts : (log : Log) → close_is_due log ≡ true → 1 < log.head
 close_is_due-parts log e =
-    let due : Bool = (old_head_of log).config.committed && not (old_head_of log).close_sent in
+    let due : Bool = (old_head_of log).config.committed && has_unclosed (old_head_of log) in
     ltb-true 1 log.head (and_parts (has_old_head log) due (and_parts (is_closing log.phase) (has_old_head log && due) e).1).0
 
 -- where there is no old head, nothing is left out
@@ -62,9 +62,9 @@ sound-closed log passed entries sound e =
 -- The old head
 
 pub close-marked : (kept : LogData) (place : ℕ) (x was : Segment) → 1 < length kept.segments → place ≡ length kept.segments - 2 → was ≡ get_or kept.segments place was →
-    x ≡ record was { close_sent = true } → log_of (record kept { segments = set kept.segments place x }) ≡ close_marked (log_of kept)
+    x ≡ with_closes_sent was → log_of (record kept { segments = set kept.segments place x }) ≡ close_marked (log_of kept)
 close-marked kept place x was more is read e =
-    log_of-change kept place (length kept.segments - 1) (λ s. record s { close_sent = true }) x was (omega arith) (omega arith) read e
+    log_of-change kept place (length kept.segments - 1) with_closes_sent x was (omega arith) (omega arith) read e
 
 pub commit-marked : (kept : LogData) (seg from : ℕ) (x was : Segment) → true ≡ has_segment (log_of kept) seg → from ≡ seg → was ≡ get_or kept.segments (from - 1) was →
     x ≡ record was { commit_sent = true } →

@@ -12,7 +12,7 @@ state_of segment = record {
   len = length segment.entries;
   config = segment.config;
   commit_sent = segment.commit_sent;
-  close_sent = segment.close_sent;
+  closes_sent = segment.closes_sent;
   shut = segment.shut;
   freed = segment.freed;
 }
@@ -24,7 +24,7 @@ with_state state segment = record {
   entries = take state.len segment.entries;
   config = state.config;
   commit_sent = state.commit_sent;
-  close_sent = state.close_sent;
+  closes_sent = state.closes_sent;
   shut = state.shut;
   freed = state.freed;
 }

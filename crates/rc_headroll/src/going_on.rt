@@ -67,17 +67,17 @@ impl LogHead {
         self.phase = Phase::Closing;
     }
 
-    /// Whether a Close is to be sent to the old head's members: their epoch is committed, and none was
-    /// sent under it.
+    /// Whether a Close is to be sent to members of the old head: their epoch is committed, and to some of
+    /// them none was sent under it.
     pub fn close_is_due(&self) -> bool
         ensures { result ≡ close_is_due (log_of self.now) }
     {
         is_closing(self.phase)
             && (self.segments.len() > 1
-                && (self.previous().config().is_committed() && !self.previous().is_close_sent()))
+                && (self.previous().config().is_committed() && self.previous().has_unclosed()))
     }
 
-    /// Marks that a Close was sent to the old head's members.
+    /// Marks that a Close was sent to each of the old head's members.
     pub fn mark_close_sent(&mut self)
         requires { close_is_due (log_of self.old) ≡ true }
         ensures state { log_of self.new ≡ close_marked (log_of self.old) }

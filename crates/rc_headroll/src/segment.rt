@@ -5,7 +5,7 @@ ghost use Rattle.rc_types.specs.declared.faults.Fault.TheVariants.{OutOfMemory};
 ghost use Rattle.rc_model.specs.Config.{notes, noted, committed_at};
 
 use crate::state::SegmentState;
-use rc_config::{Config, MAX_MEMBERS};
+use rc_config::{Config, MAX_MEMBERS, MemberIds};
 use rc_serverlist::ServerList;
 use rc_types::{Entry, Fault, Member, ServerId};
 use std::alloc::{AllocError, Global};
@@ -19,7 +19,7 @@ pub struct Segment {
     entries: Vec<(Entry, bool)>,
     config: Config,
     commit_sent: bool,
-    close_sent: bool,
+    closes_sent: MemberIds,
     shut: bool,
     freed: bool,
 }
@@ -34,14 +34,14 @@ impl Model for Segment {
       entries = s.entries.items;
       config = s.config;
       commit_sent = s.commit_sent;
-      close_sent = s.close_sent;
+      closes_sent = s.closes_sent;
       shut = s.shut;
       freed = s.freed;
     } };
 }
 
 impl Segment {
-    ghost use Rattle.rc_model.specs.Segment.{new_segment, with_entry, is_ready, is_all_closed, durable_in};
+    ghost use Rattle.rc_model.specs.Segment.{new_segment, with_entry, is_unclosed, has_unclosed, with_closes_sent, is_ready, is_all_closed, durable_in};
     ghost use Rattle.rc_model.specs.FollowUps.{wants_commit};
     ghost use Rattle.rc_model.specs.MasterTick.{awaits_commit};
     ghost use Rattle.rc_headroll.specs.Losing.{segment_loses};
@@ -58,7 +58,7 @@ impl Segment {
             entries: Vec::new(alloc),
             config: Config::new(seg, ids),
             commit_sent: false,
-            close_sent: false,
+            closes_sent: MemberIds::none(),
             shut: false,
             freed: false,
         }
@@ -106,11 +106,21 @@ impl Segment {
         self.commit_sent
     }
 
-    /// Whether a Close was sent under the present epoch.
-    pub fn is_close_sent(&self) -> bool
-        ensures { result ≡ self.now.close_sent }
+    /// Whether no Close was sent to this member under the present epoch.
+    pub fn is_unclosed(&self, member: &Member) -> bool
+        ensures { result ≡ is_unclosed self.now member.now }
     {
-        self.close_sent
+        !self.closes_sent.has(member.id)
+    }
+
+    /// Whether to some member no Close was sent under the present epoch.
+    pub fn has_unclosed(&self) -> bool
+        ensures { result ≡ has_unclosed self.now }
+    {
+        self.config
+            .members()
+            .iter()
+            .any(|member| self.is_unclosed(member))
     }
 
     /// Whether the segment was, at one moment, closed on all members of a committed epoch.
@@ -204,11 +214,11 @@ impl Segment {
         self.commit_sent = true;
     }
 
-    /// Marks that a Close was sent.
+    /// Marks that a Close was sent to each member.
     pub(crate) fn mark_close_sent(&mut self)
-        ensures { self.new ≡ record self.old { close_sent = true } }
+        ensures { self.new ≡ with_closes_sent self.old }
     {
-        self.close_sent = true;
+        self.closes_sent = self.config.ids();
     }
 
     /// Marks the segment shut.
@@ -233,7 +243,7 @@ impl Segment {
             len: self.entries.len(),
             config: self.config.copy(),
             commit_sent: self.commit_sent,
-            close_sent: self.close_sent,
+            closes_sent: self.closes_sent.copy(),
             shut: self.shut,
             freed: self.freed,
         }
@@ -246,7 +256,7 @@ impl Segment {
         self.entries.truncate(state.len);
         self.config = state.config.copy();
         self.commit_sent = state.commit_sent;
-        self.close_sent = state.close_sent;
+        self.closes_sent = state.closes_sent.copy();
         self.shut = state.shut;
         self.freed = state.freed;
     }
@@ -271,7 +281,7 @@ impl Segment {
                 let ids = ids_of(alloc, config.members())?;
                 self.config = config;
                 self.commit_sent = false;
-                self.close_sent = false;
+                self.closes_sent = MemberIds::none();
                 Ok(ids)
             }
             Ok(false) => {

@@ -1,6 +1,6 @@
 //! What a step can change of a segment.
 
-use rc_config::Config;
+use rc_config::{Config, MemberIds};
 
 /// What a step can change of a segment, kept so that the change can be undone.
 #[derive(Debug, Drop)]
@@ -11,8 +11,8 @@ pub struct SegmentState {
     pub(crate) config: Config,
     /// Whether a Commit was sent under that epoch.
     pub(crate) commit_sent: bool,
-    /// Whether a Close was sent under that epoch.
-    pub(crate) close_sent: bool,
+    /// The members to which a Close was sent under that epoch.
+    pub(crate) closes_sent: MemberIds,
     /// Whether the segment was shut.
     pub(crate) shut: bool,
     /// Whether it was freed.

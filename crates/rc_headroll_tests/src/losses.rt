@@ -2,8 +2,8 @@
 
 use crate::rolls::empty;
 use crate::steps::{
-    Tells, begin_roll, close_old, commit, epoch, id, lose, open_first, servers, start, tell, write,
-    write_on,
+    Tells, begin_roll, close_old, commit, epoch, id, lose, open_first, send_closes, servers, start,
+    tell, write, write_on,
 };
 use rc_headroll::LogHead;
 use std::alloc::Global;
@@ -89,5 +89,21 @@ fn losses_while_closing(rt: HostRuntime) -> Result<(), Fail> {
     commit(&rt, &mut log, 1, 2)?;
     assert_eq!(&rt; write_on(&rt, alloc, &mut log)?, 0);
     assert_eq!(&rt; epoch(&log, 1), (2, true));
+    Ok(())
+}
+
+#[test]
+fn a_new_member_of_the_shut_old_head(rt: HostRuntime) -> Result<(), Fail> {
+    let alloc = rt.alloc();
+    let mut log = closing(&rt, alloc)?;
+    send_closes(&rt, &mut log);
+    tell(&rt, &mut log, closed(1, 0))?;
+    tell(&rt, &mut log, closed(2, 0))?;
+    log.mark_shut();
+    let list = servers(&rt, alloc, &[(1, true), (2, false), (3, true)])?;
+    let members = lose(&rt, alloc, &mut log, 1, &list)?;
+    assert_eq!(&rt; members.as_slice(), [id(3)].as_slice());
+    assert_eq!(&rt; epoch(&log, 1), (0, true));
+    send_closes(&rt, &mut log);
     Ok(())
 }

@@ -175,6 +175,13 @@ pub fn close_old(rt: &impl Abort, log: &mut LogHead) {
     log.close_old();
 }
 
+/// Close is sent to members of the old head, and then to none again.
+pub fn send_closes(rt: &impl Abort, log: &mut LogHead) {
+    assert!(rt; log.close_is_due());
+    log.mark_close_sent();
+    assert!(rt; !log.close_is_due());
+}
+
 /// The new head writes; answers how many segments are freed.
 pub fn write_on(
     rt: &(impl Abort + Print),

@@ -157,7 +157,8 @@ pub record PlanIs (sent : List Message) (masters : ServerId → Master) (c : Coo
   -- each row of the plan is a valid copy
   pub each : (one : PlanRow) → In one rows → (y : ServerId) × (copy : Row) × (one ≡ record { seg = copy.seg; holder = y; len = copy.len })
       × (is_valid (c.least m) copy ≡ true) × IsCopy sent m (masters m).log y.index y.generation copy.seg copy.epoch copy.closed copy.len copy.digest
-  -- and each segment of the head's digest has one
+  -- of a segment of the head's digest, and each of those has one
+  pub within : (one : PlanRow) → In one rows → In one.seg row.digest
   pub all : (s : ℕ) → In s row.digest → (one : PlanRow) × (In one rows) × (one.seg ≡ s)
 
 -- attempts of one number are one
@@ -180,7 +181,14 @@ answered-copy sent masters hosts c good m number attempt numbered of_m held answ
     subst (λ n. IsCopy sent n (masters n).log held.holder.index held.holder.generation held.row.seg held.row.epoch held.row.closed held.row.len held.row.digest) master
     (answer.rows_are held.row answered.row)
 
--- the plan of a message
+-- the plan of a message was picked from the answers of its attempt
+pub plan-picked : (sent : List Message) (masters : ServerId → Master) (hosts : ℕ → HostNode) (c : Coordinator) → Good sent masters hosts c →
+    (number : ℕ) (m : ServerId) (head : ℕ) (rows : List PlanRow) → (plan : IsPlan c number m head rows) → IsPicked (c.least m) plan.attempt.replies plan.decision.plan
+plan-picked sent masters hosts c good number m head rows plan =
+    subst (λ least. IsPicked least plan.attempt.replies plan.decision.plan) (ap c.least plan.master_is)
+    (picked-is (c.least plan.attempt.master) plan.attempt.replies plan.decision.plan
+    ((good.coordinator.attempts number plan.attempt plan.numbered).picked plan.decision plan.decided))
+
 pub plan-is : (sent : List Message) (masters : ServerId → Master) (hosts : ℕ → HostNode) (c : Coordinator) → Good sent masters hosts c →
     (number : ℕ) (m : ServerId) (head : ℕ) (rows : List PlanRow) → IsPlan c number m head rows → PlanIs sent masters c m rows
 plan-is sent masters hosts c good number m head rows plan = record {
@@ -190,19 +198,15 @@ plan-is sent masters hosts c good number m head rows plan = record {
   unclosed = picked.is_head.unclosed;
   valid = picked.is_head.valid;
   each = λ one at. each one (picked.each one (subst (λ (rs : List PlanRow). In one rs) (sym rows_are) at));
+  within = λ one at. picked.within one (subst (λ (rs : List PlanRow). In one rs) (sym rows_are) at);
   all = λ s at. all s (picked.all s at);
 }
   where
     rows_are : plan.decision.plan.rows ≡ rows
     rows_are = ap (λ (one : Plan). one.rows) plan.plan_is
 
-    least_is : c.least plan.attempt.master ≡ c.least m
-    least_is = ap c.least plan.master_is
-
     picked : IsPicked (c.least m) plan.attempt.replies plan.decision.plan
-    picked = subst (λ least. IsPicked least plan.attempt.replies plan.decision.plan) least_is
-        (picked-is (c.least plan.attempt.master) plan.attempt.replies plan.decision.plan
-        ((good.coordinator.attempts number plan.attempt plan.numbered).picked plan.decision plan.decided))
+    picked = plan-picked sent masters hosts c good number m head rows plan
 
     copy : (held : HeldRow) → IsAnswered plan.attempt.replies held →
         IsCopy sent m (masters m).log held.holder.index held.holder.generation held.row.seg held.row.epoch held.row.closed held.row.len held.row.digest
@@ -215,6 +219,13 @@ plan-is sent masters hosts c good number m head rows plan = record {
 
     all : (s : ℕ) → ((one : PlanRow) × (In one plan.decision.plan.rows) × (one.seg ≡ s)) → (one : PlanRow) × (In one rows) × (one.seg ≡ s)
     all s found = (found.0, subst (λ (rs : List PlanRow). In found.0 rs) rows_are found.1, found.2)
+
+-- and the plan's head is the segment of its head row
+pub plan-head : (sent : List Message) (masters : ServerId → Master) (hosts : ℕ → HostNode) (c : Coordinator) → (good : Good sent masters hosts c) →
+    (number : ℕ) (m : ServerId) (head : ℕ) (rows : List PlanRow) → (plan : IsPlan c number m head rows) → (plan-is sent masters hosts c good number m head rows plan).row.seg ≡ head
+unfolding plan-is
+plan-head sent masters hosts c good number m head rows plan =
+    sym (plan-picked sent masters hosts c good number m head rows plan).head_is ∙ ap (λ (one : Plan). one.head) plan.plan_is
 
 -- a durable place of a segment of the head's digest is held
 pub held-in : (sent : List Message) (masters : ServerId → Master) (hosts : ℕ → HostNode) (c : Coordinator) → Good sent masters hosts c →

@@ -106,16 +106,21 @@ taken_row-is min replies head is_head seg held e =
         subst (λ (h : HeldRow). IsTaken min replies (plan_row h) × (h.row.seg ≡ seg)) one
         (record { held = head; answered = is_head.answered; valid = is_head.valid; row_is = refl }, sym same)
 
--- the rows that are taken: each is of an answer, and each segment has one
+-- the rows that are taken: each is of an answer and of one of the segments, and each segment has one
 pub record AreAllTaken (min : Pair) (replies : List (ServerId × List Row)) (segs : List ℕ) (rows : List PlanRow) : Type 0 where
   pub each : (row : PlanRow) → In row rows → IsTaken min replies row
+  pub within : (row : PlanRow) → In row rows → In row.seg segs
   pub all : (seg : ℕ) → In seg segs → (row : PlanRow) × (In row rows) × (row.seg ≡ seg)
 
 taken_rows-are : (min : Pair) (replies : List (ServerId × List Row)) (head : HeldRow) → IsHead min replies head → (segs : List ℕ) (rows : List PlanRow) →
     taken_rows min replies head segs ≡ Ok rows → AreAllTaken min replies segs rows
 taken_rows-are min replies head is_head [] rows e =
     let none : [] ≡ rows = cc in
-    record { each = λ row at. absurd (subst (λ (rs : List PlanRow). In row rs) (sym none) at); all = λ seg at. absurd at }
+    record {
+      each = λ row at. absurd (subst (λ (rs : List PlanRow). In row rs) (sym none) at);
+      within = λ row at. absurd (subst (λ (rs : List PlanRow). In row rs) (sym none) at);
+      all = λ seg at. absurd at;
+    }
 taken_rows-are min replies head is_head (seg ∷ segs) rows e =
     by (taken_row min replies head seg) (taken_rows min replies head segs) refl (taken_rows-are min replies head is_head segs) e
   where
@@ -123,7 +128,7 @@ taken_rows-are min replies head is_head (seg ∷ segs) rows e =
         AreAllTaken min replies (seg ∷ segs) (plan_row held ∷ others)
     done held here others rest =
         let one : IsTaken min replies (plan_row held) × (held.row.seg ≡ seg) = taken_row-is min replies head is_head seg held here in
-        record { each = each; all = all }
+        record { each = each; within = within; all = all }
       where
         one : IsTaken min replies (plan_row held) × (held.row.seg ≡ seg)
         one = taken_row-is min replies head is_head seg held here
@@ -131,6 +136,10 @@ taken_rows-are min replies head is_head (seg ∷ segs) rows e =
         each : (row : PlanRow) → In row (plan_row held ∷ others) → IsTaken min replies row
         each row (inl same) = subst (IsTaken min replies) (sym same) one.0
         each row (inr at) = rest.each row at
+
+        within : (row : PlanRow) → In row (plan_row held ∷ others) → In row.seg (seg ∷ segs)
+        within row (inl same) = inl (ap (λ (r : PlanRow). r.seg) same ∙ one.1)
+        within row (inr at) = inr (rest.within row at)
 
         all : (t : ℕ) → In t (seg ∷ segs) → (row : PlanRow) × (In row (plan_row held ∷ others)) × (row.seg ≡ t)
         all t (inl same) = (plan_row held, inl refl, one.1 ∙ sym same)
@@ -168,11 +177,37 @@ ascending-in [] t at = absurd at
 ascending-in (n ∷ ns) t (inl e) = insert_once-in n (ascending ns) t (inl e)
 ascending-in (n ∷ ns) t (inr p) = insert_once-in n (ascending ns) t (inr (ascending-in ns t p))
 
+-- and adds none
+of-insert_once : (n : ℕ) (ns : List ℕ) (t : ℕ) → In t (insert_once n ns) → (t ≡ n) ⊎ In t ns
+of-insert_once n [] t at = at
+of-insert_once n (m ∷ ms) t at =
+    either (λ now. In t now → (t ≡ n) ⊎ ((t ≡ m) ⊎ In t ms)) (nat_lt n m) (n ∷ m ∷ ms) (cond (nat_eq n m) (m ∷ ms) (m ∷ insert_once n ms)) (λ _ there. there)
+    (λ _. either (λ now. In t now → (t ≡ n) ⊎ ((t ≡ m) ⊎ In t ms)) (nat_eq n m) (m ∷ ms) (m ∷ insert_once n ms) (λ _ there. inr there)
+    (λ _ there. by (of-insert_once n ms t) there)) at
+  where
+    further : (t ≡ n) ⊎ In t ms → (t ≡ n) ⊎ ((t ≡ m) ⊎ In t ms)
+    further (inl e) = inl e
+    further (inr p) = inr (inr p)
+
+    by : (In t (insert_once n ms) → (t ≡ n) ⊎ In t ms) → (t ≡ m) ⊎ In t (insert_once n ms) → (t ≡ n) ⊎ ((t ≡ m) ⊎ In t ms)
+    by rec (inl e) = inr (inl e)
+    by rec (inr p) = further (rec p)
+
+of-ascending : (ns : List ℕ) (t : ℕ) → In t (ascending ns) → In t ns
+of-ascending [] t at = at
+of-ascending (n ∷ ns) t at = by (of-ascending ns t) (of-insert_once n (ascending ns) t at)
+  where
+    by : (In t (ascending ns) → In t ns) → (t ≡ n) ⊎ In t (ascending ns) → (t ≡ n) ⊎ In t ns
+    by rec (inl e) = inl e
+    by rec (inr p) = inr (rec p)
+
 -- A picked plan
 pub record IsPicked (min : Pair) (replies : List (ServerId × List Row)) (plan : Plan) : Type 0 where
   pub head : HeldRow
+  pub head_is : plan.head ≡ head.row.seg
   pub is_head : IsHead min replies head
   pub each : (row : PlanRow) → In row plan.rows → IsTaken min replies row
+  pub within : (row : PlanRow) → In row plan.rows → In row.seg head.row.digest
   pub all : (seg : ℕ) → In seg head.row.digest → (row : PlanRow) × (In row plan.rows) × (row.seg ≡ seg)
 
 pub picked-is : (min : Pair) (replies : List (ServerId × List Row)) (plan : Plan) → pick min replies ≡ Ok plan → IsPicked min replies plan
@@ -185,7 +220,14 @@ picked-is min replies plan e = by (head_row min replies) refl e
         let rows_are : rows ≡ plan.rows = ap (λ (one : Plan). one.rows) same in
         let are : AreAllTaken min replies (ascending head.row.digest) rows = taken_rows-are min replies head (head-is min replies head here) (ascending head.row.digest) rows taken in
         let are_now : AreAllTaken min replies (ascending head.row.digest) plan.rows = subst (AreAllTaken min replies (ascending head.row.digest)) rows_are are in
-        record { head = head; is_head = head-is min replies head here; each = are_now.each; all = λ seg at. are_now.all seg (ascending-in head.row.digest seg at) }
+        record {
+          head = head;
+          head_is = sym (ap (λ (one : Plan). one.head) same);
+          is_head = head-is min replies head here;
+          each = are_now.each;
+          within = λ row at. of-ascending head.row.digest row.seg (are_now.within row at);
+          all = λ seg at. are_now.all seg (ascending-in head.row.digest seg at);
+        }
     with_rows head here (Err fault) taken it = cc
 
     by : (found : Option HeldRow) → head_row min replies ≡ found → pick_by min replies found ≡ Ok plan → IsPicked min replies plan

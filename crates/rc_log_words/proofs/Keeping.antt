@@ -17,7 +17,7 @@ use Rattle.rc_types.specs.declared.limits.TheConstants.{LAST_SEGMENT}
 use Rattle.rc_model.specs.ServerList.{ServerList, from_rows, newer_than, is_up}
 use Rattle.rc_model.specs.Messages.{to_coordinator}
 use Rattle.rc_model.specs.Config.{Config, choose, lose, refill, noted, committed_at}
-use Rattle.rc_model.specs.Segment.{Segment, new_segment, with_entry, under_new_epoch}
+use Rattle.rc_model.specs.Segment.{Segment, new_segment, with_entry, under_new_epoch, with_closes_sent}
 use Rattle.rc_model.specs.Log.{Log, head_of, old_head_of, with_segment, has_segment, numbers_to, is_writing, durable_now}
 use Rattle.rc_model.specs.Heads.{opens_head, opened_first, open_first, is_full, next_digest, rolled, begin_roll, with_config, opens_change, refills, loses, shuts, may_start, may_close, may_write, left_out, with_freed}
 use Rattle.rc_model.specs.Ownership.{knows_term, term_of, after_replay, to_answer}
@@ -142,7 +142,7 @@ keeps-rules : (master : Master) → Keeps master → AllDone KeepsAfter (follow_
 keeps-rules master k =
     done-or KeepsAfter _ _ (done-when KeepsAfter (may_start master.log) (_, _) (λ _. record { free = k.free; whole = k.whole }))
     (done-or KeepsAfter _ _ (done-when KeepsAfter (may_close master.log) (_, _) (λ _. record { free = k.free; whole = k.whole }))
-    (done-or KeepsAfter _ _ (done-when KeepsAfter (close_is_due master.log) (_, _) (λ _. keeps-put master (master.log.head - 1) (record (old_head_of master.log) { close_sent = true }) refl k))
+    (done-or KeepsAfter _ _ (done-when KeepsAfter (close_is_due master.log) (_, _) (λ _. keeps-put master (master.log.head - 1) (with_closes_sent (old_head_of master.log)) refl k))
     (done-or KeepsAfter _ _ (done-when KeepsAfter (may_write master.log) (_, _) (λ _. record { free = k.free; whole = whole-freed (left_out master.log) _ k.whole }))
     (done-or KeepsAfter _ _ (keeps-change master (first_open master.log) k)
     (done-or KeepsAfter _ _ (done-when KeepsAfter (nat_lt master.log.durable (durable_now master.log)) (_, _) (λ _. record { free = k.free; whole = k.whole }))

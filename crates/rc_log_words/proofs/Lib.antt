@@ -7,3 +7,4 @@ pub mod Staying
 pub mod Keeping
 pub mod KeptWorlds
 pub mod Crashing
+mod LeastPairs

@@ -10,6 +10,7 @@ use Rattle.rc_model.specs.Messages.{from_coordinator}
 use Rattle.rc_model.specs.Coordinator.{Coordinator}
 use Rattle.rc_model.specs.Nodes.{Work, coordinator_step}
 use Rattle.rc_model.specs.World.{replay}
+use Rattle.rc_model.specs.Recovered.{least_pair}
 use Rattle.rc_model.specs.Headline.{In}
 use Rattle.rc_log_words.specs.Claims.{sent_after}
 
@@ -42,3 +43,8 @@ abbrev pub CrashedAreGrantedNoMore : Type 0
 CrashedAreGrantedNoMore = (setup : Setup) (events more : List Event) (m : ServerId) (s e : ℕ) →
     has_crashed (servers_after setup events) m ≡ true → IsGrantedTo (sent_after setup (events ++ more)) m s e →
     IsGrantedTo (sent_after setup events) m s e
+
+-- the least pair that the coordinator keeps of a master is the greatest pair of the CommitOks that were sent to it
+abbrev pub LeastIsTheGreatestCommit : Type 0
+LeastIsTheGreatestCommit = (setup : Setup) (events : List Event) (m : ServerId) →
+    (replay setup events).coordinator.least m ≡ least_pair (sent_after setup events) m

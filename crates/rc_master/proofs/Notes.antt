@@ -13,7 +13,7 @@ use Rattle.rc_types.specs.declared.limits.TheConstants.{LAST_SEGMENT}
 use Rattle.rc_model.specs.Tables.{put}
 use Rattle.rc_model.specs.ServerList.{ServerList}
 use Rattle.rc_model.specs.Config.{Config, choose, noted, committed_at, lose, refill}
-use Rattle.rc_model.specs.Segment.{Segment, no_segment, new_segment, is_ready}
+use Rattle.rc_model.specs.Segment.{Segment, no_segment, new_segment, is_ready, with_closes_sent}
 use Rattle.rc_model.specs.Log.{Log, LogPlace, head_of, old_head_of, has_old_head, has_segment, with_segment, places_in, places_to, places_of, entries_of, numbers_to, durable_now, is_closing, is_writing}
 use Rattle.rc_model.specs.Heads.{is_full, append_fault, opens_head, opened_first, open_first, appends, next_digest, rolled, begin_roll, with_config, stored, commit_noted, opens_change, refills, loses, shuts, with_shut, may_start, may_write, left_out, starts, closes_old, writes_on}
 use Rattle.rc_model.specs.FollowUps.{close_marked}
@@ -77,7 +77,7 @@ pub same-closes : (log : Log) → SamePlaces log (closes_old log)
 same-closes log = record { places = refl; durable = refl; opened = λ _ writing. true_false (sym writing); factor = refl }
 
 pub same-close_marked : (log : Log) → SamePlaces log (close_marked log)
-same-close_marked log = same-put log (log.head - 1) (record (old_head_of log) { close_sent = true }) refl
+same-close_marked log = same-put log (log.head - 1) (with_closes_sent (old_head_of log)) refl
 
 pub same-commit_sent : (log : Log) (seg : ℕ) → SamePlaces log (with_segment seg (record (log.segments seg) { commit_sent = true }) log)
 same-commit_sent log seg = same-put log seg (record (log.segments seg) { commit_sent = true }) refl
@@ -158,7 +158,7 @@ same-refills : (seg : ℕ) (log : Log) (done : Config × Result (List ServerId) 
 same-refills seg log (config, answer) = (same-put log seg (record (log.segments seg) { config = config }) refl, refl)
 
 same-change : (seg : ℕ) (log : Log) (done : Config × Result Bool Fault) → SameHead log (opens_change seg log done).0
-same-change seg log (config, Ok true) = (same-put log seg (record (log.segments seg) { config = config; commit_sent = false; close_sent = false }) refl, refl)
+same-change seg log (config, Ok true) = (same-put log seg (record (log.segments seg) { config = config; commit_sent = false; closes_sent = [] }) refl, refl)
 same-change seg log (config, Ok false) = (same-put log seg (record (log.segments seg) { config = config }) refl, refl)
 same-change seg log (config, Err fault) = (same-put log seg (record (log.segments seg) { config = config }) refl, refl)
 

@@ -1,5 +1,5 @@
 -- The rules that follow up an input, one by one, and then until none applies.
-use Rattle.std.proofs.Common.{◌≡◌, ◌⊎◌, ℕ, zero, suc, ◌+◌, ◌-◌, ◌<◌, Bool, true, false, not, nat_eq, nat_lt, ◌&&◌, List, [], ◌∷◌, ◌++◌, length, take, map, slice_get, Option, Some, None, refl, sym, ap, ◌∙◌, subst, inl, inr, arith}
+use Rattle.std.proofs.Common.{◌≡◌, ◌⊎◌, ℕ, zero, suc, ◌+◌, ◌-◌, ◌<◌, Bool, true, false, not, nat_eq, nat_lt, ◌&&◌, List, [], ◌∷◌, ◌++◌, length, take, map, filter, slice_get, Option, Some, None, refl, sym, ap, ◌∙◌, subst, inl, inr, arith}
 use Rattle.std.proofs.lemmas.Bool.{and_parts, eqb-true, ltb-true}
 use Rattle.std.specs.List.{list_any}
 use Rattle.std.proofs.lemmas.List.{length-map}
@@ -14,7 +14,7 @@ use Rattle.rc_types.specs.declared.messages.Body.{Body}
 use Rattle.rc_types.specs.declared.messages.Body.TheVariants.{Place, WriteOk, Close, Commit, Free, Ready, Recovered}
 use Rattle.rc_model.specs.Messages.{between, to_coordinator, to_outside}
 use Rattle.rc_model.specs.Config.{told_closed, is_closed, all_placed, all_closed}
-use Rattle.rc_model.specs.Segment.{Segment, is_ready, is_all_closed}
+use Rattle.rc_model.specs.Segment.{Segment, is_ready, is_all_closed, is_unclosed, has_unclosed, with_closes_sent}
 use Rattle.rc_model.specs.Log.{Log, LogPlace, places_of, head_of, old_head_of, has_old_head, with_segment, numbers_to, is_opening, is_closing, is_writing, durable_now}
 use Rattle.rc_model.specs.Heads.{is_full, begin_roll, shuts, may_start, may_close, may_write, left_out, with_freed, starts, closes_old, writes_on}
 use Rattle.rc_model.specs.Ownership.{after_replay, to_answer, after_answer}
@@ -148,29 +148,32 @@ does-closing : (sent : List Message) (m : ServerId) (master : Master) → GoodVi
 does-closing sent m master view = does-when sent m master (close_is_due log)
     (with_log master (close_marked log), messages)
     (λ e. (
-    let second = and_parts (is_closing log.phase) (has_old_head log && ((old_head_of log).config.committed && not (old_head_of log).close_sent)) e in
-    let over = old_head-opened log (and_parts (has_old_head log) ((old_head_of log).config.committed && not (old_head_of log).close_sent) second.1).0 in
+    let second = and_parts (is_closing log.phase) (has_old_head log && ((old_head_of log).config.committed && has_unclosed (old_head_of log))) e in
+    let over = old_head-opened log (and_parts (has_old_head log) ((old_head_of log).config.committed && has_unclosed (old_head_of log)) second.1).0 in
     record {
-      log = marked-moved sent m log (log.head - 1) (record (old_head_of log) { close_sent = true }) messages view.log view.fine
+      log = marked-moved sent m log (log.head - 1) (with_closes_sent (old_head_of log)) messages view.log view.fine
           (record { above = over.0; below = omega arith }) (record { entries = refl; digest = refl; shut = refl; config = refl })
-          (each-to_ids (MasterSays sent (sent ++ messages) m log (close_marked log)) log.own (ids_of (old_head_of log).config.members) (Close (log.head - 1) (length (old_head_of log).entries)) (λ x at. record {
+          (each-to_ids (MasterSays sent (sent ++ messages) m log (close_marked log)) log.own ids (Close (log.head - 1) (length (old_head_of log).entries)) (λ x at. record {
             from = ap Server view.log.own;
             says = record {
               above = over.0;
               final = over.1;
               whole = sym (length-map (old_head_of log).entries (λ (one : Entry × Bool). one.0))
-                  ∙ sym (ap (λ (segment : Segment). length (map (λ (one : Entry × Bool). one.0) segment.entries)) (put_same log.segments (log.head - 1) (record (old_head_of log) { close_sent = true })));
+                  ∙ sym (ap (λ (segment : Segment). length (map (λ (one : Entry × Bool). one.0) segment.entries)) (put_same log.segments (log.head - 1) (with_closes_sent (old_head_of log))));
             };
           }))
-          (λ x t f digest entries at. close-no_place m log.own (ids_of (old_head_of log).config.members) x t f (log.head - 1) (length (old_head_of log).entries) digest entries false at);
+          (λ x t f digest entries at. close-no_place m log.own ids x t f (log.head - 1) (length (old_head_of log).entries) digest entries false at);
       known = view.known;
     }))
   where
     log : Log
     log = master.log
 
+    ids : List ServerId
+    ids = ids_of (filter (is_unclosed (old_head_of log)) (old_head_of log).config.members)
+
     messages : List Message
-    messages = to_ids log.own (ids_of (old_head_of log).config.members) (Close (log.head - 1) (length (old_head_of log).entries))
+    messages = to_ids log.own ids (Close (log.head - 1) (length (old_head_of log).entries))
 
 -- Writing in the new head
 

@@ -19,7 +19,7 @@ use Rattle.rc_model.specs.Ownership.{PartState}
 use Rattle.rc_model.specs.Master.{Master, Task, ids_of, place_of}
 use Rattle.rc_model.specs.ListRules.{then_does, obeys_list}
 use Rattle.rc_model.specs.FollowUps.{attempt_of}
-use Rattle.rc_model.specs.MasterTick.{stood, to_remind, is_closing_old, lacking, reminds_member, reminds_members, reminds_open, reminds_shut_members, reminds_shut, awaits_commit, commits_again, has_not_come, fetch_of, fetches_again, awaits_grant, recovered_again, ready_again, reminds, ticks}
+use Rattle.rc_model.specs.MasterTick.{stood, standing, to_remind, is_closing_old, lacking, reminds_member, reminds_members, reminds_open, reminds_shut_members, reminds_shut, awaits_commit, commits_again, has_not_come, fetch_of, fetches_again, awaits_grant, recovered_again, ready_again, reminds, ticks}
 use Rattle.rc_model.specs.Headline.{In}
 use Rattle.rc_model.proofs.Members.{either, In-append}
 use Rattle.rc_facts.specs.Words.{Stands, IsOpened, IsMember}
@@ -188,9 +188,9 @@ again-shut_members sent sent_now m log s members good opened shut message at =
 again-shut : (sent sent_now : List Message) (m : ServerId) (before log : Log) (segs : List ℕ) → GoodLog sent m log → ((s : ℕ) → In s segs → IsOpened log s) → AllAgain sent sent_now m log (reminds_shut before log segs)
 again-shut sent sent_now m before log [] good opened message at = absurd at
 again-shut sent sent_now m before log (s ∷ segs) good opened message at =
-    again-both sent sent_now m log (cond ((log.segments s).shut && not (log.segments s).freed) (reminds_shut_members log s (to_remind before log s)) []) (reminds_shut before log segs)
-    (either (AllAgain sent sent_now m log) ((log.segments s).shut && not (log.segments s).freed) (reminds_shut_members log s (to_remind before log s)) []
-    (λ e. again-shut_members sent sent_now m log s (to_remind before log s) good (opened s (inl refl)) (and_parts (log.segments s).shut (not (log.segments s).freed) e).0)
+    again-both sent sent_now m log (cond ((log.segments s).shut && not (log.segments s).freed) (reminds_shut_members log s (standing before log s)) []) (reminds_shut before log segs)
+    (either (AllAgain sent sent_now m log) ((log.segments s).shut && not (log.segments s).freed) (reminds_shut_members log s (standing before log s)) []
+    (λ e. again-shut_members sent sent_now m log s (standing before log s) good (opened s (inl refl)) (and_parts (log.segments s).shut (not (log.segments s).freed) e).0)
     (λ _ one none. absurd none))
     (again-shut sent sent_now m before log segs good (λ t there. opened t (inr there))) message at
 

@@ -3,6 +3,7 @@ use Rattle.std.proofs.Common.{◌≡◌, ℕ, zero, suc, ◌+◌, ◌-◌, ◌<�
 use Rattle.std.proofs.lemmas.Bool.{ltb-true}
 use Rattle.std.proofs.lemmas.List.{append_assoc, append-nil, map-append, length_push}
 use Rattle.rc_types.specs.declared.ids.ServerId.{ServerId}
+use Rattle.rc_types.specs.declared.events.Event.{Event}
 use Rattle.rc_types.specs.declared.ids.Addr.{Addr}
 use Rattle.rc_types.specs.declared.entries.Entry.{Entry}
 use Rattle.rc_types.specs.declared.faults.Fault.{Fault}
@@ -12,7 +13,7 @@ use Rattle.rc_types.specs.declared.messages.Message.{Message}
 use Rattle.rc_types.specs.declared.messages.Body.{Body}
 use Rattle.rc_model.specs.ServerList.{ServerList}
 use Rattle.rc_model.specs.Config.{choose}
-use Rattle.rc_model.specs.Segment.{Segment, new_segment, with_entry, durable_in}
+use Rattle.rc_model.specs.Segment.{Segment, new_segment, with_entry, durable_in, with_closes_sent}
 use Rattle.rc_model.specs.Log.{Log, head_of, old_head_of, with_segment, numbers_to, is_writing, durable_among, durable_now}
 use Rattle.rc_model.specs.Heads.{opens_head, next_digest, rolled, begin_roll, is_full, appends, shuts, with_shut, may_start, may_close, may_write, left_out, with_freed, starts, closes_old, writes_on}
 use Rattle.rc_model.specs.Ownership.{after_replay, to_answer}
@@ -21,13 +22,13 @@ use Rattle.rc_model.specs.ListRules.{then_does}
 use Rattle.rc_model.specs.FollowUps.{when, follows_start, follows_placed, close_is_due, close_marked, follows_closing, follows_shut, first_open, wants_commit, commits, commits_open, follows_change, follows_stored, rolls_for_replay, replays, follows_data, answers_part, follows_replay, or_rule, follow_up, marks_shut, further, followed, measure, goes_on}
 use Rattle.rc_model.specs.MasterTick.{ticks}
 use Rattle.rc_model.specs.MasterStep.{master_takes_first, deposed_takes, master_takes, master_ticks}
-use Rattle.rc_model.specs.World.{World, opening, replay}
+use Rattle.rc_model.specs.World.{World, opening, step, replay}
 use Rattle.rc_model.specs.Headline.{In}
 use Rattle.rc_model.proofs.Members.{either}
 use Rattle.rc_model.proofs.Replays.{replay_from-push}
 use Rattle.rc_facts.proofs.Lists.{put_each}
 use Rattle.rc_master_facts.proofs.Places.{numbers-In}
-use Rattle.rc_log_safety.proofs.Replays.{good-world}
+use Rattle.rc_log_safety.proofs.Replays.{GoodWorld, good-world}
 use Rattle.rc_master_words.specs.MomentClaims.{CountedWhenStored}
 use Rattle.rc_master_words.proofs.Quiet.{put-beside}
 use Rattle.rc_master_words.proofs.Walk.{IsKeptByInputs, first-kept_by, ticks-kept_by}
@@ -202,7 +203,7 @@ does-follow_up master =
     does-or master (follows_start master) _ (does-when master (may_start master.log) (with_log master (starts master.log), _) (λ _. follows-phase master.log (starts master.log) refl refl refl))
     (does-or master (follows_placed master) _ (does-when master (may_close master.log) (with_log master (closes_old master.log), _) (λ _. follows-phase master.log (closes_old master.log) refl refl refl))
     (does-or master (follows_closing master) _ (does-when master (close_is_due master.log) (with_log master (close_marked master.log), _)
-    (λ _. follows-put master.log (master.log.head - 1) (record (old_head_of master.log) { close_sent = true }) (record { shut = λ e. e; longer = omega arith; stored = omega arith })))
+    (λ _. follows-put master.log (master.log.head - 1) (with_closes_sent (old_head_of master.log)) (record { shut = λ e. e; longer = omega arith; stored = omega arith })))
     (does-or master (follows_shut master) _ (does-when master (may_write master.log) (with_log master (writes_on master.log), _)
     (λ _. follows-then master.log (starts master.log) (writes_on master.log) (follows-phase master.log (starts master.log) refl refl refl) (follows-freed (left_out master.log) (starts master.log))))
     (does-or master (follows_change master) _ (does-commits master (first_open master.log))
@@ -236,9 +237,9 @@ count-kept = record {
   again = λ master. refl;
 }
 
-record Counts (old new : Log) : Type 0 where
-  rises : old.durable ≤ new.durable
-  count : new.durable ≤ max old.durable (durable_now new)
+pub record Counts (old new : Log) : Type 0 where
+  pub rises : old.durable ≤ new.durable
+  pub count : new.durable ≤ max old.durable (durable_now new)
 
 counts-same : (log : Log) → Counts log log
 counts-same log = record { rises = omega arith; count = omega arith }
@@ -279,11 +280,15 @@ module _ (world : World) where
     ticks = λ sent m master good p. counted-from m master (master_ticks master).0 p (ticks-counts master);
   }
 
+-- what an event makes of a master's count
+pub counts-on : (world : World) (one : Event) → GoodWorld world → (m : ServerId) → Counts (world.masters m).log ((step world one).masters m).log
+counts-on world one good m = led-by (IsBefore world) (HasCounted world) (counted-led world) world one good (λ k. refl) m
+
 pub counted-when-stored : CountedWhenStored
 counted-when-stored setup events one m some up =
     let led : Counts ((replay setup events).masters m).log ((replay setup (events ++ one ∷ [])).masters m).log =
     subst (λ (after : World). Counts ((replay setup events).masters m).log (after.masters m).log) (sym (replay_from-push (opening setup) events one))
-    (led-by (IsBefore (replay setup events)) (HasCounted (replay setup events)) (counted-led (replay setup events)) (replay setup events) one (good-world setup events) (λ k. refl) m) in
+    (counts-on (replay setup events) one (good-world setup events) m) in
     let settled : durable_now ((replay setup (events ++ one ∷ [])).masters m).log ≤ ((replay setup (events ++ one ∷ [])).masters m).log.durable =
     (kept-replay setup (IsSettled setup) (settled-kept setup) (events ++ one ∷ []) m).settled some up in
     omega (arith, led.rises, led.count, settled)

@@ -25,8 +25,9 @@ use Rattle.rc_model.specs.Ownership.{PartState, knows_term, term_of, begin_part,
 use Rattle.rc_model.specs.Master.{Master, Task, with_log, durable_entries, ids_of, not_lost, to_unlost, place_of, places_head, appends_entry, dead_segments}
 use Rattle.rc_model.specs.ListRules.{then_does, places_segment, replaces_lost, replaces_lost_of, opens_first, tries_first, obeys_list, takes_list}
 use Rattle.rc_model.specs.Writing.{refused, is_too_long, written, rolls_for_write, writes_under, writes_if_owned, writes, reads_if_owned}
+use Rattle.rc_model.specs.Segment.{is_unclosed, with_closes_sent}
 use Rattle.rc_model.specs.FollowUps.{when, follows_start, follows_placed, close_is_due, close_marked, follows_closing, frees_segments, follows_shut, first_open, wants_commit, commits, commits_open, follows_change, write_oks, new_durable, follows_stored, rolls_for_replay, replays, follows_data, attempt_of, answers_part, follows_replay, or_rule, follow_up, marks_shut, further, followed, measure, goes_on}
-use Rattle.rc_model.specs.MasterTick.{to_remind, is_closing_old, lacking, reminds_member, reminds_members, reminds_open, reminds_shut_members, reminds_shut, commits_again, has_not_come, fetch_of, fetches_again, awaits_grant, recovered_again, ready_again, reminds, ticks}
+use Rattle.rc_model.specs.MasterTick.{standing, to_remind, is_closing_old, lacking, reminds_member, reminds_members, reminds_open, reminds_shut_members, reminds_shut, commits_again, has_not_come, fetch_of, fetches_again, awaits_grant, recovered_again, ready_again, reminds, ticks}
 use Rattle.rc_model.specs.MasterStep.{begins_task, task_of, takes_plan, says_deposed, master_takes_first, deposed_takes, master_takes, master_ticks}
 use Rattle.rc_model.proofs.Members.{either}
 use Rattle.rc_master_words.proofs.Quiet.{is_loud, AllSoft, soft-none, soft-one, soft-both, soft-ids, QuietLog, quiet-refl, quiet-trans, quiet-put, quiet-first, quiet-roll, quiet-stored, quiet-commit_noted, quiet-loses, quiet-shut, quiet-freed}
@@ -206,9 +207,9 @@ module _ (Asked : Entry → Type 0) (R : Master → Master × List Message → T
   soft-shut : (before log : Log) (segs : List ℕ) → AllSoft (reminds_shut before log segs)
   soft-shut before log [] = soft-none
   soft-shut before log (seg ∷ segs) =
-      soft-both (cond ((log.segments seg).shut && not (log.segments seg).freed) (reminds_shut_members log seg (to_remind before log seg)) []) (reminds_shut before log segs)
-      (either AllSoft ((log.segments seg).shut && not (log.segments seg).freed) (reminds_shut_members log seg (to_remind before log seg)) []
-      (λ e. All-map (λ (message : Message). is_loud message.body ≡ false) (λ (member : Member). between log.own member.id (place_of log seg true)) (filter (λ (member : Member). not (is_some member.told)) (to_remind before log seg)) (λ k d less. refl))
+      soft-both (cond ((log.segments seg).shut && not (log.segments seg).freed) (reminds_shut_members log seg (standing before log seg)) []) (reminds_shut before log segs)
+      (either AllSoft ((log.segments seg).shut && not (log.segments seg).freed) (reminds_shut_members log seg (standing before log seg)) []
+      (λ e. All-map (λ (message : Message). is_loud message.body ≡ false) (λ (member : Member). between log.own member.id (place_of log seg true)) (filter (λ (member : Member). not (is_some member.told)) (standing before log seg)) (λ k d less. refl))
       (λ e. soft-none))
       (soft-shut before log segs)
 
@@ -279,8 +280,8 @@ module _ (Asked : Entry → Type 0) (R : Master → Master × List Message → T
 
   closing-does : (master : Master) → Does master (follows_closing master)
   closing-does master = does-when master (close_is_due master.log) (with_log master (close_marked master.log), _)
-      (λ _. kept.inputs.quiet master (with_log master (close_marked master.log)) _ (quiet-put master.log (master.log.head - 1) (record (old_head_of master.log) { close_sent = true }) refl (λ e. e) (λ e. e) (λ e. e))
-      (soft-ids master.log.own (ids_of (old_head_of master.log).config.members) (Close (master.log.head - 1) (length (old_head_of master.log).entries)) refl))
+      (λ _. kept.inputs.quiet master (with_log master (close_marked master.log)) _ (quiet-put master.log (master.log.head - 1) (with_closes_sent (old_head_of master.log)) refl (λ e. e) (λ e. e) (λ e. e))
+      (soft-ids master.log.own (ids_of (filter (is_unclosed (old_head_of master.log)) (old_head_of master.log).config.members)) (Close (master.log.head - 1) (length (old_head_of master.log).entries)) refl))
 
   soft-frees : (log : Log) (segs : List ℕ) → AllSoft (frees_segments log segs)
   soft-frees log [] = soft-none

@@ -19,7 +19,7 @@ use Rattle.rc_model.specs.Tables.{put}
 use Rattle.rc_model.specs.ServerList.{ServerList, from_rows, newer_than, is_up}
 use Rattle.rc_model.specs.Messages.{to_coordinator}
 use Rattle.rc_model.specs.Config.{Config, all_placed, choose, lose, refill, noted, committed_at}
-use Rattle.rc_model.specs.Segment.{Segment}
+use Rattle.rc_model.specs.Segment.{Segment, with_closes_sent}
 use Rattle.rc_model.specs.Log.{Log, head_of, with_segment, old_head_of, has_old_head, has_segment, numbers_to, is_opening, is_closing, is_writing, durable_now}
 use Rattle.rc_model.specs.Heads.{rolled, begin_roll, is_full, may_start, may_close, may_write, left_out, writes_on, with_config, opens_change, refills, loses, open_first, opened_first, shuts}
 use Rattle.rc_model.specs.Ownership.{after_replay, to_answer, term_of, knows_term}
@@ -98,7 +98,7 @@ placed-rules master placed =
     (and_parts (has_old_head master.log) (all_placed (head_of master.log).config)
     (and_parts (is_opening master.log.phase) (has_old_head master.log && all_placed (head_of master.log).config) may).1).1))
     (done-or PlacedDone _ _ (done-when PlacedDone (close_is_due master.log) (_, _) (λ _ is.
-    ap all_placed (same_configs-put master.log.segments (master.log.head - 1) (record (old_head_of master.log) { close_sent = true }) refl master.log.head) ∙ placed is))
+    ap all_placed (same_configs-put master.log.segments (master.log.head - 1) (with_closes_sent (old_head_of master.log)) refl master.log.head) ∙ placed is))
     (done-or PlacedDone _ _ (done-when PlacedDone (may_write master.log) (_, _) (λ _ is.
     let after : (writes_on master.log).phase ≡ Writing = freed-phase (left_out master.log) (record master.log { phase = Writing }) in
     true_false (sym is ∙ ap is_closing after)))

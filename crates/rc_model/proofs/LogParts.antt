@@ -91,16 +91,16 @@ with_freed-marked (seg ∷ segs) log = with_freed-marked segs (with_segment seg 
 -- the mark alone has changed
 pub record MarkedAlone (old new : Segment) : Type 0 where
   pub parts : SameParts old new
-  pub close_sent : new.close_sent ≡ old.close_sent
+  pub closes_sent : new.closes_sent ≡ old.closes_sent
 
 pub marked-alone : (segs : List ℕ) (segments : ℕ → Segment) (k : ℕ) → MarkedAlone (segments k) (marked segs segments k)
-marked-alone [] segments k = record { parts = same_parts-refl (segments k); close_sent = refl }
+marked-alone [] segments k = record { parts = same_parts-refl (segments k); closes_sent = refl }
 marked-alone (seg ∷ segs) segments k =
     let one : ℕ → Segment = put segments seg (record (segments seg) { freed = true }) in
     let first : MarkedAlone (segments k) (one k) =
     put_each (λ j s. MarkedAlone (segments j) s) segments seg (record (segments seg) { freed = true })
-    (record { parts = record { entries = refl; config = refl; commit_sent = refl }; close_sent = refl })
-    (λ j. record { parts = same_parts-refl (segments j); close_sent = refl }) k in
+    (record { parts = record { entries = refl; config = refl; commit_sent = refl }; closes_sent = refl })
+    (λ j. record { parts = same_parts-refl (segments j); closes_sent = refl }) k in
     let rest : MarkedAlone (one k) (marked segs one k) = marked-alone segs one k in
     record {
       parts = record {
@@ -108,5 +108,5 @@ marked-alone (seg ∷ segs) segments k =
         config = rest.parts.config ∙ first.parts.config;
         commit_sent = rest.parts.commit_sent ∙ first.parts.commit_sent;
       };
-      close_sent = rest.close_sent ∙ first.close_sent;
+      closes_sent = rest.closes_sent ∙ first.closes_sent;
     }

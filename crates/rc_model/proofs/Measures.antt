@@ -1,13 +1,15 @@
 -- Each follow-up lowers the measure, and none applies afterwards.
-use Rattle.std.proofs.Common.{◌≡◌, ◌≢◌, ℕ, zero, suc, ◌+◌, ◌-◌, ◌≤◌, ◌<◌, Bool, true, false, cond, not, ◌&&◌, nat_eq, nat_lt, List, [], ◌∷◌, ◌++◌, length, map, filter, find, take, Option, Some, None, option_map, Err, refl, sym, ap, ◌∙◌, subst, arith}
+use Rattle.std.proofs.Common.{◌≡◌, ◌≢◌, ℕ, zero, suc, ◌+◌, ◌-◌, ◌≤◌, ◌<◌, Bool, true, false, cond, not, ◌&&◌, ◌||◌, nat_eq, nat_lt, List, [], ◌∷◌, ◌++◌, length, map, filter, find, take, Option, Some, None, option_map, Err, refl, sym, ap, ◌∙◌, subst, arith}
 use Rattle.std.proofs.lemmas.List.{length-append, length-take-le, append-nil}
 use Rattle.std.proofs.lemmas.List.Elements.{filter-append}
 use Rattle.std.proofs.lemmas.Bool.{and_parts, ltb-true, ne_eqb}
 use Rattle.std.proofs.lemmas.Bool.Decides.{nat_tests}
 use Rattle.std.proofs.Math.Numerals.{add-one}
 use Rattle.std.proofs.Math.Path.{fun_ext}
+use Rattle.std.specs.List.{list_any}
 use Rattle.rc_types.specs.declared.ids.ServerId.{ServerId}
 use Rattle.rc_types.specs.declared.entries.Entry.{Entry}
+use Rattle.rc_types.specs.declared.kept.Member.{Member}
 use Rattle.rc_types.specs.declared.kept.Phase.{Phase}
 use Rattle.rc_types.specs.declared.kept.Phase.TheVariants.{Opening, Closing, Writing}
 use Rattle.rc_types.specs.declared.messages.Message.{Message}
@@ -16,14 +18,16 @@ use Rattle.rc_types.specs.declared.faults.Fault.TheVariants.{LogFull}
 use Rattle.rc_model.specs.ServerList.{ServerList}
 use Rattle.rc_model.specs.Messages.{to_coordinator}
 use Rattle.rc_types.specs.declared.limits.TheConstants.{LAST_SEGMENT}
+use Rattle.rc_model.specs.Ids.{same_id, has_id}
 use Rattle.rc_model.specs.Tables.{put}
 use Rattle.rc_model.specs.Config.{Config, new_config, all_placed, choose, candidates}
-use Rattle.rc_model.specs.Segment.{Segment, new_segment, with_entry, is_ready}
+use Rattle.rc_model.specs.Segment.{Segment, new_segment, with_entry, is_ready, has_unclosed, with_closes_sent}
 use Rattle.rc_model.specs.Log.{Log, head_of, with_segment, old_head_of, has_old_head, places_to, places_in, places_of, numbers_to, durable_now, is_opening, is_closing, is_writing}
 use Rattle.rc_model.specs.Heads.{opens_head, next_digest, rolled, begin_roll, is_full, appends, shuts, with_shut, may_start, may_close, may_write, left_out, starts, closes_old, writes_on}
 use Rattle.rc_model.specs.Ownership.{PartState, without_first, after_replay, is_to_answer, is_complete, answered_in}
-use Rattle.rc_model.specs.Master.{Master, with_log, durable_entries, dead_segments, appends_entry}
+use Rattle.rc_model.specs.Master.{Master, ids_of, with_log, durable_entries, dead_segments, appends_entry}
 use Rattle.rc_model.specs.FollowUps.{when, follow_up, follows_start, follows_placed, close_is_due, close_marked, follows_closing, follows_shut, first_open, wants_commit, commits, commits_open, follows_change, follows_stored, rolls_for_replay, replays, follows_data, answers_part, follows_replay, or_rule, marks_shut, further, followed, rank, one_if, closes_unsent, commits_unsent, parts_unanswered, measure, goes_on}
+use Rattle.rc_model.proofs.Ids.{same_id-refl}
 use Rattle.rc_model.proofs.Tests.{either, true_false}
 use Rattle.rc_model.proofs.Tables.{put_each, put-same, put-other}
 use Rattle.rc_model.proofs.Counting.{Narrower, filter-lower, filter-agrees}
@@ -78,7 +82,7 @@ unsent segments seg = not (segments seg).config.committed && not (segments seg).
 
 -- no Close was sent of it, where it is an old head
 abbrev pub unclosed : ℕ → Segment → ℕ
-unclosed head segment = one_if (nat_lt 1 head && not segment.close_sent)
+unclosed head segment = one_if (nat_lt 1 head && has_unclosed segment)
 
 places-same : (old new : ℕ → Segment) (n : ℕ) → AllSameParts old new → length (places_to new n) ≡ length (places_to old n)
 places-same old new n same = ap length (places_to-agrees old new n (λ k _. (same k).entries))
@@ -90,11 +94,30 @@ commits-same old new n same =
     ap (λ b. not b && not (new k).commit_sent) (ap (λ (c : Config). c.committed) (same k).config)
     ∙ ap (λ b. not (old k).config.committed && not b) (same k).commit_sent))
 
-closes-same : (head : ℕ) (old new : Segment) → new.close_sent ≡ old.close_sent → unclosed head new ≡ unclosed head old
-closes-same head old new same = ap (λ b. one_if (nat_lt 1 head && not b)) same
+closes-same : (head : ℕ) (old new : Segment) → new.config ≡ old.config → new.closes_sent ≡ old.closes_sent →
+    unclosed head new ≡ unclosed head old
+closes-same head old new config sent =
+    ap (λ (c : Config). one_if (nat_lt 1 head && list_any (λ (member : Member). not (has_id member.id new.closes_sent)) c.members)) config
+    ∙ ap (λ ids. one_if (nat_lt 1 head && list_any (λ (member : Member). not (has_id member.id ids)) old.config.members)) sent
+
+-- none is left once Close was sent to all
+all-in : (members others : List Member) → ((id : ServerId) → has_id id (ids_of members) ≡ true → has_id id (ids_of others) ≡ true) →
+    list_any (λ (member : Member). not (has_id member.id (ids_of others))) members ≡ false
+all-in [] others within = refl
+all-in (member ∷ members) others within =
+    ap (λ b. not b || list_any (λ (one : Member). not (has_id one.id (ids_of others))) members)
+    (within member.id (ap (λ b. b || has_id member.id (ids_of members)) (same_id-refl member.id)))
+    ∙ all-in members others (λ id e. within id (ap (λ b. same_id id member.id || b) e ∙ or_true (same_id id member.id)))
+  where
+    or_true : (b : Bool) → b || true ≡ true
+    or_true true = refl
+    or_true false = refl
+
+closes-none : (segment : Segment) → has_unclosed (with_closes_sent segment) ≡ false
+closes-none segment = all-in segment.config.members segment.config.members (λ id e. e)
 
 unclosed-most : (head : ℕ) (segment : Segment) → unclosed head segment ≤ 1
-unclosed-most head segment = one_if-most (nat_lt 1 head && not segment.close_sent)
+unclosed-most head segment = one_if-most (nat_lt 1 head && has_unclosed segment)
   where
     one_if-most : (b : Bool) → one_if b ≤ 1
     one_if-most true = omega arith
@@ -126,22 +149,22 @@ lowers-closing : (master : Master) → close_is_due master.log ≡ true → Lowe
 lowers-closing master due =
     let log : Log = master.log in
     let old : ℕ → Segment = master.log.segments in
-    let told : Segment = record (old_head_of master.log) { close_sent = true } in
+    let told : Segment = with_closes_sent (old_head_of master.log) in
     let new : ℕ → Segment = put old (master.log.head - 1) told in
-    let parts : (is_closing master.log.phase ≡ true) × (has_old_head master.log && ((old_head_of master.log).config.committed && not (old_head_of master.log).close_sent) ≡ true) =
-    and_parts (is_closing master.log.phase) (has_old_head master.log && ((old_head_of master.log).config.committed && not (old_head_of master.log).close_sent)) due in
-    let tests : (has_old_head master.log ≡ true) × ((old_head_of master.log).config.committed && not (old_head_of master.log).close_sent ≡ true) =
-    and_parts (has_old_head master.log) ((old_head_of master.log).config.committed && not (old_head_of master.log).close_sent) parts.1 in
-    let unsent_yet : not (old_head_of master.log).close_sent ≡ true = (and_parts (old_head_of master.log).config.committed (not (old_head_of master.log).close_sent) tests.1).1 in
+    let parts : (is_closing master.log.phase ≡ true) × (has_old_head master.log && ((old_head_of master.log).config.committed && has_unclosed (old_head_of master.log)) ≡ true) =
+    and_parts (is_closing master.log.phase) (has_old_head master.log && ((old_head_of master.log).config.committed && has_unclosed (old_head_of master.log))) due in
+    let tests : (has_old_head master.log ≡ true) × ((old_head_of master.log).config.committed && has_unclosed (old_head_of master.log) ≡ true) =
+    and_parts (has_old_head master.log) ((old_head_of master.log).config.committed && has_unclosed (old_head_of master.log)) parts.1 in
+    let unsent_yet : has_unclosed (old_head_of master.log) ≡ true = (and_parts (old_head_of master.log).config.committed (has_unclosed (old_head_of master.log)) tests.1).1 in
     let same : AllSameParts old new = same_parts-put old (master.log.head - 1) told (record { entries = refl; config = refl; commit_sent = refl }) in
     let places : length (places_to new master.log.head) ≡ length (places_to old master.log.head) = places-same old new master.log.head same in
     let commits : length (filter (unsent new) (numbers_to master.log.head)) ≡ length (filter (unsent old) (numbers_to master.log.head)) = commits-same old new master.log.head same in
     let before : rank master.log master.log.phase ≡ 2 = rank-closing master.log master.log.phase parts.0 in
     let after : rank (close_marked master.log) master.log.phase ≡ 2 = rank-closing (close_marked master.log) master.log.phase parts.0 in
     let one : unclosed master.log.head (old (master.log.head - 1)) ≡ 1 =
-    ap (λ b. one_if (b && not (old_head_of master.log).close_sent)) tests.0 ∙ ap one_if unsent_yet in
+    ap (λ b. one_if (b && has_unclosed (old_head_of master.log))) tests.0 ∙ ap one_if unsent_yet in
     let none : unclosed master.log.head (new (master.log.head - 1)) ≡ 0 =
-    ap (λ s. unclosed master.log.head s) (put-same old (master.log.head - 1) told) ∙ ap (λ b. one_if (b && false)) tests.0 in
+    ap (λ s. unclosed master.log.head s) (put-same old (master.log.head - 1) told) ∙ (ap (λ b. one_if (b && has_unclosed told)) tests.0 ∙ ap one_if (closes-none (old_head_of master.log))) in
     record { lower = omega arith; factor = refl }
 
 lowers-shut : (master : Master) → may_write master.log ≡ true → Lowers master (with_log master (writes_on master.log))
@@ -158,7 +181,7 @@ lowers-shut master may =
         let places : length (places_to new master.log.head) ≡ length (places_to old master.log.head) = places-same old new master.log.head same in
         let commits : length (filter (unsent new) (numbers_to master.log.head)) ≡ length (filter (unsent old) (numbers_to master.log.head)) = commits-same old new master.log.head same in
         let closes : unclosed master.log.head (new (master.log.head - 1)) ≡ unclosed master.log.head (old (master.log.head - 1)) =
-        closes-same master.log.head (old (master.log.head - 1)) (new (master.log.head - 1)) (alone (master.log.head - 1)).close_sent in
+        closes-same master.log.head (old (master.log.head - 1)) (new (master.log.head - 1)) (same (master.log.head - 1)).config (alone (master.log.head - 1)).closes_sent in
         let before : rank master.log master.log.phase ≡ 2 =
         rank-closing master.log master.log.phase (and_parts (is_closing master.log.phase) (has_old_head master.log && ((old_head_of master.log).shut && is_ready (head_of master.log))) may).0 in
         record { lower = omega arith; factor = refl }
@@ -174,9 +197,9 @@ lowers-commit master seg found wants =
     let told : Segment = record (master.log.segments seg) { commit_sent = true } in
     let new : ℕ → Segment = put old seg told in
     let entries : (k : ℕ) → (new k).entries ≡ (old k).entries = put_each (λ k (s : Segment). s.entries ≡ (old k).entries) old seg told refl (λ k. refl) in
-    let config : (new master.log.head).config ≡ (old master.log.head).config = put_each (λ k (s : Segment). s.config ≡ (old k).config) old seg told refl (λ k. refl) master.log.head in
-    let close_sent : (new (master.log.head - 1)).close_sent ≡ (old (master.log.head - 1)).close_sent =
-    put_each (λ k (s : Segment). s.close_sent ≡ (old k).close_sent) old seg told refl (λ k. refl) (master.log.head - 1) in
+    let config : (k : ℕ) → (new k).config ≡ (old k).config = put_each (λ k (s : Segment). s.config ≡ (old k).config) old seg told refl (λ k. refl) in
+    let closes_sent : (new (master.log.head - 1)).closes_sent ≡ (old (master.log.head - 1)).closes_sent =
+    put_each (λ k (s : Segment). s.closes_sent ≡ (old k).closes_sent) old seg told refl (λ k. refl) (master.log.head - 1) in
     let narrower : Narrower (unsent old) (unsent new) =
     put_each (λ k (s : Segment). not s.config.committed && not s.commit_sent ≡ true → unsent old k ≡ true) old seg told
     (λ e. true_false (sym e ∙ and_false (not (old seg).config.committed))) (λ k e. e) in
@@ -191,9 +214,9 @@ lowers-commit master seg found wants =
     let places : length (places_to new master.log.head) ≡ length (places_to old master.log.head) =
     ap length (places_to-agrees old new master.log.head (λ k _. entries k)) in
     let closes : unclosed master.log.head (new (master.log.head - 1)) ≡ unclosed master.log.head (old (master.log.head - 1)) =
-    closes-same master.log.head (old (master.log.head - 1)) (new (master.log.head - 1)) close_sent in
+    closes-same master.log.head (old (master.log.head - 1)) (new (master.log.head - 1)) (config (master.log.head - 1)) closes_sent in
     let ranks : rank (commits master seg).0.log master.log.phase ≡ rank master.log master.log.phase =
-    rank-same master.log (commits master seg).0.log master.log.phase config in
+    rank-same master.log (commits master seg).0.log master.log.phase (config master.log.head) in
     record { lower = omega arith; factor = refl }
 
 lowers-open : (master : Master) (open_one : Option ℕ) → first_open master.log ≡ open_one → AllLower master (commits_open master open_one)
@@ -324,14 +347,14 @@ lowers-append master entry entries waits writes =
     let after : rank log master.log.phase ≡ 1 = rank-writing log master.log.phase writes in
     let config : (k : ℕ) → (new k).config ≡ (old k).config = put_each (λ k (s : Segment). s.config ≡ (old k).config) old master.log.head grown refl (λ k. refl) in
     let commit_sent : (k : ℕ) → (new k).commit_sent ≡ (old k).commit_sent = put_each (λ k (s : Segment). s.commit_sent ≡ (old k).commit_sent) old master.log.head grown refl (λ k. refl) in
-    let close_sent : (new (master.log.head - 1)).close_sent ≡ (old (master.log.head - 1)).close_sent =
-    put_each (λ k (s : Segment). s.close_sent ≡ (old k).close_sent) old master.log.head grown refl (λ k. refl) (master.log.head - 1) in
+    let closes_sent : (new (master.log.head - 1)).closes_sent ≡ (old (master.log.head - 1)).closes_sent =
+    put_each (λ k (s : Segment). s.closes_sent ≡ (old k).closes_sent) old master.log.head grown refl (λ k. refl) (master.log.head - 1) in
     let commits : length (filter (unsent new) (numbers_to master.log.head)) ≡ length (filter (unsent old) (numbers_to master.log.head)) =
     ap length (filter-agrees (unsent new) (unsent old) master.log.head (λ k _ _.
     ap (λ b. not b && not (new k).commit_sent) (ap (λ (c : Config). c.committed) (config k))
     ∙ ap (λ b. not (old k).config.committed && not b) (commit_sent k))) in
     let closes : unclosed master.log.head (new (master.log.head - 1)) ≡ unclosed master.log.head (old (master.log.head - 1)) =
-    closes-same master.log.head (old (master.log.head - 1)) (new (master.log.head - 1)) close_sent in
+    closes-same master.log.head (old (master.log.head - 1)) (new (master.log.head - 1)) (config (master.log.head - 1)) closes_sent in
     let more : length grown.entries ≡ length (old master.log.head).entries + 1 = length-append (old master.log.head).entries ((entry, false) ∷ []) in
     let places : length (places_to new master.log.head) ≤ length (places_to old master.log.head) + 1 = one-more old master.log.head grown (omega arith) in
     let all : length master.ownership.replay ≡ length entries + 1 = ap length waits ∙ omega arith in
@@ -415,12 +438,12 @@ measure-shut_marked master =
     let shut : Segment = record (old_head_of master.log) { shut = true } in
     let new : ℕ → Segment = put old (master.log.head - 1) shut in
     let same : AllSameParts old new = same_parts-put old (master.log.head - 1) shut (record { entries = refl; config = refl; commit_sent = refl }) in
-    let close_sent : (new (master.log.head - 1)).close_sent ≡ (old (master.log.head - 1)).close_sent =
-    put_each (λ k (s : Segment). s.close_sent ≡ (old k).close_sent) old (master.log.head - 1) shut refl (λ k. refl) (master.log.head - 1) in
+    let closes_sent : (new (master.log.head - 1)).closes_sent ≡ (old (master.log.head - 1)).closes_sent =
+    put_each (λ k (s : Segment). s.closes_sent ≡ (old k).closes_sent) old (master.log.head - 1) shut refl (λ k. refl) (master.log.head - 1) in
     let places : length (places_to new master.log.head) ≡ length (places_to old master.log.head) = places-same old new master.log.head same in
     let commits : length (filter (unsent new) (numbers_to master.log.head)) ≡ length (filter (unsent old) (numbers_to master.log.head)) = commits-same old new master.log.head same in
     let closes : unclosed master.log.head (new (master.log.head - 1)) ≡ unclosed master.log.head (old (master.log.head - 1)) =
-    closes-same master.log.head (old (master.log.head - 1)) (new (master.log.head - 1)) close_sent in
+    closes-same master.log.head (old (master.log.head - 1)) (new (master.log.head - 1)) (same (master.log.head - 1)).config closes_sent in
     let ranks : rank (shut_marked master.log) master.log.phase ≡ rank master.log master.log.phase =
     rank-same master.log (shut_marked master.log) master.log.phase (same master.log.head).config in
     omega arith

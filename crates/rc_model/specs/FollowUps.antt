@@ -9,7 +9,7 @@ use Rattle.rc_types.specs.declared.messages.Message.{Message}
 use Rattle.rc_types.specs.declared.messages.Body.TheVariants.{WriteOk, Close, Commit, Free, Ready, Recovered}
 use Rattle.rc_model.specs.Messages.{to_coordinator, to_outside}
 use Rattle.rc_model.specs.Config.{all_placed}
-use Rattle.rc_model.specs.Segment.{Segment}
+use Rattle.rc_model.specs.Segment.{Segment, is_unclosed, has_unclosed, with_closes_sent}
 use Rattle.rc_model.specs.Log.{Log, LogPlace, places_of, head_of, old_head_of, has_old_head, with_segment, numbers_to, is_closing, is_writing, durable_now}
 use Rattle.rc_model.specs.Heads.{is_full, begin_roll, with_shut, may_start, may_close, may_write, left_out, starts, closes_old, writes_on}
 use Rattle.rc_model.specs.Ownership.{after_replay, to_answer, after_answer, PartState}
@@ -28,19 +28,19 @@ follows_start master = when (may_start master.log) (with_log master (starts mast
 abbrev pub follows_placed : Master → Option (Master × List Message)
 follows_placed master = when (may_close master.log) (with_log master (closes_old master.log), [])
 
--- the old head's epoch is committed, and no Close was sent under it
+-- the old head's epoch is committed, and to some member no Close was sent under it
 abbrev pub close_is_due : Log → Bool
 close_is_due log =
-    is_closing log.phase && (has_old_head log && ((old_head_of log).config.committed && not (old_head_of log).close_sent))
+    is_closing log.phase && (has_old_head log && ((old_head_of log).config.committed && has_unclosed (old_head_of log)))
 
 abbrev pub close_marked : Log → Log
-close_marked log = with_segment (log.head - 1) (record (old_head_of log) { close_sent = true }) log
+close_marked log = with_segment (log.head - 1) (with_closes_sent (old_head_of log)) log
 
--- Close goes to each old member, lost or not, with the final length
+-- Close goes with the final length to each of these, lost or not: also to one that has since taken a lost one's place
 abbrev pub follows_closing : Master → Option (Master × List Message)
 follows_closing master = when (close_is_due master.log) (
   with_log master (close_marked master.log),
-  to_ids master.log.own (ids_of (old_head_of master.log).config.members)
+  to_ids master.log.own (ids_of (filter (is_unclosed (old_head_of master.log)) (old_head_of master.log).config.members))
       (Close (master.log.head - 1) (length (old_head_of master.log).entries)),
 )
 
@@ -172,7 +172,7 @@ one_if true = 1
 one_if false = 0
 
 abbrev pub closes_unsent : Log → ℕ
-closes_unsent log = one_if (has_old_head log && not (old_head_of log).close_sent)
+closes_unsent log = one_if (has_old_head log && has_unclosed (old_head_of log))
 
 abbrev pub commits_unsent : Log → ℕ
 commits_unsent log =

@@ -25,7 +25,11 @@ stood before log seg id =
     && (nat_eq (before.segments seg).config.epoch (log.segments seg).config.epoch
     && has_id id (ids_of (before.segments seg).config.members))
 
--- the members of a segment that are to hear of it again
+-- the members of a segment to which the list rules have sent nothing
+abbrev pub standing : Log → Log → ℕ → List Member
+standing before log seg = filter (λ member. stood before log seg member.id) (log.segments seg).config.members
+
+-- the members of an open segment that are to hear of it again
 abbrev pub to_remind : Log → Log → ℕ → List Member
 to_remind before log seg =
     filter (λ member. not member.lost && stood before log seg member.id) (log.segments seg).config.members
@@ -55,7 +59,7 @@ reminds_open before log [] = []
 reminds_open before log (seg ∷ segs) =
     (if (log.segments seg).shut then [] else reminds_members log seg (to_remind before log seg)) ++ reminds_open before log segs
 
--- the members of a shut segment that have told nothing get it again, closed
+-- the members of a shut segment that have told nothing, lost or not, get it again, closed
 abbrev pub reminds_shut_members : Log → ℕ → List Member → List Message
 reminds_shut_members log seg members =
     map (λ member. between log.own member.id (place_of log seg true)) (filter (λ member. not (is_some member.told)) members)
@@ -64,7 +68,7 @@ reminds_shut_members log seg members =
 abbrev pub reminds_shut : Log → Log → List ℕ → List Message
 reminds_shut before log [] = []
 reminds_shut before log (seg ∷ segs) =
-    (if (log.segments seg).shut && not (log.segments seg).freed then reminds_shut_members log seg (to_remind before log seg) else [])
+    (if (log.segments seg).shut && not (log.segments seg).freed then reminds_shut_members log seg (standing before log seg) else [])
     ++ reminds_shut before log segs
 
 -- a Commit was sent and not answered, and the segment is placed on all under its epoch

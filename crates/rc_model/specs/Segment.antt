@@ -1,7 +1,10 @@
 -- A segment of a master's log, in the master's own view.
-use Rattle.std.specs.Prelude.{ℕ, Bool, false, List, [], ◌∷◌, ◌++◌, length, min, ◌&&◌}
+use Rattle.std.specs.Prelude.{ℕ, Bool, false, not, List, [], ◌∷◌, ◌++◌, length, map, min, ◌&&◌}
+use Rattle.std.specs.List.{list_any}
 use Rattle.rc_types.specs.declared.entries.Entry.{Entry}
 use Rattle.rc_types.specs.declared.ids.ServerId.{ServerId}
+use Rattle.rc_types.specs.declared.kept.Member.{Member}
+use Rattle.rc_model.specs.Ids.{has_id}
 use Rattle.rc_model.specs.Config.{Config, new_config, all_placed, all_closed, durable_len}
 
 pub record Segment : Type 0 where
@@ -10,9 +13,10 @@ pub record Segment : Type 0 where
   -- the entries, each with a mark whether a client wrote it
   pub entries : List (Entry × Bool)
   pub config : Config
-  -- whether Commit, and whether Close, was sent under the current epoch
+  -- whether Commit was sent under the current epoch
   pub commit_sent : Bool
-  pub close_sent : Bool
+  -- the members to which Close was sent under the current epoch
+  pub closes_sent : List ServerId
   -- closed on all members of a committed epoch, with none of them lost, at one moment
   pub shut : Bool
   -- a newer head writes whose digest leaves this segment out, so that its backups were told to drop it
@@ -25,7 +29,7 @@ new_segment seg digest ids = record {
   entries = [];
   config = new_config seg ids;
   commit_sent = false;
-  close_sent = false;
+  closes_sent = [];
   shut = false;
   freed = false;
 }
@@ -40,7 +44,18 @@ with_entry entry client segment = record segment { entries = segment.entries ++ 
 
 -- the members have changed, under a fresh epoch: nothing was sent under it but the Places that go with the change
 abbrev pub under_new_epoch : Config → Segment → Segment
-under_new_epoch config segment = record segment { config = config; commit_sent = false; close_sent = false }
+under_new_epoch config segment = record segment { config = config; commit_sent = false; closes_sent = [] }
+
+-- no Close was sent to the member under the present epoch
+abbrev pub is_unclosed : Segment → Member → Bool
+is_unclosed segment member = not (has_id member.id segment.closes_sent)
+
+abbrev pub has_unclosed : Segment → Bool
+has_unclosed segment = list_any (is_unclosed segment) segment.config.members
+
+-- Close was sent to all members
+abbrev pub with_closes_sent : Segment → Segment
+with_closes_sent segment = record segment { closes_sent = map (λ member. member.id) segment.config.members }
 
 -- placed on all members, under a committed epoch
 abbrev pub is_ready : Segment → Bool

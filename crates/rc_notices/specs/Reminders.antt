@@ -7,7 +7,7 @@ use Rattle.rc_model.specs.Messages.{to_coordinator}
 use Rattle.rc_model.specs.Log.{Log}
 use Rattle.rc_model.specs.Master.{Task}
 use Rattle.rc_model.specs.FollowUps.{attempt_of}
-use Rattle.rc_model.specs.MasterTick.{to_remind, reminds_members, reminds_shut_members, awaits_commit}
+use Rattle.rc_model.specs.MasterTick.{standing, to_remind, reminds_members, reminds_shut_members, awaits_commit}
 
 -- to the members of an open segment
 abbrev pub reminds_if_open : Log → Log → ℕ → List Message
@@ -18,7 +18,7 @@ reminds_if_open before log seg =
 abbrev pub reminds_if_shut : Log → Log → ℕ → List Message
 reminds_if_shut before log seg =
     if (log.segments seg).shut && not (log.segments seg).freed
-    then reminds_shut_members log seg (to_remind before log seg) else []
+    then reminds_shut_members log seg (standing before log seg) else []
 
 -- the Commit of a segment, where one was sent and not answered
 abbrev pub commit_again : Log → ℕ → List Message

@@ -2,7 +2,7 @@
 
 ghost use Rattle.std.specs.Prelude.{◌≡◌, ◌++◌, ◌&&◌, not, true, OnOk, OnErr};
 ghost use Rattle.rc_model.specs.Log.{has_segment, numbers_to};
-ghost use Rattle.rc_model.specs.MasterTick.{stood, to_remind, reminds_members, reminds_open, reminds_shut_members, reminds_shut};
+ghost use Rattle.rc_model.specs.MasterTick.{stood, standing, to_remind, reminds_members, reminds_open, reminds_shut_members, reminds_shut};
 ghost use Rattle.rc_headroll.specs.LogData.{log_of, before_of};
 ghost use Rattle.rc_notices.specs.Beginnings.{IsBeginning};
 ghost use Rattle.rc_notices.specs.Reminders.{reminds_if_open, reminds_if_shut};
@@ -13,7 +13,7 @@ use rc_headroll::{LogHead, Segment};
 use rc_types::{Member, Message};
 use std::alloc::{AllocError, Global};
 
-/// Whether the member is to hear of the segment again: it isn't lost, and the list rules have sent it
+/// Whether the member is to hear of the open segment again: it isn't lost, and the list rules have sent it
 /// nothing in this step.
 fn is_to_remind(log: &LogHead, seg: u16, member: &Member) -> bool
     ensures { result ≡ (not member.now.lost && stood (before_of log.now) (log_of log.now) seg member.now.id) }
@@ -80,7 +80,8 @@ pub fn add_open_reminders(
     Ok(())
 }
 
-/// Adds a Place of a shut segment to each of its members that has told nothing.
+/// Adds a Place of a shut segment to each of its members that has told nothing, lost or not, save those
+/// to which the list rules have sent one in this step.
 fn add_to_untold(
     alloc: Global,
     log: &LogHead,
@@ -90,11 +91,11 @@ fn add_to_untold(
 ) -> Result<(), AllocError>
     requires { segment.now ≡ (log_of log.now).segments seg }
     ensures ok { OnOk result (sent.new.items ≡ sent.old.items ++
-        reminds_shut_members (log_of log.now) seg (to_remind (before_of log.now) (log_of log.now) seg)) }
+        reminds_shut_members (log_of log.now) seg (standing (before_of log.now) (log_of log.now) seg)) }
     ensures begun { OnErr result (IsBeginning sent.old.items sent.new.items) }
 {
     for member in segment.config().members() {
-        if is_to_remind(log, seg, member) && member.told.is_none() {
+        if log.stood(seg, member.id) && member.told.is_none() {
             let place = placing::place_of(alloc, seg, segment, true)?;
             sent.push(to_server(log.own(), member.id, place))?;
         }

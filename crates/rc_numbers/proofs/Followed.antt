@@ -1,5 +1,5 @@
 -- What the rules that follow up do to the versions of the entries that a master has.
-use Rattle.std.proofs.Common.{ℕ, zero, suc, ◌-◌, ◌≤◌, Bool, true, false, nat_lt, List, [], ◌∷◌, length, Option, Some, None, Result, Ok, Err}
+use Rattle.std.proofs.Common.{ℕ, zero, suc, ◌-◌, ◌≤◌, Bool, true, false, nat_lt, List, [], ◌∷◌, length, filter, Option, Some, None, Result, Ok, Err}
 use Rattle.std.specs.List.{All}
 use Rattle.std.proofs.lemmas.List.Elements.{All-cons, All-head, All-tail}
 use Rattle.rc_types.specs.declared.ids.ServerId.{ServerId}
@@ -12,6 +12,7 @@ use Rattle.rc_model.specs.Log.{Log, LogPlace, old_head_of, is_writing, durable_n
 use Rattle.rc_model.specs.Heads.{is_full, begin_roll, with_shut, may_start, may_close, may_write, left_out, starts, closes_old, writes_on}
 use Rattle.rc_model.specs.Ownership.{PartState, came_entries, without_first, after_replay, is_to_answer, answered_in, to_answer}
 use Rattle.rc_model.specs.Master.{Master, with_log, durable_entries, ids_of, not_lost, to_unlost, appends_entry, dead_segments}
+use Rattle.rc_model.specs.Segment.{is_unclosed, with_closes_sent}
 use Rattle.rc_model.specs.FollowUps.{when, follows_start, follows_placed, close_is_due, close_marked, follows_closing, frees_segments, follows_shut, first_open, wants_commit, commits, commits_open, follows_change, write_oks, new_durable, follows_stored, rolls_for_replay, replays, follows_data, attempt_of, answers_part, follows_replay, or_rule, follow_up, marks_shut, further, followed, measure, goes_on}
 use Rattle.rc_model.proofs.Members.{either}
 use Rattle.rc_numbers.specs.Numbers.{VersionsUpTo, body_within, MessagesWithin, LogWithin, MasterWithin}
@@ -44,8 +45,8 @@ module _ (n : ℕ) where
 
   closing-does : (master : Master) → MasterWithin n master → Does (follows_closing master)
   closing-does master h = does-when (close_is_due master.log) (with_log master (close_marked master.log), _) (record {
-    master = logged n master (close_marked master.log) h (put-within n master.log (master.log.head - 1) (record (old_head_of master.log) { close_sent = true }) h.log (h.log (master.log.head - 1)));
-    messages = ids-within n master.log.own (ids_of (old_head_of master.log).config.members) (Close (master.log.head - 1) (length (old_head_of master.log).entries)) tt;
+    master = logged n master (close_marked master.log) h (put-within n master.log (master.log.head - 1) (with_closes_sent (old_head_of master.log)) h.log (h.log (master.log.head - 1)));
+    messages = ids-within n master.log.own (ids_of (filter (is_unclosed (old_head_of master.log)) (old_head_of master.log).config.members)) (Close (master.log.head - 1) (length (old_head_of master.log).entries)) tt;
   })
 
   frees-within : (log : Log) (segs : List ℕ) → MessagesWithin n (frees_segments log segs)

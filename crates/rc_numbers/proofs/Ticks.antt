@@ -16,7 +16,7 @@ use Rattle.rc_model.specs.Master.{Master, Task, place_of}
 use Rattle.rc_model.specs.Writing.{written}
 use Rattle.rc_model.specs.ListRules.{then_does, obeys_list}
 use Rattle.rc_model.specs.FollowUps.{goes_on}
-use Rattle.rc_model.specs.MasterTick.{to_remind, is_closing_old, lacking, reminds_member, reminds_members, reminds_open, reminds_shut_members, reminds_shut, awaits_commit, commits_again, has_not_come, fetch_of, fetches_again, awaits_grant, recovered_again, ready_again, reminds, ticks}
+use Rattle.rc_model.specs.MasterTick.{standing, to_remind, is_closing_old, lacking, reminds_member, reminds_members, reminds_open, reminds_shut_members, reminds_shut, awaits_commit, commits_again, has_not_come, fetch_of, fetches_again, awaits_grant, recovered_again, ready_again, reminds, ticks}
 use Rattle.rc_model.specs.MasterStep.{master_takes_first, deposed_takes, master_takes, master_ticks}
 use Rattle.rc_model.proofs.Members.{either}
 use Rattle.rc_numbers.specs.Numbers.{body_within, MessagesWithin, LogWithin, MasterWithin}
@@ -59,9 +59,9 @@ module _ (n : ℕ) where
   shut-within : (before log : Log) (segs : List ℕ) → LogWithin n log → MessagesWithin n (reminds_shut before log segs)
   shut-within before log [] each = none-within n
   shut-within before log (seg ∷ segs) each =
-      both-within n (cond ((log.segments seg).shut && not (log.segments seg).freed) (reminds_shut_members log seg (to_remind before log seg)) []) (reminds_shut before log segs)
-      (either (MessagesWithin n) ((log.segments seg).shut && not (log.segments seg).freed) (reminds_shut_members log seg (to_remind before log seg)) []
-      (λ e. shut_members-within log seg (to_remind before log seg) each) (λ e. none-within n))
+      both-within n (cond ((log.segments seg).shut && not (log.segments seg).freed) (reminds_shut_members log seg (standing before log seg)) []) (reminds_shut before log segs)
+      (either (MessagesWithin n) ((log.segments seg).shut && not (log.segments seg).freed) (reminds_shut_members log seg (standing before log seg)) []
+      (λ e. shut_members-within log seg (standing before log seg) each) (λ e. none-within n))
       (shut-within before log segs each)
 
   fetches-within : (master : Master) (tasks : List Task) → MessagesWithin n (fetches_again master tasks)

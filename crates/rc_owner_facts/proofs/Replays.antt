@@ -125,7 +125,7 @@ grants-job : (world : World) (one : Event) (found : Option Job) → work_of worl
 grants-job world one None is good p can = p
 grants-job world one (Some job) is good p can = grants-node world one job.node job.work good p (work_of-given world.sent one job is) can
 
-grants-step : (world : World) (one : Event) → GoodWorld world → OfWorld world → OfWorld (step world one)
+pub grants-step : (world : World) (one : Event) → GoodWorld world → OfWorld world → OfWorld (step world one)
 grants-step world one good p =
     either OfWorld (is_possible world one) (job_done world one (work_of world.sent one)) world (λ can. grants-job world one (work_of world.sent one) refl good p can) (λ _. p)
 
@@ -133,6 +133,9 @@ grants-from : (world : World) (events : List Event) → GoodWorld world → OfWo
 grants-from world [] good p = p
 grants-from world (one ∷ events) good p = grants-from (step world one) events (good-step world one good) (grants-step world one good p)
 
--- they hold of every world
+-- they hold before the first event, and so of every world
+pub grants-opening : (setup : Setup) → OfWorld (opening setup)
+grants-opening setup = record { good = new-grants; kept = kept-none }
+
 pub grants-world : (setup : Setup) (events : List Event) → OfWorld (replay setup events)
-grants-world setup events = grants-from (opening setup) events (good-opening setup) (record { good = new-grants; kept = kept-none })
+grants-world setup events = grants-from (opening setup) events (good-opening setup) (grants-opening setup)

@@ -42,7 +42,7 @@ use Rattle.rc_owner_facts.proofs.Chains.{found-at, of_owner, apart-of_owner, IsP
 use Rattle.rc_owner_facts.proofs.Granting.{kept-good, IsNewGrant, granted-good}
 
 -- What is found passes the test, and where nothing is found nothing passes it
-find-some : {X : Type 0} (test : X → Bool) (xs : List X) (x : X) → find test xs ≡ Some x → In x xs × (test x ≡ true)
+pub find-some : {X : Type 0} (test : X → Bool) (xs : List X) (x : X) → find test xs ≡ Some x → In x xs × (test x ≡ true)
 find-some test [] x e = cc
 find-some test (y ∷ xs) x e = by (test y) refl (find-some test xs x) e
   where
@@ -53,7 +53,7 @@ find-some test (y ∷ xs) x e = by (test y) refl (find-some test xs x) e
     by true is rec e = let same : y ≡ x = cc in (inl (sym same), subst (λ z. test z ≡ true) same is)
     by false is rec e = further (rec e)
 
-find-none : {X : Type 0} (test : X → Bool) (xs : List X) (x : X) → find test xs ≡ None → In x xs → test x ≡ true → ⊥
+pub find-none : {X : Type 0} (test : X → Bool) (xs : List X) (x : X) → find test xs ≡ None → In x xs → test x ≡ true → ⊥
 find-none test [] x e at passes = absurd at
 find-none test (y ∷ xs) x e at passes = by (test y) refl (find-none test xs x) e at
   where
@@ -65,7 +65,7 @@ find-none test (y ∷ xs) x e at passes = by (test y) refl (find-none test xs x)
 abbrev pub gives : ServerId → Part → GivenPart
 gives id part = record { to = id; part = part }
 
-given-in : (id : ServerId) (parts : List GivenPart) (part : Part) → In part (parts_of id parts) → In (record { to = id; part = part }) parts
+pub given-in : (id : ServerId) (parts : List GivenPart) (part : Part) → In part (parts_of id parts) → In (record { to = id; part = part }) parts
 given-in id [] part at = absurd at
 given-in id (first ∷ parts) part at = by (same_id id first.to) refl (given-in id parts part) at
   where
@@ -120,11 +120,10 @@ says-plans c number master decision decided (id ∷ ids) =
       given = λ some at. given-in id decision.parts some (among some at);
     })
 
--- an attempt begins
-begun-good : (c : Coordinator) → GoodGrants c → (master : ServerId) → GoodGrants (begins_attempt c master).0
-begun-good c good master =
-    kept-good c good c.servers c.ready c.tablets c.least (c.attempts ++ new_attempt master ∷ []) (put_id c.current master (length c.attempts + 1)) good.apart (λ table key. refl) (λ m e. e)
-    (λ number other decision decided. old number other decision decided (get-append c.attempts (new_attempt master ∷ []) decided.numbered.place decided.attempt decided.numbered.attempt_is))
+-- what is decided once an attempt has begun was decided before, and in a current attempt only if it was current
+pub begun-decided : (c : Coordinator) (master : ServerId) (number : ℕ) (other : ServerId) (decision : Decision) → IsDecided (c.attempts ++ new_attempt master ∷ []) number other decision →
+    IsDecided c.attempts number other decision × (put_id c.current master (length c.attempts + 1) other ≡ number → c.current other ≡ number)
+begun-decided c master number other decision decided = old (get-append c.attempts (new_attempt master ∷ []) decided.numbered.place decided.attempt decided.numbered.attempt_is)
   where
     undecided : (j : ℕ) (attempt : Attempt) (decision : Decision) → slice_get (new_attempt master ∷ []) j ≡ Some attempt → attempt.decided ≡ Some decision → ⊥
     undecided j attempt decision e has = new (In-get (new_attempt master ∷ []) j attempt e)
@@ -133,28 +132,68 @@ begun-good c good master =
         new (inl same) = some-none (sym has ∙ ap (λ (one : Attempt). one.decided) same)
         new (inr never) = never
 
-    current : (number : ℕ) (other : ServerId) → number < length c.attempts + 1 → put_id c.current master (length c.attempts + 1) other ≡ number → c.current other ≡ number
-    current number other below =
+    current : number < length c.attempts + 1 → put_id c.current master (length c.attempts + 1) other ≡ number → c.current other ≡ number
+    current below =
         put_id_each (λ (k : ServerId) (n : ℕ). n ≡ number → c.current k ≡ number) c.current master (length c.attempts + 1)
         (λ e. absurd (never e)) (λ k e. e) other
       where
         never : length c.attempts + 1 ≡ number → ⊥
         never e = omega (arith, e, below)
 
-    old : (number : ℕ) (other : ServerId) (decision : Decision) → (decided : IsDecided (c.attempts ++ new_attempt master ∷ []) number other decision) →
-        (slice_get c.attempts decided.numbered.place ≡ Some decided.attempt) ⊎ ((j : ℕ) × (decided.numbered.place ≡ length c.attempts + j) × (slice_get (new_attempt master ∷ []) j ≡ Some decided.attempt)) →
+    old : (slice_get c.attempts decided.numbered.place ≡ Some decided.attempt) ⊎ ((j : ℕ) × (decided.numbered.place ≡ length c.attempts + j) × (slice_get (new_attempt master ∷ []) j ≡ Some decided.attempt)) →
         IsDecided c.attempts number other decision × (put_id c.current master (length c.attempts + 1) other ≡ number → c.current other ≡ number)
-    old number other decision decided (inl there) = (
+    old (inl there) = (
       record {
         attempt = decided.attempt;
         numbered = record { place = decided.numbered.place; number_is = decided.numbered.number_is; attempt_is = there };
         master_is = decided.master_is;
         decided = decided.decided;
       },
-      current number other (let below : decided.numbered.place < length c.attempts = get-within c.attempts decided.numbered.place decided.attempt there in
+      current (let below : decided.numbered.place < length c.attempts = get-within c.attempts decided.numbered.place decided.attempt there in
           let is : number ≡ decided.numbered.place + 1 = decided.numbered.number_is in omega (arith, below, is)),
     )
-    old number other decision decided (inr (j, p, q)) = absurd (undecided j decided.attempt decision q decided.decided)
+    old (inr (j, p, q)) = absurd (undecided j decided.attempt decision q decided.decided)
+
+-- an attempt begins
+begun-good : (c : Coordinator) → GoodGrants c → (master : ServerId) → GoodGrants (begins_attempt c master).0
+begun-good c good master =
+    kept-good c good c.servers c.ready c.tablets c.least (c.attempts ++ new_attempt master ∷ []) (put_id c.current master (length c.attempts + 1)) good.apart (λ table key. refl) (λ m e. e)
+    (begun-decided c master)
+
+-- an answer decides nothing
+pub answered-decided : (c : Coordinator) (from : ServerId) (number : ℕ) (rows : List Row) (attempt : Attempt) → attempt.decided ≡ None → (other : ℕ) (master : ServerId) (decision : Decision) →
+    IsDecided (slice_set c.attempts (number - 1) (with_answer from rows attempt)) other master decision → IsDecided c.attempts other master decision
+answered-decided c from number rows attempt undecided other master decision decided =
+    by (get-set c.attempts (number - 1) (with_answer from rows attempt) decided.numbered.place decided.attempt decided.numbered.attempt_is)
+  where
+    by : (slice_get c.attempts decided.numbered.place ≡ Some decided.attempt) ⊎ ((decided.numbered.place ≡ number - 1) × (decided.attempt ≡ with_answer from rows attempt)) → IsDecided c.attempts other master decision
+    by (inl there) = record {
+      attempt = decided.attempt;
+      numbered = record { place = decided.numbered.place; number_is = decided.numbered.number_is; attempt_is = there };
+      master_is = decided.master_is;
+      decided = decided.decided;
+    }
+    by (inr (p, q)) = some-none (sym decided.decided ∙ (ap (λ (one : Attempt). one.decided) q ∙ undecided))
+
+-- what is decided once this attempt is decided was decided before, or is this decision
+pub newly-decided : (c : Coordinator) (number : ℕ) (attempt : Attempt) (new : Decision) (other : ℕ) (master : ServerId) (decision : Decision) →
+    IsDecided (slice_set c.attempts (number - 1) (record attempt { decided = Some new })) other master decision →
+    IsDecided c.attempts other master decision ⊎ ((master ≡ attempt.master) × (decision ≡ new))
+newly-decided c number attempt new other master decision decided =
+    by (get-set c.attempts (number - 1) (record attempt { decided = Some new }) decided.numbered.place decided.attempt decided.numbered.attempt_is)
+  where
+    by : (slice_get c.attempts decided.numbered.place ≡ Some decided.attempt) ⊎ ((decided.numbered.place ≡ number - 1) × (decided.attempt ≡ record attempt { decided = Some new })) →
+        IsDecided c.attempts other master decision ⊎ ((master ≡ attempt.master) × (decision ≡ new))
+    by (inl there) = inl (record {
+      attempt = decided.attempt;
+      numbered = record { place = decided.numbered.place; number_is = decided.numbered.number_is; attempt_is = there };
+      master_is = decided.master_is;
+      decided = decided.decided;
+    })
+    by (inr (p, q)) = inr (sym decided.master_is ∙ ap (λ (one : Attempt). one.master) q, same (sym decided.decided ∙ ap (λ (one : Attempt). one.decided) q))
+      where
+        same : Some decision ≡ Some new → decision ≡ new
+        same e = cc
 
 module _ (sent : List Message) (c : Coordinator) (base : GoodCoordinator sent c) (good : GoodGrants c) where
   -- no grant is made
@@ -244,7 +283,7 @@ module _ (sent : List Message) (c : Coordinator) (base : GoodCoordinator sent c)
 
   -- Answers
 
-  undecided-none : (decided : Option Decision) → is_undecided decided ≡ true → decided ≡ None
+  pub undecided-none : (decided : Option Decision) → is_undecided decided ≡ true → decided ≡ None
   undecided-none None e = refl
   undecided-none (Some decision) e = cc
 
@@ -255,20 +294,10 @@ module _ (sent : List Message) (c : Coordinator) (base : GoodCoordinator sent c)
       (λ all. kept (undecided-none attempt.decided (and_parts (is_gathering attempt) (not (has_answered from attempt.replies)) (and_parts (is_current c number attempt) (is_gathering attempt && not (has_answered from attempt.replies)) all).1).0))
       (λ _. still)
     where
-      old : attempt.decided ≡ None → (other : ℕ) (master : ServerId) (decision : Decision) → (decided : IsDecided (slice_set c.attempts (number - 1) (with_answer from rows attempt)) other master decision) →
-          (slice_get c.attempts decided.numbered.place ≡ Some decided.attempt) ⊎ ((decided.numbered.place ≡ number - 1) × (decided.attempt ≡ with_answer from rows attempt)) → IsDecided c.attempts other master decision
-      old undecided other master decision decided (inl there) = record {
-        attempt = decided.attempt;
-        numbered = record { place = decided.numbered.place; number_is = decided.numbered.number_is; attempt_is = there };
-        master_is = decided.master_is;
-        decided = decided.decided;
-      }
-      old undecided other master decision decided (inr (p, q)) = some-none (sym decided.decided ∙ (ap (λ (one : Attempt). one.decided) q ∙ undecided))
-
       kept : attempt.decided ≡ None → GrantsMoved c (with_attempt c number (with_answer from rows attempt), [])
       kept undecided = quiet (with_attempt c number (with_answer from rows attempt)) []
           (kept-good c good c.servers c.ready c.tablets c.least (slice_set c.attempts (number - 1) (with_answer from rows attempt)) c.current good.apart (λ table key. refl) (λ m e. e)
-          (λ other master decision decided. (old undecided other master decision decided (get-set c.attempts (number - 1) (with_answer from rows attempt) decided.numbered.place decided.attempt decided.numbered.attempt_is), λ e. e)))
+          (λ other master decision decided. (answered-decided c from number rows attempt undecided other master decision decided, λ e. e)))
           refl (says-none (with_attempt c number (with_answer from rows attempt)))
 
   -- Splits
@@ -281,7 +310,7 @@ module _ (sent : List Message) (c : Coordinator) (base : GoodCoordinator sent c)
       (says-one (record c { tablets = split_at table at c.tablets }) Outside (SplitOk table at) tt)
 
   -- a split begins above its tablet's first key
-  above-first : (table at : ℕ) (tablets : List Tablet) (found : Option Tablet) → tablet_of tablets table at ≡ found → split_fault tablets at found ≡ None → 0 < at
+  pub above-first : (table at : ℕ) (tablets : List Tablet) (found : Option Tablet) → tablet_of tablets table at ≡ found → split_fault tablets at found ≡ None → 0 < at
   above-first table at tablets None e fine = some-none fine
   above-first table at tablets (Some tablet) e fine = by_test (nat_eq at tablet.lo)
       (λ same. some-none (sym (ap (λ b. cond b (Some BadSplit) (cond tablet.crashed (Some Recovering) (cond (is_too_many tablets) (Some TooManyTablets) None))) same) ∙ fine))
@@ -354,20 +383,7 @@ module _ (sent : List Message) (c : Coordinator) (base : GoodCoordinator sent c)
       which : (other : ℕ) (master : ServerId) (decision : Decision) →
           IsDecided (slice_set c.attempts (number - 1) (record attempt { decided = Some (decision_of c number attempt.master plan (id ∷ ids)) })) other master decision →
           IsDecided c.attempts other master decision ⊎ ((master ≡ attempt.master) × (decision ≡ decision_of c number attempt.master plan (id ∷ ids)))
-      which other master decision decided = by (get-set c.attempts (number - 1) (record attempt { decided = Some (decision_of c number attempt.master plan (id ∷ ids)) }) decided.numbered.place decided.attempt decided.numbered.attempt_is)
-        where
-          by : (slice_get c.attempts decided.numbered.place ≡ Some decided.attempt) ⊎ ((decided.numbered.place ≡ number - 1) × (decided.attempt ≡ record attempt { decided = Some (decision_of c number attempt.master plan (id ∷ ids)) })) →
-              IsDecided c.attempts other master decision ⊎ ((master ≡ attempt.master) × (decision ≡ decision_of c number attempt.master plan (id ∷ ids)))
-          by (inl there) = inl (record {
-            attempt = decided.attempt;
-            numbered = record { place = decided.numbered.place; number_is = decided.numbered.number_is; attempt_is = there };
-            master_is = decided.master_is;
-            decided = decided.decided;
-          })
-          by (inr (p, q)) = inr (sym decided.master_is ∙ ap (λ (one : Attempt). one.master) q, same (sym decided.decided ∙ ap (λ (one : Attempt). one.decided) q))
-            where
-              same : Some decision ≡ Some (decision_of c number attempt.master plan (id ∷ ids)) → decision ≡ decision_of c number attempt.master plan (id ∷ ids)
-              same e = cc
+      which = newly-decided c number attempt (decision_of c number attempt.master plan (id ∷ ids))
 
       of_tablet : (given : GivenPart) → In given (gives_parts (id ∷ ids) (number - 1) (c.last_term + 1) (tablets_of attempt.master c.tablets)) → IsPartOf (tablets_of attempt.master c.tablets) (c.last_term + 1) given
       of_tablet given at = part-of (id ∷ ids) (number - 1) (c.last_term + 1) (tablets_of attempt.master c.tablets) given at
@@ -456,14 +472,14 @@ module _ (sent : List Message) (c : Coordinator) (base : GoodCoordinator sent c)
       told one (inr (inr never)) = absurd never
 
   -- the part that is granted: it was given to the sender in an attempt that is current
-  record IsSenders (id : ServerId) (number term : ℕ) (part : Part) : Type 0 where
-    attempt : Attempt
-    numbered : IsNumbered c.attempts number attempt
-    current : c.current attempt.master ≡ number
-    decision : Decision
-    decided : attempt.decided ≡ Some decision
-    among : In (gives id part) decision.parts
-    term_is : part.term ≡ term
+  pub record IsSenders (id : ServerId) (number term : ℕ) (part : Part) : Type 0 where
+    pub attempt : Attempt
+    pub numbered : IsNumbered c.attempts number attempt
+    pub current : c.current attempt.master ≡ number
+    pub decision : Decision
+    pub decided : attempt.decided ≡ Some decision
+    pub among : In (gives id part) decision.parts
+    pub term_is : part.term ≡ term
 
   senders-in : (id : ServerId) (number term : ℕ) (part : Part) (attempt : Attempt) (decided : Option Decision) → IsNumbered c.attempts number attempt → c.current attempt.master ≡ number → attempt.decided ≡ decided →
       part_in id term decided ≡ Some part → IsSenders id number term part
@@ -480,7 +496,7 @@ module _ (sent : List Message) (c : Coordinator) (base : GoodCoordinator sent c)
         term_is = eqb-true part.term term one.1;
       }
 
-  senders : (id : ServerId) (number term : ℕ) (part : Part) (found : Option Attempt) → ((attempt : Attempt) → found ≡ Some attempt → IsNumbered c.attempts number attempt) →
+  pub senders : (id : ServerId) (number term : ℕ) (part : Part) (found : Option Attempt) → ((attempt : Attempt) → found ≡ Some attempt → IsNumbered c.attempts number attempt) →
       part_if_current c id number term found ≡ Some part → IsSenders id number term part
   senders id number term part None numbered is = cc
   senders id number term part (Some attempt) numbered is =
@@ -488,7 +504,20 @@ module _ (sent : List Message) (c : Coordinator) (base : GoodCoordinator sent c)
       (λ current found. senders-in id number term part attempt attempt.decided (numbered attempt refl) (eqb-true (c.current attempt.master) number current) refl found)
       (λ _ none. cc) is
 
-  new-grant : (id : ServerId) (number term : ℕ) (part : Part) → IsSenders id number term part → is_up c.servers id ≡ true → grant_to c id term ≡ None → has_range (range_of part) c.tablets ≡ true →
+  -- its attempt was decided, and where no grant of its term is found it was not granted
+  pub senders-decided : (id : ServerId) (number term : ℕ) (part : Part) → (mine : IsSenders id number term part) → IsDecided c.attempts number mine.attempt.master mine.decision
+  senders-decided id number term part mine = record { attempt = mine.attempt; numbered = mine.numbered; master_is = refl; decided = mine.decided }
+
+  pub senders-open : (id : ServerId) (number term : ℕ) (part : Part) → IsSenders id number term part → grant_to c id term ≡ None → IsGiven c.grants (gives id part) → ⊥
+  senders-open id number term part mine none p = find-none (is_grant_to id term) c.grants p.grant none p.among passes
+    where
+      passes : (nat_eq p.grant.term term && same_id p.grant.owner id) ≡ true
+      passes = ap (λ n. nat_eq n term && same_id p.grant.owner id) (p.term ∙ mine.term_is) ∙ (ap (λ (m : ServerId). nat_eq term term && same_id m id) p.owner ∙ own term)
+        where
+          own : (n : ℕ) → (nat_eq n n && same_id id id) ≡ true
+          own n = grind (arith, nat_tests)
+
+  pub new-grant : (id : ServerId) (number term : ℕ) (part : Part) → IsSenders id number term part → is_up c.servers id ≡ true → grant_to c id term ≡ None → has_range (range_of part) c.tablets ≡ true →
       IsNewGrant c (assigned (range_of part) id part.term c.tablets) (grant_of number id part) c.last_term
   new-grant id number term part mine is_up_now none has = record {
     apart = apart-assigned (range_of part) id part.term c.tablets good.apart;
@@ -507,16 +536,10 @@ module _ (sent : List Message) (c : Coordinator) (base : GoodCoordinator sent c)
   }
     where
       is_decided : IsDecided c.attempts number mine.attempt.master mine.decision
-      is_decided = record { attempt = mine.attempt; numbered = mine.numbered; master_is = refl; decided = mine.decided }
+      is_decided = senders-decided id number term part mine
 
       not_yet : IsGiven c.grants (gives id part) → ⊥
-      not_yet p = find-none (is_grant_to id term) c.grants p.grant none p.among passes
-        where
-          passes : (nat_eq p.grant.term term && same_id p.grant.owner id) ≡ true
-          passes = ap (λ n. nat_eq n term && same_id p.grant.owner id) (p.term ∙ mine.term_is) ∙ (ap (λ (m : ServerId). nat_eq term term && same_id m id) p.owner ∙ own term)
-            where
-              own : (n : ℕ) → (nat_eq n n && same_id id id) ≡ true
-              own n = grind (arith, nat_tests)
+      not_yet = senders-open id number term part mine none
 
       waits : (table key : ℕ) → in_range (range_of part) table key ≡ true → owner_at c.tablets table key ≡ Some (mine.attempt.master, part.previous)
       waits table key e = good.waiting number mine.attempt.master mine.decision is_decided mine.current (gives id part) mine.among not_yet table key e
@@ -585,7 +608,7 @@ module _ (sent : List Message) (c : Coordinator) (base : GoodCoordinator sent c)
 
   -- Tables
 
-  new-table : (table : ℕ) (owner : ServerId) → is_up c.servers owner ≡ true → has_table c.tablets table ≡ false →
+  pub new-table : (table : ℕ) (owner : ServerId) → is_up c.servers owner ≡ true → has_table c.tablets table ≡ false →
       IsNewGrant c (with_table table owner (c.last_term + 1) c.tablets) (first_grant table owner (c.last_term + 1)) (c.last_term + 1)
   new-table table owner is_up_now fresh = record {
     apart = apart-new table (c.last_term + 1) owner c.tablets fresh good.apart;

@@ -1,3 +1,5 @@
 pub mod Grants
 pub mod Claims
 pub mod Headline
+pub mod Waiting
+pub mod Recoveries

@@ -4,3 +4,4 @@
 
 pub mod grants;
 pub mod owners;
+pub mod recoveries;

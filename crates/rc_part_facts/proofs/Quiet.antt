@@ -15,8 +15,9 @@ use Rattle.rc_model.specs.Log.{Log, head_of, old_head_of, numbers_to, with_segme
 use Rattle.rc_model.specs.Heads.{opens_head, opened_first, open_first, next_digest, rolled, begin_roll, loses, may_start, may_close, may_write, left_out, starts, closes_old, writes_on}
 use Rattle.rc_model.specs.Master.{Master, Task, with_log, to_ids, ids_of, to_unlost, place_of, places_head, durable_entries}
 use Rattle.rc_model.specs.ListRules.{places_segment, replaces_lost, replaces_lost_of, opens_first, tries_first, obeys_list, takes_list}
+use Rattle.rc_model.specs.Segment.{is_unclosed, with_closes_sent}
 use Rattle.rc_model.specs.FollowUps.{when, follows_start, follows_placed, close_is_due, close_marked, follows_closing, frees_segments, follows_shut, first_open, wants_commit, commits, commits_open, follows_change, marks_shut}
-use Rattle.rc_model.specs.MasterTick.{to_remind, lacking, is_closing_old, reminds_member, reminds_members, reminds_open, reminds_shut_members, reminds_shut, awaits_commit, commits_again, ready_again}
+use Rattle.rc_model.specs.MasterTick.{standing, to_remind, lacking, is_closing_old, reminds_member, reminds_members, reminds_open, reminds_shut_members, reminds_shut, awaits_commit, commits_again, ready_again}
 use Rattle.rc_model.specs.Headline.{In}
 use Rattle.rc_model.proofs.Members.{either}
 use Rattle.rc_master_facts.proofs.Tests.{In-map}
@@ -100,11 +101,11 @@ module _ (sent : List Message) (m : ServerId) where
 
   pub does-closing : (master : Master) → HasHead master.log → GoodParts sent m (part_view master) → Does master (follows_closing master)
   does-closing master head good = does-when master (close_is_due master.log) (with_log master (close_marked master.log), messages)
-      (λ e. quiet-log sent m master (close_marked master.log) messages head good (same-segment master.log (master.log.head - 1) (record (old_head_of master.log) { close_sent = true }) refl)
-      (plain-to_ids master.log.own (ids_of (old_head_of master.log).config.members) (body.Close (master.log.head - 1) (length (old_head_of master.log).entries)) tt))
+      (λ e. quiet-log sent m master (close_marked master.log) messages head good (same-segment master.log (master.log.head - 1) (with_closes_sent (old_head_of master.log)) refl)
+      (plain-to_ids master.log.own (ids_of (filter (is_unclosed (old_head_of master.log)) (old_head_of master.log).config.members)) (body.Close (master.log.head - 1) (length (old_head_of master.log).entries)) tt))
     where
       messages : List Message
-      messages = to_ids master.log.own (ids_of (old_head_of master.log).config.members) (body.Close (master.log.head - 1) (length (old_head_of master.log).entries))
+      messages = to_ids master.log.own (ids_of (filter (is_unclosed (old_head_of master.log)) (old_head_of master.log).config.members)) (body.Close (master.log.head - 1) (length (old_head_of master.log).entries))
 
   plain-frees : (log : Log) (segs : List ℕ) → AllPlain (frees_segments log segs)
   plain-frees log [] = plain-none
@@ -167,9 +168,9 @@ plain-shut_members log seg members =
 pub plain-reminds_shut : (before log : Log) (segs : List ℕ) → AllPlain (reminds_shut before log segs)
 plain-reminds_shut before log [] = plain-none
 plain-reminds_shut before log (seg ∷ segs) =
-    plain-both (cond ((log.segments seg).shut && not (log.segments seg).freed) (reminds_shut_members log seg (to_remind before log seg)) []) (reminds_shut before log segs)
-    (either AllPlain ((log.segments seg).shut && not (log.segments seg).freed) (reminds_shut_members log seg (to_remind before log seg)) []
-    (λ _. plain-shut_members log seg (to_remind before log seg)) (λ _. plain-none))
+    plain-both (cond ((log.segments seg).shut && not (log.segments seg).freed) (reminds_shut_members log seg (standing before log seg)) []) (reminds_shut before log segs)
+    (either AllPlain ((log.segments seg).shut && not (log.segments seg).freed) (reminds_shut_members log seg (standing before log seg)) []
+    (λ _. plain-shut_members log seg (standing before log seg)) (λ _. plain-none))
     (plain-reminds_shut before log segs)
 
 pub plain-commits_again : (log : Log) → AllPlain (commits_again log)

@@ -6,6 +6,7 @@ use Rattle.rc_types.specs.declared.ids.Addr.{Addr}
 use Rattle.rc_types.specs.declared.ids.Addr.TheVariants.{Server, Coordinator as AtCoordinator, Outside}
 use Rattle.rc_types.specs.declared.entries.Entry.{Entry}
 use Rattle.rc_types.specs.declared.rows.Part.{Part}
+use Rattle.rc_types.specs.declared.rows.Plan.{Plan}
 use Rattle.rc_types.specs.declared.rows.PlanRow.{PlanRow}
 use Rattle.rc_types.specs.declared.kept.Grant.{Grant}
 use Rattle.rc_types.specs.declared.messages.Message.{Message}
@@ -18,13 +19,16 @@ use Rattle.rc_model.specs.Backup.{is_in_part}
 use Rattle.rc_model.specs.Log.{places_of}
 use Rattle.rc_model.specs.Ownership.{under_term}
 use Rattle.rc_model.specs.Master.{Master, Task}
+use Rattle.rc_model.specs.Attempts.{Attempt, Decision}
 use Rattle.rc_model.specs.Coordinator.{Coordinator}
 use Rattle.rc_model.specs.Nodes.{HostNode}
 use Rattle.rc_model.specs.Deciding.{range_of}
-use Rattle.rc_model.specs.Headline.{In, HasMade}
+use Rattle.rc_model.specs.Recovered.{Accepted}
+use Rattle.rc_model.specs.Headline.{In, HasMade, WasAccepted}
 use Rattle.rc_model.proofs.Said.{HasMade-from, HasMade-in}
-use Rattle.rc_facts.specs.Words.{Begins, log_in}
-use Rattle.rc_facts.specs.Facts.{Good}
+use Rattle.rc_facts.specs.Words.{Begins, log_in, IsNumbered}
+use Rattle.rc_facts.specs.Facts.{Good, IsPlan, body_fine}
+use Rattle.rc_coordinator_facts.proofs.Attempting.{numbered-same}
 use Rattle.rc_log_safety.proofs.Clauses.{made-is, accepted-is, held-made}
 use Rattle.rc_term_facts.specs.Terms.{IsGivenBy}
 use Rattle.rc_data_facts.specs.Data.{IsCut, data_fine, data_between}
@@ -55,6 +59,33 @@ filter-append test (x ∷ xs) ys = filter-step test x xs ys (test x) (filter-app
 filter-same : {X : Type 0} (f g : X → Bool) (xs : List X) → ((x : X) → f x ≡ g x) → filter f xs ≡ filter g xs
 filter-same f g [] same = refl
 filter-same f g (x ∷ xs) same = ap (λ b. cond b (x ∷ filter f xs) (filter f xs)) (same x) ∙ ap (λ l. cond (g x) (x ∷ l) l) (filter-same f g xs same)
+
+-- Plans
+
+-- accepted recoveries of one attempt are one
+one-plan : (sent : List Message) (masters : ServerId → Master) (hosts : ℕ → HostNode) (c : Coordinator) → Good sent masters hosts c → (one other : Accepted) → WasAccepted sent one → WasAccepted sent other →
+    one.attempt ≡ other.attempt → one ≡ other
+one-plan sent masters hosts c good one other was is same = joined one other same
+    (sym p.master_is ∙ (ap (λ (attempt : Attempt). attempt.master) attempts ∙ q.master_is))
+    (sym (ap (λ (plan : Plan). plan.rows) p.plan_is) ∙ (ap (λ (decision : Decision). decision.plan.rows) decisions ∙ ap (λ (plan : Plan). plan.rows) q.plan_is))
+  where
+    p : IsPlan c one.attempt one.master was.head one.rows
+    p = subst (λ (says : Body). body_fine sent masters hosts c was.message.from was.message.to says) was.says (good.messages was.message was.among)
+
+    q : IsPlan c other.attempt other.master is.head other.rows
+    q = subst (λ (says : Body). body_fine sent masters hosts c is.message.from is.message.to says) is.says (good.messages is.message is.among)
+
+    attempts : p.attempt ≡ q.attempt
+    attempts = numbered-same c.attempts other.attempt p.attempt q.attempt (subst (λ n. IsNumbered c.attempts n p.attempt) same p.numbered) q.numbered
+
+    decisions : p.decision ≡ q.decision
+    decisions = one_some p.decision q.decision (sym p.decided ∙ (ap (λ (attempt : Attempt). attempt.decided) attempts ∙ q.decided))
+      where
+        one_some : (a b : Decision) → Some a ≡ Some b → a ≡ b
+        one_some a b e = cc
+
+    joined : (a b : Accepted) → a.attempt ≡ b.attempt → a.master ≡ b.master → a.rows ≡ b.rows → a ≡ b
+    joined a b x y z j = record { attempt = x j; master = y j; rows = z j }
 
 nat_eq-turned : (a b : ℕ) → nat_eq a b ≡ nat_eq b a
 nat_eq-turned a b = by (nat_eq a b) refl (nat_eq b a) refl
@@ -171,6 +202,9 @@ module _ (sent : List Message) (masters : ServerId → Master) (hosts : ℕ → 
     plan = record { attempt = s.task.attempt; master = s.task.master; rows = s.task.rows };
     accepted = (task-of sent masters hosts c all grant.owner s.task s.task_among).accepted;
     attempt_is = s.attempt_is;
+    only = λ other accepted same.
+        one-plan sent masters hosts c all.good other (record { attempt = s.task.attempt; master = s.task.master; rows = s.task.rows }) accepted
+        (task-of sent masters hosts c all grant.owner s.task s.task_among).accepted (same ∙ sym s.attempt_is);
     begins = subst (λ entries. Begins entries (under grant.term (take (masters grant.owner).log.durable (logged (places_of (masters grant.owner).log))))) whole
         (subst (λ t. Begins (map (under_term T) s.joined.entries) (under t (take (masters grant.owner).log.durable (logged (places_of (masters grant.owner).log))))) same_term
         (joined-begins sent masters hosts c all grant.owner s.task s.state s.joined s.durable));

@@ -1,5 +1,5 @@
 -- Words in which the claims on data, grants and handovers are said.
-use Rattle.std.specs.Prelude.{◌≡◌, ◌⊎◌, ℕ, ◌<◌, List, filter, take, Some, slice_get}
+use Rattle.std.specs.Prelude.{◌≡◌, ◌⊎◌, ℕ, ◌<◌, nat_eq, nat_le, Bool, ◌&&◌, List, filter, take, Some, slice_get}
 use Rattle.rc_types.specs.declared.ids.ServerId.{ServerId}
 use Rattle.rc_types.specs.declared.ids.Addr.TheVariants.{Server}
 use Rattle.rc_types.specs.declared.entries.Entry.{Entry}
@@ -10,7 +10,6 @@ use Rattle.rc_types.specs.declared.messages.Body.TheVariants.{Plan as PlanBody}
 use Rattle.rc_model.specs.Recovered.{Ack, Accepted}
 use Rattle.rc_model.specs.Owners.{Granted, IsGranted, IsEarlier}
 use Rattle.rc_model.specs.Base.{made_below, base}
-use Rattle.rc_model.specs.Backup.{is_in_part}
 use Rattle.rc_model.specs.Log.{Log, entries_of}
 use Rattle.rc_model.specs.Master.{Master}
 use Rattle.rc_model.specs.Headline.{In, WasAccepted, IsOfAck}
@@ -38,6 +37,12 @@ pub record Keeps (sent : List Message) (m : ServerId) (log : Log) (term : ℕ) (
   pub term_is : entry.term ≡ term
   pub keeps : IsKeptBy was entry
 
+-- the entry has the part's previous term, and is of the part's table and of a key from its first to its last
+abbrev pub is_of_part : Part → Entry → Bool
+is_of_part part entry =
+    nat_eq entry.term part.previous
+    && (nat_eq entry.table part.table && (nat_le part.lo entry.key && nat_le entry.key part.hi))
+
 -- A Data is of a plan to its addressee, with a part of its term and a row of its segment whose holder is the sender. Its
 -- entries are those made below that row's length that have the part's previous term and lie in its range, in order.
 pub record IsPlanCut (sent : List Message) (message : Message) (attempt seg term : ℕ) (entries : List Entry) : Type 0 where
@@ -56,14 +61,15 @@ pub record IsPlanCut (sent : List Message) (message : Message) (attempt seg term
   pub row_among : In row rows
   pub seg_is : row.seg ≡ seg
   pub from : message.from ≡ Server row.holder
-  pub entries_are : entries ≡ filter (is_in_part part) (made_below sent master seg row.len)
+  pub entries_are : entries ≡ filter (is_of_part part) (made_below sent master seg row.len)
 
--- The base of the grant, by the accepted recovery of its attempt, is the first that its owner's log has under its term. All
--- of it is durable, and each of its entries stands at a safe place.
+-- The base of the grant, by the one accepted recovery of its attempt, however often its Plan was sent, is the first
+-- that its owner's log has under its term. All of it is durable, and each of its entries stands at a safe place.
 pub record StartsFromBase (sent : List Message) (x : ServerId) (log : Log) (grant : Granted) : Type 0 where
   pub plan : Accepted
   pub accepted : WasAccepted sent plan
   pub attempt_is : plan.attempt ≡ grant.attempt
+  pub only : (other : Accepted) → WasAccepted sent other → other.attempt ≡ grant.attempt → other ≡ plan
   pub begins : Begins (base sent plan grant) (under grant.term (take log.durable (entries_of log)))
   pub safe : (entry : Entry) → In entry (base sent plan grant) → IsSafelyLogged sent x log entry
 

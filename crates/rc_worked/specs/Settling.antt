@@ -9,7 +9,7 @@ use Rattle.rc_types.specs.declared.events.Event.{Event}
 use Rattle.rc_types.specs.declared.events.Event.TheVariants as event
 use Rattle.rc_types.specs.declared.messages.Message.{Message}
 use Rattle.rc_types.specs.declared.messages.Body.{Body}
-use Rattle.rc_types.specs.declared.messages.Body.TheVariants.{Write, Read, Ready, Fetch}
+use Rattle.rc_types.specs.declared.messages.Body.TheVariants.{Write, Read, Ready, Fetch, Place, Close, CommitOk}
 use Rattle.std.specs.Prelude.{slice_get}
 use Rattle.rc_model.specs.World.{World, step, opening}
 use Rattle.rc_model.specs.Report.{report}
@@ -68,6 +68,9 @@ of_eight factor = record { factor = factor; segment = 8; free = false; factors =
 
 abbrev pub of_two : Setup
 of_two = record { factor = 2; segment = 2; free = false; factors = [] }
+
+abbrev pub of_one : Setup
+of_one = record { factor = 2; segment = 1; free = false; factors = [] }
 
 abbrev pub id : ℕ → ℕ → ServerId
 id index generation = record { index = index; generation = generation }
@@ -141,3 +144,27 @@ is_ready_or_fetch _ = false
 
 abbrev pub settle_without_ready_and_fetch : Line
 settle_without_ready_and_fetch = Settle (λ message. is_ready_or_fetch message.body)
+
+abbrev pub is_commit_ok : Body → Bool
+is_commit_ok (CommitOk seg epoch) = true
+is_commit_ok _ = false
+
+abbrev pub settle_without_commit_ok : Line
+settle_without_commit_ok = Settle (λ message. is_commit_ok message.body)
+
+abbrev pub is_place : Body → Bool
+is_place (Place seg epoch digest entries closed) = true
+is_place _ = false
+
+abbrev pub settle_without_place : Line
+settle_without_place = Settle (λ message. is_place message.body)
+
+-- kinds of messages
+
+abbrev pub is_close : Body → Bool
+is_close (Close seg len) = true
+is_close _ = false
+
+abbrev pub is_closed_place : Body → Bool
+is_closed_place (Place seg epoch digest entries closed) = closed
+is_closed_place _ = false

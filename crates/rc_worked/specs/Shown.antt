@@ -1,10 +1,11 @@
 -- Runs in which one rule each shows.
-use Rattle.std.specs.Prelude.{◌≡◌, ℕ, ◌-◌, true, List, [], ◌∷◌, ◌++◌, length, Option, Some, slice_get, codes}
+use Rattle.std.specs.Prelude.{◌≡◌, ℕ, ◌-◌, Bool, true, List, [], ◌∷◌, ◌++◌, length, map, filter, Option, Some, slice_get, codes}
+use Rattle.rc_types.specs.declared.ids.Addr.{Addr}
 use Rattle.rc_types.specs.declared.ids.Addr.TheVariants.{Outside, Server}
 use Rattle.rc_types.specs.declared.messages.Message.{Message}
 use Rattle.rc_types.specs.declared.messages.Body.TheVariants.{ReadOk}
 use Rattle.rc_model.specs.World.{opening}
-use Rattle.rc_worked.specs.Settling.{Line, runs, report_of, of_eight, of_two, create, decide, deliver, id, read, settle, start, stop, suspect, write}
+use Rattle.rc_worked.specs.Settling.{Line, runs, report_of, of_eight, of_one, of_two, create, decide, deliver, id, is_close, is_closed_place, read, settle, settle_without_commit_ok, settle_without_place, start, stop, suspect, tick, write}
 
 -- three hosts and four, and table 7 of server 0.1
 abbrev pub three_hosts : List Line
@@ -139,3 +140,46 @@ NoDataBeforeClosedReports =
     ++ codes "refused 3 from 0.1 to out\n"
     ++ codes "refused 3 from 0.1 to out\n"
     ++ codes "messages 57\nacknowledged 2\nrefused 2\nplans 0\ngrants 1\naudit clean\n"
+
+-- to whom messages of this kind go, in order
+abbrev pub sent_to : (Message → Bool) → List Message → List Addr
+sent_to is_such sent = map (λ message. message.to) (filter is_such sent)
+
+-- a member that has taken a lost one's place in the closed old head is sent a Close too
+abbrev pub close_to_a_new_member : List Line
+close_to_a_new_member =
+    start 0 ∷ start 1 ∷ start 2 ∷ start 3 ∷ start 4 ∷ start 5 ∷ settle ∷ create 7 (id 0 1) ∷ settle ∷
+    write (id 0 1) 7 1 (codes "a") ∷ settle ∷ write (id 0 1) 7 2 (codes "a") ∷ suspect (id 3 1) ∷
+    settle_without_commit_ok ∷ suspect (id 1 1) ∷ settle_without_commit_ok ∷ []
+
+abbrev pub CloseToANewMemberReports : Type 0
+CloseToANewMemberReports =
+    report_of of_one close_to_a_new_member
+    ≡ own_line
+    ++ codes "ack 0.1 seg 1 at 0 term 1 table 7 key 1 version 1\n"
+    ++ codes "refused 3 from 0.1 to out\n"
+    ++ codes "messages 111\nacknowledged 1\nrefused 1\nplans 0\ngrants 1\naudit clean\n"
+
+abbrev pub CloseToANewMemberGoes : Type 0
+CloseToANewMemberGoes =
+    sent_to (λ message. is_close message.body) (runs (opening of_one) close_to_a_new_member).sent
+    ≡ Server (id 1 1) ∷ Server (id 2 1) ∷ Server (id 4 1) ∷ []
+
+-- a lost member of a closed segment that has told nothing is sent it again by the timer
+abbrev pub place_to_a_lost_member : List Line
+place_to_a_lost_member =
+    four_hosts ++ write (id 0 1) 7 1 (codes "a") ∷ settle ∷ write (id 0 1) 7 2 (codes "a") ∷ settle ∷
+    suspect (id 1 1) ∷ settle_without_place ∷ suspect (id 3 1) ∷ settle_without_place ∷ tick (id 0 1) ∷ []
+
+abbrev pub PlaceToALostMemberReports : Type 0
+PlaceToALostMemberReports =
+    report_of of_one place_to_a_lost_member
+    ≡ own_line
+    ++ codes "ack 0.1 seg 1 at 0 term 1 table 7 key 1 version 1\n"
+    ++ codes "refused 3 from 0.1 to out\n"
+    ++ codes "messages 62\nacknowledged 1\nrefused 1\nplans 0\ngrants 1\naudit clean\n"
+
+abbrev pub PlaceToALostMemberGoes : Type 0
+PlaceToALostMemberGoes =
+    sent_to (λ message. is_closed_place message.body) (runs (opening of_one) place_to_a_lost_member).sent
+    ≡ Server (id 3 1) ∷ Server (id 3 1) ∷ []

@@ -1,6 +1,6 @@
 //! Runs of `specs/Shown.antt`, in each of which one rule shows.
 
-ghost use Rattle.rc_worked.specs.Shown.{TwoWritesOfOneKeyReports, ReadAtSecondOwnerReports, ReadAtSecondOwnerAnswers, ReadBeforeStoredReports, NewerGenerationReports, SecondAttemptReports, RecoveredWhenStoredReports, FreedWhenWritingReports, NoDataBeforeClosedReports};
+ghost use Rattle.rc_worked.specs.Shown.{TwoWritesOfOneKeyReports, ReadAtSecondOwnerReports, ReadAtSecondOwnerAnswers, ReadBeforeStoredReports, NewerGenerationReports, SecondAttemptReports, RecoveredWhenStoredReports, FreedWhenWritingReports, NoDataBeforeClosedReports, CloseToANewMemberReports, CloseToANewMemberGoes, PlaceToALostMemberReports, PlaceToALostMemberGoes};
 
 /// The second write of a key has version 2.
 pub fn two_writes_of_one_key()
@@ -41,4 +41,16 @@ pub fn freed_when_writing()
 /// The new head takes nothing before the old one is closed.
 pub fn no_data_before_closed()
     ensures { NoDataBeforeClosedReports }
+{}
+
+/// A member that has taken a lost one's place in the closed old head is sent a Close too.
+pub fn close_to_a_new_member()
+    ensures report { CloseToANewMemberReports }
+    ensures goes { CloseToANewMemberGoes }
+{}
+
+/// A lost member of a closed segment that has told nothing is sent it again by the timer.
+pub fn place_to_a_lost_member()
+    ensures report { PlaceToALostMemberReports }
+    ensures goes { PlaceToALostMemberGoes }
 {}

@@ -1,4 +1,4 @@
-use Rattle.std.proofs.Common.{◌≡◌, ◌++◌, ◌&&◌, not, filter, drop}
+use Rattle.std.proofs.Common.{◌≡◌, ◌++◌, filter, drop}
 use Rattle.rc_model.specs.MasterTick.{stood, reminds_shut_members}
 use Rattle.rc_headroll.specs.LogData.{log_of, before_of}
 use Rattle.rc_notices.specs.Beginnings.{IsBeginning}
@@ -9,9 +9,9 @@ abbrev pub invariant-loop-member : goal.invariant-loop-member
 invariant-loop-member l = record {
   rest :
       l.sent.items ++ reminds_shut_members (log_of l.log) l.seg
-      (filter (λ member. not member.lost && stood (before_of l.log) (log_of l.log) l.seg member.id)
+      (filter (λ member. stood (before_of l.log) (log_of l.log) l.seg member.id)
       (drop l.member-index l.member-items))
       ≡ l.initial.sent.items ++ reminds_shut_members (log_of l.log) l.seg
-      (filter (λ member. not member.lost && stood (before_of l.log) (log_of l.log) l.seg member.id) l.member-items);
+      (filter (λ member. stood (before_of l.log) (log_of l.log) l.seg member.id) l.member-items);
   begun : IsBeginning l.initial.sent.items l.sent.items;
 }

@@ -1,0 +1,5 @@
+//! Durable places: what becomes one. Nothing here runs: the functions have empty bodies, and their
+//! contracts are theorems on the definitions.
+#![tactic(auto)]
+
+pub mod durable;

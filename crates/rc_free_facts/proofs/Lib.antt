@@ -1,0 +1,4 @@
+pub mod Silent
+pub mod Stays
+pub mod Walk
+mod Worlds

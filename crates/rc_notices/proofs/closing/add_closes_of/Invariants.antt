@@ -1,0 +1,15 @@
+use Rattle.std.proofs.Common.{◌≡◌, ◌++◌, drop, filter, length}
+use Rattle.rc_types.specs.declared.messages.Body.TheVariants.{Close}
+use Rattle.rc_model.specs.Master.{to_ids, ids_of}
+use Rattle.rc_model.specs.Segment.{is_unclosed}
+use Rattle.rc_notices.specs.Beginnings.{IsBeginning}
+use Rattle.rc_notices.proofs.closing.add_closes_of.Given as goal
+
+-- the messages so far, and then those to the members that are left
+abbrev pub invariant-loop-member : goal.invariant-loop-member
+invariant-loop-member l = record {
+  rest :
+      l.sent.items ++ to_ids l.own (ids_of (filter (is_unclosed l.segment) (drop l.member-index l.member-items))) (Close l.seg l.len)
+      ≡ l.initial.sent.items ++ to_ids l.own (ids_of (filter (is_unclosed l.segment) l.member-items)) (Close l.seg l.len);
+  begun : IsBeginning l.initial.sent.items l.sent.items;
+}
