@@ -1,14 +1,15 @@
 -- What is claimed of durable places: what becomes one, after every list of events of every setup.
 use Rattle.std.specs.Prelude.{◌≡◌, ◌≢◌, ℕ, ◌<◌, IsTrue, List, Some, slice_get}
 use Rattle.rc_types.specs.declared.ids.ServerId.{ServerId}
+use Rattle.rc_types.specs.declared.entries.Entry.{Entry}
 use Rattle.rc_types.specs.declared.events.Setup.{Setup}
 use Rattle.rc_types.specs.declared.events.Event.{Event}
 use Rattle.rc_model.specs.Log.{LogPlace, places_of}
 use Rattle.rc_model.specs.Nodes.{factor_of}
 use Rattle.rc_model.specs.Recovered.{Ack}
 use Rattle.rc_model.specs.Durable.{IsDurable, is_stored_on_all}
-use Rattle.rc_model.specs.Headline.{HasAcknowledged}
-use Rattle.rc_log_words.specs.Claims.{sent_after, log_of}
+use Rattle.rc_model.specs.Headline.{HasAcknowledged, HasMade}
+use Rattle.rc_log_words.specs.Claims.{sent_after, log_of, entry_in}
 
 -- Where a segment has replicas at all: a place that is stored on all is durable, since each place of the shut segments
 -- before it was stored on all when its segment was shut
@@ -28,3 +29,9 @@ abbrev pub AcknowledgedIsDurable : Type 0
 AcknowledgedIsDurable = (setup : Setup) (events : List Event) (m : ServerId) (ack : Ack) →
     factor_of setup m.index ≢ 0 → HasAcknowledged (sent_after setup events) m ack →
     IsDurable setup events m ack.seg ack.offset
+
+-- What stands at a durable place was sent
+
+abbrev pub DurableIsMade : Type 0
+DurableIsMade = (setup : Setup) (events : List Event) (m : ServerId) (s o : ℕ) → IsDurable setup events m s o →
+    (entry : Entry) × (entry_in (log_of setup events m) s o ≡ Some entry) × HasMade (sent_after setup events) m s o entry

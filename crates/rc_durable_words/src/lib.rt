@@ -3,3 +3,4 @@
 #![tactic(auto)]
 
 pub mod durable;
+pub mod handovers;

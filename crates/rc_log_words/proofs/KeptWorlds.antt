@@ -124,6 +124,11 @@ safe-held world good k m rows plan s o safe = by (cases_order plan.row.seg s)
         (safe.below plan.row.seg plan.head_copy.opened.above below))
     by (inr (inr above)) = upto (omega arith)
 
+-- where nothing is freed
+pub safe-is-held : (setup : Setup) (events : List Event) → setup.free ≡ false → (m : ServerId) (rows : List PlanRow) →
+    PlanIs (replay setup events).sent (replay setup events).masters (replay setup events).coordinator m rows → (s o : ℕ) → IsSafe (replay setup events).sent m ((replay setup events).masters m).log s o → IsHeld rows s o
+safe-is-held setup events free = safe-held (replay setup events) (good-world setup events) (keeps-world setup events free)
+
 plan-of : (world : World) → GoodWorld world → (plan : Accepted) → WasAccepted world.sent plan → PlanIs world.sent world.masters world.coordinator plan.master plan.rows
 plan-of world good plan accepted = accepted-is world.sent world.masters world.hosts world.coordinator good plan accepted
 

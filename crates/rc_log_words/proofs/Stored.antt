@@ -44,23 +44,23 @@ durable_len-least o config less =
     either (λ len. o < len → o < least_told config.members) (config.committed && not (any_lost config.members)) (least_told config.members) 0
     (λ e below. below) (λ e below. absurd (omega arith)) less
 
--- within the segment: a member has told more
-stored-within : (sent : List Message) (m : ServerId) (master : Master) (s o : ℕ) → GoodMaster sent m master → OwnFine sent m master.log → o < durable_len (master.log.segments s).config →
-    o < length (log_in master.log s)
-stored-within sent m master s o good fine less = by told
+-- below the durable length a member has told more
+pub stored-told : (sent : List Message) (m : ServerId) (master : Master) (s o : ℕ) → GoodMaster sent m master → o < durable_len (master.log.segments s).config →
+    (x : ServerId) × HasTold sent x m s (master.log.segments s).config.epoch o
+stored-told sent m master s o good less =
+    (found.0.id, good.noted s found.0 found.1 o ((durable_len-tells o (master.log.segments s).config less).1 found.0 found.1))
   where
-    config : Config
-    config = (master.log.segments s).config
-
     found : (member : Member) × In member (master.log.segments s).config.members
     found = some-member o (master.log.segments s).config.members (durable_len-least o (master.log.segments s).config less)
 
-    told : HasTold sent found.0.id m s (master.log.segments s).config.epoch o
-    told = good.noted s found.0 found.1 o ((durable_len-tells o (master.log.segments s).config less).1 found.0 found.1)
-
-    by : HasTold sent found.0.id m s (master.log.segments s).config.epoch o → o < length (log_in master.log s)
-    by one =
-        let within : one.len ≤ length (log_in master.log s) = (fine.told found.0.id s (master.log.segments s).config.epoch one.len one.closed one.told).within in
+-- so it is within the segment
+stored-within : (sent : List Message) (m : ServerId) (master : Master) (s o : ℕ) → GoodMaster sent m master → OwnFine sent m master.log → o < durable_len (master.log.segments s).config →
+    o < length (log_in master.log s)
+stored-within sent m master s o good fine less = by (stored-told sent m master s o good less)
+  where
+    by : (x : ServerId) × HasTold sent x m s (master.log.segments s).config.epoch o → o < length (log_in master.log s)
+    by (x, one) =
+        let within : one.len ≤ length (log_in master.log s) = (fine.told x s (master.log.segments s).config.epoch one.len one.closed one.told).within in
         let above : o < one.len = one.above in
         omega arith
 

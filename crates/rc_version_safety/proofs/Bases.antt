@@ -242,4 +242,5 @@ module _ (sent : List Message) (masters : ServerId → Master) (hosts : ℕ → 
         offset = place.0.offset;
         safe = (all.good.masters_are x).counted found.0 place.0 found.1 place.1;
         holds = place-logged (masters x).log place.0 is ∙ ap Some place.2;
+        counted = record { index = found.0; place = place.0; below = found.1; at = place.1; seg_is = refl; offset_is = refl };
       }

@@ -36,7 +36,7 @@ use Rattle.rc_version_safety.specs.Worlds.{AllHold}
 use Rattle.rc_version_safety.specs.Words.{Keeps, IsCarriedOn}
 use Rattle.rc_version_safety.specs.Claims.{NoVersionTwice}
 use Rattle.rc_version_safety.proofs.Bases.{IsTaskOf, task-of}
-use Rattle.rc_version_safety.proofs.Rising.{granted_of, IsRemembered, remembered, starts-keeps, GoesTo, goes-on, IsAcked, acked, IsOwned, owner, versions-rise}
+use Rattle.rc_version_safety.proofs.Rising.{granted_of, IsRemembered, remembered, Has, has-itself, Covers, starts-keeps, GoesTo, goes-on, IsAcked, acked, IsOwned, owner, versions-rise}
 
 -- What stands in a segment is among the entries of the log's places
 
@@ -153,33 +153,30 @@ module _ (sent : List Message) (masters : ServerId → Master) (hosts : ℕ → 
           server e = cc
 
   -- what a master has at a safe place under a term, each later owner of its point has, or a greater version
-  pub later-keeps : (m : ServerId) (s o : ℕ) (entry : Entry) → IsSafe sent m (masters m).log s o → slice_get (log_in (masters m).log s) o ≡ Some entry →
+  pub later-keeps : (Freed : Type 0) → Covers sent masters hosts c all Freed → (m : ServerId) (s o : ℕ) (entry : Entry) → IsSafe sent m (masters m).log s o → slice_get (log_in (masters m).log s) o ≡ Some entry →
       (grant : Granted) (x : ServerId) → IsGranted sent grant → grant.owner ≡ Server x → IsEarlier sent entry.table entry.key entry.term grant.term →
-      Keeps sent x (masters x).log grant.term entry
-  later-keeps m s o entry safe at grant x was to before =
-      subst (λ y. Keeps sent y (masters y).log grant.term entry) (of-grant grant x was to goes.grant goes.among goes.term_is)
-      (subst (λ n. Keeps sent goes.grant.owner (masters goes.grant.owner).log n entry) goes.term_is (starts-keeps sent masters hosts c all goes.grant entry goes.starts))
+      Keeps Freed sent x (masters x).log grant.term entry
+  later-keeps Freed covers_it m s o entry safe at grant x was to before =
+      subst (λ y. Keeps Freed sent y (masters y).log grant.term entry) (of-grant grant x was to goes.grant goes.among goes.term_is)
+      (subst (λ n. Keeps Freed sent goes.grant.owner (masters goes.grant.owner).log n entry) goes.term_is (starts-keeps sent masters hosts c all Freed covers_it goes.grant entry goes.starts))
     where
-      has : (old : Grant) → In old c.grants → old.term ≡ entry.term → Keeps sent old.owner (masters old.owner).log entry.term entry
-      has old among e = subst (λ y. Keeps sent y (masters y).log entry.term entry) (issued-here m entry (safe-logged m s o entry safe at) old among e) (record {
-        entry = entry;
-        at = record { seg = s; offset = o; safe = safe; holds = at };
-        term_is = refl;
-        keeps = record { table_is = refl; key_is = refl; kept = inl (refl, refl) };
-      })
+      has : (old : Grant) → In old c.grants → old.term ≡ entry.term → Has Freed sent old.owner (masters old.owner).log entry.term entry
+      has old among e =
+          subst (λ y. Has Freed sent y (masters y).log entry.term entry) (issued-here m entry (safe-logged m s o entry safe at) old among e)
+          (has-itself sent m (masters m).log s o entry safe at)
 
-      goes : GoesTo sent masters hosts c all grant.term entry
-      goes = goes-on sent masters hosts c all entry entry.term grant.term before (term-above m entry (safe-logged m s o entry safe at)) has
+      goes : GoesTo sent masters hosts c all Freed covers_it grant.term entry
+      goes = goes-on sent masters hosts c all Freed covers_it entry entry.term grant.term before (term-above m entry (safe-logged m s o entry safe at)) has
 
   -- so it is of what was acknowledged
-  pub later-keeps-acked : (ack : Ack) → WasAcknowledged sent ack → IsCarriedOn sent masters ack
-  later-keeps-acked ack was = record {
+  pub later-keeps-acked : (Freed : Type 0) → Covers sent masters hosts c all Freed → (ack : Ack) → WasAcknowledged sent ack → IsCarriedOn Freed sent masters ack
+  later-keeps-acked Freed covers_it ack was = record {
     master = p.master;
     entry = w.entry;
     stands = w.holds;
     of_ack = record { term = w.term_is; table = w.table_is; key = w.key_is };
     version = w.version_is;
-    kept = λ grant x granted to before. later-keeps p.master ack.seg ack.offset w.entry w.safe w.holds grant x granted to (way grant before);
+    kept = λ grant x granted to before. later-keeps Freed covers_it p.master ack.seg ack.offset w.entry w.safe w.holds grant x granted to (way grant before);
   }
     where
       p : IsAcked sent masters hosts c all ack

@@ -12,8 +12,8 @@ use Rattle.rc_model.proofs.Members.{In-get}
 use Rattle.rc_term_facts.specs.Terms.{IsGivenBy}
 use Rattle.rc_version_safety.specs.Worlds.{AllHold}
 use Rattle.rc_version_safety.specs.Words.{StartsFromBase}
-use Rattle.rc_version_safety.specs.Claims.{GrantsStart, FactsCutData, FactsStartGrants, FactsKeepWhatIsSafe, FactsKeepWhatWasAcknowledged, FactsLetVersionsRise}
-use Rattle.rc_version_safety.proofs.Rising.{granted_of, IsRemembered, remembered, versions-rise}
+use Rattle.rc_version_safety.specs.Claims.{MayFree, GrantsStart, FactsCutData, FactsStartGrants, FactsKeepWhatIsSafe, FactsKeepWhatWasAcknowledged, FactsLetVersionsRise}
+use Rattle.rc_version_safety.proofs.Rising.{granted_of, IsRemembered, remembered, covers-anyhow, versions-rise}
 use Rattle.rc_version_safety.proofs.Cuts.{data-is-cut, starts-from-base}
 use Rattle.rc_version_safety.proofs.Kept.{later-keeps, later-keeps-acked}
 
@@ -41,10 +41,10 @@ pub facts-start-grants : FactsStartGrants
 facts-start-grants = grants-start
 
 pub facts-keep-what-is-safe : FactsKeepWhatIsSafe
-facts-keep-what-is-safe = later-keeps
+facts-keep-what-is-safe sent masters hosts c all = later-keeps sent masters hosts c all MayFree (covers-anyhow sent masters hosts c all)
 
 pub facts-keep-what-was-acknowledged : FactsKeepWhatWasAcknowledged
-facts-keep-what-was-acknowledged = later-keeps-acked
+facts-keep-what-was-acknowledged sent masters hosts c all = later-keeps-acked sent masters hosts c all MayFree (covers-anyhow sent masters hosts c all)
 
 pub facts-let-versions-rise : FactsLetVersionsRise
 facts-let-versions-rise = versions-rise

@@ -1,5 +1,7 @@
 -- All facts hold of every world that a list of events leads to, and so does the headline.
-use Rattle.std.proofs.Common.{◌≡◌, take, Some, slice_get, refl}
+use Rattle.std.proofs.Common.{◌≡◌, ◌⊎◌, ◌<◌, Bool, true, false, List, take, Some, slice_get, refl, inl, inr}
+use Rattle.rc_types.specs.declared.events.Setup.{Setup}
+use Rattle.rc_types.specs.declared.events.Event.{Event}
 use Rattle.rc_types.specs.declared.entries.Entry.{Entry}
 use Rattle.rc_model.specs.World.{World, replay}
 use Rattle.rc_model.proofs.Headlines.{breach_is_headline}
@@ -9,14 +11,16 @@ use Rattle.rc_facts.proofs.Lists.{get-below}
 use Rattle.rc_log_safety.proofs.Replays.{good-world, nothing-is-missing, nothing-is-invented}
 use Rattle.rc_log_words.proofs.Since.{since-take}
 use Rattle.rc_log_words.proofs.SafePlaces.{stored-is-safe}
+use Rattle.rc_log_words.proofs.KeptWorlds.{safe-is-held}
 use Rattle.rc_owner_facts.proofs.Replays.{OfWorld, grants-world}
 use Rattle.rc_term_facts.proofs.Replays.{terms-world}
 use Rattle.rc_data_facts.proofs.Replays.{data-world}
-use Rattle.rc_version_safety.specs.Claims.{FactsAlwaysHold, DataIsThePlanCutToThePart, GrantsStartFromTheirBase, HandoversKeepWhatWasAcknowledged, HandoversKeepWhatIsDurable, PreviousIsEarlier, VersionsRiseOverOwners, VersionsAlwaysRiseWithThePlace, NoVersionIsAcknowledgedTwice, ThereIsNoBreach}
+use Rattle.rc_version_safety.specs.Claims.{MayFree, Frees, FactsAlwaysHold, DataIsThePlanCutToThePart, GrantsStartFromTheirBase, HandoversKeepWhatWasAcknowledged, HandoversKeepWhatIsDurable, PreviousIsEarlier, VersionsRiseOverOwners, VersionsAlwaysRiseWithThePlace, NoVersionIsAcknowledgedTwice, ThereIsNoBreach}
 use Rattle.rc_version_safety.proofs.PartWorlds.{parts-world-by}
-use Rattle.rc_version_safety.proofs.Kept.{no-version-twice, previous-earlier}
+use Rattle.rc_version_safety.proofs.Rising.{IsKeptIn, Covers, covers-anyhow}
+use Rattle.rc_version_safety.proofs.Kept.{later-keeps, later-keeps-acked, no-version-twice, previous-earlier}
 use Rattle.rc_version_safety.proofs.Ordered.{logs-rise}
-use Rattle.rc_version_safety.proofs.Laws.{facts-cut-data, facts-start-grants, facts-keep-what-is-safe, facts-keep-what-was-acknowledged, facts-let-versions-rise}
+use Rattle.rc_version_safety.proofs.Laws.{facts-cut-data, facts-start-grants, facts-let-versions-rise}
 
 pub all-world : FactsAlwaysHold
 all-world setup events = let grants : OfWorld (replay setup events) = grants-world setup events in
@@ -37,16 +41,48 @@ pub grants-start-from-their-base : GrantsStartFromTheirBase
 grants-start-from-their-base setup events =
     facts-start-grants (replay setup events).sent (replay setup events).masters (replay setup events).hosts (replay setup events).coordinator (all-world setup events)
 
+-- each recovery has a safe place itself, or, where segments are freed, a greater version of its key
+covers-where : (setup : Setup) (events : List Event) →
+    Covers (replay setup events).sent (replay setup events).masters (replay setup events).hosts (replay setup events).coordinator (all-world setup events) (Frees setup)
+covers-where setup events m rows plan s o entry safe holds = by setup.free refl
+  where
+    kept : IsKeptIn MayFree m ((replay setup events).masters m).log rows s o entry
+    kept = covers-anyhow (replay setup events).sent (replay setup events).masters (replay setup events).hosts (replay setup events).coordinator (all-world setup events) m rows plan s o entry safe holds
+
+    by : (free : Bool) → setup.free ≡ free → IsKeptIn (Frees setup) m ((replay setup events).masters m).log rows s o entry
+    by true frees = record { covered = kept.covered; how = how kept.how }
+      where
+        how : ((kept.covered.seg ≡ s) × (kept.covered.offset ≡ o)) ⊎ (MayFree × (entry.version < kept.covered.other.version)) →
+            ((kept.covered.seg ≡ s) × (kept.covered.offset ≡ o)) ⊎ (Frees setup × (entry.version < kept.covered.other.version))
+        how (inl same) = inl same
+        how (inr (_, more)) = inr (frees, more)
+    by false not_so = record {
+      covered = record {
+        seg = s;
+        offset = o;
+        other = entry;
+        held = safe-is-held setup events not_so m rows plan s o safe;
+        holds = holds;
+        term = refl;
+        table = refl;
+        key = refl;
+        is_it = inl (refl, refl);
+      };
+      how = inl (refl, refl);
+    }
+
 pub handovers-keep-acknowledged : HandoversKeepWhatWasAcknowledged
 handovers-keep-acknowledged setup events =
-    facts-keep-what-was-acknowledged (replay setup events).sent (replay setup events).masters (replay setup events).hosts (replay setup events).coordinator (all-world setup events)
+    later-keeps-acked (replay setup events).sent (replay setup events).masters (replay setup events).hosts (replay setup events).coordinator (all-world setup events)
+    (Frees setup) (covers-where setup events)
 
 pub handovers-keep-durable : HandoversKeepWhatIsDurable
 handovers-keep-durable setup events m s o durable = (
   at.0,
   at.1,
   λ grant x was to before.
-      facts-keep-what-is-safe (replay setup events).sent (replay setup events).masters (replay setup events).hosts (replay setup events).coordinator (all-world setup events) m s o at.0 safe at.1 grant x was to before,
+      later-keeps (replay setup events).sent (replay setup events).masters (replay setup events).hosts (replay setup events).coordinator (all-world setup events)
+      (Frees setup) (covers-where setup events) m s o at.0 safe at.1 grant x was to before,
 )
   where
     safe : IsSafe (replay setup events).sent m ((replay setup events).masters m).log s o

@@ -16,7 +16,7 @@ use Rattle.rc_types.specs.declared.messages.Body.TheVariants as body
 use Rattle.rc_model.specs.Recovered.{Ack}
 use Rattle.rc_model.specs.Owners.{Granted, grant_in, granted, covers, grants_of, IsBefore, previous, onward, IsEarlier}
 use Rattle.rc_model.specs.Backup.{is_in_part}
-use Rattle.rc_model.specs.Log.{LogPlace, places_of}
+use Rattle.rc_model.specs.Log.{Log, LogPlace, places_of}
 use Rattle.rc_model.specs.Ownership.{in_range, under_term, count_under}
 use Rattle.rc_model.specs.Master.{Master}
 use Rattle.rc_model.specs.Coordinator.{Coordinator}
@@ -25,11 +25,11 @@ use Rattle.rc_model.specs.Nodes.{HostNode}
 use Rattle.rc_model.specs.Headline.{In, WasAcknowledged, VersionsRise}
 use Rattle.rc_model.proofs.Members.{In-append, In-get, In-left}
 use Rattle.rc_facts.specs.Words.{Begins, log_in}
-use Rattle.rc_facts.specs.Facts.{IsWriteOk, body_fine}
+use Rattle.rc_facts.specs.Facts.{IsSafe, IsWriteOk, body_fine}
 use Rattle.rc_facts.proofs.Lists.{true_false, In-filter}
 use Rattle.rc_master_facts.proofs.Tests.{filter-In, map-In, In-map}
 use Rattle.rc_log_safety.proofs.Clauses.{accepted-is}
-use Rattle.rc_log_safety.proofs.Covers.{IsCovered, covered}
+use Rattle.rc_log_safety.proofs.Covers.{IsCovered, PlanIs, covered}
 use Rattle.rc_owner_facts.specs.Grants.{IsOwn, own_said}
 use Rattle.rc_term_facts.specs.Terms.{IsGrantedTo, IsGivenBy}
 use Rattle.rc_part_facts.specs.Parts.{PartView, part_view, logged, under, rows_of_task, AllCame, WasGranted, HasJoined, IsClients}
@@ -37,6 +37,7 @@ use Rattle.rc_part_facts.specs.Moves.{HasWritten}
 use Rattle.rc_part_facts.proofs.Lists.{under-append, under-In, logged-append, begins-within, begins-more}
 use Rattle.rc_version_safety.specs.Worlds.{AllHold}
 use Rattle.rc_version_safety.specs.Words.{IsKeptBy, Keeps}
+use Rattle.rc_version_safety.specs.Claims.{MayFree}
 use Rattle.rc_version_safety.proofs.Rows.{in-order, CameFor, came-for}
 use Rattle.rc_version_safety.proofs.Bases.{cut_of, IsTaskOf, task-of, task-ascends, row-cut, IsStarted, started, joined-begins, base-safe}
 
@@ -111,213 +112,263 @@ remembered c (message ∷ sent) known one at = by (In-append one (grant_in messa
     by (inl here) rec = remembered-in c message.to message.body one (known message (inl refl)) here
     by (inr rest) rec = rec rest
 
-module _ (sent : List Message) (masters : ServerId → Master) (hosts : ℕ → HostNode) (c : Coordinator) (all : AllHold sent masters hosts c) where
-  -- a grant of a recovery whose base has a version of the key, not below this one
-  pub record StartsWith (grant : Grant) (was : Entry) : Type 0 where
-    pub given : IsGivenBy sent c grant
-    pub entry : Entry
-    pub among : In entry (map (under_term (started sent masters hosts c all grant given).state.part.term) (started sent masters hosts c all grant given).joined.entries)
-    pub keeps : IsKeptBy was entry
+-- what a master has at a safe place under a term, and so keeps
+pub record Has (Freed : Type 0) (sent : List Message) (m : ServerId) (log : Log) (term : ℕ) (was : Entry) : Type 0 where
+  pub seg : ℕ
+  pub offset : ℕ
+  pub entry : Entry
+  pub safe : IsSafe sent m log seg offset
+  pub holds : slice_get (log_in log seg) offset ≡ Some entry
+  pub term_is : entry.term ≡ term
+  pub keeps : IsKeptBy Freed was entry
 
+has-of : {Freed : Type 0} {sent : List Message} {m : ServerId} {log : Log} {term : ℕ} {was : Entry} → Keeps Freed sent m log term was → Has Freed sent m log term was
+has-of k = record { seg = k.at.seg; offset = k.at.offset; entry = k.entry; safe = k.at.safe; holds = k.at.holds; term_is = k.term_is; keeps = k.keeps }
+
+-- at a safe place it has the entry itself
+pub has-itself : {Freed : Type 0} (sent : List Message) (m : ServerId) (log : Log) (s o : ℕ) (entry : Entry) → IsSafe sent m log s o → slice_get (log_in log s) o ≡ Some entry → Has Freed sent m log entry.term entry
+has-itself sent m log s o entry safe holds = record {
+  seg = s;
+  offset = o;
+  entry = entry;
+  safe = safe;
+  holds = holds;
+  term_is = refl;
+  keeps = record { table_is = refl; key_is = refl; kept = inl (refl, refl) };
+}
+
+-- a recovery has the place itself, or, where segments are freed, a greater version of its key
+pub record IsKeptIn (Freed : Type 0) (m : ServerId) (log : Log) (rows : List PlanRow) (s o : ℕ) (entry : Entry) : Type 0 where
+  pub covered : IsCovered m log rows s o entry
+  pub how : ((covered.seg ≡ s) × (covered.offset ≡ o)) ⊎ (Freed × (entry.version < covered.other.version))
+
+module _ (sent : List Message) (masters : ServerId → Master) (hosts : ℕ → HostNode) (c : Coordinator) (all : AllHold sent masters hosts c) where
   pub term-started : (grant : Grant) (given : IsGivenBy sent c grant) → (started sent masters hosts c all grant given).state.part.term ≡ grant.term
   term-started grant given =
       let p : IsStarted sent masters hosts c all grant given = started sent masters hosts c all grant given in
       ap (λ (part : Part). part.term) (sym p.part_is ∙ p.given_is) ∙ sym given.term_is
 
-  -- so its owner has that version
-  pub starts-keeps : (grant : Grant) (was : Entry) → StartsWith grant was → Keeps sent grant.owner (masters grant.owner).log grant.term was
-  starts-keeps grant was p =
-      let s : IsStarted sent masters hosts c all grant p.given = started sent masters hosts c all grant p.given in
-      let found = In-map (under_term s.state.part.term) p.entry s.joined.entries p.among in
-      record {
-        entry = p.entry;
-        at = base-safe sent masters hosts c all grant.owner s.task s.state s.joined s.durable p.entry p.among;
-        term_is = ap (λ (one : Entry). one.term) found.2 ∙ term-started grant p.given;
-        keeps = p.keeps;
-      }
+  -- each recovery keeps what is safe
+  abbrev pub Covers : Type 0 → Type 0
+  Covers Freed = (m : ServerId) (rows : List PlanRow) → PlanIs sent masters c m rows → (s o : ℕ) (entry : Entry) → IsSafe sent m (masters m).log s o →
+      slice_get (log_in (masters m).log s) o ≡ Some entry → IsKeptIn Freed m (masters m).log rows s o entry
 
-  -- The handover
-
-  -- what the master before has at a safe place of the range, the base has in this or a greater version
-  pub hands-over : (grant : Grant) (given : IsGivenBy sent c grant) (was : Entry) → in_range grant.range was.table was.key ≡ true →
-      Keeps sent given.master (masters given.master).log grant.previous was → StartsWith grant was
-  hands-over grant given was holds has = record {
-    given = given;
-    entry = under_term T there.other;
-    among = map-In (under_term T) there.other s.joined.entries (came.among there.other (subst (In there.other) (sym cut.0) in_cut));
-    keeps = record { table_is = table_same; key_is = key_same; kept = least there.is_it };
-  }
+  -- so it does, whether or not segments are freed
+  pub covers-anyhow : Covers MayFree
+  covers-anyhow m rows plan s o entry safe holds = record { covered = found; how = by found.is_it }
     where
-      s : IsStarted sent masters hosts c all grant given
-      s = started sent masters hosts c all grant given
+      found : IsCovered m (masters m).log rows s o entry
+      found = covered sent masters hosts c all.good m rows plan s o entry safe holds
 
-      T : ℕ
-      T = s.state.part.term
+      by : ((found.seg ≡ s) × (found.offset ≡ o)) ⊎ (entry.version < found.other.version) → ((found.seg ≡ s) × (found.offset ≡ o)) ⊎ (MayFree × (entry.version < found.other.version))
+      by (inl same) = inl same
+      by (inr more) = inr (tt, more)
 
-      of_task : IsTaskOf sent c grant.owner s.task
-      of_task = task-of sent masters hosts c all grant.owner s.task s.task_among
+  module _ (Freed : Type 0) (covers_it : Covers Freed) where
+    -- a grant of a recovery whose base has a version of the key, not below this one
+    pub record StartsWith (grant : Grant) (was : Entry) : Type 0 where
+      pub given : IsGivenBy sent c grant
+      pub entry : Entry
+      pub among : In entry (map (under_term (started sent masters hosts c all grant given).state.part.term) (started sent masters hosts c all grant given).joined.entries)
+      pub keeps : IsKeptBy Freed was entry
 
-      has_it : Keeps sent s.task.master (masters s.task.master).log grant.previous was
-      has_it = subst (λ m. Keeps sent m (masters m).log grant.previous was) (sym s.master_is) has
+    -- so its owner has that version
+    pub starts-keeps : (grant : Grant) (was : Entry) → StartsWith grant was → Keeps Freed sent grant.owner (masters grant.owner).log grant.term was
+    starts-keeps grant was p =
+        let s : IsStarted sent masters hosts c all grant p.given = started sent masters hosts c all grant p.given in
+        let found = In-map (under_term s.state.part.term) p.entry s.joined.entries p.among in
+        record {
+          entry = p.entry;
+          at = base-safe sent masters hosts c all grant.owner s.task s.state s.joined s.durable p.entry p.among;
+          term_is = ap (λ (one : Entry). one.term) found.2 ∙ term-started grant p.given;
+          keeps = p.keeps;
+        }
 
-      there : IsCovered s.task.master (masters s.task.master).log s.task.rows has_it.at.seg has_it.at.offset has_it.entry
-      there = covered sent masters hosts c all.good s.task.master s.task.rows
-          (accepted-is sent masters hosts c all.good (record { attempt = s.task.attempt; master = s.task.master; rows = s.task.rows }) of_task.accepted)
-          has_it.at.seg has_it.at.offset has_it.entry has_it.at.safe has_it.at.holds
+    -- The handover
 
-      table_same : there.other.table ≡ was.table
-      table_same = there.table ∙ has_it.keeps.table_is
+    -- what the master before has at a safe place of the range, the base has in this or a greater version
+    pub hands-over : (grant : Grant) (given : IsGivenBy sent c grant) (was : Entry) → in_range grant.range was.table was.key ≡ true →
+        Has Freed sent given.master (masters given.master).log grant.previous was → StartsWith grant was
+    hands-over grant given was holds has = record {
+      given = given;
+      entry = under_term T there.other;
+      among = map-In (under_term T) there.other s.joined.entries (came.among there.other (subst (In there.other) (sym cut.0) in_cut));
+      keeps = record { table_is = table_same; key_is = key_same; kept = least kept.how };
+    }
+      where
+        s : IsStarted sent masters hosts c all grant given
+        s = started sent masters hosts c all grant given
 
-      key_same : there.other.key ≡ was.key
-      key_same = there.key ∙ has_it.keeps.key_is
+        T : ℕ
+        T = s.state.part.term
 
-      least : ((there.seg ≡ has_it.at.seg) × (there.offset ≡ has_it.at.offset)) ⊎ (has_it.entry.version < there.other.version) →
-          ((there.other.version ≡ was.version) × (there.other.value ≡ was.value)) ⊎ (was.version < there.other.version)
-      least (inl e) =
-          let here : slice_get (log_in (masters s.task.master).log has_it.at.seg) has_it.at.offset ≡ Some there.other =
-          subst (λ o. slice_get (log_in (masters s.task.master).log has_it.at.seg) o ≡ Some there.other) e.1
-          (subst (λ t. slice_get (log_in (masters s.task.master).log t) there.offset ≡ Some there.other) e.0 there.holds) in
-          let stood : slice_get (log_in (masters s.task.master).log has_it.at.seg) has_it.at.offset ≡ Some has_it.entry = has_it.at.holds in
-          let same : has_it.entry ≡ there.other = cc in
-          subst (λ (one : Entry). ((one.version ≡ was.version) × (one.value ≡ was.value)) ⊎ (was.version < one.version)) same has_it.keeps.kept
-      least (inr more) = inr (greater has_it.keeps.kept)
-        where
-          greater : ((has_it.entry.version ≡ was.version) × (has_it.entry.value ≡ was.value)) ⊎ (was.version < has_it.entry.version) → was.version < there.other.version
-          greater (inl e) = let a = e.0 in omega arith
-          greater (inr less) = omega arith
+        of_task : IsTaskOf sent c grant.owner s.task
+        of_task = task-of sent masters hosts c all grant.owner s.task s.task_among
 
-      -- the row that holds it
-      row : PlanRow
-      row = there.held.row
+        has_it : Has Freed sent s.task.master (masters s.task.master).log grant.previous was
+        has_it = subst (λ m. Has Freed sent m (masters m).log grant.previous was) (sym s.master_is) has
 
-      came : CameFor sent grant.owner T row s.joined.entries
-      came = came-for sent grant.owner T s.task.rows row s.joined.entries
-          (subst (λ rows. AllCame sent grant.owner T rows s.joined.entries) (in-order s.task.rows (task-ascends sent masters hosts c all grant.owner s.task s.task_among)) s.joined.came) there.held.among
+        kept : IsKeptIn Freed s.task.master (masters s.task.master).log s.task.rows has_it.seg has_it.offset has_it.entry
+        kept = covers_it s.task.master s.task.rows
+            (accepted-is sent masters hosts c all.good (record { attempt = s.task.attempt; master = s.task.master; rows = s.task.rows }) of_task.accepted)
+            has_it.seg has_it.offset has_it.entry has_it.safe has_it.holds
 
-      cut : (came.first ≡ cut_of masters s.task row) × (row.len ≤ length (log_in (masters s.task.master).log row.seg))
-      cut = row-cut sent masters hosts c all grant.owner s.task row came.first s.task_among there.held.among
-          (subst (λ t. Rattle.rc_part_facts.specs.Parts.HasSent sent grant.owner row.holder t row.seg came.first) (ap (λ (part : Part). part.term) (sym s.part_is)) came.was)
+        there : IsCovered s.task.master (masters s.task.master).log s.task.rows has_it.seg has_it.offset has_it.entry
+        there = kept.covered
 
-      in_part : is_in_part s.task.part there.other ≡ true
-      in_part = range-holds s.task.part there.other
-          (there.term ∙ has_it.term_is ∙ given.previous_is ∙ ap (λ (part : Part). part.previous) (sym s.given_is))
-          (subst (λ k. in_range (range_of s.task.part) there.other.table k ≡ true) (sym key_same)
-          (subst (λ t. in_range (range_of s.task.part) t was.key ≡ true) (sym table_same)
-          (ap (λ (part : Part). in_range (range_of part) was.table was.key) s.given_is ∙ ap (λ range. in_range range was.table was.key) (sym given.range_is) ∙ holds)))
+        table_same : there.other.table ≡ was.table
+        table_same = there.table ∙ has_it.keeps.table_is
 
-      in_cut : In there.other (cut_of masters s.task row)
-      in_cut = filter-In (is_in_part s.task.part) there.other (take row.len (log_in (masters s.task.master).log row.seg))
-          (In-taken row.len (log_in (masters s.task.master).log row.seg) there.offset there.other there.held.below
-          (subst (λ t. slice_get (log_in (masters s.task.master).log t) there.offset ≡ Some there.other) (sym there.held.seg) there.holds)) in_part
+        key_same : there.other.key ≡ was.key
+        key_same = there.key ∙ has_it.keeps.key_is
 
-  -- The chain of owners
+        least : ((there.seg ≡ has_it.seg) × (there.offset ≡ has_it.offset)) ⊎ (Freed × (has_it.entry.version < there.other.version)) →
+            ((there.other.version ≡ was.version) × (there.other.value ≡ was.value)) ⊎ (Freed × (was.version < there.other.version))
+        least (inl e) =
+            let here : slice_get (log_in (masters s.task.master).log has_it.seg) has_it.offset ≡ Some there.other =
+            subst (λ o. slice_get (log_in (masters s.task.master).log has_it.seg) o ≡ Some there.other) e.1
+            (subst (λ t. slice_get (log_in (masters s.task.master).log t) there.offset ≡ Some there.other) e.0 there.holds) in
+            let stood : slice_get (log_in (masters s.task.master).log has_it.seg) has_it.offset ≡ Some has_it.entry = has_it.holds in
+            let same : has_it.entry ≡ there.other = cc in
+            subst (λ (one : Entry). ((one.version ≡ was.version) × (one.value ≡ was.value)) ⊎ (Freed × (was.version < one.version))) same has_it.keeps.kept
+        least (inr (freed, more)) = inr (freed, greater has_it.keeps.kept)
+          where
+            greater : ((has_it.entry.version ≡ was.version) × (has_it.entry.value ≡ was.value)) ⊎ (Freed × (was.version < has_it.entry.version)) → was.version < there.other.version
+            greater (inl e) = let a = e.0 in omega arith
+            greater (inr (_, less)) = omega arith
 
-  -- a later owner of the point starts with this version or a greater one
-  pub record GoesTo (later : ℕ) (was : Entry) : Type 0 where
-    pub grant : Grant
-    pub among : In grant c.grants
-    pub term_is : grant.term ≡ later
-    pub holds : in_range grant.range was.table was.key ≡ true
-    pub starts : StartsWith grant was
+        -- the row that holds it
+        row : PlanRow
+        row = there.held.row
 
-  -- whoever was granted the term has the version
-  abbrev pub OwnersHave : ℕ → Entry → Type 0
-  OwnersHave term was = (old : Grant) → In old c.grants → old.term ≡ term → Keeps sent old.owner (masters old.owner).log term was
+        came : CameFor sent grant.owner T row s.joined.entries
+        came = came-for sent grant.owner T s.task.rows row s.joined.entries
+            (subst (λ rows. AllCame sent grant.owner T rows s.joined.entries) (in-order s.task.rows (task-ascends sent masters hosts c all grant.owner s.task s.task_among)) s.joined.came) there.held.among
 
-  -- over one grant, from its previous term
-  step-over : (grant : Grant) (was : Entry) → In grant c.grants → in_range grant.range was.table was.key ≡ true → 0 < grant.previous → OwnersHave grant.previous was → GoesTo grant.term was
-  step-over grant was among holds above has = by (all.terms.origin grant among)
-    where
-      by : ((grant.attempt ≡ 0) × (grant.previous ≡ 0)) ⊎ IsGivenBy sent c grant → GoesTo grant.term was
-      by (inl created) = let none : grant.previous ≡ 0 = created.1 in absurd (omega arith)
-      by (inr given) =
-          let before : IsGrantedTo c.grants given.master grant.previous was.table was.key = given.after was.table was.key holds in
-          record {
-            grant = grant;
-            among = among;
-            term_is = refl;
-            holds = holds;
-            starts = hands-over grant given was holds
-                (subst (λ m. Keeps sent m (masters m).log grant.previous was) before.owner_is (has before.grant before.among before.term_is));
-          }
+        cut : (came.first ≡ cut_of masters s.task row) × (row.len ≤ length (log_in (masters s.task.master).log row.seg))
+        cut = row-cut sent masters hosts c all grant.owner s.task row came.first s.task_among there.held.among
+            (subst (λ t. Rattle.rc_part_facts.specs.Parts.HasSent sent grant.owner row.holder t row.seg came.first) (ap (λ (part : Part). part.term) (sym s.part_is)) came.was)
 
-  -- a grant of the point among those that were sent
-  at-point : (table key : ℕ) (k : ℕ) (one : Granted) → slice_get (grants_of sent table key) k ≡ Some one → (grant : Grant) × (In grant c.grants) × (one ≡ granted_of grant) × (in_range grant.range table key ≡ true)
-  at-point table key k one e =
-      let was = In-filter (covers table key) one (granted sent) (In-get (grants_of sent table key) k one e) in
-      let r : IsRemembered c one = remembered c sent all.kept.known one was.0 in
-      (r.grant, r.among, r.is, ap (covers table key) (sym r.is) ∙ was.1)
+        in_part : is_in_part s.task.part there.other ≡ true
+        in_part = range-holds s.task.part there.other
+            (there.term ∙ has_it.term_is ∙ given.previous_is ∙ ap (λ (part : Part). part.previous) (sym s.given_is))
+            (subst (λ k. in_range (range_of s.task.part) there.other.table k ≡ true) (sym key_same)
+            (subst (λ t. in_range (range_of s.task.part) t was.key ≡ true) (sym table_same)
+            (ap (λ (part : Part). in_range (range_of part) was.table was.key) s.given_is ∙ ap (λ range. in_range range was.table was.key) (sym given.range_is) ∙ holds)))
 
-  pub goes-on : (was : Entry) (earlier later : ℕ) → IsBefore (grants_of sent was.table was.key) earlier later → 0 < earlier → OwnersHave earlier was → GoesTo later was
-  goes-on was earlier later (previous k one e) above has =
-      let p = at-point was.table was.key k one e in
-      let before : one.previous ≡ p.0.previous = ap (λ (g : Granted). g.previous) p.2 in
-      subst (λ n. GoesTo n was) (ap (λ (g : Granted). g.term) (sym p.2))
-      (step-over p.0 was p.1 p.3 (subst (λ n. 0 < n) before above) (subst (λ n. OwnersHave n was) before has))
-  goes-on was earlier later (onward from k one e way) above has =
-      let rest : GoesTo one.previous was = goes-on was earlier one.previous way above has in
-      let p = at-point was.table was.key k one e in
-      let before : one.previous ≡ p.0.previous = ap (λ (g : Granted). g.previous) p.2 in
-      let over : 0 < one.previous = subst (λ n. 0 < n) rest.term_is (all.terms.issued rest.grant rest.among).0 in
-      subst (λ n. GoesTo n was) (ap (λ (g : Granted). g.term) (sym p.2))
-      (step-over p.0 was p.1 p.3 (subst (λ n. 0 < n) before over) (subst (λ n. OwnersHave n was) before (owners rest)))
-    where
-      owners : GoesTo one.previous was → OwnersHave one.previous was
-      owners rest old among same =
-          let is : rest.grant ≡ old = all.terms.grant_once rest.grant old rest.among among (rest.term_is ∙ sym same) in
-          subst (λ (g : Grant). Keeps sent g.owner (masters g.owner).log one.previous was) is
-          (subst (λ n. Keeps sent rest.grant.owner (masters rest.grant.owner).log n was) rest.term_is (starts-keeps rest.grant was rest.starts))
+        in_cut : In there.other (cut_of masters s.task row)
+        in_cut = filter-In (is_in_part s.task.part) there.other (take row.len (log_in (masters s.task.master).log row.seg))
+            (In-taken row.len (log_in (masters s.task.master).log row.seg) there.offset there.other there.held.below
+            (subst (λ t. slice_get (log_in (masters s.task.master).log t) there.offset ≡ Some there.other) (sym there.held.seg) there.holds)) in_part
 
-  -- A client's entry comes after the base, with a greater version
-  above-base : (grant : Grant) (was : Entry) → StartsWith grant was → (before after : List LogPlace) (place : LogPlace) →
-      places_of (masters grant.owner).log ≡ before ++ place ∷ after → place.client ≡ true → place.entry.term ≡ grant.term → place.entry.table ≡ was.table → place.entry.key ≡ was.key →
-      was.version < place.entry.version
-  above-base grant was p before after place whole client term_is table_is key_is = above p.keeps.kept
-    where
-      s : IsStarted sent masters hosts c all grant p.given
-      s = started sent masters hosts c all grant p.given
+    -- The chain of owners
 
-      T : ℕ
-      T = s.state.part.term
+    -- a later owner of the point starts with this version or a greater one
+    pub record GoesTo (later : ℕ) (was : Entry) : Type 0 where
+      pub grant : Grant
+      pub among : In grant c.grants
+      pub term_is : grant.term ≡ later
+      pub holds : in_range grant.range was.table was.key ≡ true
+      pub starts : StartsWith grant was
 
-      base : List Entry
-      base = map (under_term T) s.joined.entries
+    -- whoever was granted the term has the version
+    abbrev pub OwnersHave : ℕ → Entry → Type 0
+    OwnersHave term was = (old : Grant) → In old c.grants → old.term ≡ term → Has Freed sent old.owner (masters old.owner).log term was
 
-      logged_all : List Entry
-      logged_all = logged (places_of (masters grant.owner).log)
+    -- over one grant, from its previous term
+    step-over : (grant : Grant) (was : Entry) → In grant c.grants → in_range grant.range was.table was.key ≡ true → 0 < grant.previous → OwnersHave grant.previous was → GoesTo grant.term was
+    step-over grant was among holds above has = by (all.terms.origin grant among)
+      where
+        by : ((grant.attempt ≡ 0) × (grant.previous ≡ 0)) ⊎ IsGivenBy sent c grant → GoesTo grant.term was
+        by (inl created) = let none : grant.previous ≡ 0 = created.1 in absurd (omega arith)
+        by (inr given) =
+            let before : IsGrantedTo c.grants given.master grant.previous was.table was.key = given.after was.table was.key holds in
+            record {
+              grant = grant;
+              among = among;
+              term_is = refl;
+              holds = holds;
+              starts = hands-over grant given was holds
+                  (subst (λ m. Has Freed sent m (masters m).log grant.previous was) before.owner_is (has before.grant before.among before.term_is));
+            }
 
-      same_term : T ≡ place.entry.term
-      same_term = term-started grant p.given ∙ sym term_is
+    -- a grant of the point among those that were sent
+    at-point : (table key : ℕ) (k : ℕ) (one : Granted) → slice_get (grants_of sent table key) k ≡ Some one → (grant : Grant) × (In grant c.grants) × (one ≡ granted_of grant) × (in_range grant.range table key ≡ true)
+    at-point table key k one e =
+        let was = In-filter (covers table key) one (granted sent) (In-get (grants_of sent table key) k one e) in
+        let r : IsRemembered c one = remembered c sent all.kept.known one was.0 in
+        (r.grant, r.among, r.is, ap (covers table key) (sym r.is) ∙ was.1)
 
-      written : IsClients (part_view (masters grant.owner)) before place.entry
-      written = (all.parts.each grant.owner).clients before after place whole client
+    pub goes-on : (was : Entry) (earlier later : ℕ) → IsBefore (grants_of sent was.table was.key) earlier later → 0 < earlier → OwnersHave earlier was → GoesTo later was
+    goes-on was earlier later (previous k one e) above has =
+        let p = at-point was.table was.key k one e in
+        let before : one.previous ≡ p.0.previous = ap (λ (g : Granted). g.previous) p.2 in
+        subst (λ n. GoesTo n was) (ap (λ (g : Granted). g.term) (sym p.2))
+        (step-over p.0 was p.1 p.3 (subst (λ n. 0 < n) before above) (subst (λ n. OwnersHave n was) before has))
+    goes-on was earlier later (onward from k one e way) above has =
+        let rest : GoesTo one.previous was = goes-on was earlier one.previous way above has in
+        let p = at-point was.table was.key k one e in
+        let before : one.previous ≡ p.0.previous = ap (λ (g : Granted). g.previous) p.2 in
+        let over : 0 < one.previous = subst (λ n. 0 < n) rest.term_is (all.terms.issued rest.grant rest.among).0 in
+        subst (λ n. GoesTo n was) (ap (λ (g : Granted). g.term) (sym p.2))
+        (step-over p.0 was p.1 p.3 (subst (λ n. 0 < n) before over) (subst (λ n. OwnersHave n was) before (owners rest)))
+      where
+        owners : GoesTo one.previous was → OwnersHave one.previous was
+        owners rest old among same =
+            let is : rest.grant ≡ old = all.terms.grant_once rest.grant old rest.among among (rest.term_is ∙ sym same) in
+            subst (λ (g : Grant). Has Freed sent g.owner (masters g.owner).log one.previous was) is
+            (subst (λ n. Has Freed sent rest.grant.owner (masters rest.grant.owner).log n was) rest.term_is (has-of (starts-keeps rest.grant was rest.starts)))
 
-      after_base : s.state.size ≤ count_under T (logged before)
-      after_base = subst (λ t. s.state.size ≤ count_under t (logged before)) (sym same_term) (written.after s.state s.among same_term).1
+    -- A client's entry comes after the base, with a greater version
+    above-base : (grant : Grant) (was : Entry) → StartsWith grant was → (before after : List LogPlace) (place : LogPlace) →
+        places_of (masters grant.owner).log ≡ before ++ place ∷ after → place.client ≡ true → place.entry.term ≡ grant.term → place.entry.table ≡ was.table → place.entry.key ≡ was.key →
+        was.version < place.entry.version
+    above-base grant was p before after place whole client term_is table_is key_is = above p.keeps.kept
+      where
+        s : IsStarted sent masters hosts c all grant p.given
+        s = started sent masters hosts c all grant p.given
 
-      parted : under T logged_all ≡ under T (logged before) ++ under T (logged (place ∷ after))
-      parted = ap (λ places. under T (logged places)) whole ∙ ap (under T) (logged-append before (place ∷ after)) ∙ under-append T (logged before) (logged (place ∷ after))
+        T : ℕ
+        T = s.state.part.term
 
-      taken : Begins base (under T logged_all)
-      taken = subst (Begins base) (sym (under-append T (take d logged_all) (drop d logged_all)) ∙ ap (under T) (take-append-drop d logged_all))
-          (begins-more base (under T (take d logged_all)) (under T (drop d logged_all)) (joined-begins sent masters hosts c all grant.owner s.task s.state s.joined s.durable))
-        where
-          d : ℕ
-          d = (masters grant.owner).log.durable
+        base : List Entry
+        base = map (under_term T) s.joined.entries
 
-      begins : Begins base (under T (logged before))
-      begins = begins-within base (under T (logged before)) (under T (logged (place ∷ after))) (subst (Begins base) parted taken)
-          (let long : length base ≡ length s.joined.entries = length-map s.joined.entries (under_term T) in let size = s.joined.size in let more = after_base in omega arith)
+        logged_all : List Entry
+        logged_all = logged (places_of (masters grant.owner).log)
 
-      there : In p.entry (logged before) × (p.entry.term ≡ T)
-      there = under-In T p.entry (logged before) (subst (In p.entry) begins.1 (In-left p.entry base begins.0 p.among))
+        same_term : T ≡ place.entry.term
+        same_term = term-started grant p.given ∙ sym term_is
 
-      less : p.entry.version < place.entry.version
-      less = written.rises p.entry there.0 (there.1 ∙ same_term) (p.keeps.table_is ∙ sym table_is) (p.keeps.key_is ∙ sym key_is)
+        written : IsClients (part_view (masters grant.owner)) before place.entry
+        written = (all.parts.each grant.owner).clients before after place whole client
 
-      above : ((p.entry.version ≡ was.version) × (p.entry.value ≡ was.value)) ⊎ (was.version < p.entry.version) → was.version < place.entry.version
-      above (inl same) = let e = same.0 in let l = less in omega arith
-      above (inr more) = let l = less in omega arith
+        after_base : s.state.size ≤ count_under T (logged before)
+        after_base = subst (λ t. s.state.size ≤ count_under t (logged before)) (sym same_term) (written.after s.state s.among same_term).1
+
+        parted : under T logged_all ≡ under T (logged before) ++ under T (logged (place ∷ after))
+        parted = ap (λ places. under T (logged places)) whole ∙ ap (under T) (logged-append before (place ∷ after)) ∙ under-append T (logged before) (logged (place ∷ after))
+
+        taken : Begins base (under T logged_all)
+        taken = subst (Begins base) (sym (under-append T (take d logged_all) (drop d logged_all)) ∙ ap (under T) (take-append-drop d logged_all))
+            (begins-more base (under T (take d logged_all)) (under T (drop d logged_all)) (joined-begins sent masters hosts c all grant.owner s.task s.state s.joined s.durable))
+          where
+            d : ℕ
+            d = (masters grant.owner).log.durable
+
+        begins : Begins base (under T (logged before))
+        begins = begins-within base (under T (logged before)) (under T (logged (place ∷ after))) (subst (Begins base) parted taken)
+            (let long : length base ≡ length s.joined.entries = length-map s.joined.entries (under_term T) in let size = s.joined.size in let more = after_base in omega arith)
+
+        there : In p.entry (logged before) × (p.entry.term ≡ T)
+        there = under-In T p.entry (logged before) (subst (In p.entry) begins.1 (In-left p.entry base begins.0 p.among))
+
+        less : p.entry.version < place.entry.version
+        less = written.rises p.entry there.0 (there.1 ∙ same_term) (p.keeps.table_is ∙ sym table_is) (p.keeps.key_is ∙ sym key_is)
+
+        above : ((p.entry.version ≡ was.version) × (p.entry.value ≡ was.value)) ⊎ (Freed × (was.version < p.entry.version)) → was.version < place.entry.version
+        above (inl same) = let e = same.0 in let l = less in omega arith
+        above (inr (_, more)) = let l = less in omega arith
 
   -- Acknowledgements
 
@@ -398,17 +449,14 @@ module _ (sent : List Message) (masters : ServerId → Master) (hosts : ℕ → 
     way = subst (λ k. IsEarlier sent q.write.entry.table k earlier.term later.term) (sym (q.write.key_is ∙ keys))
         (subst (λ t. IsEarlier sent t later.key earlier.term later.term) (sym (q.write.table_is ∙ tables)) before)
 
-    has : Keeps sent old.grant.owner (masters old.grant.owner).log earlier.term q.write.entry
-    has = subst (λ m. Keeps sent m (masters m).log earlier.term q.write.entry) old.owner_is (record {
-      entry = q.write.entry;
-      at = record { seg = earlier.seg; offset = earlier.offset; safe = q.write.safe; holds = q.write.holds };
-      term_is = q.write.term_is;
-      keeps = record { table_is = refl; key_is = refl; kept = inl (refl, refl) };
-    })
+    has : Has MayFree sent old.grant.owner (masters old.grant.owner).log earlier.term q.write.entry
+    has = subst (λ m. Has MayFree sent m (masters m).log earlier.term q.write.entry) old.owner_is
+        (subst (λ n. Has MayFree sent q.master (masters q.master).log n q.write.entry) q.write.term_is
+        (has-itself sent q.master (masters q.master).log earlier.seg earlier.offset q.write.entry q.write.safe q.write.holds))
 
-    goes : GoesTo later.term q.write.entry
-    goes = goes-on q.write.entry earlier.term later.term way (subst (λ n. 0 < n) old.term_is (all.terms.issued old.grant old.among).0)
-        (λ one among same. subst (λ (g : Grant). Keeps sent g.owner (masters g.owner).log earlier.term q.write.entry)
+    goes : GoesTo MayFree covers-anyhow later.term q.write.entry
+    goes = goes-on MayFree covers-anyhow q.write.entry earlier.term later.term way (subst (λ n. 0 < n) old.term_is (all.terms.issued old.grant old.among).0)
+        (λ one among same. subst (λ (g : Grant). Has MayFree sent g.owner (masters g.owner).log earlier.term q.write.entry)
         (all.terms.grant_once old.grant one old.among among (old.term_is ∙ sym same)) has)
 
     new : IsOwned p.master later.term later.table later.key
@@ -422,7 +470,7 @@ module _ (sent : List Message) (masters : ServerId → Master) (hosts : ℕ → 
         let at : Stands p.written.place (places_of (masters p.master).log) = written-at later p in
         let whole : places_of (masters goes.grant.owner).log ≡ at.before ++ p.written.place ∷ at.after = ap (λ m. places_of (masters m).log) (sym same_owner) ∙ at.whole in
         let less : q.write.entry.version < p.written.place.entry.version =
-        above-base goes.grant q.write.entry goes.starts at.before at.after p.written.place whole p.written.client
+        above-base MayFree covers-anyhow goes.grant q.write.entry goes.starts at.before at.after p.written.place whole p.written.client
         (p.written.term_is ∙ sym goes.term_is) (p.written.table_is ∙ sym (q.write.table_is ∙ tables)) (p.written.key_is ∙ sym (q.write.key_is ∙ keys)) in
         subst (λ n. n < later.version) q.write.version_is (subst (λ n. q.write.entry.version < n) p.written.version_is less)
 

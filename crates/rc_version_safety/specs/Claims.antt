@@ -33,16 +33,17 @@ abbrev pub GrantsStart : List Message → (ServerId → Master) → Type 0
 GrantsStart sent masters = (grant : Granted) (x : ServerId) → IsGranted sent grant → grant.owner ≡ Server x →
     (grant.attempt ≡ 0 → ⊥) → StartsFromBase sent x (masters x).log grant
 
--- what stands at a safe place, each later owner of its point keeps: with that version and value, or a greater version
-abbrev pub SafeIsKept : List Message → (ServerId → Master) → Type 0
-SafeIsKept sent masters = (m : ServerId) (s o : ℕ) (entry : Entry) → IsSafe sent m (masters m).log s o →
+-- what stands at a safe place, each later owner of its point keeps: with that version and value, or, where segments are
+-- freed, a greater version
+abbrev pub SafeIsKept : Type 0 → List Message → (ServerId → Master) → Type 0
+SafeIsKept Freed sent masters = (m : ServerId) (s o : ℕ) (entry : Entry) → IsSafe sent m (masters m).log s o →
     slice_get (log_in (masters m).log s) o ≡ Some entry → (grant : Granted) (x : ServerId) → IsGranted sent grant →
     grant.owner ≡ Server x → IsEarlier sent entry.table entry.key entry.term grant.term →
-    Keeps sent x (masters x).log grant.term entry
+    Keeps Freed sent x (masters x).log grant.term entry
 
 -- and what was acknowledged
-abbrev pub AcknowledgedIsKept : List Message → (ServerId → Master) → Type 0
-AcknowledgedIsKept sent masters = (ack : Ack) → WasAcknowledged sent ack → IsCarriedOn sent masters ack
+abbrev pub AcknowledgedIsKept : Type 0 → List Message → (ServerId → Master) → Type 0
+AcknowledgedIsKept Freed sent masters = (ack : Ack) → WasAcknowledged sent ack → IsCarriedOn Freed sent masters ack
 
 -- under one term a key's versions rise with the place, in every log
 abbrev pub VersionsRiseWithThePlace : (ServerId → Master) → Type 0
@@ -56,7 +57,10 @@ abbrev pub NoVersionTwice : List Message → Type 0
 NoVersionTwice sent = (one other : Ack) → WasAcknowledged sent one → WasAcknowledged sent other →
     one.table ≡ other.table → one.key ≡ other.key → (one.term ≡ other.term → ⊥) → one.version ≡ other.version → ⊥
 
--- Where all facts hold
+-- Where all facts hold; of worlds whose masters may free segments or not
+
+abbrev pub MayFree : Type 0
+MayFree = Unit {0}
 
 abbrev pub WhereFactsHold : (List Message → (ServerId → Master) → Type 0) → Type 0
 WhereFactsHold P = (sent : List Message) (masters : ServerId → Master) (hosts : ℕ → HostNode) (c : Coordinator) →
@@ -69,15 +73,19 @@ abbrev pub FactsStartGrants : Type 0
 FactsStartGrants = WhereFactsHold GrantsStart
 
 abbrev pub FactsKeepWhatIsSafe : Type 0
-FactsKeepWhatIsSafe = WhereFactsHold SafeIsKept
+FactsKeepWhatIsSafe = WhereFactsHold (SafeIsKept MayFree)
 
 abbrev pub FactsKeepWhatWasAcknowledged : Type 0
-FactsKeepWhatWasAcknowledged = WhereFactsHold AcknowledgedIsKept
+FactsKeepWhatWasAcknowledged = WhereFactsHold (AcknowledgedIsKept MayFree)
 
 abbrev pub FactsLetVersionsRise : Type 0
 FactsLetVersionsRise = WhereFactsHold (λ sent masters. VersionsRise sent)
 
 -- In every world
+
+-- segments are freed there
+abbrev pub Frees : Setup → Type 0
+Frees setup = setup.free ≡ true
 
 abbrev pub FactsAlwaysHold : Type 0
 FactsAlwaysHold = (setup : Setup) (events : List Event) →
@@ -92,7 +100,7 @@ GrantsStartFromTheirBase = (setup : Setup) (events : List Event) →
 
 abbrev pub HandoversKeepWhatWasAcknowledged : Type 0
 HandoversKeepWhatWasAcknowledged = (setup : Setup) (events : List Event) →
-    AcknowledgedIsKept (replay setup events).sent (replay setup events).masters
+    AcknowledgedIsKept (Frees setup) (replay setup events).sent (replay setup events).masters
 
 -- and what is durable
 abbrev pub HandoversKeepWhatIsDurable : Type 0
@@ -101,7 +109,7 @@ HandoversKeepWhatIsDurable = (setup : Setup) (events : List Event) (m : ServerId
     (entry : Entry) × (slice_get (log_in ((replay setup events).masters m).log s) o ≡ Some entry)
     × ((grant : Granted) (x : ServerId) → IsGranted (replay setup events).sent grant → grant.owner ≡ Server x →
     IsEarlier (replay setup events).sent entry.table entry.key entry.term grant.term →
-    Keeps (replay setup events).sent x ((replay setup events).masters x).log grant.term entry)
+    Keeps (Frees setup) (replay setup events).sent x ((replay setup events).masters x).log grant.term entry)
 
 -- a grant's previous term is the earlier one at each point of its range, so all this holds over each single grant
 abbrev pub PreviousIsEarlier : Type 0

@@ -10,32 +10,42 @@ use Rattle.rc_types.specs.declared.messages.Body.TheVariants.{Plan as PlanBody}
 use Rattle.rc_model.specs.Recovered.{Ack, Accepted}
 use Rattle.rc_model.specs.Owners.{Granted, IsGranted, IsEarlier}
 use Rattle.rc_model.specs.Base.{made_below, base}
-use Rattle.rc_model.specs.Log.{Log, entries_of}
+use Rattle.rc_model.specs.Log.{Log, LogPlace, entries_of, places_of}
 use Rattle.rc_model.specs.Master.{Master}
 use Rattle.rc_model.specs.Headline.{In, WasAccepted, IsOfAck}
 use Rattle.rc_facts.specs.Words.{Begins, log_in}
 use Rattle.rc_facts.specs.Facts.{IsSafe}
 use Rattle.rc_part_facts.specs.Parts.{under}
 
--- an entry stands at a safe place of a log
+-- the place is among those that the master counts as durable
+pub record IsCounted (log : Log) (seg offset : ℕ) : Type 0 where
+  pub index : ℕ
+  pub place : LogPlace
+  pub below : index < log.durable
+  pub at : slice_get (places_of log) index ≡ Some place
+  pub seg_is : place.seg ≡ seg
+  pub offset_is : place.offset ≡ offset
+
+-- an entry stands at a safe place of a log, one that is counted as durable
 pub record IsSafelyLogged (sent : List Message) (m : ServerId) (log : Log) (entry : Entry) : Type 0 where
   pub seg : ℕ
   pub offset : ℕ
   pub safe : IsSafe sent m log seg offset
   pub holds : slice_get (log_in log seg) offset ≡ Some entry
+  pub counted : IsCounted log seg offset
 
--- the entry is of the same key, and has the same version and value, or a greater version
-pub record IsKeptBy (was entry : Entry) : Type 0 where
+-- the entry is of the same key, and has the same version and value, or, where segments are freed, a greater version
+pub record IsKeptBy (Freed : Type 0) (was entry : Entry) : Type 0 where
   pub table_is : entry.table ≡ was.table
   pub key_is : entry.key ≡ was.key
-  pub kept : ((entry.version ≡ was.version) × (entry.value ≡ was.value)) ⊎ (was.version < entry.version)
+  pub kept : ((entry.version ≡ was.version) × (entry.value ≡ was.value)) ⊎ (Freed × (was.version < entry.version))
 
 -- a safe place of a log keeps it so under the term
-pub record Keeps (sent : List Message) (m : ServerId) (log : Log) (term : ℕ) (was : Entry) : Type 0 where
+pub record Keeps (Freed : Type 0) (sent : List Message) (m : ServerId) (log : Log) (term : ℕ) (was : Entry) : Type 0 where
   pub entry : Entry
   pub at : IsSafelyLogged sent m log entry
   pub term_is : entry.term ≡ term
-  pub keeps : IsKeptBy was entry
+  pub keeps : IsKeptBy Freed was entry
 
 -- the entry has the part's previous term, and is of the part's table and of a key from its first to its last
 abbrev pub is_of_part : Part → Entry → Bool
@@ -74,11 +84,11 @@ pub record StartsFromBase (sent : List Message) (x : ServerId) (log : Log) (gran
   pub safe : (entry : Entry) → In entry (base sent plan grant) → IsSafelyLogged sent x log entry
 
 -- what was acknowledged stands in its master's log, and each later owner of its point keeps it
-pub record IsCarriedOn (sent : List Message) (masters : ServerId → Master) (ack : Ack) : Type 0 where
+pub record IsCarriedOn (Freed : Type 0) (sent : List Message) (masters : ServerId → Master) (ack : Ack) : Type 0 where
   pub master : ServerId
   pub entry : Entry
   pub stands : slice_get (log_in (masters master).log ack.seg) ack.offset ≡ Some entry
   pub of_ack : IsOfAck ack entry
   pub version : entry.version ≡ ack.version
   pub kept : (grant : Granted) (x : ServerId) → IsGranted sent grant → grant.owner ≡ Server x →
-      IsEarlier sent ack.table ack.key ack.term grant.term → Keeps sent x (masters x).log grant.term entry
+      IsEarlier sent ack.table ack.key ack.term grant.term → Keeps Freed sent x (masters x).log grant.term entry
