@@ -31,15 +31,6 @@ impl TryClone for Setup {
     }
 }
 
-/// What a world of the first path is opened with: one factor for all, and nothing is freed.
-#[derive(Clone, Copy, Debug, PartialEq, Eq)]
-pub struct FirstSetup {
-    /// How many replicas each segment has, 1 to 5.
-    pub factor: u8,
-    /// How many entries a segment takes, 1 to 1,024.
-    pub segment: u16,
-}
-
 /// One event of a world: one input, taken by one node.
 #[derive(Debug, Drop, PartialEq)]
 pub enum Event {

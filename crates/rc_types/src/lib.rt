@@ -12,12 +12,10 @@ pub mod limits;
 mod messages;
 mod rows;
 mod sequence;
-#[cfg(test)]
-mod tests;
 mod verdicts;
 
 pub use entries::Entry;
-pub use events::{Event, FirstSetup, Input, Setup};
+pub use events::{Event, Input, Setup};
 pub use faults::{Code, Fault};
 pub use ids::{Addr, Pair, ServerId};
 pub use kept::{Grant, GrantedRange, Member, Phase, Told};
