@@ -1,7 +1,9 @@
 //! Copies equal their sources. Where memory is refused, a test says so by a line `refused` and makes the same
 //! call again: `scripts/refuse-allocations` counts on it.
 
-use rc_types::{Addr, Body, Entry, Event, Fault, Input, Message, Part, Plan, PlanRow, Row, Seq, ServerId, TryClone};
+use rc_types::{
+    Addr, Body, Entry, Event, Fault, Input, Message, Plan, PlanRow, Row, Seq, ServerId, TryClone,
+};
 use std::alloc::{AllocError, Global};
 use std::test::Fail;
 
@@ -46,24 +48,6 @@ fn input(body: Body) -> Input {
     })
 }
 
-fn part() -> Part {
-    Part {
-        table: 7,
-        lo: 0,
-        hi: 9,
-        previous: 1,
-        term: 2,
-    }
-}
-
-fn plan_row() -> PlanRow {
-    PlanRow {
-        seg: 1,
-        holder: id(2, 1),
-        len: 3,
-    }
-}
-
 #[test]
 fn a_place(rt: HostRuntime) -> Result<(), Fail> {
     let alloc = rt.alloc();
@@ -75,51 +59,6 @@ fn a_place(rt: HostRuntime) -> Result<(), Fail> {
         closed: true,
     });
     assert_eq!(rt; again!(rt; place.try_clone(alloc)), place);
-    Ok(())
-}
-
-#[test]
-fn a_write(rt: HostRuntime) -> Result<(), Fail> {
-    let alloc = rt.alloc();
-    let write = input(Body::Write {
-        table: 7,
-        key: 5,
-        value: again!(rt; letters(alloc)),
-    });
-    assert_eq!(rt; again!(rt; write.try_clone(alloc)), write);
-    Ok(())
-}
-
-#[test]
-fn a_server_list(rt: HostRuntime) -> Result<(), Fail> {
-    let alloc = rt.alloc();
-    let list = input(Body::List {
-        version: 3,
-        rows: Seq::from_vec(again!(rt; [(id(0, 1), true)].to_vec(alloc))),
-    });
-    assert_eq!(rt; again!(rt; list.try_clone(alloc)), list);
-    Ok(())
-}
-
-#[test]
-fn a_plan_and_a_fetch(rt: HostRuntime) -> Result<(), Fail> {
-    let alloc = rt.alloc();
-    let plan = input(Body::Plan {
-        attempt: 1,
-        master: id(0, 1),
-        head: 1,
-        rows: Seq::from_vec(again!(rt; [plan_row()].to_vec(alloc))),
-        parts: Seq::from_vec(again!(rt; [part()].to_vec(alloc))),
-    });
-    assert_eq!(rt; again!(rt; plan.try_clone(alloc)), plan);
-    let fetch = input(Body::Fetch {
-        attempt: 1,
-        master: id(0, 1),
-        seg: 1,
-        len: 3,
-        part: part(),
-    });
-    assert_eq!(rt; again!(rt; fetch.try_clone(alloc)), fetch);
     Ok(())
 }
 
