@@ -3,6 +3,7 @@
 ghost use Rattle.std.specs.Prelude.{◌≡◌, ◌++◌, IfOk, OnOk, OnErr, IfErr};
 ghost use Rattle.rc_types.specs.declared.faults.Fault.TheVariants.{OutOfMemory};
 ghost use Rattle.rc_model.specs.Coordinator.{new_coordinator};
+ghost use Rattle.rc_model.specs.CoordinatorStep.{coordinator_takes};
 ghost use Rattle.rc_coordinator.specs.Book.{coordinator_of};
 ghost use Rattle.rc_coordinator.specs.Steps.{steps, HasNumbers};
 
@@ -69,6 +70,24 @@ impl<A: Allocator + Clone> Coordinator<A> {
         ensures no_memory { IfErr result (λ fault. fault ≡ OutOfMemory) }
     {
         self.state.step_into(input, sent)
+    }
+
+    /// Takes a message, as `step_into` does where it is the input. The message is not copied.
+    ///
+    /// # Errors
+    ///
+    /// `OutOfMemory` (F1): memory was refused. Then the coordinator and what was sent are as before.
+    pub fn take(&mut self, message: &Message, sent: &mut Vec<Message>) -> Result<(), Fault>
+        requires { HasNumbers (coordinator_of self.old) }
+        ensures state { OnOk result (coordinator_of self.new ≡
+            (coordinator_takes (coordinator_of self.old) message.now.from message.now.body).0) }
+        ensures sends { OnOk result (sent.new.items ≡
+            sent.old.items ++ (coordinator_takes (coordinator_of self.old) message.now.from message.now.body).1) }
+        ensures err { OnErr result (self.new ≡ self.old) }
+        ensures unsent { OnErr result (sent.new.items ≡ sent.old.items) }
+        ensures no_memory { IfErr result (λ fault. fault ≡ OutOfMemory) }
+    {
+        self.state.take(message.from, &message.body, sent)
     }
 
     /// Takes an input, and gives what follows, as `step_into` does.

@@ -78,7 +78,12 @@ impl<A: Allocator + Clone> State<A> {
     }
 
     /// Takes a message from this address.
-    fn take(&mut self, from: Addr, body: &Body, sent: &mut Vec<Message>) -> Result<(), Fault>
+    pub(crate) fn take(
+        &mut self,
+        from: Addr,
+        body: &Body,
+        sent: &mut Vec<Message>,
+    ) -> Result<(), Fault>
         requires { HasNumbers (state_view self.old) }
         ensures state { OnOk result (state_view self.new ≡ (coordinator_takes (state_view self.old) from body.now).0) }
         ensures sends { OnOk result (sent.new.items ≡ sent.old.items ++ (coordinator_takes (state_view self.old) from body.now).1) }

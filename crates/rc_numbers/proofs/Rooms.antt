@@ -14,7 +14,7 @@ use Rattle.rc_numbers.proofs.Entries.{greatest-within}
 use Rattle.rc_numbers.proofs.Logs.{entries-within}
 use Rattle.rc_numbers.proofs.Worlds.{within-replay}
 
-room-of : (n : ℕ) (c : Coordinator) → n ≤ MAX_EVENTS → CoordinatorWithin n c → HasRoom c
+pub room-of : (n : ℕ) (c : Coordinator) → n ≤ MAX_EVENTS → CoordinatorWithin n c → HasRoom c
 room-of n c few h = record { versions = omega (arith, h.versions); attempts = omega (arith, h.attempts); terms = omega (arith, h.terms, h.tablets) }
 
 pub coordinator-has-room : CoordinatorHasRoom
@@ -23,7 +23,7 @@ coordinator-has-room setup events few = room-of (length events) (replay setup ev
 pub generations-have-room : GenerationsHaveRoom
 generations-have-room setup events few index = let h = ((within-replay setup events).hosts index).generation in omega (arith, h, few)
 
-versions-of : (n : ℕ) (master : Master) → MasterWithin n master → VersionsUpTo n (entries_of master.log)
+pub versions-of : (n : ℕ) (master : Master) → MasterWithin n master → VersionsUpTo n (entries_of master.log)
 versions-of n master h = entries-within n master.log h.log
 
 pub versions-have-room : VersionsHaveRoom

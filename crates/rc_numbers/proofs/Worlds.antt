@@ -29,7 +29,7 @@ use Rattle.rc_numbers.proofs.Ticks.{master-more, tick-done, takes-done}
 use Rattle.rc_numbers.proofs.Backups.{BackupDone, backup-done, restart-within, backup-more}
 
 -- more events allow more
-host-more : (n m : ℕ) → n ≤ m → (host : HostNode) → HostWithin n host → HostWithin m host
+pub host-more : (n m : ℕ) → n ≤ m → (host : HostNode) → HostWithin n host → HostWithin m host
 host-more n m more host h = record {
   generation = omega (arith, h.generation, more);
   backup = backup-more n m more host.backup h.backup;
@@ -100,11 +100,11 @@ none-some : {P X : Type 0} {x : X} → None ≡ Some x → P
 none-some e = cc
 
 -- what a node is given is within n, where it was sent
-abbrev WorkWithin : ℕ → Work → Type 0
+abbrev pub WorkWithin : ℕ → Work → Type 0
 WorkWithin n (Take message) = body_within n message.body
 WorkWithin n _ = Unit {0}
 
-host-within : (n : ℕ) (host : HostNode) (work : Work) → HostWithin n host → WorkWithin n work → HostDone (n + 1) (host_step host work)
+pub host-within : (n : ℕ) (host : HostNode) (work : Work) → HostWithin n host → WorkWithin n work → HostDone (n + 1) (host_step host work)
 host-within n host (Take message) h p = takes-host n host host.master message h refl p
 host-within n host (Tick addr) h p = ticks-host n host host.master h refl
 host-within n host (Stop id) h p =
@@ -180,7 +180,7 @@ within-from n world [] h = world-more n (n + 0) (omega arith) world h
 within-from n world (one ∷ events) h =
     world-more ((n + 1) + length events) (n + length (one ∷ events)) (omega arith) (replay_from (step world one) events) (within-from (n + 1) (step world one) events (step-within n world one h))
 
-new-host : (index : ℕ) (setup : MasterSetup) → HostWithin 0 (new_host index setup)
+pub new-host : (index : ℕ) (setup : MasterSetup) → HostWithin 0 (new_host index setup)
 new-host index setup = record { generation = omega arith; backup = λ master. All-nil _; master = λ master e. none-some e }
 
 within-opening : (setup : Setup) → WorldWithin 0 (opening setup)

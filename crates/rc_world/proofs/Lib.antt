@@ -4,5 +4,6 @@ pub mod Deliveries
 pub mod Runs
 pub mod Steps
 pub mod Rooms
+pub mod NodeRooms
 pub mod Holding
 pub mod HostSteps

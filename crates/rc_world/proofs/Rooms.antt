@@ -12,7 +12,7 @@ use Rattle.rc_coordinator.specs.Steps.{HasNumbers}
 use Rattle.rc_world.specs.HostView.{HostHasRoom}
 use Rattle.rc_world.specs.WorldView.{IsSame, WorldHasRoom}
 
-numbers-from : (c : Coordinator) → HasRoom c → HasNumbers c
+pub numbers-from : (c : Coordinator) → HasRoom c → HasNumbers c
 numbers-from c room = record { versions = room.versions; attempts = room.attempts; terms = room.terms }
 
 host-room : (setup : Setup) (events : List Event) → length events ≤ MAX_EVENTS → (index : ℕ) → HostHasRoom ((replay setup events).hosts index)

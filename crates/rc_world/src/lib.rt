@@ -4,6 +4,7 @@
 #![tactic(auto)]
 
 mod host;
+pub mod laws;
 mod lending;
 mod node;
 mod nodes;

@@ -15,7 +15,7 @@ use crate::host::Host;
 use crate::outside::{ask, can_ask};
 use crate::work::NodeWork;
 use rc_coordinator::Coordinator;
-use rc_types::{Fault, Input, Message, Setup, TryClone};
+use rc_types::{Fault, Input, Message, Setup};
 use std::alloc::{Allocator, Global};
 use std::marker::Model;
 
@@ -95,9 +95,7 @@ impl<A: Allocator + Clone> NodeState<A> {
     {
         match &mut self.node {
             Node::Outside => outside_step(self.alloc, work, sent),
-            Node::Coordinator(coordinator) => {
-                coordinator_step(self.alloc, coordinator, work, sent)
-            }
+            Node::Coordinator(coordinator) => { coordinator_step(coordinator, work, sent) }
             Node::Host(host) => host_step(host, work, sent),
         }
     }
@@ -138,7 +136,6 @@ fn outside_step(alloc: Global, work: &NodeWork, sent: &mut Vec<Message>) -> Resu
 
 /// The coordinator's step.
 fn coordinator_step<A: Allocator + Clone>(
-    alloc: Global,
     coordinator: &mut Coordinator<A>,
     work: &NodeWork,
     sent: &mut Vec<Message>,
@@ -154,7 +151,7 @@ fn coordinator_step<A: Allocator + Clone>(
     ensures unsent { OnErr result (sent.new.items ≡ sent.old.items) }
 {
     let input = match work {
-        NodeWork::Deliver(message) => Input::Message(message.try_clone(alloc)?),
+        NodeWork::Deliver(message) => return coordinator.take(message, sent),
         NodeWork::Tick => Input::Tick,
         NodeWork::Suspect(id) => Input::Suspect(*id),
         NodeWork::Decide(id) => Input::Decide(*id),

@@ -1,0 +1,92 @@
+-- The numbers of a node that runs apart, work by work.
+use Rattle.std.proofs.Common.{ℕ, ◌+◌, ◌-◌, ◌^◌, ◌<◌, ◌≤◌, arith}
+use Rattle.std.proofs.lemmas.List.Elements.{All-weaker}
+use Rattle.rc_types.specs.declared.entries.Entry.{Entry}
+use Rattle.rc_types.specs.declared.events.Setup.{Setup}
+use Rattle.rc_types.specs.declared.ids.Addr.TheVariants.{Server, Outside}
+use Rattle.rc_types.specs.declared.limits.TheConstants.{MAX_EVENTS}
+use Rattle.rc_model.specs.Log.{entries_of}
+use Rattle.rc_model.specs.Coordinator.{Coordinator}
+use Rattle.rc_model.specs.Master.{Master}
+use Rattle.rc_model.specs.Nodes.{HostNode, coordinator_step, host_step, master_setup}
+use Rattle.rc_numbers.specs.Numbers.{HostWithin}
+use Rattle.rc_numbers.proofs.Entries.{body-more, none-within, one-within}
+use Rattle.rc_numbers.proofs.Coordinators.{After, within-more, coordinator-within, new-within}
+use Rattle.rc_numbers.proofs.Worlds.{HostDone, WorkWithin, host-more, host-within, new-host}
+use Rattle.rc_numbers.proofs.Rooms.{room-of, versions-of}
+use Rattle.rc_world.specs.HostView.{HostHasRoom}
+use Rattle.rc_world.specs.NodeView.{Node, TheOutside, TheCoordinator, TheHost, work_at, after_work}
+use Rattle.rc_world.specs.NodeNumbers.{GivenWithin, StepWithin, NewNodesAreWithin, StepsStayWithin, MoreWorksAllowMore, NodesHaveRoom}
+use Rattle.rc_world.specs.declared.work.NodeWork.{NodeWork}
+use Rattle.rc_world.specs.declared.work.NodeWork.TheVariants as work
+use Rattle.rc_world.proofs.Rooms.{numbers-from}
+
+pub new-nodes-within : NewNodesAreWithin
+new-nodes-within = record {
+  outside = tt;
+  coordinator = new-within;
+  hosts = λ index (setup : Setup). new-host index (master_setup setup index);
+}
+
+pub more-allow-more : MoreWorksAllowMore
+more-allow-more n m TheOutside more h = tt
+more-allow-more n m (TheCoordinator c) more h = within-more c n m more h
+more-allow-more n m (TheHost host) more h = host-more n m more host h
+
+-- The outside
+
+outside-steps : (n : ℕ) (given : NodeWork) → GivenWithin n given → StepWithin (n + 1) (after_work TheOutside given)
+outside-steps n (work.Ask to body) p =
+    record { node = tt; sent = one-within (n + 1) (record { from = Outside; to = Server to; body = body }) (body-more n (n + 1) (omega arith) body p) }
+outside-steps n (work.Deliver message) p = record { node = tt; sent = none-within (n + 1) }
+outside-steps n work.Tick p = record { node = tt; sent = none-within (n + 1) }
+outside-steps n work.Stop p = record { node = tt; sent = none-within (n + 1) }
+outside-steps n (work.Start kept) p = record { node = tt; sent = none-within (n + 1) }
+outside-steps n (work.Suspect id) p = record { node = tt; sent = none-within (n + 1) }
+outside-steps n (work.Decide id) p = record { node = tt; sent = none-within (n + 1) }
+outside-steps n (work.Create table owner) p = record { node = tt; sent = none-within (n + 1) }
+outside-steps n (work.Split table at) p = record { node = tt; sent = none-within (n + 1) }
+
+-- The coordinator
+
+coordinator-steps : (n : ℕ) (c : Coordinator) (given : NodeWork) → After n (coordinator_step c (work_at (TheCoordinator c) given)) →
+    StepWithin (n + 1) (after_work (TheCoordinator c) given)
+coordinator-steps n c given h = record { node = h.numbers; sent = h.messages }
+
+-- A host
+
+given-within : (n : ℕ) (node : Node) (given : NodeWork) → GivenWithin n given → WorkWithin n (work_at node given)
+given-within n node (work.Ask to body) p = tt
+given-within n node (work.Deliver message) p = p
+given-within n node work.Tick p = tt
+given-within n node work.Stop p = tt
+given-within n node (work.Start kept) p = tt
+given-within n node (work.Suspect id) p = tt
+given-within n node (work.Decide id) p = tt
+given-within n node (work.Create table owner) p = tt
+given-within n node (work.Split table at) p = tt
+
+host-steps : (n : ℕ) (host : HostNode) (given : NodeWork) → HostDone (n + 1) (host_step host (work_at (TheHost host) given)) →
+    StepWithin (n + 1) (after_work (TheHost host) given)
+host-steps n host given h = record { node = h.host; sent = h.messages }
+
+pub steps-stay-within : StepsStayWithin
+steps-stay-within n TheOutside given h p = outside-steps n given p
+steps-stay-within n (TheCoordinator c) given h p = coordinator-steps n c given (coordinator-within c (work_at (TheCoordinator c) given) n h)
+steps-stay-within n (TheHost host) given h p =
+    host-steps n host given (host-within n host (work_at (TheHost host) given) h (given-within n (TheHost host) given p))
+
+-- Room
+
+host-has-room : (n : ℕ) (host : HostNode) → n ≤ MAX_EVENTS → HostWithin n host → HostHasRoom host
+host-has-room n host few h = record {
+  generation = omega (arith, h.generation, few);
+  versions = λ (master : Master) is.
+      All-weaker (λ (entry : Entry). entry.version ≤ n) (λ (entry : Entry). entry.version < 2 ^ 64 - 1) (λ entry p. omega (arith, p, few)) (entries_of master.log)
+      (versions-of n master (h.master master is));
+}
+
+pub nodes-have-room : NodesHaveRoom
+nodes-have-room n TheOutside few h = tt
+nodes-have-room n (TheCoordinator c) few h = numbers-from c (room-of n c few h)
+nodes-have-room n (TheHost host) few h = host-has-room n host few h
