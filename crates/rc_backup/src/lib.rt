@@ -6,7 +6,5 @@
 mod backup;
 mod held;
 mod replicas;
-#[cfg(test)]
-mod tests;
 
 pub use backup::Backup;

@@ -7,8 +7,6 @@ mod config;
 mod ids;
 mod members;
 mod replacing;
-#[cfg(test)]
-mod tests;
 
 pub use choosing::choose;
 pub use config::{Config, MAX_MEMBERS};

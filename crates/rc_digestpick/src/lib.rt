@@ -14,8 +14,6 @@ mod held;
 pub mod laws;
 mod segments;
 mod taken;
-#[cfg(test)]
-mod tests;
 
 use rc_types::{Fault, Pair, Plan, Row, Seq, ServerId};
 use std::alloc::Global;

@@ -9,8 +9,6 @@
 pub mod limits;
 mod nodes;
 mod points;
-#[cfg(test)]
-mod tests;
 mod trees;
 
 pub use trees::RangeTree;

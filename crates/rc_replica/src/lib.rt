@@ -5,7 +5,5 @@
 mod copies;
 mod kept;
 pub mod laws;
-#[cfg(test)]
-mod tests;
 
 pub use kept::Replica;

@@ -5,7 +5,5 @@
 
 mod list;
 mod marks;
-#[cfg(test)]
-mod tests;
 
 pub use list::ServerList;

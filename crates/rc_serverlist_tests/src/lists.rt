@@ -1,7 +1,7 @@
 //! A list through its changes, against values from outside. Where memory is refused, a test says so
 //! by a line `refused` and makes the same call again: `scripts/refuse-allocations` counts on it.
 
-use super::*;
+use rc_serverlist::ServerList;
 use rc_types::{Fault, ServerId};
 use std::alloc::Global;
 use std::process::Abort;

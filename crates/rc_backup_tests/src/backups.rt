@@ -2,7 +2,7 @@
 //! test says so by a line `refused`, compares with the state before and makes the same call again:
 //! `scripts/refuse-allocations` counts on it.
 
-use super::*;
+use rc_backup::Backup;
 use rc_types::{Addr, Body, Entry, Fault, Message, Part, Row, Seq, ServerId};
 use std::alloc::{AllocError, Global};
 use std::process::Abort;

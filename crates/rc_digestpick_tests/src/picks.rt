@@ -2,8 +2,9 @@
 //! the same call again: `scripts/refuse-allocations` counts on it. The replies are only lent to the
 //! call, so there is no other state to compare.
 
-use super::*;
-use rc_types::PlanRow;
+use rc_digestpick::pick;
+use rc_types::{Fault, Pair, PlanRow, Row, Seq, ServerId};
+use std::alloc::Global;
 use std::process::Abort;
 use std::test::Fail;
 

@@ -3,9 +3,9 @@
 //! tree is as before, and what was taken is given back.
 
 use super::{owner, tablet};
-use crate::RangeTree;
-use crate::limits::MAX_FORKS;
 use linked_list_allocator::LocalHeap;
+use rc_rangetree::RangeTree;
+use rc_rangetree::limits::MAX_FORKS;
 use rc_types::Fault;
 use rc_types::limits::LAST_KEY;
 use std::alloc::Allocator;

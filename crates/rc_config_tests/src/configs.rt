@@ -2,7 +2,7 @@
 //! says so by a line `refused` and makes the same call again: `scripts/refuse-allocations` counts on
 //! it.
 
-use super::*;
+use rc_config::{Config, MAX_MEMBERS, MemberIds, choose};
 use rc_serverlist::ServerList;
 use rc_types::limits::LAST_EPOCH;
 use rc_types::{Fault, Member, ServerId, Told};

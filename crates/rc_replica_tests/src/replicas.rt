@@ -2,7 +2,7 @@
 //! refused, a test says so by a line `refused` and makes the same call again:
 //! `scripts/refuse-allocations` counts on it.
 
-use super::*;
+use rc_replica::Replica;
 use rc_types::{Entry, Seq};
 use std::alloc::{AllocError, Global};
 use std::process::Abort;

@@ -1,9 +1,9 @@
 //! Trees of 1,024 tablets, made from both ends: each look-up passes at most 20 forks.
 
 use super::{list, owner, tablet};
-use crate::RangeTree;
-use crate::limits::MAX_FORKS;
 use linked_list_allocator::LocalHeap;
+use rc_rangetree::RangeTree;
+use rc_rangetree::limits::MAX_FORKS;
 use rc_types::limits::{LAST_KEY, MAX_TABLETS};
 use rc_types::{Fault, Tablet};
 use std::alloc::Allocator;

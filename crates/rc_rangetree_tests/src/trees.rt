@@ -2,8 +2,8 @@
 //! refused, a test says so by a line `refused`, sees that the list is as before, and makes the same
 //! call again: `scripts/refuse-allocations` counts on it. A `LocalHeap` takes one block of `Global`.
 
-use super::*;
 use linked_list_allocator::LocalHeap;
+use rc_rangetree::RangeTree;
 use rc_types::limits::LAST_KEY;
 use rc_types::{Fault, KeyRange, ServerId, Tablet};
 use std::alloc::Allocator;
