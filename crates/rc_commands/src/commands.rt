@@ -1,7 +1,7 @@
 //! The program's commands and their options, for `clap`.
 
 ghost use Rattle.std.specs.Prelude.{◌≡◌, IfOk, codes, false};
-ghost use Rattle.clap.specs.Words.{app_of, rule_of};
+ghost use Rattle.clap.specs.Words.{app_of, new_app, rule_of};
 ghost use Rattle.rc_commands.specs.Commands as spec;
 ghost use Rattle.rc_commands.specs.Commands.{IsBuiltAs, ramseg};
 
@@ -19,28 +19,59 @@ pub fn program<'a>(alloc: Global) -> Result<Command<'a>, AllocError>
         .no_binary_name(true)
         .subcommand_required(true)
         .subcommand(run(alloc)?)?
-        .subcommand(Command::new(alloc, "trace").about(
-            "Replays a scenario that it reads from standard input, and prints the trace of what was sent",
-        ))?
-        .subcommand(Command::new(alloc, "audit").about(
-            "Judges a trace that it reads from standard input",
-        ))?
+        .subcommand(trace(alloc))?
+        .subcommand(audit(alloc))?
         .subcommand(fuzz(alloc)?)?
         .subcommand(stops(alloc)?)
+}
+
+/// A command without options. Its help ends with an example.
+fn command<'a>(alloc: Global, name: &'a str, about: &'a str, example: &'a str) -> Command<'a>
+    ensures { IsBuiltAs (new_app name.now) result }
+{
+    Command::new(alloc, name).about(about).after_help(example)
 }
 
 /// `run` with its option.
 fn run<'a>(alloc: Global) -> Result<Command<'a>, AllocError>
     ensures { IfOk result (IsBuiltAs spec.run) }
 {
-    Command::new(alloc, "run")
-        .about("Replays a scenario that it reads from standard input, and prints the report")
-        .arg(option(
-            alloc,
-            "heap",
-            "BYTES",
-            "Keeps the coordinator's tablets in a heap of so many bytes, 16 to 1048576",
-        ))
+    command(
+        alloc,
+        "run",
+        "Replays a scenario that it reads from standard input, and prints the report",
+        "Example: ramseg run --heap 65536 < examples/first-write.json",
+    )
+    .arg(option(
+        alloc,
+        "heap",
+        "BYTES",
+        "Keeps the coordinator's tablets in a heap of so many bytes, 16 to 1048576",
+    ))
+}
+
+/// `trace`.
+fn trace<'a>(alloc: Global) -> Command<'a>
+    ensures { IsBuiltAs spec.trace result }
+{
+    command(
+        alloc,
+        "trace",
+        "Replays a scenario that it reads from standard input, and prints the trace of what was sent",
+        "Example: ramseg trace < examples/first-write.json",
+    )
+}
+
+/// `audit`.
+fn audit<'a>(alloc: Global) -> Command<'a>
+    ensures { IsBuiltAs spec.audit result }
+{
+    command(
+        alloc,
+        "audit",
+        "Judges a trace that it reads from standard input",
+        "Example: ramseg audit < examples/first-write.trace",
+    )
 }
 
 /// `fuzz` with its options.
@@ -51,33 +82,39 @@ fn fuzz<'a>(alloc: Global) -> Result<Command<'a>, AllocError>
         .long("free")
         .action(ArgAction::SetTrue)
         .help("Lets masters free segments");
-    Command::new(alloc, "fuzz")
-        .about("Runs events that are drawn from a seed, and prints the report")
-        .arg(seed(alloc))?
-        .arg(option(
-            alloc,
-            "steps",
-            "N",
-            "How many steps are drawn, 0 to 100000; 1000 if not given",
-        ))?
-        .arg(free)
+    command(
+        alloc,
+        "fuzz",
+        "Runs events that are drawn from a seed, and prints the report",
+        "Example: ramseg fuzz --seed 7 --steps 200 --free",
+    )
+    .arg(seed(alloc))?
+    .arg(option(
+        alloc,
+        "steps",
+        "N",
+        "How many steps are drawn, 0 to 100000; 1000 if not given",
+    ))?
+    .arg(free)
 }
 
 /// `stops` with its options.
 fn stops<'a>(alloc: Global) -> Result<Command<'a>, AllocError>
     ensures { IfOk result (IsBuiltAs spec.stops) }
 {
-    Command::new(alloc, "stops")
-        .about(
-            "Cuts the power after each of the events that are drawn from a seed, and counts the breaches",
-        )
-        .arg(seed(alloc))?
-        .arg(option(
-            alloc,
-            "steps",
-            "N",
-            "How many steps are drawn, 0 to 1000; 300 if not given",
-        ))
+    command(
+        alloc,
+        "stops",
+        "Cuts the power after each of the events that are drawn from a seed, and counts the breaches",
+        "Example: ramseg stops --seed 7 --steps 20",
+    )
+    .arg(seed(alloc))?
+    .arg(option(
+        alloc,
+        "steps",
+        "N",
+        "How many steps are drawn, 0 to 1000; 300 if not given",
+    ))
 }
 
 /// The seed of a command that draws events.

@@ -128,7 +128,7 @@ fn a_wrong_number_is_told_with_its_option(rt: HostRuntime) -> Result<(), Fail> {
 
 #[test]
 fn help_is_told(rt: HostRuntime) -> Result<(), Fail> {
-    let lines: [(&[&str], &str); 8] = [
+    let lines: [(&[&str], &str); 11] = [
         (&["--help"], "Judges a trace"),
         (&["-h"], "Replays a scenario"),
         (&["help"], "Runs events"),
@@ -137,6 +137,15 @@ fn help_is_told(rt: HostRuntime) -> Result<(), Fail> {
         (&["help", "fuzz"], "--free"),
         (&["fuzz", "--seed", "1", "-h"], "--seed <N>"),
         (&["help", "stops"], "0 to 1000;"),
+        (
+            &["help", "trace"],
+            "ramseg trace < examples/first-write.json",
+        ),
+        (
+            &["help", "audit"],
+            "ramseg audit < examples/first-write.trace",
+        ),
+        (&["help", "fuzz"], "ramseg fuzz --seed 7"),
     ];
     for (line, part) in lines {
         let found = asked_of(&rt, line)?;

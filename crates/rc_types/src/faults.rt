@@ -3,6 +3,7 @@
 ghost use Rattle.std.specs.Prelude.{◌≡◌};
 
 use std::alloc::{AllocError, AllocFailed};
+use std::fmt;
 use thiserror::Error;
 
 /// The code of a refusal. `F1` to `F21` are the names that the program prints; "Refusals" in
@@ -61,6 +62,12 @@ impl Code {
         ensures { result ≡ code_number self }
     {
         self as u8
+    }
+}
+
+impl fmt::Display for Code {
+    fn fmt<W: fmt::Write>(&self, f: &mut fmt::Formatter<W>) -> fmt::Result {
+        write!(f, "F{}", self.number())
     }
 }
 

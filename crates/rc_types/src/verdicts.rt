@@ -1,6 +1,7 @@
 //! What a judge of a list of messages can find.
 
 use crate::ids::ServerId;
+use std::fmt;
 
 /// A breach of the headline in a list of messages.
 #[derive(Clone, Copy, Debug, PartialEq, Eq)]
@@ -29,4 +30,46 @@ pub enum Breach {
         later_term: u32,
         later_version: u64,
     },
+}
+
+impl fmt::Display for Breach {
+    fn fmt<W: fmt::Write>(&self, f: &mut fmt::Formatter<W>) -> fmt::Result {
+        match self {
+            Breach::Missing {
+                attempt,
+                master,
+                seg,
+                offset,
+            } => write!(
+                f,
+                "breach missing attempt {attempt} of {master} seg {seg} at {offset}"
+            ),
+            Breach::Invented {
+                attempt,
+                master,
+                seg,
+                offset,
+            } => write!(
+                f,
+                "breach invented attempt {attempt} of {master} seg {seg} at {offset}"
+            ),
+            Breach::Version {
+                table,
+                key,
+                earlier_term,
+                earlier_version,
+                later_term,
+                later_version,
+            } => {
+                write!(
+                    f,
+                    "breach version table {table} key {key} term {earlier_term}"
+                )?;
+                write!(
+                    f,
+                    " version {earlier_version} term {later_term} version {later_version}"
+                )
+            }
+        }
+    }
 }

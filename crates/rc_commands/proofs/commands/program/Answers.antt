@@ -2,7 +2,6 @@ use Rattle.std.proofs.Common.{◌≡◌, ◌∙◌, ap, ap₂, codes, true, fals
 use Rattle.std.proofs.lemmas.Result.{IfOk-weaker}
 use Rattle.clap.specs.Words.{App, app_of, new_app, with_subcommand}
 use Rattle.clap.specs.Simple.{app_of_fields, on_top}
-use Rattle.clap.specs.declared.builder.command.Command.TheViews.{out-Command}
 use Rattle.rc_commands.specs.Commands as spec
 use Rattle.rc_commands.proofs.commands.program.Goals as goal
 
@@ -16,12 +15,8 @@ returns c =
     let told = ap app_of_fields c.about.ensures ∙ versioned in
     let unnamed = ap app_of_fields c.no_binary_name.ensures ∙ ap (on_top (λ top. record top { no_binary_name = true })) told in
     let top_is = ap app_of_fields c.subcommand_required.ensures ∙ ap (on_top (λ top. record top { subcommand_required = true })) unnamed in
-    let trace_is : app_of c.about-2.result ≡ spec.trace = ap app_of_fields c.about-2.ensures ∙ c.new-2.ensures.app in
-    let trace_local : (out-Command c.about-2.result).has_globals ≡ false = ap (λ f. f.has_globals) c.about-2.ensures ∙ c.new-2.ensures.local in
-    let audit_is : app_of c.about-3.result ≡ spec.audit = ap app_of_fields c.about-3.ensures ∙ c.new-3.ensures.app in
-    let audit_local : (out-Command c.about-3.result).has_globals ≡ false = ap (λ f. f.has_globals) c.about-3.ensures ∙ c.new-3.ensures.local in
     let with_run = c.in_ok-subcommand.ensures.shape c.in_ok-run.ensures.1 ∙ ap₂ with_subcommand top_is (ap top_of c.in_ok-run.ensures.0) in
-    let with_trace = c.in_ok-subcommand-2.ensures.shape trace_local ∙ ap₂ with_subcommand with_run (ap top_of trace_is) in
-    let with_audit = c.in_ok-subcommand-3.ensures.shape audit_local ∙ ap₂ with_subcommand with_trace (ap top_of audit_is) in
+    let with_trace = c.in_ok-subcommand-2.ensures.shape c.trace.ensures.1 ∙ ap₂ with_subcommand with_run (ap top_of c.trace.ensures.0) in
+    let with_audit = c.in_ok-subcommand-3.ensures.shape c.audit.ensures.1 ∙ ap₂ with_subcommand with_trace (ap top_of c.audit.ensures.0) in
     let with_fuzz = c.in_ok-subcommand-4.ensures.shape c.in_ok-fuzz.ensures.1 ∙ ap₂ with_subcommand with_audit (ap top_of c.in_ok-fuzz.ensures.0) in
     IfOk-weaker c.subcommand-5.result _ _ (λ r h. h.shape c.in_ok-stops.ensures.1 ∙ ap₂ with_subcommand with_fuzz (ap top_of c.in_ok-stops.ensures.0)) c.subcommand-5.ensures
