@@ -4,7 +4,5 @@
 mod asking;
 mod commands;
 mod numbers;
-#[cfg(test)]
-mod tests;
 
 pub use asking::{Asked, asked_for};

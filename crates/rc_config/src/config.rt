@@ -28,7 +28,7 @@ const NOBODY: Member = Member {
 /// The members of one segment under an epoch, each with a mark whether it is known lost and what it
 /// has told under that epoch, and whether the epoch is committed. "The members of a segment" in
 /// `docs/PROTOCOL.md` has the rules.
-#[derive(Debug, Drop)]
+#[derive(Drop)]
 pub struct Config {
     seg: u16,
     /// The members, and whatever stands behind the last one.

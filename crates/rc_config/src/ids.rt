@@ -16,7 +16,7 @@ const NO_ID: ServerId = ServerId {
 };
 
 /// The ids of a segment's members at one moment. A copy takes no memory.
-#[derive(Debug, Drop)]
+#[derive(Drop)]
 pub struct MemberIds {
     /// The ids, and whatever stands behind the last one.
     slots: [ServerId; MAX_MEMBERS],

@@ -1,3 +1,5 @@
 pub mod Gathering
 pub mod Played
 pub mod Counting
+pub mod StepsDrawn
+pub mod CutWorlds

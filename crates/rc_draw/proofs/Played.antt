@@ -1,9 +1,9 @@
 -- What a part of a run comes to.
-use Rattle.std.proofs.Common.{◌≡◌, ℕ, ◌≤◌, ◌+◌, Bool, true, false, nat_lt, ◌&&◌, if◌then◌else◌, List, [], ◌∷◌, length, map, Option, Some, None, option_map, Result, Ok, Err, OnOk, refl, sym, ap, subst, ◌∙◌}
+use Rattle.std.proofs.Common.{◌≡◌, ℕ, ◌≤◌, Bool, true, false, nat_lt, ◌&&◌, if◌then◌else◌, List, [], ◌∷◌, length, Option, Some, None, option_map, Result, Ok, Err, OnOk, refl, sym, ap, subst, ◌∙◌}
 use Rattle.rc_types.specs.declared.events.Event.{Event}
 use Rattle.rc_types.specs.declared.faults.Fault.{Fault}
 use Rattle.rc_types.specs.declared.faults.Fault.TheVariants.{BadEvent}
-use Rattle.rc_model.specs.World.{World, is_possible, step, replay_from}
+use Rattle.rc_model.specs.World.{World, is_possible, step}
 use Rattle.rc_model.proofs.Replays.{step-impossible}
 use Rattle.rc_reading.specs.declared.scenarios.ScenarioEvent.{ScenarioEvent}
 use Rattle.rc_reading.specs.declared.scenarios.ScenarioEvent.TheVariants as scene
@@ -70,30 +70,3 @@ step_played (Err e) old new event chosen same made = tt
 pub step_passed : (world : World) (chosen : Option Event) → None ≡ option_map Some chosen → world ≡ tried_if_any world chosen
 step_passed world None same = refl
 step_passed world (Some core) same = absurd (cc)
-
--- A run that did not stop has taken all its events
-
-first_of : {A : Type 0} (a b : A) (xs ys : List A) → a ∷ xs ≡ b ∷ ys → (a ≡ b) × (xs ≡ ys)
-first_of a b xs ys same = (cc, cc)
-
-pub taken_all : (most place : ℕ) (world after : World) (scenes : List ScenarioEvent) (events : List Event)
-    → map core_event scenes ≡ map Some events → run_from most place world scenes ≡ record { world = after; stopped = None }
-    → after ≡ replay_from world events
-taken_all most place world after [] [] same ran = sym (ap (λ ended. ended.world) ran)
-taken_all most place world after [] (event ∷ events) same ran = absurd (cc)
-taken_all most place world after (scene ∷ scenes) [] same ran = absurd (cc)
-taken_all most place world after (scene ∷ scenes) (event ∷ events) same ran =
-    let parts = first_of (core_event scene) (Some event) (map core_event scenes) (map Some events) same in
-    by_test (nat_lt (length world.events) most && is_possible world event)
-    (sym (ap (goes_on place (λ next. run_from most (place + 1) next scenes)) (as_core most world scene event parts.0)) ∙ ran)
-    (taken_all most (place + 1) (step world event) after scenes events parts.1)
-  where
-    stops_not : Some place ≡ None → ⊥
-    stops_not same = cc
-
-    by_test : (b : Bool)
-        → goes_on place (λ next. run_from most (place + 1) next scenes) (if b then Ok (step world event) else Err world) ≡ record { world = after; stopped = None }
-        → (run_from most (place + 1) (step world event) scenes ≡ record { world = after; stopped = None } → after ≡ replay_from (step world event) events)
-        → after ≡ replay_from (step world event) events
-    by_test true goes rest = rest goes
-    by_test false goes rest = absurd (stops_not (ap (λ ended. ended.stopped) goes))

@@ -103,16 +103,16 @@ tried_if_any world None = world
 tried_if_any world (Some event) = tried world event
 
 -- one step, of this number
-abbrev pub drawn_step : World → ℕ → Words → World
+unfoldable pub drawn_step : World → ℕ → Words → World
 drawn_step world number words = tried_if_any world (event_of world number words)
 
 -- so many steps from this number on
-abbrev pub drawn_from : ℕ → ℕ → Lcg → World → World
+unfoldable pub drawn_from : ℕ → ℕ → Lcg → World → World
 drawn_from zero number g world = world
 drawn_from (suc left) number g world = drawn_from left (number + 1) (after_words g) (drawn_step world number (next_words g))
 
 -- the world after the steps, and all events that have happened in it
-abbrev pub drawn_world : ℕ → ℕ → Bool → World
+unfoldable pub drawn_world : ℕ → ℕ → Bool → World
 drawn_world seed steps free = drawn_from steps 0 (generator seed) (begun free)
 
 abbrev pub drawn : ℕ → ℕ → Bool → List Event

@@ -53,7 +53,7 @@ cut_scene keeping world =
 abbrev pub cut_from : Keeping → World → World
 cut_from keeping world = played world (cut_scene keeping world)
 
-abbrev pub cut_world : Keeping → List Event → World
+unfoldable pub cut_world : Keeping → List Event → World
 cut_world keeping events = cut_from keeping (replay (drawing_setup false) events)
 
 -- 1 where a breach is found in it

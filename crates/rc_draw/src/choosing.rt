@@ -19,7 +19,7 @@ pub(crate) const HOSTS: u8 = 5;
 const KEYS: u32 = 4;
 
 /// Which kind of event it is.
-#[derive(Clone, Copy, Debug, PartialEq, Eq)]
+#[derive(Clone, Copy)]
 pub(crate) enum Choice {
     Deliver,
     Write,

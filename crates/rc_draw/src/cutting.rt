@@ -15,7 +15,7 @@ use rc_world::World;
 use std::alloc::Global;
 
 /// Which of its open replicas a host keeps.
-#[derive(Clone, Copy, Debug, PartialEq, Eq)]
+#[derive(Clone, Copy)]
 pub(crate) enum Keeping {
     /// All of them.
     All,

@@ -5,7 +5,8 @@ ghost use Rattle.rc_types.specs.declared.faults.Fault.TheVariants.{OutOfMemory};
 ghost use Rattle.rc_types.specs.declared.limits.TheConstants.{MAX_EVENTS};
 ghost use Rattle.rc_reading.specs.declared.scenarios.ScenarioEvent.TheVariants.{Start};
 ghost use Rattle.rc_world.specs.Happened.{replayed};
-ghost use Rattle.rc_draw.specs.Draw.{drawn_step};
+ghost use Rattle.rc_draw.specs.Draw.{beginning, played, begun, drawn_step, drawn_from, drawn_world, drawn};
+ghost use Rattle.rc_draw.specs.Generator.{generator};
 
 use crate::choosing::event_of;
 use crate::playing::{drawing_setup, play, settled};
@@ -24,19 +25,23 @@ use std::alloc::Global;
 /// # Errors
 ///
 /// `OutOfMemory` (F1): memory was refused.
-///
-/// That the events are those of the definition (`drawn`) is proved of each step, and of the whole only tested.
 pub fn drawn_run(alloc: Global, seed: u64, steps: usize, free: bool) -> Result<Run<Global>, Fault>
+    ensures world { IfOk result (λ run. replayed run ≡ drawn_world seed steps free) }
+    ensures events { IfOk result (λ run. run.events ≡ drawn seed steps free) }
     ensures few { IfOk result (λ run. length run.events ≤ MAX_EVENTS) }
+    ensures no_memory { IfErr result (λ fault. fault ≡ OutOfMemory) }
 {
-    let mut run = begun(alloc, free)?;
-    let mut generator = generator_of(seed);
-    for number in 0..steps {
-        let words = Words::take(&mut generator);
-        draw_step(alloc, &mut run, number, words)?;
+    let mut run = match begun(alloc, free) {
+        Ok(run) => run,
+        Err(fault) => return Err(fault),
+    };
+    match draw_steps(alloc, &mut run, seed, steps) {
+        Ok(()) => {
+            let _world = run.world();
+            Ok(run)
+        }
+        Err(fault) => Err(fault),
     }
-    let _world = run.world();
-    Ok(run)
 }
 
 /// The events of a drawing: those before its first step included, and those that were passed over
@@ -46,10 +51,21 @@ pub fn drawn_run(alloc: Global, seed: u64, steps: usize, free: bool) -> Result<R
 ///
 /// `OutOfMemory` (F1): memory was refused.
 pub fn draw(alloc: Global, seed: u64, steps: usize, free: bool) -> Result<Vec<Event>, Fault>
+    ensures ok { IfOk result (λ events. events.items ≡ drawn seed steps free) }
     ensures few { IfOk result (λ events. length events.items ≤ MAX_EVENTS) }
+    ensures no_memory { IfErr result (λ fault. fault ≡ OutOfMemory) }
 {
-    let run = drawn_run(alloc, seed, steps, free)?;
-    let events = run.world().events();
+    match drawn_run(alloc, seed, steps, free) {
+        Ok(run) => copied(alloc, run.world().events()),
+        Err(fault) => Err(fault),
+    }
+}
+
+/// A copy of these events.
+fn copied(alloc: Global, events: &[Event]) -> Result<Vec<Event>, Fault>
+    ensures ok { IfOk result (λ copies. copies.items ≡ events.now) }
+    ensures no_memory { IfErr result (λ fault. fault ≡ OutOfMemory) }
+{
     let mut copies = Vec::with_capacity(alloc, events.len())?;
     for event in events {
         copies.push(event.try_clone(alloc)?)?;
@@ -58,8 +74,22 @@ pub fn draw(alloc: Global, seed: u64, steps: usize, free: bool) -> Result<Vec<Ev
 }
 
 /// The run before the first step.
-fn begun(alloc: Global, free: bool) -> Result<Run<Global>, Fault> {
+fn begun(alloc: Global, free: bool) -> Result<Run<Global>, Fault>
+    ensures ok { IfOk result (λ run. replayed run ≡ begun free) }
+    ensures no_memory { IfErr result (λ fault. fault ≡ OutOfMemory) }
+{
     let mut run = Run::new(alloc, drawing_setup(alloc, free), alloc);
+    match begin(alloc, &mut run) {
+        Ok(()) => Ok(run),
+        Err(fault) => Err(fault),
+    }
+}
+
+/// What happens before the first step.
+fn begin(alloc: Global, run: &mut Run<Global>) -> Result<(), Fault>
+    ensures ok { OnOk result (replayed run.new ≡ played (replayed run.old) beginning) }
+    ensures no_memory { IfErr result (λ fault. fault ≡ OutOfMemory) }
+{
     let beginning = [
         fresh_start(alloc, 0),
         fresh_start(alloc, 1),
@@ -76,8 +106,7 @@ fn begun(alloc: Global, free: bool) -> Result<Run<Global>, Fault> {
         },
         settled(),
     ];
-    play(alloc, &mut run, &beginning)?;
-    Ok(run)
+    play(alloc, run, &beginning)
 }
 
 /// A start of the host with nothing kept.
@@ -88,6 +117,19 @@ fn fresh_start(alloc: Global, host: u8) -> ScenarioEvent
         host,
         kept: Seq::new(alloc),
     }
+}
+
+/// The steps.
+fn draw_steps(alloc: Global, run: &mut Run<Global>, seed: u64, steps: usize) -> Result<(), Fault>
+    ensures ok { OnOk result (replayed run.new ≡ drawn_from steps 0 (generator seed) (replayed run.old)) }
+    ensures no_memory { IfErr result (λ fault. fault ≡ OutOfMemory) }
+{
+    let mut generator = generator_of(seed);
+    for number in 0..steps {
+        let words = Words::take(&mut generator);
+        draw_step(alloc, run, number, words)?;
+    }
+    Ok(())
 }
 
 /// One step, of this number.

@@ -1,20 +1,19 @@
 //! Power failure after each event of a drawing.
 
-ghost use Rattle.std.specs.Prelude.{◌≡◌, ◌⊎◌, Some, map, IfOk, OnOk, IfErr};
-ghost use Rattle.rc_types.specs.declared.faults.Fault.TheVariants.{OutOfMemory, BadEvent};
-ghost use Rattle.rc_types.specs.declared.events.Event.TheVariants.{Ask};
-ghost use Rattle.rc_model.specs.World.{replay_from};
-ghost use Rattle.rc_reading.specs.Scenario.{core_event};
+ghost use Rattle.std.specs.Prelude.{◌≡◌, ◌≤◌, ◌<◌, ◌+◌, ◌*◌, false, length, IfOk, OnOk, IfErr};
+ghost use Rattle.rc_types.specs.declared.faults.Fault.TheVariants.{OutOfMemory};
+ghost use Rattle.rc_types.specs.declared.limits.TheConstants.{MAX_EVENTS};
+ghost use Rattle.rc_model.specs.World.{step, replay_from};
 ghost use Rattle.rc_world.specs.Happened.{replayed};
-ghost use Rattle.rc_draw.specs.Stops.{cut_world, breaks, breaches_at};
+ghost use Rattle.rc_draw.specs.Draw.{drawn};
+ghost use Rattle.rc_draw.specs.Stops.{cut_world, breaks, breaches_at, breaches_below};
 
 use crate::cutting::{Keeping, cut_scene};
 use crate::drawing::draw;
 use crate::playing::{drawing_setup, play};
 use rc_audit::audit;
-use rc_reading::ScenarioEvent;
 use rc_runs::Run;
-use rc_types::{Body, Event, Fault, ServerId, TryClone};
+use rc_types::{Event, Fault};
 use std::alloc::Global;
 
 /// Power failure after each event of a drawing without freeing, in three ways: after the events so
@@ -27,24 +26,39 @@ use std::alloc::Global;
 ///
 /// # Errors
 ///
-/// `OutOfMemory` (F1): memory was refused. `BadEvent` (F18): an event of the drawing can't be told by
-/// a scenario, as a delivery of message 2^32.
+/// `OutOfMemory` (F1): memory was refused.
 pub fn stops(alloc: Global, seed: u64, steps: usize) -> Result<(usize, usize), Fault>
+    ensures cuts { IfOk result (λ numbers. numbers.0 ≡ 3 * length (drawn seed steps false)) }
+    ensures breaches { IfOk result (λ numbers. numbers.1 ≡ breaches_below (drawn seed steps false) (length (drawn seed steps false))) }
     ensures none { IfOk result (λ numbers. numbers.1 ≡ 0) }
+    ensures no_memory { IfErr result (λ fault. fault ≡ OutOfMemory) }
 {
     let events = draw(alloc, seed, steps, false)?;
+    let breaches = breaches_in(alloc, events.as_slice())?;
+    Ok((3 * events.len(), breaches))
+}
+
+/// How many breaches power failures after each of these events lead to.
+fn breaches_in(alloc: Global, events: &[Event]) -> Result<usize, Fault>
+    requires { length events.now ≤ MAX_EVENTS }
+    ensures ok { IfOk result (λ count. count ≡ breaches_below events.now (length events.now)) }
+    ensures none { IfOk result (λ count. count ≡ 0) }
+    ensures no_memory { IfErr result (λ fault. fault ≡ OutOfMemory) }
+{
     let mut breaches = 0;
     for last in 0..events.len() {
         breaches += breaches_after(alloc, &events[..last + 1])?;
     }
-    Ok((3 * events.len(), breaches))
+    Ok(breaches)
 }
 
 /// In how many of the three ways a power failure after these events leads to a breach.
 #[tactic(auto, unfolding(crate::specs::Stops::breaches_at))]
 fn breaches_after(alloc: Global, events: &[Event]) -> Result<usize, Fault>
+    requires { length events.now ≤ MAX_EVENTS }
     ensures ok { IfOk result (λ count. count ≡ breaches_at events.now) }
     ensures none { IfOk result (λ count. count ≡ 0) }
+    ensures no_memory { IfErr result (λ fault. fault ≡ OutOfMemory) }
 {
     let all = breaks(alloc, events, Keeping::All)?;
     let odd = breaks(alloc, events, Keeping::OddSegments)?;
@@ -55,108 +69,65 @@ fn breaches_after(alloc: Global, events: &[Event]) -> Result<usize, Fault>
 /// 1 where a power failure after these events leads to a breach, else 0.
 #[tactic(auto, unfolding(crate::specs::Stops::breaks))]
 fn breaks(alloc: Global, events: &[Event], keeping: Keeping) -> Result<usize, Fault>
+    requires { length events.now ≤ MAX_EVENTS }
     ensures ok { IfOk result (λ count. count ≡ breaks (cut_world keeping events.now)) }
     ensures none { IfOk result (λ count. count ≡ 0) }
+    ensures no_memory { IfErr result (λ fault. fault ≡ OutOfMemory) }
 {
-    let run = cut_run(alloc, events, keeping)?;
-    match audit(alloc, run.world().sent())? {
-        Some(_) => Ok(1),
-        None => Ok(0),
+    let run = match cut_run(alloc, events, keeping) {
+        Ok(run) => run,
+        Err(fault) => return Err(fault),
+    };
+    match audit(alloc, run.world().sent()) {
+        Ok(Some(_)) => Ok(1),
+        Ok(None) => Ok(0),
+        Err(fault) => Err(fault),
     }
 }
 
 /// The run of these events, and of what follows a power failure after them.
 fn cut_run(alloc: Global, events: &[Event], keeping: Keeping) -> Result<Run<Global>, Fault>
+    requires { length events.now ≤ MAX_EVENTS }
     ensures ok { IfOk result (λ run. replayed run ≡ cut_world keeping events.now) }
+    ensures no_memory { IfErr result (λ fault. fault ≡ OutOfMemory) }
 {
-    let scenes = scenes_of(alloc, events)?;
     let mut run = Run::new(alloc, drawing_setup(alloc, false), alloc);
-    replay(alloc, &mut run, scenes.as_slice(), events)?;
-    let scene = cut_scene(alloc, run.world(), keeping)?;
-    play(alloc, &mut run, scene.as_slice())?;
-    Ok(run)
+    match replay(alloc, &mut run, events) {
+        Ok(()) => {}
+        Err(fault) => return Err(fault),
+    }
+    let scene = match cut_scene(alloc, run.world(), keeping) {
+        Ok(scene) => scene,
+        Err(fault) => return Err(fault),
+    };
+    match play(alloc, &mut run, scene.as_slice()) {
+        Ok(()) => Ok(run),
+        Err(fault) => Err(fault),
+    }
 }
 
-/// Takes these events, which the scenario's events are.
-fn replay(
-    alloc: Global,
-    run: &mut Run<Global>,
-    scenes: &[ScenarioEvent],
-    events: &[Event],
-) -> Result<(), Fault>
-    requires { map core_event scenes.now ≡ map Some events.now }
+/// Takes these events, one after another.
+fn replay(alloc: Global, run: &mut Run<Global>, events: &[Event]) -> Result<(), Fault>
+    requires { length run.old.events + length events.now ≤ MAX_EVENTS }
     ensures ok { OnOk result (replayed run.new ≡ replay_from (replayed run.old) events.now) }
-    ensures fault { IfErr result (λ fault. (fault ≡ OutOfMemory) ⊎ (fault ≡ BadEvent)) }
+    ensures no_memory { IfErr result (λ fault. fault ≡ OutOfMemory) }
 {
-    match run.play_all(alloc, scenes) {
-        Ok(()) => {
-            let _world = run.world();
-            Ok(())
-        }
-        Err((_, fault)) => Err(fault),
-    }
-}
-
-/// The scenario's events that are these events.
-fn scenes_of(alloc: Global, events: &[Event]) -> Result<Vec<ScenarioEvent>, Fault>
-    ensures ok { IfOk result (λ scenes. map core_event scenes.items ≡ map Some events.now) }
-    ensures fault { IfErr result (λ fault. (fault ≡ OutOfMemory) ⊎ (fault ≡ BadEvent)) }
-{
-    let mut scenes = Vec::with_capacity(alloc, events.len())?;
     for event in events {
-        scenes.push(scene_of(alloc, event)?)?;
+        take(alloc, run, event)?;
     }
-    Ok(scenes)
+    Ok(())
 }
 
-/// The scenario's event that is this event. There is none for a delivery of a message from 2^32 on,
-/// nor where the outside asks for what is neither a write nor a read.
-fn scene_of(alloc: Global, event: &Event) -> Result<ScenarioEvent, Fault>
-    ensures ok { IfOk result (λ scene. core_event scene ≡ Some event.now) }
-    ensures fault { IfErr result (λ fault. (fault ≡ OutOfMemory) ⊎ (fault ≡ BadEvent)) }
+/// Takes this event, or passes it over where it can't happen.
+fn take(alloc: Global, run: &mut Run<Global>, event: &Event) -> Result<(), Fault>
+    requires { length run.old.events < MAX_EVENTS }
+    ensures ok { OnOk result (replayed run.new ≡ step (replayed run.old) event.now) }
+    ensures more { OnOk result (length run.new.events ≤ length run.old.events + 1) }
+    ensures no_memory { IfErr result (λ fault. fault ≡ OutOfMemory) }
 {
-    Ok(match event {
-        Event::Ask { to, body } => return asked(alloc, *to, body),
-        Event::Deliver(number) => match u32::try_from(*number) {
-            Ok(number) => ScenarioEvent::Deliver(number),
-            Err(_) => return Err(Fault::BadEvent),
-        },
-        Event::Tick(addr) => ScenarioEvent::Tick(*addr),
-        Event::Stop(id) => ScenarioEvent::Stop(*id),
-        Event::Start { host, kept } => ScenarioEvent::Start {
-            host: *host,
-            kept: kept.try_clone(alloc)?,
-        },
-        Event::Suspect(id) => ScenarioEvent::Suspect(*id),
-        Event::Decide(id) => ScenarioEvent::Decide(*id),
-        Event::Create { table, owner } => ScenarioEvent::Create {
-            table: *table,
-            owner: *owner,
-        },
-        Event::Split { table, at } => ScenarioEvent::Split {
-            table: *table,
-            at: *at,
-        },
-    })
-}
-
-/// The scenario's event in which the outside asks for this.
-fn asked(alloc: Global, to: ServerId, body: &Body) -> Result<ScenarioEvent, Fault>
-    ensures ok { IfOk result (λ scene. core_event scene ≡ Some (Ask to body.now)) }
-    ensures fault { IfErr result (λ fault. (fault ≡ OutOfMemory) ⊎ (fault ≡ BadEvent)) }
-{
-    match body {
-        Body::Write { table, key, value } => Ok(ScenarioEvent::Write {
-            to,
-            table: *table,
-            key: *key,
-            value: value.try_clone(alloc)?,
-        }),
-        Body::Read { table, key } => Ok(ScenarioEvent::Read {
-            to,
-            table: *table,
-            key: *key,
-        }),
-        _ => Err(Fault::BadEvent),
+    match run.take(alloc, event) {
+        Ok(()) => Ok(()),
+        Err(Fault::BadEvent) => Ok(()),
+        Err(fault) => Err(fault),
     }
 }

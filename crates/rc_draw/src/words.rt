@@ -7,7 +7,7 @@ use rand_core::utils::NextWord;
 use rand_pcg::Pcg32;
 
 /// Three words of the generator.
-#[derive(Clone, Copy, Debug, PartialEq, Eq)]
+#[derive(Clone, Copy)]
 pub(crate) struct Words {
     /// Chooses which kind of event it is.
     pub(crate) kind: u32,

@@ -16,6 +16,7 @@ use Rattle.rc_model.specs.Headline.{HasMade}
 use Rattle.rc_facts.specs.Words.{log_in, HasTold}
 use Rattle.rc_log_safety.proofs.Clauses.{made-is}
 use Rattle.rc_log_safety.proofs.Replays.{good-world}
+use Rattle.rc_log_words.specs.Claims.{IsRecorded}
 use Rattle.rc_log_words.proofs.Since.{Since, since-take}
 use Rattle.rc_log_words.proofs.Stored.{stored-told}
 use Rattle.rc_version_safety.specs.Words.{Keeps, IsCarriedOn}
@@ -23,7 +24,7 @@ use Rattle.rc_version_safety.specs.Claims.{Frees}
 use Rattle.rc_version_safety.proofs.Replays.{handovers-keep-acknowledged, handovers-keep-durable}
 use Rattle.rc_durable_words.specs.Claims.{DurableIsMade}
 use Rattle.rc_durable_words.specs.Handovers.{HasKept, AcknowledgedIsHandedOn, DurableIsHandedOn}
-use Rattle.rc_durable_words.proofs.Worlds.{counted-is-durable}
+use Rattle.rc_durable_words.proofs.Worlds.{counted-is-durable, acknowledged-is-durable}
 use Rattle.rc_durable_words.proofs.Sending.{IsSent, told-is-sent}
 
 -- what was stored on all was sent
@@ -90,22 +91,34 @@ kept-durably setup events owner term was some k = record {
         cc
 
 pub acknowledged-is-handed-on : AcknowledgedIsHandedOn
-acknowledged-is-handed-on setup events ack was = record {
-  master = p.master;
-  entry = p.entry;
-  stands = p.stands;
-  of_ack = p.of_ack;
-  version = p.version;
-  kept = λ grant owner granted to before some. kept-durably setup events owner grant.term p.entry some (p.kept grant owner granted to (way grant before));
+acknowledged-is-handed-on setup events m ack was = record {
+  recorded = r;
+  made = made;
+  kept = λ grant owner granted to before some. kept-durably setup events owner grant.term r.entry some (p.kept grant owner granted to (way grant before));
 }
   where
-    p : IsCarriedOn (Frees setup) (replay setup events).sent (replay setup events).masters ack
-    p = handovers-keep-acknowledged setup events ack was
+    p : IsCarriedOn (Frees setup) (replay setup events).sent (replay setup events).masters m ack
+    p = handovers-keep-acknowledged setup events m ack was
 
-    way : (grant : Granted) → IsEarlier (replay setup events).sent p.entry.table p.entry.key p.entry.term grant.term → IsEarlier (replay setup events).sent ack.table ack.key ack.term grant.term
-    way grant before = subst (λ n. IsEarlier (replay setup events).sent ack.table ack.key n grant.term) p.of_ack.term
-        (subst (λ k. IsEarlier (replay setup events).sent ack.table k p.entry.term grant.term) p.of_ack.key
-        (subst (λ t. IsEarlier (replay setup events).sent t p.entry.key p.entry.term grant.term) p.of_ack.table before))
+    r : IsRecorded ((replay setup events).masters m).log ack
+    r = p.recorded
+
+    made : factor_of setup m.index ≢ 0 → HasMade (replay setup events).sent m ack.seg ack.offset r.entry
+    made some = subst (HasMade (replay setup events).sent m ack.seg ack.offset) same sent.2
+      where
+        sent : (entry : Entry) × (slice_get (log_in ((replay setup events).masters m).log ack.seg) ack.offset ≡ Some entry) × HasMade (replay setup events).sent m ack.seg ack.offset entry
+        sent = durable-is-made setup events m ack.seg ack.offset (acknowledged-is-durable setup events m ack some was)
+
+        same : sent.0 ≡ r.entry
+        same =
+            let one : slice_get (log_in ((replay setup events).masters m).log ack.seg) ack.offset ≡ Some sent.0 = sent.1 in
+            let other : slice_get (log_in ((replay setup events).masters m).log ack.seg) ack.offset ≡ Some r.entry = r.stands in
+            cc
+
+    way : (grant : Granted) → IsEarlier (replay setup events).sent r.entry.table r.entry.key r.entry.term grant.term → IsEarlier (replay setup events).sent ack.table ack.key ack.term grant.term
+    way grant before = subst (λ n. IsEarlier (replay setup events).sent ack.table ack.key n grant.term) r.of_ack.term
+        (subst (λ k. IsEarlier (replay setup events).sent ack.table k r.entry.term grant.term) r.of_ack.key
+        (subst (λ t. IsEarlier (replay setup events).sent t r.entry.key r.entry.term grant.term) r.of_ack.table before))
 
 pub durable-is-handed-on : DurableIsHandedOn
 durable-is-handed-on setup events m s o durable =

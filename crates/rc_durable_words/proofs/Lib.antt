@@ -1,5 +1,5 @@
 pub mod Told
 pub mod Steps
-mod Worlds
+pub mod Worlds
 pub mod Sending
 pub mod Handing

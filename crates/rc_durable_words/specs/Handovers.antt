@@ -9,8 +9,8 @@ use Rattle.rc_model.specs.Nodes.{factor_of}
 use Rattle.rc_model.specs.Recovered.{Ack}
 use Rattle.rc_model.specs.Owners.{Granted, IsGranted, IsEarlier}
 use Rattle.rc_model.specs.Durable.{IsDurable}
-use Rattle.rc_model.specs.Headline.{HasMade, WasAcknowledged, IsOfAck}
-use Rattle.rc_log_words.specs.Claims.{sent_after, log_of, entry_in}
+use Rattle.rc_model.specs.Headline.{HasMade, HasAcknowledged}
+use Rattle.rc_log_words.specs.Claims.{sent_after, log_of, entry_in, IsRecorded}
 use Rattle.rc_version_safety.specs.Words.{IsKeptBy}
 
 -- the owner has made, at a durable place, an entry of its own term, of the same key: with the same version and value, or,
@@ -30,18 +30,16 @@ OwnersKeep setup events was = (grant : Granted) (owner : ServerId) → IsGranted
     grant.owner ≡ Server owner → IsEarlier (sent_after setup events) was.table was.key was.term grant.term →
     factor_of setup owner.index ≢ 0 → HasKept setup events owner grant.term was
 
--- what was acknowledged, then or since, stands in the log of who acknowledged it, and each later owner keeps it
-pub record IsHandedOn (setup : Setup) (events : List Event) (ack : Ack) : Type 0 where
-  pub master : ServerId
-  pub entry : Entry
-  pub stands : entry_in (log_of setup events master) ack.seg ack.offset ≡ Some entry
-  pub of_ack : IsOfAck ack entry
-  pub version : entry.version ≡ ack.version
-  pub kept : OwnersKeep setup events entry
+-- what a master has acknowledged, then or since, stands in its log at the acknowledged place; it is what the master
+-- has sent for that place, where its segments have replicas at all; and each later owner keeps it
+pub record IsHandedOn (setup : Setup) (events : List Event) (m : ServerId) (ack : Ack) : Type 0 where
+  pub recorded : IsRecorded (log_of setup events m) ack
+  pub made : factor_of setup m.index ≢ 0 → HasMade (sent_after setup events) m ack.seg ack.offset recorded.entry
+  pub kept : OwnersKeep setup events recorded.entry
 
 abbrev pub AcknowledgedIsHandedOn : Type 0
-AcknowledgedIsHandedOn = (setup : Setup) (events : List Event) (ack : Ack) →
-    WasAcknowledged (sent_after setup events) ack → IsHandedOn setup events ack
+AcknowledgedIsHandedOn = (setup : Setup) (events : List Event) (m : ServerId) (ack : Ack) →
+    HasAcknowledged (sent_after setup events) m ack → IsHandedOn setup events m ack
 
 -- and what is durable
 abbrev pub DurableIsHandedOn : Type 0

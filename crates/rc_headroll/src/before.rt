@@ -14,7 +14,7 @@ use std::marker::Model;
 
 /// Where a log goes back to: how it was when a step began. The newest segment and the one before it are
 /// kept at once, and others when they are first changed.
-#[derive(Debug, Drop)]
+#[derive(Drop)]
 pub(crate) struct Before {
     head: usize,
     phase: Phase,

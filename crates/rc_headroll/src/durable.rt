@@ -104,7 +104,7 @@ impl LogHead {
 }
 
 /// A place of a log, and what stands there.
-#[derive(Clone, Copy, Debug)]
+#[derive(Clone, Copy)]
 pub struct Place<'a> {
     /// The segment.
     pub seg: u16,

@@ -11,7 +11,7 @@ use std::marker::Model;
 
 /// A master's log: its segments, of which the newest is the head, and how much of it is durable.
 /// "The master" in `docs/PROTOCOL.md` has the rules.
-#[derive(Debug, Drop)]
+#[derive(Drop)]
 pub struct LogHead {
     pub(crate) own: ServerId,
     pub(crate) factor: u8,

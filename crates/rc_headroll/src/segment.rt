@@ -13,7 +13,7 @@ use std::marker::Model;
 
 /// One segment of a log: its digest, its entries, its members, and how far it has come. "The master" in
 /// `docs/PROTOCOL.md` has the rules.
-#[derive(Debug, Drop)]
+#[derive(Drop)]
 pub struct Segment {
     digest: Vec<u16>,
     entries: Vec<(Entry, bool)>,

@@ -3,7 +3,7 @@
 use rc_config::{Config, MemberIds};
 
 /// What a step can change of a segment, kept so that the change can be undone.
-#[derive(Debug, Drop)]
+#[derive(Drop)]
 pub struct SegmentState {
     /// How many entries there were.
     pub(crate) len: usize,

@@ -14,7 +14,7 @@ use rc_types::{Breach, Fault, Message};
 use std::alloc::Global;
 
 /// What comes of a trace.
-#[derive(Clone, Copy, Debug, PartialEq, Eq)]
+#[derive(Clone, Copy)]
 pub enum Finding {
     /// The audit found no breach.
     Clean,
@@ -25,7 +25,7 @@ pub enum Finding {
 }
 
 /// What comes of a trace, and what is printed.
-#[derive(Debug, Drop)]
+#[derive(Drop)]
 pub struct Judgement {
     /// What comes of it.
     pub finding: Finding,

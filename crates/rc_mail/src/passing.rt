@@ -8,7 +8,7 @@ use rc_reading::{Hosts, Kind, Kinds};
 use rc_types::{Addr, Message};
 
 /// Which messages a pass leaves alone, beside those to the outside.
-#[derive(Clone, Copy, Debug, PartialEq, Eq)]
+#[derive(Clone, Copy)]
 pub struct Passing {
     /// Messages whose body is of one of these kinds.
     pub kinds: Kinds,

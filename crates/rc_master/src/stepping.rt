@@ -173,7 +173,7 @@ impl State {
                 self.ownership.grant(range, *term)
             }
             (Addr::Coordinator, Body::Refused { code }) => {
-                if *code == Code::Deposed {
+                if let Code::Deposed = code {
                     self.deposed = true;
                 }
                 Ok(())

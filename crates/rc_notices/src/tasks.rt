@@ -12,7 +12,7 @@ use std::alloc::{AllocError, Global};
 use std::marker::Model;
 
 /// A part that a master is to recover: in which attempt, of whose log, and in which rows that log is.
-#[derive(Debug, Drop)]
+#[derive(Drop)]
 pub struct Task {
     attempt: u32,
     master: ServerId,

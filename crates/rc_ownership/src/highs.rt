@@ -12,7 +12,7 @@ use rc_types::Entry;
 use std::alloc::{AllocError, Global};
 
 /// A key of a table, under a term: it has versions of its own.
-#[derive(Clone, Copy, Debug, PartialEq, Eq, Hash)]
+#[derive(Clone, Copy, PartialEq, Eq, Hash)]
 pub(crate) struct Slot {
     /// The term.
     pub(crate) term: u32,

@@ -14,7 +14,7 @@ use std::alloc::{AllocError, Allocator};
 
 /// A tree of tablets: none, one, or those of two ends. The bound of a fork is where the first
 /// tablet on its right begins: what comes before it is on the left.
-#[derive(Debug, Drop)]
+#[derive(Drop)]
 pub enum Node<A: Allocator> {
     /// No tablet.
     Empty,

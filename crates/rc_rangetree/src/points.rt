@@ -4,7 +4,7 @@ ghost use Rattle.std.specs.Prelude.{MatchBool};
 ghost use Rattle.rc_rangetree.specs.Points.{IsBefore, IsAtOrAfter};
 
 /// A key of a table. Points are ordered by table, and those of one table by key.
-#[derive(Debug, Clone, Copy, PartialEq, Eq, PartialOrd, Ord)]
+#[derive(Clone, Copy, PartialEq, Eq, PartialOrd, Ord)]
 pub struct Point {
     /// The table.
     pub table: u32,

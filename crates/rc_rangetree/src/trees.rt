@@ -23,7 +23,7 @@ use std::marker::Model;
 /// and then gives the list and the old tree back.
 ///
 /// A call that is refused leaves the same tree.
-#[derive(Debug, Drop)]
+#[derive(Drop)]
 pub struct RangeTree<A: Allocator> {
     alloc: A,
     root: Node<A>,

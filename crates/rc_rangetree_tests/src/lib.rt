@@ -1,6 +1,6 @@
-//! Tests of `rc_rangetree`, which call what every user of it can call. They stand in a crate of their own since
-//! a crate with tests is proved twice.
+//! Tests of `rc_rangetree` in memory of its own, which call what every user of it can call: where memory is
+//! refused nothing changes, and what was taken goes back. `parts_rows` tells a tree in ordinary memory what to do.
 #![tactic(auto)]
 
 #[cfg(test)]
-mod trees;
+mod heaps;

@@ -23,7 +23,7 @@ use rc_types::{Addr, Seq, ServerId};
 use std::alloc::Global;
 
 /// A member that some event has.
-#[derive(Clone, Copy, Debug, PartialEq, Eq)]
+#[derive(Clone, Copy)]
 pub(crate) enum MemberName {
     Event,
     Host,
@@ -64,7 +64,7 @@ impl MemberName {
 }
 
 /// For each event whether it has all the members that have come.
-#[derive(Clone, Copy, Debug, PartialEq, Eq)]
+#[derive(Clone, Copy)]
 pub(crate) struct Only {
     start: bool,
     id: bool,
@@ -156,7 +156,7 @@ impl Only {
 /// What the members of an event say so far; the last of equal names counts. A member that is absent and
 /// one that says nothing right are both `None`, but lists that may be left out are empty where they are
 /// absent.
-#[derive(Debug, Drop)]
+#[derive(Drop)]
 pub(crate) struct Fields {
     only: Only,
     event: Option<EventName>,

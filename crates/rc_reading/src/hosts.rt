@@ -6,7 +6,7 @@ ghost use Rattle.rc_types.specs.declared.limits.TheConstants.{MAX_HOSTS};
 use rc_types::limits::MAX_HOSTS;
 
 /// A set of hosts. Asking whether a host is in it costs the same whatever it holds.
-#[derive(Clone, Copy, Debug, PartialEq, Eq)]
+#[derive(Clone, Copy)]
 pub struct Hosts {
     bits: u64,
 }

@@ -5,7 +5,7 @@ ghost use Rattle.std.specs.Prelude.{◌≡◌, ◌<◌};
 use rc_types::Body;
 
 /// Which kind of body a message has. "Messages" in `docs/PROTOCOL.md` says what each one means.
-#[derive(Clone, Copy, Debug, PartialEq, Eq)]
+#[derive(Clone, Copy)]
 pub enum Kind {
     /// O to S: write a value.
     Write,
@@ -165,7 +165,7 @@ impl Kind {
 }
 
 /// A set of kinds. Asking whether a kind is in it costs the same whatever it holds.
-#[derive(Clone, Copy, Debug, PartialEq, Eq)]
+#[derive(Clone, Copy)]
 pub struct Kinds {
     bits: u32,
 }

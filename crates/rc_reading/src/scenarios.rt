@@ -11,7 +11,7 @@ use std::alloc::{AllocError, AllocFailed, Global};
 use thiserror::Error;
 
 /// A scenario of either format.
-#[derive(Debug, Drop, PartialEq)]
+#[derive(Drop)]
 pub struct Scenario {
     /// What its world is opened with.
     pub setup: Setup,
@@ -20,7 +20,7 @@ pub struct Scenario {
 }
 
 /// One event of a scenario: one event of the world, or a pass over the messages.
-#[derive(Debug, Drop, PartialEq)]
+#[derive(Drop)]
 pub enum ScenarioEvent {
     /// A host is started, with what it keeps of its open replicas, named by master and segment.
     Start {

@@ -8,7 +8,7 @@ use rc_types::Addr;
 use rc_types::limits::MAX_HOSTS;
 
 /// What a value says by itself.
-#[derive(Clone, Copy, Debug, Drop)]
+#[derive(Clone, Copy, Drop)]
 pub(crate) enum Simple<'a> {
     /// null
     Null,

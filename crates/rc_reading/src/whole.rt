@@ -68,7 +68,7 @@ fn events(alloc: Global, reader: &mut Reader<'_>, depth: usize) -> Result<Option
 }
 
 /// A member of a scenario.
-#[derive(Clone, Copy, Debug, PartialEq, Eq)]
+#[derive(Clone, Copy)]
 pub(crate) enum TopName {
     Format,
     Factor,
@@ -96,7 +96,7 @@ impl TopName {
 
 /// What the members of a scenario say so far; the last of equal names counts. A member that is absent and
 /// one that says nothing right are both `None`.
-#[derive(Debug, Drop)]
+#[derive(Drop)]
 pub(crate) struct Top {
     /// Whether format 1 has all the members that have come.
     first: bool,

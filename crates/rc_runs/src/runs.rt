@@ -60,7 +60,7 @@ impl<A: Allocator + Clone> Run<A> {
 
     /// One event of the world. F18 comes only where it is not possible, or 200,000 events have
     /// happened, F1 only where memory was refused; after either the world is as it was.
-    fn take(&mut self, alloc: Global, event: &Event) -> Result<(), Fault>
+    pub fn take(&mut self, alloc: Global, event: &Event) -> Result<(), Fault>
         ensures ok { OnOk result (self.new ≡ with_events self.old (event.now ∷ [])) }
         ensures possible { OnOk result (can_happen self.old event.now ≡ true) }
         ensures bad { result ≡ Err BadEvent → can_happen self.old event.now ≡ false }

@@ -5,6 +5,7 @@ use Rattle.rc_types.specs.declared.events.Event.{Event}
 use Rattle.rc_model.specs.World.{replay}
 use Rattle.rc_model.specs.Breach.{breach}
 use Rattle.rc_model.specs.Headline.{NothingIsDropped}
+use Rattle.rc_history.specs.Apart.{Step, sent_by, TakenApart}
 
 -- the messages sent hold no breach
 abbrev pub NoBreach : Type 0
@@ -13,3 +14,7 @@ NoBreach = (setup : Setup) (events : List Event) → breach (replay setup events
 -- and where masters free nothing, each accepted recovery has every acknowledged write of its master at its own place
 abbrev pub Strong : Type 0
 Strong = (setup : Setup) (events : List Event) → setup.free ≡ false → NothingIsDropped (replay setup events).sent
+
+-- the messages that nodes sent which run apart hold no breach
+abbrev pub NoBreachApart : Type 0
+NoBreachApart = (setup : Setup) (steps : List Step) → TakenApart setup steps → breach (sent_by steps) ≡ None

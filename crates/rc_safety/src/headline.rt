@@ -1,6 +1,6 @@
 //! The headline.
 
-ghost use Rattle.rc_safety.specs.Claims.{NoBreach, Strong};
+ghost use Rattle.rc_safety.specs.Claims.{NoBreach, Strong, NoBreachApart};
 
 /// For every setup and every list of events: each write that a master has acknowledged, before or
 /// after a recovery of it was accepted, is in that recovery's log, or a greater version of its key
@@ -10,4 +10,10 @@ ghost use Rattle.rc_safety.specs.Claims.{NoBreach, Strong};
 pub fn headline()
     ensures no_breach { NoBreach }
     ensures strong { Strong }
+{}
+
+/// The same of nodes that run apart: whatever steps they took, in whatever order in which each message is sent before
+/// it is delivered, in the messages that they sent there is no breach.
+pub fn headline_of_nodes_apart()
+    ensures { NoBreachApart }
 {}

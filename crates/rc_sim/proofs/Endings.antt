@@ -19,6 +19,7 @@ use Rattle.rc_judging.specs.Judged.{finding_of, text_of}
 use Rattle.rc_scenes.specs.Runs.{scenario_run, run_within}
 use Rattle.rc_scenes.proofs.Runs.{scenario_is_run}
 use Rattle.rc_world.specs.Happened.{Happened, replayed, sent_in}
+use Rattle.rc_draw.specs.Draw.{drawn_world}
 use Rattle.rc_sim.specs.declared.verdicts.Verdict.{Verdict}
 use Rattle.rc_sim.specs.declared.verdicts.Verdict.TheVariants.{Clean, Breach, Bad, Stopped}
 use Rattle.rc_sim.specs.declared.verdicts.SimFault.{SimFault}
@@ -159,7 +160,9 @@ judged_so verdict text one other same h =
     subst (λ d. (verdict ≡ found_verdict (finding_of (trace.of_value d))) × (text ≡ text_of (trace.of_value d))) same h
 
 -- the report of a drawing is that of its world
-pub drawn_of : {E : Type 0} (result : Result Answer E) (world : Happened) → IfOk result (λ a. a.verdict ≡ verdict_of Report (sent_in world))
-    → IfOk result (λ a. string_bytes a.text ≡ printed_of Report (sent_in world)) → IfOk result (λ a. Drawn a.verdict (string_bytes a.text))
-drawn_of (Ok a) world judged printed = (world, judged, printed)
-drawn_of (Err e) world judged printed = tt
+pub drawn_of : {E : Type 0} (result : Result Answer E) (world : Happened) (seed steps : ℕ) (free : Bool) → replayed world ≡ drawn_world seed steps free
+    → IfOk result (λ a. a.verdict ≡ verdict_of Report (sent_in world)) → IfOk result (λ a. string_bytes a.text ≡ printed_of Report (sent_in world))
+    → IfOk result (λ a. Drawn seed steps free a.verdict (string_bytes a.text))
+drawn_of (Ok a) world seed steps free same judged printed =
+    (judged ∙ ap (λ w. verdict_of Report w.sent) same, printed ∙ ap (λ w. printed_of Report w.sent) same)
+drawn_of (Err e) world seed steps free same judged printed = tt

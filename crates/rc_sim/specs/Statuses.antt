@@ -45,6 +45,6 @@ abbrev pub Does : Asked → ℕ → Option (List ℕ) → Option (List ℕ) → 
 Does (asked.Run heap) status input old new = EndsBy (Played Report) status input old new
 Does asked.Trace status input old new = EndsBy (Played Trace) status input old new
 Does asked.Audit status input old new = EndsBy Judged status input old new
-Does (asked.Fuzz seed steps free) status input old new = EndsBy (λ _. Drawn) status input old new
-Does (asked.Stops seed steps) status input old new = EndsBy (λ _. PowerCut) status input old new
+Does (asked.Fuzz seed steps free) status input old new = EndsBy (λ _. Drawn seed steps free) status input old new
+Does (asked.Stops seed steps) status input old new = EndsBy (λ _. PowerCut seed steps) status input old new
 Does _ status input old new = ⊤

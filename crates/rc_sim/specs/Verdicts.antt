@@ -1,12 +1,12 @@
 -- What comes of a scenario, a trace, or drawn events: what is printed, and what is answered.
-use Rattle.std.specs.Prelude.{◌≡◌, ◌⊎◌, ◌≤◌, ℕ, List, [], ◌++◌, length, Option, Some, None, Result, Ok, Err}
+use Rattle.std.specs.Prelude.{◌≡◌, ◌⊎◌, ◌≤◌, ◌*◌, ℕ, Bool, false, List, [], ◌++◌, length, codes, Option, Some, None, Result, Ok, Err}
 use Rattle.rc_types.specs.declared.faults.Code.{Code}
 use Rattle.rc_types.specs.declared.faults.Code.TheVariants.{OutOfMemory, BadEvent}
 use Rattle.rc_types.specs.declared.limits.TheConstants.{MAX_EVENTS}
 use Rattle.rc_types.specs.declared.messages.Message.{Message}
 use Rattle.rc_types.specs.declared.verdicts.Breach.{Breach as Found}
 use Rattle.rc_model.specs.Breach.{breach}
-use Rattle.rc_model.specs.Report.{report}
+use Rattle.rc_model.specs.Report.{report, count_line}
 use Rattle.rc_reading.specs.declared.scenarios.Scenario.{Scenario}
 use Rattle.rc_reading.specs.Scenario.{reading}
 use Rattle.rc_report.specs.Ends.{stopped_line, error_line}
@@ -17,6 +17,7 @@ use Rattle.rc_judging.specs.declared.judging.Finding.{Finding}
 use Rattle.rc_judging.specs.declared.judging.Finding.TheVariants as finding
 use Rattle.rc_judging.specs.Judged.{finding_of, text_of}
 use Rattle.rc_world.specs.Happened.{Happened, sent_in}
+use Rattle.rc_draw.specs.Draw.{drawn_world, drawn}
 use Rattle.rc_sim.specs.declared.verdicts.Output.{Output}
 use Rattle.rc_sim.specs.declared.verdicts.Output.TheVariants.{Report, Trace}
 use Rattle.rc_sim.specs.declared.verdicts.Verdict.{Verdict}
@@ -89,10 +90,15 @@ found_verdict (finding.Bad place) = Bad place
 abbrev pub Judged : List ℕ → Verdict → List ℕ → Type 0
 Judged bytes verdict text = (verdict ≡ found_verdict (finding_of (trace.reading bytes))) × (text ≡ text_of (trace.reading bytes))
 
--- of drawn events: the report of a world
-abbrev pub Drawn : Verdict → List ℕ → Type 0
-Drawn verdict text = (world : Happened) × (verdict ≡ audited (breach (sent_in world))) × (text ≡ report (sent_in world))
+-- of the events that are drawn from this seed: the report of the world that they lead to
+abbrev pub Drawn : ℕ → ℕ → Bool → Verdict → List ℕ → Type 0
+Drawn seed steps free verdict text =
+    (verdict ≡ audited (breach (drawn_world seed steps free).sent)) × (text ≡ report (drawn_world seed steps free).sent)
 
--- of power failures: there is never a breach
-abbrev pub PowerCut : Verdict → List ℕ → Type 0
-PowerCut verdict text = verdict ≡ Clean
+-- the two lines of power failures
+abbrev pub cuts_text : ℕ → ℕ → List ℕ
+cuts_text cuts breaches = count_line (codes "cuts ") cuts ++ count_line (codes "breaches ") breaches
+
+-- of power failures after the events that are drawn from this seed, three for each: there is never a breach
+abbrev pub PowerCut : ℕ → ℕ → Verdict → List ℕ → Type 0
+PowerCut seed steps verdict text = (verdict ≡ Clean) × (text ≡ cuts_text (3 * length (drawn seed steps false)) 0)

@@ -23,7 +23,7 @@ use rc_world::World;
 use std::alloc::{Allocator, Global};
 
 /// What is answered, and what is printed.
-#[derive(Debug, Drop)]
+#[derive(Drop)]
 pub struct Answer {
     pub(crate) verdict: Verdict,
     pub(crate) text: String,

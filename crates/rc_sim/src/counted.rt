@@ -9,7 +9,7 @@ use std::io::{Read, Write};
 
 /// A reader or a writer, and how often it has failed. A call fails where it ends with an error, of
 /// any kind, or where it takes none of some bytes.
-#[derive(Debug, Drop)]
+#[derive(Drop)]
 pub struct Counted<T> {
     /// The reader or the writer.
     pub inner: T,

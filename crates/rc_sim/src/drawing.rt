@@ -4,7 +4,7 @@ ghost use Rattle.std.specs.Prelude.{◌≡◌, ◌≢◌, ℕ, string_bytes, IfO
 ghost use Rattle.std.specs.Io.KnownBytes.{Keeps};
 ghost use Rattle.rc_sim.specs.declared.verdicts.SimFault.TheVariants.{Memory, Read as ReadFailed, Write as WriteFailed};
 ghost use Rattle.rc_sim.specs.Failures.{failed_writes};
-ghost use Rattle.rc_sim.specs.Verdicts.{Drawn, PowerCut};
+ghost use Rattle.rc_sim.specs.Verdicts.{Drawn, PowerCut, cuts_text};
 ghost use Rattle.rc_sim.specs.Written.{IsWritten, IsBegun};
 
 use crate::answers::{Answer, ended};
@@ -27,9 +27,9 @@ pub fn fuzz<W: Write>(
     writer: &mut Counted<W>,
 ) -> Result<Verdict, SimFault>
     ensures ok { IfOk result (λ verdict.
-        IsWritten Drawn verdict (W.contents writer.old.inner) (W.contents writer.new.inner)) }
+        IsWritten (Drawn seed steps free) verdict (W.contents writer.old.inner) (W.contents writer.new.inner)) }
     ensures cut_short { (count : ℕ) → result ≡ Err (WriteFailed count) →
-        IsBegun Drawn count (W.contents writer.old.inner) (W.contents writer.new.inner) }
+        IsBegun (Drawn seed steps free) count (W.contents writer.old.inner) (W.contents writer.new.inner) }
     ensures nothing_without_memory { result ≡ Err Memory → Keeps (W.contents writer.old.inner) (W.contents writer.new.inner) }
     ensures writes { writer.new.failures ≡ failed_writes result writer.old.failures }
     ensures unread { result ≢ Err ReadFailed }
@@ -40,11 +40,13 @@ pub fn fuzz<W: Write>(
 
 /// The report of a drawing.
 fn drawn_answer(alloc: Global, seed: u64, steps: usize, free: bool) -> Result<Answer, SimFault>
-    ensures ok { IfOk result (λ answer. Drawn answer.verdict (string_bytes answer.text)) }
+    ensures ok { IfOk result (λ answer. Drawn seed steps free answer.verdict (string_bytes answer.text)) }
     ensures fault { IfErr result (λ fault. fault ≡ Memory) }
 {
-    let run = drawn_run(alloc, seed, steps, free).map_err(|_| SimFault::Memory)?;
-    ended(alloc, run.world(), Output::Report)
+    match drawn_run(alloc, seed, steps, free) {
+        Ok(run) => ended(alloc, run.world(), Output::Report),
+        Err(_) => Err(SimFault::Memory),
+    }
 }
 
 /// Cuts the power after each event that is drawn from the seed, in three ways, and writes how often that
@@ -58,9 +60,9 @@ pub fn stops<W: Write>(
     writer: &mut Counted<W>,
 ) -> Result<Verdict, SimFault>
     ensures ok { IfOk result (λ verdict.
-        IsWritten PowerCut verdict (W.contents writer.old.inner) (W.contents writer.new.inner)) }
+        IsWritten (PowerCut seed steps) verdict (W.contents writer.old.inner) (W.contents writer.new.inner)) }
     ensures cut_short { (count : ℕ) → result ≡ Err (WriteFailed count) →
-        IsBegun PowerCut count (W.contents writer.old.inner) (W.contents writer.new.inner) }
+        IsBegun (PowerCut seed steps) count (W.contents writer.old.inner) (W.contents writer.new.inner) }
     ensures nothing_without_memory { result ≡ Err Memory → Keeps (W.contents writer.old.inner) (W.contents writer.new.inner) }
     ensures writes { writer.new.failures ≡ failed_writes result writer.old.failures }
     ensures unread { result ≢ Err ReadFailed }
@@ -71,10 +73,13 @@ pub fn stops<W: Write>(
 
 /// What is printed of power failures.
 fn stops_answer(alloc: Global, seed: u64, steps: usize) -> Result<Answer, SimFault>
-    ensures ok { IfOk result (λ answer. PowerCut answer.verdict (string_bytes answer.text)) }
+    ensures ok { IfOk result (λ answer. PowerCut seed steps answer.verdict (string_bytes answer.text)) }
     ensures fault { IfErr result (λ fault. fault ≡ Memory) }
 {
-    let (cuts, breaches) = rc_draw::stops(alloc, seed, steps).map_err(|_| SimFault::Memory)?;
+    let (cuts, breaches) = match rc_draw::stops(alloc, seed, steps) {
+        Ok(numbers) => numbers,
+        Err(_) => return Err(SimFault::Memory),
+    };
     let text = cuts_text(alloc, cuts, breaches)?;
     let verdict = if breaches == 0 {
         Verdict::Clean
@@ -85,6 +90,11 @@ fn stops_answer(alloc: Global, seed: u64, steps: usize) -> Result<Answer, SimFau
 }
 
 /// The two lines of numbers.
-fn cuts_text(alloc: Global, cuts: usize, breaches: usize) -> Result<String, AllocError> {
-    format!(in alloc; "cuts {cuts}\nbreaches {breaches}\n")
+fn cuts_text(alloc: Global, cuts: usize, breaches: usize) -> Result<String, AllocError>
+    ensures { IfOk result (λ text. string_bytes text ≡ cuts_text cuts breaches) }
+{
+    let mut text = String::new(alloc);
+    write!(text, "cuts {cuts}\n")?;
+    write!(text, "breaches {breaches}\n")?;
+    Ok(text)
 }

@@ -7,7 +7,7 @@ use std::alloc::{AllocError, AllocFailed};
 use thiserror::Error;
 
 /// What is printed of a scenario's run.
-#[derive(Clone, Copy, Debug, PartialEq, Eq)]
+#[derive(Clone, Copy)]
 pub enum Output {
     /// The report, with the audit's answer.
     Report,
@@ -16,7 +16,7 @@ pub enum Output {
 }
 
 /// What came of a scenario, of a trace, or of drawn events.
-#[derive(Clone, Copy, Debug, PartialEq, Eq)]
+#[derive(Clone, Copy)]
 pub enum Verdict {
     /// Every event happened, and the audit found no breach; or the trace of what was sent was written.
     Clean,

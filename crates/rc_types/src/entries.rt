@@ -5,7 +5,7 @@ use crate::sequence::{Seq, TryClone};
 use std::alloc::Global;
 
 /// One entry of a master's log: one write of one key.
-#[derive(Debug, Drop, PartialEq)]
+#[derive(Drop, PartialEq)]
 pub struct Entry {
     /// The term under which it was written, or under which it was replayed.
     pub term: u32,

@@ -7,7 +7,7 @@ use crate::sequence::{Seq, TryClone};
 use std::alloc::Global;
 
 /// What a world is opened with.
-#[derive(Debug, Drop, PartialEq)]
+#[derive(Drop)]
 pub struct Setup {
     /// How many replicas each segment has, 1 to 5, at a master whose host has no number in `factors`.
     pub factor: u8,
@@ -32,7 +32,7 @@ impl TryClone for Setup {
 }
 
 /// One event of a world: one input, taken by one node.
-#[derive(Debug, Drop, PartialEq)]
+#[derive(Drop)]
 pub enum Event {
     /// The outside asks a server to write or read.
     Ask {
@@ -95,7 +95,7 @@ impl TryClone for Event {
 }
 
 /// What one node can be given: an event without the name of its node, a message in full.
-#[derive(Debug, Drop, PartialEq)]
+#[derive(Drop)]
 pub enum Input {
     /// A message to this node.
     Message(Message),

@@ -8,7 +8,7 @@ use thiserror::Error;
 
 /// The code of a refusal. `F1` to `F21` are the names that the program prints; "Refusals" in
 /// `docs/PROTOCOL.md` says who answers which, and when.
-#[derive(Clone, Copy, Debug, PartialEq, Eq, Hash)]
+#[derive(Clone, Copy)]
 pub enum Code {
     /// F1: a growth, or the making of a thread, was refused.
     OutOfMemory = 1,
@@ -72,7 +72,7 @@ impl fmt::Display for Code {
 }
 
 /// A refusal: a code, with the segment that is missing or the place that is wrong.
-#[derive(Clone, Copy, Debug, PartialEq, Eq, Error)]
+#[derive(Clone, Copy, Error)]
 pub enum Fault {
     /// F1: a growth, or the making of a thread, was refused.
     #[error("F1: a growth, or the making of a thread, was refused")]
@@ -169,6 +169,13 @@ impl Fault {
             Fault::Pending => Code::Pending,
             Fault::StaleGeneration => Code::StaleGeneration,
         }
+    }
+}
+
+/// For a debugger a refusal is its text.
+impl fmt::Debug for Fault {
+    fn fmt<W: fmt::Write>(&self, f: &mut fmt::Formatter<W>) -> fmt::Result {
+        write!(f, "{self}")
     }
 }
 

@@ -4,7 +4,7 @@ use crate::ids::ServerId;
 use crate::rows::KeyRange;
 
 /// What a member of a segment has told under the segment's present epoch.
-#[derive(Clone, Copy, Debug, PartialEq, Eq)]
+#[derive(Clone, Copy)]
 pub struct Told {
     /// The greatest length, in entries.
     pub len: usize,
@@ -13,7 +13,7 @@ pub struct Told {
 }
 
 /// A member of a segment: a backup that is to keep a replica of it.
-#[derive(Clone, Copy, Debug, PartialEq, Eq)]
+#[derive(Clone, Copy)]
 pub struct Member {
     /// The backup.
     pub id: ServerId,
@@ -24,7 +24,7 @@ pub struct Member {
 }
 
 /// What a master does with its head.
-#[derive(Clone, Copy, Debug, PartialEq, Eq)]
+#[derive(Clone, Copy)]
 pub enum Phase {
     /// A new head is being placed on its members. So it is before the first head too.
     Opening,
@@ -35,7 +35,7 @@ pub enum Phase {
 }
 
 /// A range that was granted to a master, and the term of that ownership.
-#[derive(Clone, Copy, Debug, PartialEq, Eq)]
+#[derive(Clone, Copy)]
 pub struct GrantedRange {
     /// The keys.
     pub range: KeyRange,
@@ -44,7 +44,7 @@ pub struct GrantedRange {
 }
 
 /// A grant that the coordinator has made; it remembers each for good.
-#[derive(Clone, Copy, Debug, PartialEq, Eq)]
+#[derive(Clone, Copy)]
 pub struct Grant {
     /// The keys.
     pub range: KeyRange,

@@ -8,7 +8,7 @@ use crate::sequence::{Seq, TryClone};
 use std::alloc::Global;
 
 /// A message, from one address to another.
-#[derive(Debug, Drop, PartialEq)]
+#[derive(Drop)]
 pub struct Message {
     /// The sender.
     pub from: Addr,
@@ -31,7 +31,7 @@ impl TryClone for Message {
 
 /// What a message says. Each variant names who sends it to whom: S is a server, C the coordinator,
 /// O the outside. Offsets and lengths count entries.
-#[derive(Debug, Drop, PartialEq)]
+#[derive(Drop)]
 pub enum Body {
     /// O to S: write this value at this key; `None` deletes.
     Write {

@@ -6,7 +6,7 @@ use crate::sequence::{Seq, TryClone};
 use std::alloc::Global;
 
 /// What a backup tells of one replica of a master that it was asked about.
-#[derive(Debug, Drop, PartialEq)]
+#[derive(Drop)]
 pub struct Row {
     /// The segment.
     pub seg: u16,
@@ -34,7 +34,7 @@ impl TryClone for Row {
 }
 
 /// One row of a recovery plan: of this segment, the first `len` entries of this backup's replica.
-#[derive(Clone, Copy, Debug, PartialEq, Eq)]
+#[derive(Clone, Copy, PartialEq, Eq)]
 pub struct PlanRow {
     /// The segment.
     pub seg: u16,
@@ -51,7 +51,7 @@ impl TryClone for PlanRow {
 }
 
 /// Which log a recovery takes: the segment of its head, and a row for each segment.
-#[derive(Debug, Drop, PartialEq)]
+#[derive(Drop)]
 pub struct Plan {
     /// The segment of the newest digest that was found open.
     pub head: u16,
@@ -70,7 +70,7 @@ impl TryClone for Plan {
 }
 
 /// A contiguous range of the keys of one table.
-#[derive(Clone, Copy, Debug, PartialEq, Eq)]
+#[derive(Clone, Copy)]
 pub struct KeyRange {
     /// The table.
     pub table: u32,
@@ -82,7 +82,7 @@ pub struct KeyRange {
 
 /// A recovery master's part of a crashed master's tablets: a range, the term that its entries have
 /// in the crashed master's log, and the term that they get.
-#[derive(Clone, Copy, Debug, PartialEq, Eq)]
+#[derive(Clone, Copy)]
 pub struct Part {
     /// The table.
     pub table: u32,
@@ -103,7 +103,7 @@ impl TryClone for Part {
 }
 
 /// A range of keys with its one owner.
-#[derive(Clone, Copy, Debug, PartialEq, Eq)]
+#[derive(Clone, Copy)]
 pub struct Tablet {
     /// The table.
     pub table: u32,

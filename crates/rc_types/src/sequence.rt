@@ -12,7 +12,7 @@ use std::marker::Model;
 
 /// A list of plain data, which contracts see as a list and as nothing else: two of them with the
 /// same elements are equal. It is made from a `Vec` and gives it back without taking memory.
-#[derive(Debug, Drop)]
+#[derive(Drop)]
 pub struct Seq<T> {
     inner: Vec<T>,
 }

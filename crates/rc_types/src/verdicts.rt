@@ -4,7 +4,7 @@ use crate::ids::ServerId;
 use std::fmt;
 
 /// A breach of the headline in a list of messages.
-#[derive(Clone, Copy, Debug, PartialEq, Eq)]
+#[derive(Clone, Copy)]
 pub enum Breach {
     /// A write that the plan's master has acknowledged is not in the recovered log at its place.
     Missing {

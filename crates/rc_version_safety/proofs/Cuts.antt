@@ -63,7 +63,7 @@ filter-same f g (x ∷ xs) same = ap (λ b. cond b (x ∷ filter f xs) (filter f
 -- Plans
 
 -- accepted recoveries of one attempt are one
-one-plan : (sent : List Message) (masters : ServerId → Master) (hosts : ℕ → HostNode) (c : Coordinator) → Good sent masters hosts c → (one other : Accepted) → WasAccepted sent one → WasAccepted sent other →
+pub one-plan : (sent : List Message) (masters : ServerId → Master) (hosts : ℕ → HostNode) (c : Coordinator) → Good sent masters hosts c → (one other : Accepted) → WasAccepted sent one → WasAccepted sent other →
     one.attempt ≡ other.attempt → one ≡ other
 one-plan sent masters hosts c good one other was is same = joined one other same
     (sym p.master_is ∙ (ap (λ (attempt : Attempt). attempt.master) attempts ∙ q.master_is))
@@ -100,7 +100,7 @@ nat_eq-turned a b = by (nat_eq a b) refl (nat_eq b a) refl
 
 module _ (sent : List Message) (masters : ServerId → Master) (hosts : ℕ → HostNode) (c : Coordinator) (good : Good sent masters hosts c) where
   -- one entry was made for a place
-  one-made : (m : ServerId) (s o : ℕ) (entry : Entry) → slice_get (log_in (masters m).log s) o ≡ Some entry → HasMade sent m s o entry → one_of (made sent m s o) ≡ entry ∷ []
+  pub one-made : (m : ServerId) (s o : ℕ) (entry : Entry) → slice_get (log_in (masters m).log s) o ≡ Some entry → HasMade sent m s o entry → one_of (made sent m s o) ≡ entry ∷ []
   one-made m s o entry stands was = by (made sent m s o) refl (HasMade-in sent m s o entry was)
     where
       by : (entries : List Entry) → made sent m s o ≡ entries → In entry entries → one_of entries ≡ entry ∷ []
@@ -197,19 +197,23 @@ module _ (sent : List Message) (masters : ServerId → Master) (hosts : ℕ → 
       ∙ ap (λ r. nat_eq entry.term part.previous && (nat_eq r.table entry.table && (nat_le r.lo entry.key && nat_le entry.key r.hi))) (sym range)
       ∙ ap (λ n. nat_eq entry.term n && (nat_eq grant.range.table entry.table && (nat_le grant.range.lo entry.key && nat_le entry.key grant.range.hi))) (sym before)
 
-  pub starts-from-base : (grant : Grant) (given : IsGivenBy sent c grant) → StartsFromBase sent grant.owner (masters grant.owner).log (granted_of grant)
-  starts-from-base grant given = record {
-    plan = record { attempt = s.task.attempt; master = s.task.master; rows = s.task.rows };
-    accepted = (task-of sent masters hosts c all grant.owner s.task s.task_among).accepted;
-    attempt_is = s.attempt_is;
-    only = λ other accepted same.
-        one-plan sent masters hosts c all.good other (record { attempt = s.task.attempt; master = s.task.master; rows = s.task.rows }) accepted
-        (task-of sent masters hosts c all grant.owner s.task s.task_among).accepted (same ∙ sym s.attempt_is);
-    begins = subst (λ entries. Begins entries (under grant.term (take (masters grant.owner).log.durable (logged (places_of (masters grant.owner).log))))) whole
-        (subst (λ t. Begins (map (under_term T) s.joined.entries) (under t (take (masters grant.owner).log.durable (logged (places_of (masters grant.owner).log))))) same_term
-        (joined-begins sent masters hosts c all grant.owner s.task s.state s.joined s.durable));
-    safe = λ entry at. base-safe sent masters hosts c all grant.owner s.task s.state s.joined s.durable entry (subst (In entry) (sym whole) at);
+  -- the recovery in which a grant was given
+  abbrev pub plan-of : (grant : Grant) → IsGivenBy sent c grant → Accepted
+  plan-of grant given = record {
+    attempt = (started sent masters hosts c all grant given).task.attempt;
+    master = (started sent masters hosts c all grant given).task.master;
+    rows = (started sent masters hosts c all grant given).task.rows;
   }
+
+  -- what joined of a grant's part is its base
+  pub base-is : (grant : Grant) (given : IsGivenBy sent c grant) →
+      map (under_term (started sent masters hosts c all grant given).state.part.term) (started sent masters hosts c all grant given).joined.entries
+      ≡ base sent (plan-of grant given) (granted_of grant)
+  base-is grant given =
+      ap (λ t. map (under_term t) s.joined.entries) same_term
+      ∙ ap (map (under_term grant.term)) (all-cut grant.owner s.task s.task_among s.task.rows (λ row there. there) s.joined.entries came)
+      ∙ ap (map (under_term grant.term)) (filter-same (is_in_part s.task.part) (is_carried (granted_of grant)) (recovered_entries sent s.task.master s.task.rows)
+      (carried grant s.task.part (given.range_is ∙ ap range_of (sym s.given_is)) (given.previous_is ∙ ap (λ (part : Part). part.previous) (sym s.given_is))))
     where
       s : IsStarted sent masters hosts c all grant given
       s = started sent masters hosts c all grant given
@@ -224,9 +228,25 @@ module _ (sent : List Message) (masters : ServerId → Master) (hosts : ℕ → 
       came = subst (λ t. AllCame sent grant.owner t (waited s.task.rows) s.joined.entries) (ap (λ (part : Part). part.term) (sym s.part_is))
           (subst (λ rows. AllCame sent grant.owner T rows s.joined.entries) (in-order s.task.rows (task-ascends sent masters hosts c all grant.owner s.task s.task_among)) s.joined.came)
 
-      whole : map (under_term T) s.joined.entries ≡ base sent (record { attempt = s.task.attempt; master = s.task.master; rows = s.task.rows }) (granted_of grant)
-      whole =
-          ap (λ t. map (under_term t) s.joined.entries) same_term
-          ∙ ap (map (under_term grant.term)) (all-cut grant.owner s.task s.task_among s.task.rows (λ row there. there) s.joined.entries came)
-          ∙ ap (map (under_term grant.term)) (filter-same (is_in_part s.task.part) (is_carried (granted_of grant)) (recovered_entries sent s.task.master s.task.rows)
-          (carried grant s.task.part (given.range_is ∙ ap range_of (sym s.given_is)) (given.previous_is ∙ ap (λ (part : Part). part.previous) (sym s.given_is))))
+  pub starts-from-base : (grant : Grant) (given : IsGivenBy sent c grant) → StartsFromBase sent grant.owner (masters grant.owner).log (granted_of grant)
+  starts-from-base grant given = record {
+    plan = record { attempt = s.task.attempt; master = s.task.master; rows = s.task.rows };
+    accepted = (task-of sent masters hosts c all grant.owner s.task s.task_among).accepted;
+    attempt_is = s.attempt_is;
+    only = λ other accepted same.
+        one-plan sent masters hosts c all.good other (record { attempt = s.task.attempt; master = s.task.master; rows = s.task.rows }) accepted
+        (task-of sent masters hosts c all grant.owner s.task s.task_among).accepted (same ∙ sym s.attempt_is);
+    begins = subst (λ entries. Begins entries (under grant.term (take (masters grant.owner).log.durable (logged (places_of (masters grant.owner).log))))) (base-is grant given)
+        (subst (λ t. Begins (map (under_term T) s.joined.entries) (under t (take (masters grant.owner).log.durable (logged (places_of (masters grant.owner).log))))) same_term
+        (joined-begins sent masters hosts c all grant.owner s.task s.state s.joined s.durable));
+    safe = λ entry at. base-safe sent masters hosts c all grant.owner s.task s.state s.joined s.durable entry (subst (In entry) (sym (base-is grant given)) at);
+  }
+    where
+      s : IsStarted sent masters hosts c all grant given
+      s = started sent masters hosts c all grant given
+
+      T : ℕ
+      T = s.state.part.term
+
+      same_term : s.state.part.term ≡ grant.term
+      same_term = term-started sent masters hosts c all grant given

@@ -21,7 +21,7 @@ use Rattle.rc_model.specs.Attempts.{GivenPart}
 use Rattle.rc_model.specs.Coordinator.{Coordinator}
 use Rattle.rc_model.specs.Deciding.{own_body}
 use Rattle.rc_model.specs.Nodes.{HostNode}
-use Rattle.rc_model.specs.Headline.{In, WasAcknowledged}
+use Rattle.rc_model.specs.Headline.{In, HasAcknowledged}
 use Rattle.rc_model.proofs.Members.{In-left, In-right, In-get, place_of}
 use Rattle.rc_facts.specs.Words.{log_in}
 use Rattle.rc_facts.specs.Facts.{IsSafe, IsWriteOk}
@@ -36,7 +36,7 @@ use Rattle.rc_version_safety.specs.Worlds.{AllHold}
 use Rattle.rc_version_safety.specs.Words.{Keeps, IsCarriedOn}
 use Rattle.rc_version_safety.specs.Claims.{NoVersionTwice}
 use Rattle.rc_version_safety.proofs.Bases.{IsTaskOf, task-of}
-use Rattle.rc_version_safety.proofs.Rising.{granted_of, IsRemembered, remembered, Has, has-itself, Covers, starts-keeps, GoesTo, goes-on, IsAcked, acked, IsOwned, owner, versions-rise}
+use Rattle.rc_version_safety.proofs.Rising.{granted_of, IsRemembered, remembered, Has, has-itself, Covers, starts-keeps, GoesTo, goes-on, acked, acknowledger, IsOwned, owner, versions-rise}
 
 -- What stands in a segment is among the entries of the log's places
 
@@ -77,7 +77,7 @@ module _ (sent : List Message) (masters : ServerId → Master) (hosts : ℕ → 
       terms e = cc
 
   -- who has an entry under a term that was granted is its owner
-  issued-here : (m : ServerId) (entry : Entry) → In entry (logged (places_of (masters m).log)) → (grant : Grant) → In grant c.grants → grant.term ≡ entry.term → m ≡ grant.owner
+  pub issued-here : (m : ServerId) (entry : Entry) → In entry (logged (places_of (masters m).log)) → (grant : Grant) → In grant c.grants → grant.term ≡ entry.term → m ≡ grant.owner
   issued-here m entry at grant among e = by (has_part (masters m).ownership entry.term) refl (owns_term (masters m).ownership entry.term) refl ((all.parts.each m).logged_known entry at)
     where
       in_part : (state : PartState) → In state (masters m).ownership.parts → state.part.term ≡ entry.term → m ≡ grant.owner
@@ -111,7 +111,7 @@ module _ (sent : List Message) (masters : ServerId → Master) (hosts : ℕ → 
       by false is false has known = true_false (sym known)
 
   -- no entry is under term 0
-  term-above : (m : ServerId) (entry : Entry) → In entry (logged (places_of (masters m).log)) → 0 < entry.term
+  pub term-above : (m : ServerId) (entry : Entry) → In entry (logged (places_of (masters m).log)) → 0 < entry.term
   term-above m entry at = by (has_part (masters m).ownership entry.term) refl (owns_term (masters m).ownership entry.term) refl ((all.parts.each m).logged_known entry at)
     where
       in_part : (state : PartState) → In state (masters m).ownership.parts → state.part.term ≡ entry.term → 0 < entry.term
@@ -130,7 +130,7 @@ module _ (sent : List Message) (masters : ServerId → Master) (hosts : ℕ → 
       by false is false has known = true_false (sym known)
 
   -- what stands at a safe place is among the entries of the log
-  safe-logged : (m : ServerId) (s o : ℕ) (entry : Entry) → IsSafe sent m (masters m).log s o → slice_get (log_in (masters m).log s) o ≡ Some entry → In entry (logged (places_of (masters m).log))
+  pub safe-logged : (m : ServerId) (s o : ℕ) (entry : Entry) → IsSafe sent m (masters m).log s o → slice_get (log_in (masters m).log s) o ≡ Some entry → In entry (logged (places_of (masters m).log))
   safe-logged m s o entry safe at =
       In-places (masters m).log.segments (masters m).log.head s entry safe.opened.above safe.opened.below (In-get (log_in (masters m).log s) o entry at)
 
@@ -169,21 +169,14 @@ module _ (sent : List Message) (masters : ServerId → Master) (hosts : ℕ → 
       goes = goes-on sent masters hosts c all Freed covers_it entry entry.term grant.term before (term-above m entry (safe-logged m s o entry safe at)) has
 
   -- so it is of what was acknowledged
-  pub later-keeps-acked : (Freed : Type 0) → Covers sent masters hosts c all Freed → (ack : Ack) → WasAcknowledged sent ack → IsCarriedOn Freed sent masters ack
-  later-keeps-acked Freed covers_it ack was = record {
-    master = p.master;
-    entry = w.entry;
-    stands = w.holds;
-    of_ack = record { term = w.term_is; table = w.table_is; key = w.key_is };
-    version = w.version_is;
-    kept = λ grant x granted to before. later-keeps Freed covers_it p.master ack.seg ack.offset w.entry w.safe w.holds grant x granted to (way grant before);
+  pub later-keeps-acked : (Freed : Type 0) → Covers sent masters hosts c all Freed → (m : ServerId) (ack : Ack) → HasAcknowledged sent m ack → IsCarriedOn Freed sent masters m ack
+  later-keeps-acked Freed covers_it m ack was = record {
+    recorded = record { entry = w.entry; stands = w.holds; of_ack = record { term = w.term_is; table = w.table_is; key = w.key_is }; version = w.version_is };
+    kept = λ grant x granted to before. later-keeps Freed covers_it m ack.seg ack.offset w.entry w.safe w.holds grant x granted to (way grant before);
   }
     where
-      p : IsAcked sent masters hosts c all ack
-      p = acked sent masters hosts c all ack was
-
-      w : IsWriteOk sent p.master (masters p.master).log ack.seg ack.offset ack.term ack.table ack.key ack.version
-      w = p.write
+      w : IsWriteOk sent m (masters m).log ack.seg ack.offset ack.term ack.table ack.key ack.version
+      w = (acked sent masters hosts c all m ack was).write
 
       way : (grant : Granted) → IsEarlier sent ack.table ack.key ack.term grant.term → IsEarlier sent w.entry.table w.entry.key w.entry.term grant.term
       way grant before = subst (λ n. IsEarlier sent w.entry.table w.entry.key n grant.term) (sym w.term_is)
@@ -198,18 +191,24 @@ module _ (sent : List Message) (masters : ServerId → Master) (hosts : ℕ → 
       In-left (granted_of grant) (grant_in message.to message.body) (granted some) (subst (λ (one : Message). In (granted_of grant) (grant_in one.to one.body)) same (inl refl))
   granted-in (message ∷ some) grant (inr rest) = In-right (granted_of grant) (grant_in message.to message.body) (granted some) (granted-in some grant rest)
 
-  was-granted : (grant : Grant) → In grant c.grants → IsGranted sent (granted_of grant)
+  pub was-granted : (grant : Grant) → In grant c.grants → IsGranted sent (granted_of grant)
   was-granted grant at = place_of (granted sent) (granted_of grant) (granted-in sent grant (all.kept.told grant at))
 
   pub no-version-twice : NoVersionTwice sent
   no-version-twice one other p q tables keys differ same =
       by (one-chain sent c all.grants all.kept other.table other.key (granted_of first.grant) (granted_of second.grant) (was-granted first.grant first.among) covers_first (was-granted second.grant second.among) second.holds)
     where
-      first : IsOwned sent masters hosts c all (acked sent masters hosts c all one p).master one.term one.table one.key
-      first = owner sent masters hosts c all one (acked sent masters hosts c all one p)
+      m : (m : ServerId) × HasAcknowledged sent m one
+      m = acknowledger sent masters hosts c all one p
 
-      second : IsOwned sent masters hosts c all (acked sent masters hosts c all other q).master other.term other.table other.key
-      second = owner sent masters hosts c all other (acked sent masters hosts c all other q)
+      x : (x : ServerId) × HasAcknowledged sent x other
+      x = acknowledger sent masters hosts c all other q
+
+      first : IsOwned sent masters hosts c all m.0 one.term one.table one.key
+      first = owner sent masters hosts c all m.0 one (acked sent masters hosts c all m.0 one m.1)
+
+      second : IsOwned sent masters hosts c all x.0 other.term other.table other.key
+      second = owner sent masters hosts c all x.0 other (acked sent masters hosts c all x.0 other x.1)
 
       covers_first : in_range first.grant.range other.table other.key ≡ true
       covers_first = subst (λ k. in_range first.grant.range other.table k ≡ true) keys (subst (λ t. in_range first.grant.range t one.key ≡ true) tables first.holds)

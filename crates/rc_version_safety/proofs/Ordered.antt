@@ -205,7 +205,7 @@ module _ (sent : List Message) (masters : ServerId → Master) (hosts : ℕ → 
       IsSameKey term other entry → other.version < entry.version
 
   -- what stands in a segment stands in one of the log's
-  opened : (m : ServerId) (s o : ℕ) (entry : Entry) → slice_get (log_in (masters m).log s) o ≡ Some entry → (0 < s) × (s ≤ (masters m).log.head)
+  pub opened : (m : ServerId) (s o : ℕ) (entry : Entry) → slice_get (log_in (masters m).log s) o ≡ Some entry → (0 < s) × (s ≤ (masters m).log.head)
   opened m s o entry e = by (order s) (above-or s)
     where
       good : GoodMaster sent m (masters m)

@@ -22,20 +22,20 @@ use Rattle.rc_model.specs.Master.{Master}
 use Rattle.rc_model.specs.Coordinator.{Coordinator}
 use Rattle.rc_model.specs.Deciding.{own_body, range_of}
 use Rattle.rc_model.specs.Nodes.{HostNode}
-use Rattle.rc_model.specs.Headline.{In, WasAcknowledged, VersionsRise}
+use Rattle.rc_model.specs.Headline.{In, WasAcknowledged, HasAcknowledged, VersionsRise}
 use Rattle.rc_model.proofs.Members.{In-append, In-get, In-left}
 use Rattle.rc_facts.specs.Words.{Begins, log_in}
 use Rattle.rc_facts.specs.Facts.{IsSafe, IsWriteOk, body_fine}
 use Rattle.rc_facts.proofs.Lists.{true_false, In-filter}
 use Rattle.rc_master_facts.proofs.Tests.{filter-In, map-In, In-map}
-use Rattle.rc_log_safety.proofs.Clauses.{accepted-is}
+use Rattle.rc_log_safety.proofs.Clauses.{accepted-is, acknowledged-is}
 use Rattle.rc_log_safety.proofs.Covers.{IsCovered, PlanIs, covered}
 use Rattle.rc_owner_facts.specs.Grants.{IsOwn, own_said}
 use Rattle.rc_term_facts.specs.Terms.{IsGrantedTo, IsGivenBy}
 use Rattle.rc_part_facts.specs.Parts.{PartView, part_view, logged, under, rows_of_task, AllCame, WasGranted, HasJoined, IsClients}
 use Rattle.rc_part_facts.specs.Moves.{HasWritten}
 use Rattle.rc_part_facts.proofs.Lists.{under-append, under-In, logged-append, begins-within, begins-more}
-use Rattle.rc_version_safety.specs.Worlds.{AllHold}
+use Rattle.rc_version_safety.specs.Worlds.{parts_fine, AllHold}
 use Rattle.rc_version_safety.specs.Words.{IsKeptBy, Keeps}
 use Rattle.rc_version_safety.specs.Claims.{MayFree}
 use Rattle.rc_version_safety.proofs.Rows.{in-order, CameFor, came-for}
@@ -293,7 +293,7 @@ module _ (sent : List Message) (masters : ServerId → Master) (hosts : ℕ → 
             }
 
     -- a grant of the point among those that were sent
-    at-point : (table key : ℕ) (k : ℕ) (one : Granted) → slice_get (grants_of sent table key) k ≡ Some one → (grant : Grant) × (In grant c.grants) × (one ≡ granted_of grant) × (in_range grant.range table key ≡ true)
+    pub at-point : (table key : ℕ) (k : ℕ) (one : Granted) → slice_get (grants_of sent table key) k ≡ Some one → (grant : Grant) × (In grant c.grants) × (one ≡ granted_of grant) × (in_range grant.range table key ≡ true)
     at-point table key k one e =
         let was = In-filter (covers table key) one (granted sent) (In-get (grants_of sent table key) k one e) in
         let r : IsRemembered c one = remembered c sent all.kept.known one was.0 in
@@ -320,7 +320,7 @@ module _ (sent : List Message) (masters : ServerId → Master) (hosts : ℕ → 
             (subst (λ n. Has Freed sent rest.grant.owner (masters rest.grant.owner).log n was) rest.term_is (has-of (starts-keeps rest.grant was rest.starts)))
 
     -- A client's entry comes after the base, with a greater version
-    above-base : (grant : Grant) (was : Entry) → StartsWith grant was → (before after : List LogPlace) (place : LogPlace) →
+    pub above-base : (grant : Grant) (was : Entry) → StartsWith grant was → (before after : List LogPlace) (place : LogPlace) →
         places_of (masters grant.owner).log ≡ before ++ place ∷ after → place.client ≡ true → place.entry.term ≡ grant.term → place.entry.table ≡ was.table → place.entry.key ≡ was.key →
         was.version < place.entry.version
     above-base grant was p before after place whole client term_is table_is key_is = above p.keeps.kept
@@ -373,21 +373,27 @@ module _ (sent : List Message) (masters : ServerId → Master) (hosts : ℕ → 
   -- Acknowledgements
 
   -- an acknowledgement names a safe place of its master, whose entry is a client's
-  pub record IsAcked (ack : Ack) : Type 0 where
-    pub master : ServerId
-    pub write : IsWriteOk sent master (masters master).log ack.seg ack.offset ack.term ack.table ack.key ack.version
-    pub written : HasWritten (part_view (masters master)) ack.seg ack.offset ack.term ack.table ack.key ack.version
+  pub record IsAcked (m : ServerId) (ack : Ack) : Type 0 where
+    pub write : IsWriteOk sent m (masters m).log ack.seg ack.offset ack.term ack.table ack.key ack.version
+    pub written : HasWritten (part_view (masters m)) ack.seg ack.offset ack.term ack.table ack.key ack.version
 
-  pub acked : (ack : Ack) → WasAcknowledged sent ack → IsAcked ack
-  acked ack was = by was.message.from
+  pub acked : (m : ServerId) (ack : Ack) → HasAcknowledged sent m ack → IsAcked m ack
+  acked m ack was = record {
+    write = acknowledged-is sent masters hosts c all.good m ack was;
+    written = subst (parts_fine masters (Server m) was.message.to) was.says
+        (subst (λ (from : Addr). parts_fine masters from was.message.to was.message.body) was.from (all.parts.said was.message was.among));
+  }
+
+  -- a master has sent it
+  pub acknowledger : (ack : Ack) → WasAcknowledged sent ack → (m : ServerId) × HasAcknowledged sent m ack
+  acknowledger ack was = by was.message.from refl
       (subst (λ (says : Body). body_fine sent masters hosts c was.message.from was.message.to says) was.says (all.good.messages was.message was.among))
-      (subst (Rattle.rc_version_safety.specs.Worlds.parts_fine masters was.message.from was.message.to) was.says (all.parts.said was.message was.among))
     where
-      by : (from : Addr) → body_fine sent masters hosts c from was.message.to (body.WriteOk ack.seg ack.offset ack.term ack.table ack.key ack.version) →
-          Rattle.rc_version_safety.specs.Worlds.parts_fine masters from was.message.to (body.WriteOk ack.seg ack.offset ack.term ack.table ack.key ack.version) → IsAcked ack
-      by (Server m) write written = record { master = m; write = write; written = written }
-      by AtCoordinator write written = absurd write
-      by Outside write written = absurd write
+      by : (from : Addr) → was.message.from ≡ from → body_fine sent masters hosts c from was.message.to (body.WriteOk ack.seg ack.offset ack.term ack.table ack.key ack.version) →
+          (m : ServerId) × HasAcknowledged sent m ack
+      by (Server m) e write = (m, record { message = was.message; among = was.among; from = e; says = was.says })
+      by AtCoordinator e write = absurd write
+      by Outside e write = absurd write
 
   -- the point was granted to its master under its term
   pub record IsOwned (m : ServerId) (term table key : ℕ) : Type 0 where
@@ -428,46 +434,46 @@ module _ (sent : List Message) (masters : ServerId → Master) (hosts : ℕ → 
 
   -- Versions rise
 
-  written-at : (ack : Ack) (is : IsAcked ack) → Stands is.written.place (places_of (masters is.master).log)
-  written-at ack is = stands is.written.place (places_of (masters is.master).log) is.written.among
+  pub written-at : (m : ServerId) (ack : Ack) (is : IsAcked m ack) → Stands is.written.place (places_of (masters m).log)
+  written-at m ack is = stands is.written.place (places_of (masters m).log) is.written.among
 
-  clients : (ack : Ack) (is : IsAcked ack) → IsClients (part_view (masters is.master)) (written-at ack is).before is.written.place.entry
-  clients ack is = (all.parts.each is.master).clients (written-at ack is).before (written-at ack is).after is.written.place (written-at ack is).whole is.written.client
+  pub clients : (m : ServerId) (ack : Ack) (is : IsAcked m ack) → IsClients (part_view (masters m)) (written-at m ack is).before is.written.place.entry
+  clients m ack is = (all.parts.each m).clients (written-at m ack is).before (written-at m ack is).after is.written.place (written-at m ack is).whole is.written.client
 
-  pub owner : (ack : Ack) (is : IsAcked ack) → IsOwned is.master ack.term ack.table ack.key
-  owner ack is =
-      subst (λ k. IsOwned is.master ack.term ack.table k) is.written.key_is
-      (subst (λ t. IsOwned is.master ack.term t is.written.place.entry.key) is.written.table_is
-      (subst (λ n. IsOwned is.master n is.written.place.entry.table is.written.place.entry.key) ((clients ack is).term_is ∙ is.written.term_is)
-      (owned is.master (clients ack is).grant is.written.place.entry.table is.written.place.entry.key (clients ack is).among (clients ack is).holds)))
+  pub owner : (m : ServerId) (ack : Ack) (is : IsAcked m ack) → IsOwned m ack.term ack.table ack.key
+  owner m ack is =
+      subst (λ k. IsOwned m ack.term ack.table k) is.written.key_is
+      (subst (λ t. IsOwned m ack.term t is.written.place.entry.key) is.written.table_is
+      (subst (λ n. IsOwned m n is.written.place.entry.table is.written.place.entry.key) ((clients m ack is).term_is ∙ is.written.term_is)
+      (owned m (clients m ack is).grant is.written.place.entry.table is.written.place.entry.key (clients m ack is).among (clients m ack is).holds)))
 
-  module _ (later earlier : Ack) (p : IsAcked later) (q : IsAcked earlier) (tables : earlier.table ≡ later.table) (keys : earlier.key ≡ later.key) (before : IsEarlier sent later.table later.key earlier.term later.term) where
-    old : IsOwned q.master earlier.term earlier.table earlier.key
-    old = owner earlier q
+  module _ (x m : ServerId) (later earlier : Ack) (p : IsAcked x later) (q : IsAcked m earlier) (tables : earlier.table ≡ later.table) (keys : earlier.key ≡ later.key) (before : IsEarlier sent later.table later.key earlier.term later.term) where
+    old : IsOwned m earlier.term earlier.table earlier.key
+    old = owner m earlier q
 
     way : IsEarlier sent q.write.entry.table q.write.entry.key earlier.term later.term
     way = subst (λ k. IsEarlier sent q.write.entry.table k earlier.term later.term) (sym (q.write.key_is ∙ keys))
         (subst (λ t. IsEarlier sent t later.key earlier.term later.term) (sym (q.write.table_is ∙ tables)) before)
 
     has : Has MayFree sent old.grant.owner (masters old.grant.owner).log earlier.term q.write.entry
-    has = subst (λ m. Has MayFree sent m (masters m).log earlier.term q.write.entry) old.owner_is
-        (subst (λ n. Has MayFree sent q.master (masters q.master).log n q.write.entry) q.write.term_is
-        (has-itself sent q.master (masters q.master).log earlier.seg earlier.offset q.write.entry q.write.safe q.write.holds))
+    has = subst (λ k. Has MayFree sent k (masters k).log earlier.term q.write.entry) old.owner_is
+        (subst (λ n. Has MayFree sent m (masters m).log n q.write.entry) q.write.term_is
+        (has-itself sent m (masters m).log earlier.seg earlier.offset q.write.entry q.write.safe q.write.holds))
 
     goes : GoesTo MayFree covers-anyhow later.term q.write.entry
     goes = goes-on MayFree covers-anyhow q.write.entry earlier.term later.term way (subst (λ n. 0 < n) old.term_is (all.terms.issued old.grant old.among).0)
         (λ one among same. subst (λ (g : Grant). Has MayFree sent g.owner (masters g.owner).log earlier.term q.write.entry)
         (all.terms.grant_once old.grant one old.among among (old.term_is ∙ sym same)) has)
 
-    new : IsOwned p.master later.term later.table later.key
-    new = owner later p
+    new : IsOwned x later.term later.table later.key
+    new = owner x later p
 
-    same_owner : p.master ≡ goes.grant.owner
+    same_owner : x ≡ goes.grant.owner
     same_owner = new.owner_is ∙ ap (λ (g : Grant). g.owner) (all.terms.grant_once new.grant goes.grant new.among goes.among (new.term_is ∙ sym goes.term_is))
 
     pub rises : earlier.version < later.version
     rises =
-        let at : Stands p.written.place (places_of (masters p.master).log) = written-at later p in
+        let at : Stands p.written.place (places_of (masters x).log) = written-at x later p in
         let whole : places_of (masters goes.grant.owner).log ≡ at.before ++ p.written.place ∷ at.after = ap (λ m. places_of (masters m).log) (sym same_owner) ∙ at.whole in
         let less : q.write.entry.version < p.written.place.entry.version =
         above-base MayFree covers-anyhow goes.grant q.write.entry goes.starts at.before at.after p.written.place whole p.written.client
@@ -475,4 +481,7 @@ module _ (sent : List Message) (masters : ServerId → Master) (hosts : ℕ → 
         subst (λ n. n < later.version) q.write.version_is (subst (λ n. q.write.entry.version < n) p.written.version_is less)
 
   pub versions-rise : VersionsRise sent
-  versions-rise later p earlier q tables keys before = rises later earlier (acked later p) (acked earlier q) tables keys before
+  versions-rise later p earlier q tables keys before =
+      let x : (x : ServerId) × HasAcknowledged sent x later = acknowledger later p in
+      let m : (m : ServerId) × HasAcknowledged sent m earlier = acknowledger earlier q in
+      rises x.0 m.0 later earlier (acked x.0 later x.1) (acked m.0 earlier m.1) tables keys before

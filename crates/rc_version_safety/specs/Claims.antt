@@ -15,7 +15,7 @@ use Rattle.rc_model.specs.Nodes.{HostNode}
 use Rattle.rc_model.specs.World.{replay}
 use Rattle.rc_model.specs.Durable.{IsDurable}
 use Rattle.rc_model.specs.Breach.{breach}
-use Rattle.rc_model.specs.Headline.{In, WasAcknowledged, VersionsRise}
+use Rattle.rc_model.specs.Headline.{In, WasAcknowledged, HasAcknowledged, VersionsRise}
 use Rattle.rc_facts.specs.Words.{log_in}
 use Rattle.rc_facts.specs.Facts.{IsSafe}
 use Rattle.rc_version_safety.specs.Worlds.{AllHold}
@@ -43,7 +43,8 @@ SafeIsKept Freed sent masters = (m : ServerId) (s o : ℕ) (entry : Entry) → I
 
 -- and what was acknowledged
 abbrev pub AcknowledgedIsKept : Type 0 → List Message → (ServerId → Master) → Type 0
-AcknowledgedIsKept Freed sent masters = (ack : Ack) → WasAcknowledged sent ack → IsCarriedOn Freed sent masters ack
+AcknowledgedIsKept Freed sent masters = (m : ServerId) (ack : Ack) → HasAcknowledged sent m ack →
+    IsCarriedOn Freed sent masters m ack
 
 -- under one term a key's versions rise with the place, in every log
 abbrev pub VersionsRiseWithThePlace : (ServerId → Master) → Type 0

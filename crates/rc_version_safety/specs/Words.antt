@@ -12,9 +12,10 @@ use Rattle.rc_model.specs.Owners.{Granted, IsGranted, IsEarlier}
 use Rattle.rc_model.specs.Base.{made_below, base}
 use Rattle.rc_model.specs.Log.{Log, LogPlace, entries_of, places_of}
 use Rattle.rc_model.specs.Master.{Master}
-use Rattle.rc_model.specs.Headline.{In, WasAccepted, IsOfAck}
+use Rattle.rc_model.specs.Headline.{In, WasAccepted}
 use Rattle.rc_facts.specs.Words.{Begins, log_in}
 use Rattle.rc_facts.specs.Facts.{IsSafe}
+use Rattle.rc_log_words.specs.Claims.{IsRecorded}
 use Rattle.rc_part_facts.specs.Parts.{under}
 
 -- the place is among those that the master counts as durable
@@ -83,12 +84,9 @@ pub record StartsFromBase (sent : List Message) (x : ServerId) (log : Log) (gran
   pub begins : Begins (base sent plan grant) (under grant.term (take log.durable (entries_of log)))
   pub safe : (entry : Entry) → In entry (base sent plan grant) → IsSafelyLogged sent x log entry
 
--- what was acknowledged stands in its master's log, and each later owner of its point keeps it
-pub record IsCarriedOn (Freed : Type 0) (sent : List Message) (masters : ServerId → Master) (ack : Ack) : Type 0 where
-  pub master : ServerId
-  pub entry : Entry
-  pub stands : slice_get (log_in (masters master).log ack.seg) ack.offset ≡ Some entry
-  pub of_ack : IsOfAck ack entry
-  pub version : entry.version ≡ ack.version
+-- what a master has acknowledged stands in its log, and what stands there each later owner of its point keeps
+pub record IsCarriedOn (Freed : Type 0) (sent : List Message) (masters : ServerId → Master) (m : ServerId)
+    (ack : Ack) : Type 0 where
+  pub recorded : IsRecorded (masters m).log ack
   pub kept : (grant : Granted) (x : ServerId) → IsGranted sent grant → grant.owner ≡ Server x →
-      IsEarlier sent ack.table ack.key ack.term grant.term → Keeps Freed sent x (masters x).log grant.term entry
+      IsEarlier sent ack.table ack.key ack.term grant.term → Keeps Freed sent x (masters x).log grant.term recorded.entry

@@ -2,8 +2,10 @@ pub mod HostTables
 pub mod Lent
 pub mod Deliveries
 pub mod Runs
+pub mod Serving
 pub mod Steps
 pub mod Rooms
 pub mod NodeRooms
+pub mod NodeCalls
 pub mod Holding
 pub mod HostSteps

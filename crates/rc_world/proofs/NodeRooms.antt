@@ -15,7 +15,8 @@ use Rattle.rc_numbers.proofs.Coordinators.{After, within-more, coordinator-withi
 use Rattle.rc_numbers.proofs.Worlds.{HostDone, WorkWithin, host-more, host-within, new-host}
 use Rattle.rc_numbers.proofs.Rooms.{room-of, versions-of}
 use Rattle.rc_world.specs.HostView.{HostHasRoom}
-use Rattle.rc_world.specs.NodeView.{Node, TheOutside, TheCoordinator, TheHost, work_at, after_work}
+use Rattle.rc_history.specs.Nodes.{Node, TheOutside, TheCoordinator, TheHost}
+use Rattle.rc_world.specs.NodeView.{work_at, after_work}
 use Rattle.rc_world.specs.NodeNumbers.{GivenWithin, StepWithin, NewNodesAreWithin, StepsStayWithin, MoreWorksAllowMore, NodesHaveRoom}
 use Rattle.rc_world.specs.declared.work.NodeWork.{NodeWork}
 use Rattle.rc_world.specs.declared.work.NodeWork.TheVariants as work

@@ -2,7 +2,9 @@ pub mod HostView
 pub mod NodeView
 pub mod NodeFields
 pub mod NodeNumbers
+pub mod NodeCalls
 pub mod WorldView
 pub mod Happened
 pub mod Lending
 pub mod WorldHolds
+pub mod Served

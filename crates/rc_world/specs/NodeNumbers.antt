@@ -6,7 +6,8 @@ use Rattle.rc_types.specs.declared.limits.TheConstants.{MAX_EVENTS}
 use Rattle.rc_model.specs.Coordinator.{new_coordinator}
 use Rattle.rc_model.specs.Nodes.{new_host, master_setup}
 use Rattle.rc_numbers.specs.Numbers.{CoordinatorWithin, HostWithin, MessagesWithin, body_within}
-use Rattle.rc_world.specs.NodeView.{Node, TheOutside, TheCoordinator, TheHost, after_work, NodeHasRoom}
+use Rattle.rc_history.specs.Nodes.{Node, TheOutside, TheCoordinator, TheHost}
+use Rattle.rc_world.specs.NodeView.{after_work, NodeHasRoom}
 use Rattle.rc_world.specs.declared.work.NodeWork.{NodeWork}
 use Rattle.rc_world.specs.declared.work.NodeWork.TheVariants.{Ask, Deliver}
 

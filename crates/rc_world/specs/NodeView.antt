@@ -5,9 +5,9 @@ use Rattle.rc_types.specs.declared.ids.Addr.{Addr}
 use Rattle.rc_types.specs.declared.ids.Addr.TheVariants.{Server, Coordinator as AtCoordinator, Outside}
 use Rattle.rc_types.specs.declared.messages.Message.{Message}
 use Rattle.rc_model.specs.Coordinator.{Coordinator}
-use Rattle.rc_model.specs.Nodes.{HostNode, Work, outside_can, outside_sends, coordinator_can, coordinator_step}
-use Rattle.rc_model.specs.Nodes.{host_can, host_step, server_of}
+use Rattle.rc_model.specs.Nodes.{HostNode, Work, coordinator_can, coordinator_step, host_can, host_step, server_of}
 use Rattle.rc_model.specs.Nodes as model
+use Rattle.rc_history.specs.Nodes.{Node, TheOutside, TheCoordinator, TheHost, node_can, node_step}
 use Rattle.rc_coordinator.specs.Book.{Book, coordinator_of}
 use Rattle.rc_coordinator.specs.Steps.{HasNumbers}
 use Rattle.rc_world.specs.HostView.{HostData, HostHasRoom, host_of}
@@ -21,32 +21,10 @@ pub data NodeData : Type 0 where
   HostNodeData : (host : HostData) → NodeData
 
 -- a node as the definitions see it
-pub data Node : Type 0 where
-  TheOutside : Node
-  TheCoordinator : (c : Coordinator) → Node
-  TheHost : (host : HostNode) → Node
-
 abbrev pub node_of : NodeData → Node
 node_of OutsideData = TheOutside
 node_of (CoordinatorData book) = TheCoordinator (coordinator_of book)
 node_of (HostNodeData host) = TheHost (host_of host)
-
--- whether the node can be given this, and what it does with it
-abbrev pub node_can : Node → Work → Bool
-node_can TheOutside given = outside_can given
-node_can (TheCoordinator c) given = coordinator_can given
-node_can (TheHost host) given = host_can host given
-
-abbrev pub with_coordinator : Coordinator × List Message → Node × List Message
-with_coordinator (c, messages) = (TheCoordinator c, messages)
-
-abbrev pub with_host : HostNode × List Message → Node × List Message
-with_host (host, messages) = (TheHost host, messages)
-
-abbrev pub node_step : Node → Work → Node × List Message
-node_step TheOutside given = (TheOutside, outside_sends given)
-node_step (TheCoordinator c) given = with_coordinator (coordinator_step c given)
-node_step (TheHost host) given = with_host (host_step host given)
 
 -- the node's own server; the outside and the coordinator have none
 abbrev pub own_server : Node → ServerId

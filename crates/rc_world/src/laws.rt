@@ -1,5 +1,6 @@
-//! What a single node's numbers allow, as contracts of functions that do nothing.
+//! What holds of single nodes that run apart, as contracts of functions that do nothing.
 
+ghost use Rattle.rc_world.specs.NodeCalls.{CallsAreSteps};
 ghost use Rattle.rc_world.specs.NodeNumbers.{NewNodesAreWithin, StepsStayWithin, MoreWorksAllowMore, NodesHaveRoom};
 
 /// A node that runs apart has room for one more step (`NodeState::step` asks for it) where all nodes
@@ -12,4 +13,12 @@ pub fn nodes_have_room()
     ensures steps { StepsStayWithin }
     ensures more { MoreWorksAllowMore }
     ensures room { NodesHaveRoom }
+{}
+
+/// A call of `NodeState::step` that is not refused is a step that can be taken after the steps before it, as
+/// `rc_history` speaks of steps, with the work's own event: where the node is as its own calls have left it, and a
+/// message that is delivered is one of those that these steps sent, to this node. So nodes that run apart are a
+/// history (`rc_history::laws::steps_apart_are_a_history`).
+pub fn calls_are_steps()
+    ensures { CallsAreSteps }
 {}

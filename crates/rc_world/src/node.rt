@@ -7,7 +7,8 @@ ghost use Rattle.rc_model.specs.Coordinator.{new_coordinator};
 ghost use Rattle.rc_coordinator.specs.Book.{coordinator_of};
 ghost use Rattle.rc_coordinator.specs.Steps.{HasNumbers};
 ghost use Rattle.rc_world.specs.HostView.{host_of, HostHasRoom, IsWithinLimits};
-ghost use Rattle.rc_world.specs.NodeView.{TheOutside, TheCoordinator, TheHost, node_of, work_at, NodeHasRoom};
+ghost use Rattle.rc_history.specs.Nodes.{TheOutside, TheCoordinator, TheHost};
+ghost use Rattle.rc_world.specs.NodeView.{node_of, work_at, NodeHasRoom};
 ghost use Rattle.rc_world.specs.NodeView.{may_take, after_work, coordinator_may, coordinator_after};
 ghost use Rattle.rc_world.specs.NodeView.{host_may, host_after};
 

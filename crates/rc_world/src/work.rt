@@ -3,7 +3,7 @@
 use rc_types::{Body, Message, Seq, ServerId};
 
 /// What one node is given: an event without the name of its node, a message in full.
-#[derive(Debug, Drop, PartialEq)]
+#[derive(Drop)]
 pub enum NodeWork {
     /// To the outside: ask this server to write or read.
     Ask { to: ServerId, body: Body },

@@ -11,6 +11,7 @@ ghost use Rattle.rc_model.specs.Nodes.{is_running_at};
 ghost use Rattle.rc_model.specs.Breach.{breach};
 ghost use Rattle.rc_model.specs.Headline.{NothingIsDropped};
 ghost use Rattle.rc_world.specs.HostView.{IsWithinLimits};
+ghost use Rattle.rc_world.specs.Served.{IsServed};
 ghost use Rattle.rc_world.specs.Happened.{opened, replayed, with_events, sent_in, can_happen, AllHappen};
 
 use crate::nodes::Nodes;
@@ -62,8 +63,12 @@ impl<A: Allocator + Clone> World<A> {
     /// for that place; and a write acknowledged under a later ownership of a key has a greater version than
     /// each one acknowledged, then or since, under an earlier one. Where masters free nothing, each
     /// acknowledged write itself is at its own place.
+    ///
+    /// So does what a client may rely on: one version of a key is one write; what was first asked for
+    /// after a write was acknowledged has a greater version; and reads see every acknowledged write.
     pub fn sent(&self) -> &[Message]
         ensures messages { result.now ≡ sent_in self.now }
+        ensures served { IsServed self.now result.now }
         ensures headline { breach result.now ≡ None }
         ensures strong { self.now.setup.free ≡ false → NothingIsDropped result.now }
     {

@@ -1,10 +1,10 @@
 use Rattle.std.proofs.Common.{true, false, refl}
 use Rattle.rc_draw.specs.Claims.{BeginningHas52Events}
-use Rattle.rc_draw.specs.Draw.{played, begun}
+use Rattle.rc_draw.specs.Draw.{played, begun, drawn_from, drawn_world}
 use Rattle.rc_draw.proofs.laws.beginning_has_52_events.Goals as goal
 
 computed : BeginningHas52Events
-unfolding played begun
+unfolding played begun drawn_from drawn_world
 computed seed true = refl
 computed seed false = refl
 

@@ -5,7 +5,19 @@ use Rattle.rc_model.specs.Breach.{breach}
 use Rattle.rc_model.specs.Headline.{NothingIsDropped}
 use Rattle.rc_log_words.proofs.KeptWorlds.{nothing-is-dropped}
 use Rattle.rc_version_safety.proofs.Replays.{there-is-no-breach}
+use Rattle.rc_world.specs.Happened.{Happened}
+use Rattle.rc_world.specs.Served.{IsServed}
+use Rattle.rc_world.proofs.Serving.{is-served}
 use Rattle.rc_world.proofs.world.World.sent.Goals as goal
+
+pub returns-clause-served : goal.returns-clause-served
+returns-clause-served g c =
+    let same : c.as_slice.result.now ≡ (replay c.self.inside.nodes.setup c.self.inside.events.items).sent =
+    c.as_slice.ensures.value ∙ c.self.invariant.same.sent in
+    let opened : Happened = record { setup = c.self.inside.nodes.setup; events = c.self.inside.events.items } in
+    let inside : IsServed opened c.as_slice.result.now =
+    subst (λ (sent : List Message). IsServed opened sent) (sym same) (is-served c.self.inside.nodes.setup c.self.inside.events.items) in
+    rw c.self.view_is at inside
 
 pub returns-clause-headline : goal.returns-clause-headline
 returns-clause-headline g c =

@@ -1,0 +1,6 @@
+pub mod Lists
+pub mod Steps
+pub mod Names
+pub mod Longer
+pub mod Apart
+pub mod Remade

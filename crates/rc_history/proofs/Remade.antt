@@ -1,0 +1,171 @@
+-- A node is made anew from what was kept of its works.
+use Rattle.std.proofs.Common.{◌≡◌, Bool, true, false, cond, List, [], ◌∷◌, filter, Option, Some, None, refl, sym, ap, ◌∙◌, subst}
+use Rattle.rc_types.specs.declared.ids.Addr.{Addr}
+use Rattle.rc_types.specs.declared.ids.Addr.TheVariants.{Server, Coordinator as AtCoordinator, Outside}
+use Rattle.rc_types.specs.declared.messages.Message.{Message}
+use Rattle.rc_types.specs.declared.messages.Body.{Body}
+use Rattle.rc_types.specs.declared.messages.Body.TheVariants.{Fetch}
+use Rattle.rc_model.specs.Ids.{is_server}
+use Rattle.rc_model.specs.Backup.{Backup, backup_takes}
+use Rattle.rc_model.specs.Master.{Master}
+use Rattle.rc_model.specs.MasterStep.{master_takes}
+use Rattle.rc_model.specs.Coordinator.{Coordinator}
+use Rattle.rc_model.specs.Nodes.{Work, Ask, Take, Tick, Stop, Start, Suspect, Decide, Create, Split, HostNode, host_step, coordinator_step}
+use Rattle.rc_model.specs.Nodes.{is_for_backup, with_backup, with_master, server_takes, server_of, takes_if_running}
+use Rattle.rc_model.specs.Nodes.{ticks_if_running, is_some_master}
+use Rattle.rc_model.specs.Works.{host_after, coordinator_after}
+use Rattle.rc_model.proofs.Tests.{either, true_false}
+use Rattle.rc_history.specs.Remade.{changes_backup, host_keeps, coordinator_keeps, stopped, SameButMaster, HostsCanBeRemade}
+use Rattle.rc_history.specs.Remade.{CoordinatorCanBeRemade}
+
+same-same : (host : HostNode) → SameButMaster host host
+same-same host = record { runs = refl; rest = refl }
+
+same-through : (one two three : HostNode) → SameButMaster one two → SameButMaster two three → SameButMaster one three
+same-through one two three a b = record { runs = a.runs ∙ b.runs; rest = a.rest ∙ b.rest }
+
+same-back : (one two : HostNode) → SameButMaster one two → SameButMaster two one
+same-back one two a = record { runs = sym a.runs; rest = sym a.rest }
+
+-- What is not to be kept changes the master alone
+
+-- of the messages for a backup only a Fetch is not kept
+unkept-backup : (backup : Backup) (from : Addr) (body : Body) → changes_backup body ≡ false → is_for_backup body ≡ true →
+    (backup_takes backup from body).0 ≡ backup
+unkept-backup backup (Server asker) (Fetch attempt master seg len part) unkept for_backup = refl
+unkept-backup backup AtCoordinator (Fetch attempt master seg len part) unkept for_backup = refl
+unkept-backup backup Outside (Fetch attempt master seg len part) unkept for_backup = refl
+unkept-backup backup from body unkept for_backup = cc
+
+server-unkept : (host : HostNode) (master : Master) (message : Message) → host.master ≡ Some master → changes_backup message.body ≡ false →
+    SameButMaster (server_takes host master message).0 host
+server-unkept host master message running unkept =
+    either (λ after. SameButMaster after.0 host) (is_for_backup message.body)
+    (with_backup host (backup_takes host.backup message.from message.body))
+    (with_master host (master_takes master message.from message.body))
+    (λ for_backup. record {
+      runs = refl;
+      rest =
+          ap (λ (b : Backup). stopped (record host { backup = b }))
+          (unkept-backup host.backup message.from message.body unkept for_backup);
+    })
+    (λ _. record { runs = sym (ap is_some_master running); rest = refl })
+
+takes-unkept : (host : HostNode) (running : Option Master) (message : Message) → host.master ≡ running →
+    changes_backup message.body ≡ false →
+    SameButMaster (takes_if_running host running message).0 host
+takes-unkept host None message is unkept = same-same host
+takes-unkept host (Some master) message is unkept =
+    either (λ after. SameButMaster after.0 host) (is_server (server_of host) message.to) (server_takes host master message) (host, [])
+    (λ _. server-unkept host master message is unkept) (λ _. same-same host)
+
+ticks-unkept : (host : HostNode) (running : Option Master) → host.master ≡ running → SameButMaster (ticks_if_running host running).0 host
+ticks-unkept host None is = same-same host
+ticks-unkept host (Some master) is = record { runs = sym (ap is_some_master is); rest = refl }
+
+step-unkept : (host : HostNode) (work : Work) → host_keeps work ≡ false → SameButMaster (host_step host work).0 host
+step-unkept host (Take message) unkept = takes-unkept host host.master message refl unkept
+step-unkept host (Tick addr) unkept = ticks-unkept host host.master refl
+step-unkept host (Stop id) unkept = cc
+step-unkept host (Start kept) unkept = cc
+step-unkept host (Ask to body) unkept = same-same host
+step-unkept host (Suspect id) unkept = same-same host
+step-unkept host (Decide id) unkept = same-same host
+step-unkept host (Create table owner) unkept = same-same host
+step-unkept host (Split table at) unkept = same-same host
+
+-- Hosts that are the same but for their masters stay so
+
+-- over the masters, where both run or neither does
+server-same : (host : HostNode) (one other : Master) (message : Message) →
+    SameButMaster (server_takes (record host { master = Some one }) one message).0
+    (server_takes (record host { master = Some other }) other message).0
+server-same host one other message = by (is_for_backup message.body)
+  where
+    by : (b : Bool) →
+        SameButMaster
+        (cond b (with_backup (record host { master = Some one }) (backup_takes host.backup message.from message.body))
+        (with_master (record host { master = Some one }) (master_takes one message.from message.body))).0
+        (cond b (with_backup (record host { master = Some other }) (backup_takes host.backup message.from message.body))
+        (with_master (record host { master = Some other }) (master_takes other message.from message.body))).0
+    by true = record { runs = refl; rest = refl }
+    by false = record { runs = refl; rest = refl }
+
+takes-same : (host : HostNode) (one other : Master) (message : Message) →
+    SameButMaster (takes_if_running (record host { master = Some one }) (Some one) message).0
+    (takes_if_running (record host { master = Some other }) (Some other) message).0
+takes-same host one other message = by (is_server (server_of host) message.to)
+  where
+    by : (b : Bool) →
+        SameButMaster (cond b (server_takes (record host { master = Some one }) one message) (record host { master = Some one }, [])).0
+        (cond b (server_takes (record host { master = Some other }) other message) (record host { master = Some other }, [])).0
+    by true = server-same host one other message
+    by false = record { runs = refl; rest = refl }
+
+running-same : (host : HostNode) (one other : Master) (work : Work) →
+    SameButMaster (host_step (record host { master = Some one }) work).0 (host_step (record host { master = Some other }) work).0
+running-same host one other (Take message) = takes-same host one other message
+running-same host one other (Tick addr) = record { runs = refl; rest = refl }
+running-same host one other (Stop id) = record { runs = refl; rest = refl }
+running-same host one other (Start kept) = record { runs = refl; rest = refl }
+running-same host one other (Ask to body) = record { runs = refl; rest = refl }
+running-same host one other (Suspect id) = record { runs = refl; rest = refl }
+running-same host one other (Decide id) = record { runs = refl; rest = refl }
+running-same host one other (Create table owner) = record { runs = refl; rest = refl }
+running-same host one other (Split table at) = record { runs = refl; rest = refl }
+
+either-same : (host : HostNode) (one other : Option Master) (work : Work) → is_some_master one ≡ is_some_master other →
+    SameButMaster (host_step (record host { master = one }) work).0 (host_step (record host { master = other }) work).0
+either-same host None None work both = same-same (host_step (record host { master = None }) work).0
+either-same host None (Some other) work both = true_false (sym both)
+either-same host (Some one) None work both = true_false both
+either-same host (Some one) (Some other) work both = running-same host one other work
+
+step-same : (one other : HostNode) (work : Work) → SameButMaster one other → SameButMaster (host_step one work).0 (host_step other work).0
+step-same one other work same =
+    subst (λ (h : HostNode). SameButMaster (host_step (record h { master = one.master }) work).0 (host_step other work).0) (sym same.rest)
+    (either-same (stopped other) one.master other.master work same.runs)
+
+after-same : (one other : HostNode) (works : List Work) → SameButMaster one other →
+    SameButMaster (host_after one works) (host_after other works)
+after-same one other [] same = same
+after-same one other (work ∷ works) same =
+    after-same (host_step one work).0 (host_step other work).0 works (step-same one other work same)
+
+-- one work more, kept or not
+one-more : (host : HostNode) (work : Work) (works : List Work) →
+    ((other : HostNode) → SameButMaster (host_after other (filter host_keeps works)) (host_after other works)) →
+    (b : Bool) → host_keeps work ≡ b →
+    SameButMaster (host_after host (cond b (work ∷ filter host_keeps works) (filter host_keeps works)))
+    (host_after (host_step host work).0 works)
+one-more host work works rest true e = rest (host_step host work).0
+one-more host work works rest false e =
+    same-through (host_after host (filter host_keeps works)) (host_after host works) (host_after (host_step host work).0 works) (rest host)
+    (after-same host (host_step host work).0 works (same-back (host_step host work).0 host (step-unkept host work e)))
+
+pub hosts-remade : HostsCanBeRemade
+hosts-remade host [] = same-same host
+hosts-remade host (work ∷ works) = one-more host work works (λ other. hosts-remade other works) (host_keeps work) refl
+
+step-timer : (c : Coordinator) (work : Work) → coordinator_keeps work ≡ false → (coordinator_step c work).0 ≡ c
+step-timer c (Tick addr) unkept = refl
+step-timer c (Take message) unkept = cc
+step-timer c (Stop id) unkept = cc
+step-timer c (Start kept) unkept = cc
+step-timer c (Ask to body) unkept = cc
+step-timer c (Suspect id) unkept = cc
+step-timer c (Decide id) unkept = cc
+step-timer c (Create table owner) unkept = cc
+step-timer c (Split table at) unkept = cc
+
+one-more-timer : (c : Coordinator) (work : Work) (works : List Work) →
+    ((other : Coordinator) → coordinator_after other (filter coordinator_keeps works) ≡ coordinator_after other works) →
+    (b : Bool) → coordinator_keeps work ≡ b →
+    coordinator_after c (cond b (work ∷ filter coordinator_keeps works) (filter coordinator_keeps works))
+    ≡ coordinator_after (coordinator_step c work).0 works
+one-more-timer c work works rest true e = rest (coordinator_step c work).0
+one-more-timer c work works rest false e = rest c ∙ ap (λ (d : Coordinator). coordinator_after d works) (sym (step-timer c work e))
+
+pub coordinator-remade : CoordinatorCanBeRemade
+coordinator-remade c [] = refl
+coordinator-remade c (work ∷ works) = one-more-timer c work works (λ other. coordinator-remade other works) (coordinator_keeps work) refl

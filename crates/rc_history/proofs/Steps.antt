@@ -1,0 +1,74 @@
+-- An event in a world is a step of the node that it is for.
+use Rattle.std.proofs.Common.{◌≡◌, true, false, ◌&&◌, cond, ◌++◌, Option, Some, None, refl, sym, ap, ◌∙◌}
+use Rattle.rc_types.specs.declared.events.Event.{Event}
+use Rattle.rc_model.specs.Nodes.{Work, host_step}
+use Rattle.rc_model.specs.World.{World, NodeName, TheOutside, TheCoordinator, TheHost, Job, same_node, node_done, job_done}
+use Rattle.rc_model.specs.World.{work_of, is_possible, is_possible_job, step, replay_from}
+use Rattle.rc_model.specs.World as world
+use Rattle.rc_model.proofs.Tests.{either}
+use Rattle.rc_model.proofs.Tables.{put-same, put-other}
+use Rattle.rc_history.specs.Nodes.{Node, node_can, node_step, name_of, node_in}
+use Rattle.rc_history.specs.Nodes as node
+use Rattle.rc_history.specs.Events.{is_for, takes}
+use Rattle.rc_history.specs.Claims.{NodeTakes}
+
+-- a world asks the node
+can-node : (w : World) (name : NodeName) (work : Work) → world.node_can w name work ≡ node_can (node_in w name) work
+can-node w TheOutside work = refl
+can-node w TheCoordinator work = refl
+can-node w (TheHost index) work = refl
+
+done-state : (w : World) (event : Event) (name : NodeName) (work : Work) →
+    node_in (node_done w event name work) name ≡ (node_step (node_in w name) work).0
+done-state w event TheOutside work = refl
+done-state w event TheCoordinator work = refl
+done-state w event (TheHost index) work = ap node.TheHost (put-same w.hosts index (host_step (w.hosts index) work).0)
+
+done-sends : (w : World) (event : Event) (name : NodeName) (work : Work) →
+    (node_done w event name work).sent ≡ w.sent ++ (node_step (node_in w name) work).1
+done-sends w event TheOutside work = refl
+done-sends w event TheCoordinator work = refl
+done-sends w event (TheHost index) work = refl
+
+done-others : (w : World) (event : Event) (name : NodeName) (work : Work) (other : NodeName) →
+    same_node name other ≡ false → node_in (node_done w event name work) other ≡ node_in w other
+done-others w event TheOutside work TheOutside differ = refl
+done-others w event TheOutside work TheCoordinator differ = refl
+done-others w event TheOutside work (TheHost other) differ = refl
+done-others w event TheCoordinator work TheOutside differ = refl
+done-others w event TheCoordinator work TheCoordinator differ = cc
+done-others w event TheCoordinator work (TheHost other) differ = refl
+done-others w event (TheHost index) work TheOutside differ = refl
+done-others w event (TheHost index) work TheCoordinator differ = refl
+done-others w event (TheHost index) work (TheHost other) differ =
+    ap node.TheHost (put-other w.hosts index (host_step (w.hosts index) work).0 other differ)
+
+-- what is possible is done
+pub step-possible : (w : World) (event : Event) → is_possible w event ≡ true → step w event ≡ job_done w event (work_of w.sent event)
+step-possible w event possible = ap (λ b. cond b (job_done w event (work_of w.sent event)) w) possible
+
+pub node_takes : (w : World) (event : Event) (name : NodeName) (work : Work) →
+    work_of w.sent event ≡ Some (record { node = name; work = work }) → NodeTakes w event name work
+node_takes w event name work given =
+    let after : is_possible w event ≡ true → step w event ≡ node_done w event name work =
+    λ possible. step-possible w event possible ∙ ap (job_done w event) given in
+    record {
+      possible = ap (is_possible_job w) given ∙ can-node w name work;
+      state = λ possible. ap (λ (v : World). node_in v name) (after possible) ∙ done-state w event name work;
+      sends = λ possible. ap (λ (v : World). v.sent) (after possible) ∙ done-sends w event name work;
+      others = λ other differ.
+          either (λ (v : World). node_in v other ≡ node_in w other) (is_possible w event) (job_done w event (work_of w.sent event)) w
+          (λ _. ap (λ job. node_in (job_done w event job) other) given ∙ done-others w event name work other differ) (λ _. refl);
+    }
+
+job-others : (w : World) (event : Event) (job : Option Job) (name : NodeName) →
+    is_for name job ≡ false → node_in (job_done w event job) name ≡ node_in w name
+job-others w event None name differ = refl
+job-others w event (Some job) name differ = done-others w event job.node job.work name differ
+
+-- a node that doesn't take the event is the same after it
+pub step-others : (w : World) (event : Event) (name : NodeName) → takes name w event ≡ false → node_in (step w event) name ≡ node_in w name
+step-others w event name none =
+    either (λ (v : World). node_in v name ≡ node_in w name) (is_possible w event) (job_done w event (work_of w.sent event)) w
+    (λ possible. job-others w event (work_of w.sent event) name
+    (sym (ap (λ b. b && is_for name (work_of w.sent event)) possible) ∙ none)) (λ _. refl)

@@ -1,0 +1,5 @@
+pub mod Nodes
+pub mod Events
+pub mod Apart
+pub mod Claims
+pub mod Remade

@@ -1,0 +1,4 @@
+pub mod Views
+pub mod Law
+pub mod Moves
+pub mod Passes

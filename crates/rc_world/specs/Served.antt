@@ -1,0 +1,23 @@
+-- What a client may rely on, said of one world: of its events, and of the messages that were sent in it.
+use Rattle.std.specs.Prelude.{◌≡◌, ◌<◌, List, ◌++◌}
+use Rattle.rc_types.specs.declared.ids.ServerId.{ServerId}
+use Rattle.rc_types.specs.declared.entries.Entry.{Entry}
+use Rattle.rc_types.specs.declared.events.Event.{Event}
+use Rattle.rc_types.specs.declared.messages.Message.{Message}
+use Rattle.rc_model.specs.Recovered.{Ack}
+use Rattle.rc_model.specs.Headline.{HasAcknowledged}
+use Rattle.rc_log_words.specs.Claims.{sent_after}
+use Rattle.rc_service.specs.Service.{IsOneWrite, IsWritten, IsOfKey, HasAsked, Answer, HasRead, SeesEveryWrite}
+use Rattle.rc_world.specs.Happened.{Happened}
+
+pub record IsServed (world : Happened) (sent : List Message) : Type 0 where
+  -- each acknowledged version of a key is one write
+  pub once : (m : ServerId) (ack : Ack) → HasAcknowledged sent m ack → IsOneWrite sent m ack
+  -- what was first asked for after a write was acknowledged, within the first events, has a greater version
+  pub ordered : (earlier more : List Event) (m x : ServerId) (first later : Ack) (entry : Entry) →
+      world.events ≡ earlier ++ more → HasAcknowledged (sent_after world.setup earlier) m first →
+      IsWritten sent x later entry → IsOfKey first.table first.key later →
+      (HasAsked (sent_after world.setup earlier) x later.table later.key entry.value → ⊥) → first.version < later.version
+  -- each read sees every acknowledged write
+  pub seen : (m : ServerId) (before : List Message) (answer : Answer) → HasRead sent m before answer →
+      SeesEveryWrite world.setup world.events m before answer
