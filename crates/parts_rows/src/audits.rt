@@ -10,29 +10,34 @@ use std::io;
 
 /// One command for the list: another message, one less, or what is found in it.
 pub fn take(
-    rt: &(impl AllocGlobal + Eprint + Print),
+    rt: &(impl AllocGlobal + Print),
     list: &mut Vec<Message>,
     command: &str,
     numbers: &[u64],
 ) -> io::Result<()> {
     match (command, numbers) {
-        ("judge", []) => match again!(rt; audit(rt.alloc(), list.as_slice())) {
-            Some(breach) => print!(rt; " {breach}"),
-            None => print!(rt; " none"),
-        },
+        ("judge", []) => judge(rt, list.as_slice()),
         ("without", []) => {
             let _ = list.pop();
             print!(rt; " {} messages", list.len())
         }
-        _ => match again!(rt; message_of(rt.alloc(), command, numbers)) {
-            Some(message) => {
-                again!(rt; list.reserve(1));
-                list.push(message)?;
-                print!(rt; " {} messages", list.len())
-            }
+        _ => match message_of(rt.alloc(), command, numbers)? {
+            Some(message) => add(rt, list, message),
             None => printing::unknown(rt),
         },
     }
+}
+
+fn judge(rt: &(impl AllocGlobal + Print), list: &[Message]) -> io::Result<()> {
+    match printing::value(audit(rt.alloc(), list))? {
+        Some(breach) => print!(rt; " {breach}"),
+        None => print!(rt; " none"),
+    }
+}
+
+fn add(rt: &impl Print, list: &mut Vec<Message>, message: Message) -> io::Result<()> {
+    list.push(message)?;
+    print!(rt; " {} messages", list.len())
 }
 
 /// The message that a command names.

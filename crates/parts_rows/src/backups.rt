@@ -14,38 +14,55 @@ pub fn take(
     command: &str,
     numbers: &[u64],
 ) -> io::Result<()> {
-    match (command, numbers) {
-        ("fenced", [index, generation]) => {
-            let fenced = backup.is_fenced(id(*index, *generation));
-            print!(rt; " {}", printing::yes_or_no(fenced))
-        }
-        ("names", []) => names(rt, backup),
-        ("restart", [index, generation, kept @ ..]) => {
-            restart(rt, backup, id(*index, *generation), kept)
-        }
-        ("gather", [index, generation]) => {
-            let body = Body::Gather {
-                attempt: 3,
-                master: id(*index, *generation),
-            };
-            step(rt, backup, &to_backup(Addr::Coordinator, body))
-        }
-        ("from-coordinator", [seg, epoch, keys @ ..]) => {
-            let body = again!(rt; place(rt.alloc(), *seg, *epoch, false, keys));
-            step(rt, backup, &to_backup(Addr::Coordinator, body))
-        }
-        ("from-outside", [seg, epoch, keys @ ..]) => {
-            let body = again!(rt; place(rt.alloc(), *seg, *epoch, false, keys));
-            step(rt, backup, &to_backup(Addr::Outside, body))
-        }
-        (_, [index, generation, rest @ ..]) => {
-            let sender = id(*index, *generation);
-            match again!(rt; body_of(rt.alloc(), command, rest)) {
-                Some(body) => step_into(rt, backup, &to_backup(Addr::Server(sender), body)),
-                None => printing::unknown(rt),
-            }
-        }
-        _ => printing::unknown(rt),
+    match command {
+        "fenced" => fenced(rt, backup, words::first_id(numbers)),
+        "names" => names(rt, backup),
+        "restart" => restart(rt, backup, numbers),
+        "gather" => gather(rt, backup, words::first_id(numbers)),
+        "from-coordinator" => place_from(rt, backup, Addr::Coordinator, numbers),
+        "from-outside" => place_from(rt, backup, Addr::Outside, numbers),
+        _ => from_server(rt, backup, command, numbers),
+    }
+}
+
+fn fenced(rt: &impl Print, backup: &Backup, id: ServerId) -> io::Result<()> {
+    print!(rt; " {}", printing::yes_or_no(backup.is_fenced(id)))
+}
+
+/// The coordinator asks for what there is of a master.
+fn gather(rt: &impl Print, backup: &mut Backup, master: ServerId) -> io::Result<()> {
+    let body = Body::Gather { attempt: 3, master };
+    step(rt, backup, to_backup(Addr::Coordinator, body))
+}
+
+/// A Place of a segment and an epoch comes from no server.
+fn place_from(
+    rt: &(impl AllocGlobal + Print),
+    backup: &mut Backup,
+    from: Addr,
+    numbers: &[u64],
+) -> io::Result<()> {
+    let [seg, epoch, keys @ ..] = numbers else {
+        return printing::unknown(rt);
+    };
+    let body = place(rt.alloc(), *seg, *epoch, false, keys)?;
+    step(rt, backup, to_backup(from, body))
+}
+
+/// A server tells the backup something.
+fn from_server(
+    rt: &(impl AllocGlobal + Print),
+    backup: &mut Backup,
+    command: &str,
+    numbers: &[u64],
+) -> io::Result<()> {
+    let [index, generation, rest @ ..] = numbers else {
+        return printing::unknown(rt);
+    };
+    let sender = Addr::Server(id(*index, *generation));
+    match body_of(rt.alloc(), command, rest)? {
+        Some(body) => step_into(rt, backup, to_backup(sender, body)),
+        None => printing::unknown(rt),
     }
 }
 
@@ -138,9 +155,13 @@ fn entry(key: u64) -> Entry {
     }
 }
 
-/// The names of the open replicas.
+/// The names of the open replicas; where memory is refused, they are asked for again.
 fn names(rt: &(impl Eprint + Print), backup: &Backup) -> io::Result<()> {
     let names = again!(rt; backup.open_names());
+    write_names(rt, names.as_slice())
+}
+
+fn write_names(rt: &impl Print, names: &[(ServerId, u16)]) -> io::Result<()> {
     if names.is_empty() {
         return print!(rt; " nothing");
     }
@@ -154,13 +175,19 @@ fn names(rt: &(impl Eprint + Print), backup: &Backup) -> io::Result<()> {
 fn restart(
     rt: &(impl AllocGlobal + Eprint + Print),
     backup: &mut Backup,
-    next: ServerId,
     numbers: &[u64],
 ) -> io::Result<()> {
-    let kept = again!(rt; kept_of(rt.alloc(), numbers));
-    let old = mem::replace(backup, Backup::new(rt.alloc(), next));
-    *backup = old.restart(next, kept.as_slice());
+    let [index, generation, rest @ ..] = numbers else {
+        return printing::unknown(rt);
+    };
+    let kept = kept_of(rt.alloc(), rest)?;
+    restart_as(rt.alloc(), backup, id(*index, *generation), kept.as_slice());
     names(rt, backup)
+}
+
+fn restart_as(alloc: Global, backup: &mut Backup, next: ServerId, kept: &[(ServerId, u16)]) {
+    let old = mem::replace(backup, Backup::new(alloc, next));
+    *backup = old.restart(next, kept);
 }
 
 /// Replicas of three numbers each: the two of the master, and the segment.
@@ -174,19 +201,19 @@ fn kept_of(alloc: Global, numbers: &[u64]) -> Result<Vec<(ServerId, u16)>, Alloc
 }
 
 /// A step whose answers come by themselves.
-fn step(rt: &(impl Eprint + Print), backup: &mut Backup, message: &Message) -> io::Result<()> {
-    let sent = again!(rt; backup.step(message));
+fn step(rt: &impl Print, backup: &mut Backup, message: Message) -> io::Result<()> {
+    let sent = printing::value(backup.step(&message))?;
     write_answers(rt, sent.as_slice())
 }
 
 /// A step whose answers join those that were sent.
 fn step_into(
-    rt: &(impl AllocGlobal + Eprint + Print),
+    rt: &(impl AllocGlobal + Print),
     backup: &mut Backup,
-    message: &Message,
+    message: Message,
 ) -> io::Result<()> {
     let mut sent = Vec::new(rt.alloc());
-    again!(rt; backup.step_into(message, &mut sent));
+    printing::value(backup.step_into(&message, &mut sent))?;
     write_answers(rt, sent.as_slice())
 }
 
@@ -213,10 +240,7 @@ fn write_body(rt: &impl Print, body: &Body) -> io::Result<()> {
             let closed = printing::closed_or_open(*closed);
             print!(rt; " segment {seg} epoch {epoch} {closed} length {len}")
         }
-        Body::Replicas { attempt, rows } => {
-            print!(rt; " attempt {attempt}")?;
-            write_rows(rt, rows.as_slice())
-        }
+        Body::Replicas { attempt, rows } => write_rows(rt, *attempt, rows.as_slice()),
         Body::Data {
             attempt,
             seg,
@@ -231,13 +255,18 @@ fn write_body(rt: &impl Print, body: &Body) -> io::Result<()> {
 }
 
 /// Writes what is told of replicas.
-fn write_rows(rt: &impl Print, rows: &[Row]) -> io::Result<()> {
+fn write_rows(rt: &impl Print, attempt: u32, rows: &[Row]) -> io::Result<()> {
+    print!(rt; " attempt {attempt}")?;
     for row in rows {
-        let closed = printing::closed_or_open(row.closed);
-        print!(rt; " [segment {} epoch {} {closed}", row.seg, row.epoch)?;
-        print!(rt; " length {} digest", row.len)?;
-        printing::numbers(rt, row.digest.as_slice())?;
-        print!(rt; "]")?;
+        write_row(rt, row)?;
     }
     Ok(())
+}
+
+fn write_row(rt: &impl Print, row: &Row) -> io::Result<()> {
+    let closed = printing::closed_or_open(row.closed);
+    print!(rt; " [segment {} epoch {} {closed}", row.seg, row.epoch)?;
+    print!(rt; " length {} digest", row.len)?;
+    printing::numbers(rt, row.digest.as_slice())?;
+    print!(rt; "]")
 }

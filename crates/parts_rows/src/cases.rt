@@ -15,6 +15,7 @@ use rc_rangetree::RangeTree;
 use rc_replica::Replica;
 use rc_serverlist::ServerList;
 use rc_types::Message;
+use std::alloc::{AllocError, Global};
 use std::io;
 
 /// The part that the present case is about.
@@ -41,7 +42,7 @@ pub fn take(
     command: &str,
     numbers: &[u64],
 ) -> io::Result<()> {
-    match begun(rt, command, numbers)? {
+    match begun(rt.alloc(), command, numbers)? {
         Some(new) => {
             *case = new;
             print!(rt; " a new case")
@@ -51,25 +52,36 @@ pub fn take(
 }
 
 /// The case that a command begins, if it does.
-fn begun(
-    rt: &(impl AllocGlobal + Eprint + Print),
-    command: &str,
-    numbers: &[u64],
-) -> io::Result<Option<Case>> {
-    Ok(Some(match command {
-        "replica" => Case::Replica(replicas::new(rt, numbers)?),
-        "servers" => Case::List(ServerList::new(rt.alloc())),
-        "members" => Case::Members(members::new(rt, numbers)?),
-        "replies" => Case::Replies(picks::new(rt)),
-        "tree" => Case::Tree(RangeTree::new_in(rt.alloc())),
-        "backup" => Case::Backup(Backup::new(rt.alloc(), words::first_id(numbers))),
-        "types" => Case::Types,
-        "mail" => Case::Post(mails::new(rt)?),
-        "messages" => Case::Messages(Vec::new(rt.alloc())),
-        "owner" => Case::Owner(Ownership::new(rt.alloc())),
-        "log" => Case::Head(heads::new(rt, numbers)),
-        _ => return Ok(None),
-    }))
+fn begun(alloc: Global, command: &str, numbers: &[u64]) -> Result<Option<Case>, AllocError> {
+    match filled(alloc, command, numbers)? {
+        Some(case) => Ok(Some(case)),
+        None => Ok(empty(alloc, command, numbers)),
+    }
+}
+
+/// A case that takes memory from the first.
+fn filled(alloc: Global, command: &str, numbers: &[u64]) -> Result<Option<Case>, AllocError> {
+    match command {
+        "replica" => Ok(Some(Case::Replica(replicas::new(alloc, numbers)?))),
+        "members" => Ok(Some(Case::Members(members::new(alloc, numbers)?))),
+        "mail" => Ok(Some(Case::Post(mails::new(alloc)?))),
+        _ => Ok(None),
+    }
+}
+
+/// A case that takes none.
+fn empty(alloc: Global, command: &str, numbers: &[u64]) -> Option<Case> {
+    match command {
+        "servers" => Some(Case::List(ServerList::new(alloc))),
+        "replies" => Some(Case::Replies(picks::new(alloc))),
+        "tree" => Some(Case::Tree(RangeTree::new_in(alloc))),
+        "backup" => Some(Case::Backup(Backup::new(alloc, words::first_id(numbers)))),
+        "types" => Some(Case::Types),
+        "messages" => Some(Case::Messages(Vec::new(alloc))),
+        "owner" => Some(Case::Owner(Ownership::new(alloc))),
+        "log" => Some(Case::Head(heads::new(alloc, numbers))),
+        _ => None,
+    }
 }
 
 /// A command for the present case.

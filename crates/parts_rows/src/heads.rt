@@ -17,19 +17,19 @@ pub struct Head {
 }
 
 /// An empty log with so many replicas of each segment, and so many entries in it.
-pub fn new(rt: &impl AllocGlobal, numbers: &[u64]) -> Head {
+pub fn new(alloc: Global, numbers: &[u64]) -> Head {
     let (factor, size) = match numbers {
         [factor, size, ..] => (byte(*factor), short(*size)),
         _ => (1, 1),
     };
     Head {
         log: LogHead::new(
-            rt.alloc(),
+            alloc,
             host(0),
             factor.min(MAX_FACTOR),
             size.min(MAX_SEGMENT),
         ),
-        servers: ServerList::new(rt.alloc()),
+        servers: ServerList::new(alloc),
     }
 }
 
@@ -40,42 +40,66 @@ pub fn take(
     command: &str,
     numbers: &[u64],
 ) -> io::Result<()> {
-    let log = &mut head.log;
     match (command, numbers) {
         ("hosts", marks) => {
-            head.servers = again!(rt; members::hosts(rt.alloc(), marks));
+            head.servers = members::hosts(rt.alloc(), marks)?;
             print!(rt; " ok")
         }
-        ("open-first", []) => open_first(rt, log, &head.servers),
-        ("roll", dead) => roll(rt, log, &head.servers, dead),
+        ("open-first", []) => open_first(rt, &mut head.log, &head.servers),
+        ("roll", dead) => roll(rt, &mut head.log, &head.servers, dead),
+        ("lose", [seg]) => lose(rt, &mut head.log, &head.servers, short(*seg)),
+        ("fill", [last]) => fill(rt, &mut head.log, &head.servers, short(*last)),
+        (_, []) => go_on(rt, &mut head.log, command),
+        _ => tell(rt, &mut head.log, command, numbers),
+    }
+}
+
+/// A command that has numbers and asks for no servers.
+fn tell(rt: &impl Print, log: &mut LogHead, command: &str, numbers: &[u64]) -> io::Result<()> {
+    match (command, numbers) {
         ("write", [key]) => write(rt, log, *key),
-        ("stored", [seg, from, epoch, len, closed]) => {
-            let (seg, from, epoch) = (short(*seg), host(*from), short(*epoch));
-            let noted = again!(rt; log.stored(seg, from, epoch, *len as usize, *closed != 0));
-            print!(rt; " noted {}", printing::yes_or_no(noted))
-        }
-        ("commit", [seg, epoch]) => {
-            again!(rt; log.committed_at(short(*seg), short(*epoch)));
-            segment(rt, log, short(*seg))
-        }
-        ("lose", [seg]) => lose(rt, log, &head.servers, short(*seg)),
+        ("stored", [seg, from, epoch, len, closed]) => stored(
+            rt,
+            log,
+            short(*seg),
+            host(*from),
+            short(*epoch),
+            *len as usize,
+            *closed != 0,
+        ),
+        ("commit", [seg, epoch]) => commit(rt, log, short(*seg), short(*epoch)),
         ("segment", [seg]) => segment(rt, log, short(*seg)),
         ("stood", [seg, index, generation]) => {
-            let stood = log.stood(short(*seg), id(*index, *generation));
-            print!(rt; " {}", printing::yes_or_no(stood))
+            stood(rt, log, short(*seg), id(*index, *generation))
         }
-        ("fill", [last]) => fill(rt, log, &head.servers, short(*last)),
-        (_, []) => go_on(rt, log, command),
         _ => printing::unknown(rt),
     }
 }
 
-/// A command that has no numbers. It writes how the log is afterwards.
-fn go_on(
-    rt: &(impl AllocGlobal + Eprint + Print),
+fn stored(
+    rt: &impl Print,
     log: &mut LogHead,
-    command: &str,
+    seg: u16,
+    from: ServerId,
+    epoch: u16,
+    len: usize,
+    closed: bool,
 ) -> io::Result<()> {
+    let noted = log.stored(seg, from, epoch, len, closed)?;
+    print!(rt; " noted {}", printing::yes_or_no(noted))
+}
+
+fn commit(rt: &impl Print, log: &mut LogHead, seg: u16, epoch: u16) -> io::Result<()> {
+    log.committed_at(seg, epoch)?;
+    segment(rt, log, seg)
+}
+
+fn stood(rt: &impl Print, log: &LogHead, seg: u16, id: ServerId) -> io::Result<()> {
+    print!(rt; " {}", printing::yes_or_no(log.stood(seg, id)))
+}
+
+/// A command that has no numbers. It writes how the log is afterwards.
+fn go_on(rt: &(impl AllocGlobal + Print), log: &mut LogHead, command: &str) -> io::Result<()> {
     match command {
         "state" => {}
         "begin" => log.begin(),
@@ -111,16 +135,11 @@ fn write_state(rt: &impl Print, log: &LogHead) -> io::Result<()> {
 
 /// The first head is opened.
 fn open_first(
-    rt: &(impl AllocGlobal + Eprint + Print),
+    rt: &(impl AllocGlobal + Print),
     log: &mut LogHead,
     servers: &ServerList,
 ) -> io::Result<()> {
-    let mut opened = try_open(rt.alloc(), log, servers);
-    if let Some(Err(Fault::OutOfMemory)) = opened {
-        printing::refused(rt)?;
-        opened = try_open(rt.alloc(), log, servers);
-    }
-    match opened {
+    match try_open(rt.alloc(), log, servers) {
         Some(answer) => printing::done(rt, answer),
         None => print!(rt; " not asked: there is a head"),
     }
@@ -136,33 +155,19 @@ fn try_open(alloc: Global, log: &mut LogHead, servers: &ServerList) -> Option<Re
 
 /// A roll begins, without these dead segments.
 fn roll(
-    rt: &(impl AllocGlobal + Eprint + Print),
+    rt: &(impl AllocGlobal + Print),
     log: &mut LogHead,
     servers: &ServerList,
     numbers: &[u64],
 ) -> io::Result<()> {
-    let dead = again!(rt; shorts(rt.alloc(), numbers));
-    match begin_roll(rt, log, servers, dead.as_slice())? {
+    let dead = shorts(rt.alloc(), numbers)?;
+    match try_roll(rt.alloc(), log, servers, dead.as_slice()) {
         Some(begun) => printing::done(rt, begun),
         None => print!(rt; " not asked: the log is not writing"),
     }
 }
 
 /// What comes of beginning a roll, if the log is writing.
-fn begin_roll(
-    rt: &(impl AllocGlobal + Eprint),
-    log: &mut LogHead,
-    servers: &ServerList,
-    dead: &[u16],
-) -> io::Result<Option<Result<(), Fault>>> {
-    let begun = try_roll(rt.alloc(), log, servers, dead);
-    if let Some(Err(Fault::OutOfMemory)) = begun {
-        printing::refused(rt)?;
-        return Ok(try_roll(rt.alloc(), log, servers, dead));
-    }
-    Ok(begun)
-}
-
 fn try_roll(
     alloc: Global,
     log: &mut LogHead,
@@ -177,10 +182,10 @@ fn try_roll(
 }
 
 /// A client's write is appended. It writes the place.
-fn write(rt: &(impl Eprint + Print), log: &mut LogHead, key: u64) -> io::Result<()> {
-    match answer!(rt; log.append_write(entry(key))) {
+fn write(rt: &impl Print, log: &mut LogHead, key: u64) -> io::Result<()> {
+    match log.append_write(entry(key)) {
         Ok((seg, offset)) => print!(rt; " segment {seg} at {offset}"),
-        Err(fault) => print!(rt; " {}", fault.code()),
+        Err(fault) => printing::code(rt, fault),
     }
 }
 
@@ -196,39 +201,25 @@ fn entry(key: u64) -> Entry {
 
 /// The members of a segment that have crashed are lost. It writes who is to be sent a Place.
 fn lose(
-    rt: &(impl AllocGlobal + Eprint + Print),
+    rt: &(impl AllocGlobal + Print),
     log: &mut LogHead,
     servers: &ServerList,
     seg: u16,
 ) -> io::Result<()> {
-    let mut lost = try_lose(rt.alloc(), log, servers, seg);
-    if let Some(Err(Fault::OutOfMemory)) = lost {
-        printing::refused(rt)?;
-        lost = try_lose(rt.alloc(), log, servers, seg);
+    if !log.has(seg) {
+        return print!(rt; " not asked: there is no such segment");
     }
-    match lost {
-        Some(Ok(ids)) => {
-            print!(rt; " to")?;
-            printing::ids(rt, ids.as_slice())?;
-        }
-        Some(Err(fault)) => print!(rt; " {}", fault.code())?,
-        None => return print!(rt; " not asked: there is no such segment"),
+    match log.lose(rt.alloc(), seg, servers) {
+        Ok(ids) => write_sent(rt, ids.as_slice())?,
+        Err(fault) => printing::code(rt, fault)?,
     }
     print!(rt; ",")?;
     segment(rt, log, seg)
 }
 
-fn try_lose(
-    alloc: Global,
-    log: &mut LogHead,
-    servers: &ServerList,
-    seg: u16,
-) -> Option<Result<Vec<ServerId>, Fault>> {
-    if log.has(seg) {
-        Some(log.lose(alloc, seg, servers))
-    } else {
-        None
-    }
+fn write_sent(rt: &impl Print, ids: &[ServerId]) -> io::Result<()> {
+    print!(rt; " to")?;
+    printing::ids(rt, ids)
 }
 
 /// A segment: whether it is shut, and its members.
@@ -270,15 +261,17 @@ fn send_closes(rt: &impl Print, log: &mut LogHead) -> io::Result<()> {
 }
 
 /// The new head writes. It writes which segments are freed.
-fn write_on(rt: &(impl AllocGlobal + Eprint + Print), log: &mut LogHead) -> io::Result<()> {
-    match again!(rt; go_over(rt.alloc(), log)) {
-        Some(freed) => {
-            print!(rt; " frees")?;
-            printing::numbers(rt, freed.as_slice())?;
-            print!(rt; ",")
-        }
+fn write_on(rt: &(impl AllocGlobal + Print), log: &mut LogHead) -> io::Result<()> {
+    match go_over(rt.alloc(), log)? {
+        Some(freed) => write_freed(rt, freed.as_slice()),
         None => print!(rt; " not asked,"),
     }
+}
+
+fn write_freed(rt: &impl Print, freed: &[u16]) -> io::Result<()> {
+    print!(rt; " frees")?;
+    printing::numbers(rt, freed)?;
+    print!(rt; ",")
 }
 
 /// The log goes over to its new head, if it may. The answer is which segments are freed.
@@ -308,34 +301,71 @@ fn fill(
 ) -> io::Result<()> {
     let (mut rolls, mut freed) = (0u32, 0usize);
     for _ in log.head()..last {
-        if let Some(segs) = next_segment(rt, log, servers)? {
+        if let Some(count) = next_segment(rt, log, servers)? {
             rolls = rolls.saturating_add(1);
-            freed = freed.saturating_add(segs.len());
+            freed = freed.saturating_add(count);
         }
     }
     print!(rt; " {rolls} rolls, {freed} freed,")?;
     write_state(rt, log)
 }
 
-/// Fills the head and rolls. The answer is which segments are freed, if all went well.
+/// Fills the head and rolls. The answer is how many segments are freed, if all went well.
 fn next_segment(
     rt: &(impl AllocGlobal + Eprint),
     log: &mut LogHead,
     servers: &ServerList,
-) -> io::Result<Option<Vec<u16>>> {
+) -> io::Result<Option<usize>> {
     let old = log.head();
-    if answer!(rt; log.append_write(entry(1))).is_err() {
+    if !is_filled(rt, log)? {
         return Ok(None);
     }
-    begin_roll(rt, log, servers, &[old.saturating_sub(1)])?;
-    let new = log.head();
-    again!(rt; log.stored(new, host(1), 0, 0, false));
+    begin_roll(rt, log, servers, old)?;
+    open_next(rt, log)?;
+    shut(rt, log, old)?;
+    go_on_writing(rt, log)
+}
+
+/// Whether an entry has filled the head.
+fn is_filled(rt: &impl Eprint, log: &mut LogHead) -> io::Result<bool> {
+    Ok(answer!(rt; log.append_write(entry(1))).is_ok())
+}
+
+/// A roll begins, without the segment below the old head.
+fn begin_roll(
+    rt: &(impl AllocGlobal + Eprint),
+    log: &mut LogHead,
+    servers: &ServerList,
+    old: u16,
+) -> io::Result<()> {
+    let dead = [old.saturating_sub(1)];
+    if let Some(Err(Fault::OutOfMemory)) = try_roll(rt.alloc(), log, servers, &dead) {
+        printing::refused(rt)?;
+        let _ = try_roll(rt.alloc(), log, servers, &dead);
+    }
+    Ok(())
+}
+
+/// The next head is placed, and the old one is being closed.
+fn open_next(rt: &impl Eprint, log: &mut LogHead) -> io::Result<()> {
+    let next = log.head();
+    again!(rt; log.stored(next, host(1), 0, 0, false));
     if log.may_close() {
         log.close_old();
     }
+    Ok(())
+}
+
+/// The old head is closed and shut.
+fn shut(rt: &impl Eprint, log: &mut LogHead, old: u16) -> io::Result<()> {
     again!(rt; log.stored(old, host(1), 0, 1, true));
     log.mark_shut();
+    Ok(())
+}
+
+/// The new head writes. The answer is how many segments are freed, if it may.
+fn go_on_writing(rt: &(impl AllocGlobal + Eprint), log: &mut LogHead) -> io::Result<Option<usize>> {
     let freed = again!(rt; go_over(rt.alloc(), log));
     keep_durable(log);
-    Ok(freed)
+    Ok(freed.map(|segs| segs.len()))
 }

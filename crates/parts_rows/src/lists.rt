@@ -9,7 +9,7 @@ use std::io;
 
 /// One command for the list.
 pub fn take(
-    rt: &(impl AllocGlobal + Eprint + Print),
+    rt: &(impl AllocGlobal + Print),
     list: &mut ServerList,
     command: &str,
     numbers: &[u64],
@@ -19,12 +19,12 @@ pub fn take(
         ("crash", [index, generation]) => crash(rt, list, id(*index, *generation)),
         ("about", [index, generation]) => about(rt, list, id(*index, *generation)),
         ("told", [version, marks @ ..]) => {
-            *list = again!(rt; told(rt.alloc(), long(*version), marks));
+            *list = told(rt.alloc(), long(*version), marks)?;
             print!(rt; " version {}", list.version())
         }
         ("list", []) => write_list(rt, list),
         ("copy", []) => {
-            *list = again!(rt; list.try_clone(rt.alloc()));
+            *list = printing::value(list.try_clone(rt.alloc()))?;
             write_list(rt, list)
         }
         ("compare", []) => compare(rt, list),
@@ -33,35 +33,34 @@ pub fn take(
 }
 
 /// The list of these servers, each two numbers and a mark: 1 for one that has crashed.
-fn told(alloc: Global, version: u32, marks: &[u64]) -> Result<ServerList, Fault> {
+fn told(alloc: Global, version: u32, marks: &[u64]) -> Result<ServerList, AllocError> {
     let rows: Vec<(ServerId, bool)> = (0..marks.len() / 3)
         .map(|row| (id_in(marks, 3, row), number_in(marks, 3, row, 2) == 0))
         .collect(alloc)?;
-    ServerList::from_rows(alloc, version, rows.as_slice())
+    printing::value(ServerList::from_rows(alloc, version, rows.as_slice()))
 }
 
 /// Whether the id is the newest, what comes of enlisting it, and the version.
-fn enlist(rt: &(impl Eprint + Print), list: &mut ServerList, id: ServerId) -> io::Result<()> {
-    let newest = printing::yes_or_no(list.is_newest(id));
-    let mut enlisted = try_enlist(list, id);
-    if let Some(Err(Fault::OutOfMemory)) = enlisted {
-        printing::refused(rt)?;
-        enlisted = try_enlist(list, id);
-    }
-    let Some(answer) = enlisted else {
+fn enlist(rt: &impl Print, list: &mut ServerList, id: ServerId) -> io::Result<()> {
+    if list.version() == u32::MAX {
         return print!(rt; " not asked: no version is left");
-    };
-    print!(rt; " newest {newest},")?;
-    printing::done(rt, answer)?;
-    print!(rt; ", version {}", list.version())
+    }
+    let newest = list.is_newest(id);
+    match list.enlist(id) {
+        Err(Fault::OutOfMemory) => Err(io::Error::from(AllocError)),
+        answer => write_enlisted(rt, newest, answer, list.version()),
+    }
 }
 
-fn try_enlist(list: &mut ServerList, id: ServerId) -> Option<Result<(), Fault>> {
-    if list.version() < u32::MAX {
-        Some(list.enlist(id))
-    } else {
-        None
-    }
+fn write_enlisted(
+    rt: &impl Print,
+    newest: bool,
+    answer: Result<(), Fault>,
+    version: u32,
+) -> io::Result<()> {
+    print!(rt; " newest {},", printing::yes_or_no(newest))?;
+    printing::done(rt, answer)?;
+    print!(rt; ", version {version}")
 }
 
 fn crash(rt: &impl Print, list: &mut ServerList, id: ServerId) -> io::Result<()> {
@@ -81,21 +80,31 @@ fn about(rt: &impl Print, list: &ServerList, id: ServerId) -> io::Result<()> {
 }
 
 /// The version, all ids with their marks, and then those that are up.
-fn write_list(rt: &(impl AllocGlobal + Eprint + Print), list: &ServerList) -> io::Result<()> {
-    let rows = again!(rt; list.rows(rt.alloc()));
-    let up = again!(rt; list.up(rt.alloc()));
+fn write_list(rt: &(impl AllocGlobal + Print), list: &ServerList) -> io::Result<()> {
+    let rows = printing::value(list.rows(rt.alloc()))?;
+    let up = printing::value(list.up(rt.alloc()))?;
+    write_size(rt, list)?;
+    write_rows(rt, rows.as_slice())?;
+    print!(rt; "; up")?;
+    printing::ids(rt, up.as_slice())
+}
+
+/// The version, and how many ids there are.
+fn write_size(rt: &impl Print, list: &ServerList) -> io::Result<()> {
     let empty = printing::yes_or_no(list.is_empty());
     print!(rt;
         " version {}, empty {empty}, {} ids",
         list.version(),
         list.len()
-    )?;
+    )
+}
+
+fn write_rows(rt: &impl Print, rows: &[(ServerId, bool)]) -> io::Result<()> {
     for (id, up) in rows {
-        let mark = if up { "up" } else { "crashed" };
+        let mark = if *up { "up" } else { "crashed" };
         print!(rt; " {id} {mark}")?;
     }
-    print!(rt; "; up")?;
-    printing::ids(rt, up.as_slice())
+    Ok(())
 }
 
 /// Whether the list is newer than an empty one, an empty one than it, and it than itself.

@@ -18,21 +18,25 @@ pub struct Post {
 
 /// Five messages, of which none is noted: an Enlist, a Read to host 0, an answer to the outside, a Read to
 /// host 1, and a Ready.
-pub fn new(rt: &(impl AllocGlobal + Eprint)) -> io::Result<Post> {
+pub fn new(alloc: Global) -> Result<Post, AllocError> {
     Ok(Post {
-        sent: again!(rt; five(rt.alloc())),
-        mail: Mail::new(rt.alloc()),
+        sent: five(alloc)?,
+        mail: Mail::new(alloc),
     })
 }
 
 fn five(alloc: Global) -> Result<Vec<Message>, AllocError> {
     let mut sent = Vec::with_capacity(alloc, 5)?;
     let (first, second) = (Addr::Server(host(0)), Addr::Server(host(1)));
-    sent.push(message(first, Addr::Coordinator, Body::Enlist))?;
-    sent.push(message(Addr::Outside, first, read()))?;
-    sent.push(message(first, Addr::Outside, Body::SplitOk { table: 7, at: 9 }))?;
-    sent.push(message(Addr::Outside, second, read()))?;
-    sent.push(message(second, Addr::Coordinator, Body::Ready))?;
+    for one in [
+        message(first, Addr::Coordinator, Body::Enlist),
+        message(Addr::Outside, first, read()),
+        message(first, Addr::Outside, Body::SplitOk { table: 7, at: 9 }),
+        message(Addr::Outside, second, read()),
+        message(second, Addr::Coordinator, Body::Ready),
+    ] {
+        sent.push(one)?;
+    }
     Ok(sent)
 }
 
@@ -45,12 +49,7 @@ fn read() -> Body {
 }
 
 /// One command for the mail.
-pub fn take(
-    rt: &(impl Eprint + Print),
-    post: &mut Post,
-    command: &str,
-    numbers: &[u64],
-) -> io::Result<()> {
+pub fn take(rt: &impl Print, post: &mut Post, command: &str, numbers: &[u64]) -> io::Result<()> {
     let all = Passing {
         kinds: Kinds::new(),
         hosts: Hosts::new(),
@@ -76,15 +75,15 @@ pub fn take(
 }
 
 /// Notes so many of the messages.
-fn note(rt: &(impl Eprint + Print), post: &mut Post, count: usize) -> io::Result<()> {
+fn note(rt: &impl Print, post: &mut Post, count: usize) -> io::Result<()> {
     let sent = post.sent.get(..count).unwrap_or(&[]);
-    again!(rt; post.mail.note(sent));
+    post.mail.note(sent)?;
     print!(rt; " ok")
 }
 
 /// One of the messages is delivered, if it is there.
-fn deliver(rt: &(impl Eprint + Print), post: &mut Post, number: usize) -> io::Result<()> {
-    if again!(rt; deliver_noted(post, number)) {
+fn deliver(rt: &impl Print, post: &mut Post, number: usize) -> io::Result<()> {
+    if deliver_noted(post, number)? {
         print!(rt; " ok")
     } else {
         print!(rt; " not asked: there is no such message")

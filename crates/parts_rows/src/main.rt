@@ -3,8 +3,10 @@
 //! a new case of that part, and the commands below it are for that case. Empty lines and lines that begin
 //! with `#` are written as they are.
 //!
-//! Where memory is refused, the program writes a line `refused` to standard error and makes the same call
-//! again: what it writes to standard output is the same, whichever allocation is refused.
+//! Where memory is refused, the program writes a line `refused` to standard error and gives the same command
+//! again: what it writes to standard output is the same, whichever allocation is refused. So a command takes
+//! all its memory before it writes anything and before anything changes for good; one that makes several
+//! changes makes each single call again, and so do the few calls outside of commands.
 #![tactic(auto)]
 
 /// The value of a call that fails only where memory is refused; once refused, the call is made again.
@@ -54,17 +56,33 @@ mod texts;
 mod words;
 
 use cases::Case;
-use std::alloc::AllocError;
+use std::alloc::{AllocError, Global};
 use std::io;
+use std::io::ErrorKind;
 
 fn main(rt: HostRuntime) -> io::Result<()> {
-    let mut bytes = again!(&rt; vec![in rt.alloc(); 0u8; input::MOST]);
-    let len = input::read(&mut rt.stdin(), &mut bytes)?;
-    let input = bytes.get(..len).unwrap_or(&[]);
-    let mut numbers = again!(&rt; Vec::with_capacity(rt.alloc(), words::MOST));
+    let mut room = again!(&rt; Room::new(rt.alloc()));
+    let len = input::read(&mut rt.stdin(), &mut room.bytes)?;
+    let input = room.bytes.get(..len).unwrap_or(&[]);
     match std::str::from_utf8(input) {
-        Ok(text) => answer(&rt, &mut numbers, text),
+        Ok(text) => answer(&rt, &mut room.numbers, text),
         Err(_) => println!(rt; "the input is not UTF-8"),
+    }
+}
+
+/// Room for the input, and for the numbers of a line.
+#[derive(Drop)]
+struct Room {
+    bytes: Vec<u8>,
+    numbers: Vec<u64>,
+}
+
+impl Room {
+    fn new(alloc: Global) -> Result<Room, AllocError> {
+        Ok(Room {
+            bytes: vec![in alloc; 0u8; input::MOST]?,
+            numbers: Vec::with_capacity(alloc, words::MOST)?,
+        })
     }
 }
 
@@ -92,7 +110,23 @@ fn answer_line(
     if let Some(command) = words::command_of(line) {
         words::numbers_of(line, numbers)?;
         print!(rt; " ->")?;
-        cases::take(rt, case, command, numbers.as_slice())?;
+        take(rt, case, command, numbers.as_slice())?;
     }
     println!(rt; "")
+}
+
+/// A command, which is given again where memory is refused.
+fn take(
+    rt: &(impl AllocGlobal + Eprint + Print),
+    case: &mut Case,
+    command: &str,
+    numbers: &[u64],
+) -> io::Result<()> {
+    match cases::take(rt, case, command, numbers) {
+        Err(error) if error.kind() == ErrorKind::OutOfMemory => {
+            printing::refused(rt)?;
+            cases::take(rt, case, command, numbers)
+        }
+        done => done,
+    }
 }

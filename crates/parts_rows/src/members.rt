@@ -22,21 +22,25 @@ fn own() -> ServerId {
 }
 
 /// The members of a segment on these hosts, and nobody in the list.
-pub fn new(rt: &(impl AllocGlobal + Eprint), numbers: &[u64]) -> io::Result<Members> {
+pub fn new(alloc: Global, numbers: &[u64]) -> Result<Members, AllocError> {
     let (seg, hosts) = match numbers {
         [seg, hosts @ ..] => (short(*seg), hosts),
         [] => (0, numbers),
     };
-    let ids = again!(rt; words::hosts(rt.alloc(), hosts));
-    let config = if ids.len() <= MAX_MEMBERS {
-        Config::new(seg, ids.as_slice())
+    let ids = words::hosts(alloc, hosts)?;
+    Ok(Members {
+        config: config_of(seg, ids.as_slice()),
+        servers: ServerList::new(alloc),
+    })
+}
+
+/// The members of a segment; none, where there are too many.
+fn config_of(seg: u16, ids: &[ServerId]) -> Config {
+    if ids.len() <= MAX_MEMBERS {
+        Config::new(seg, ids)
     } else {
         Config::new(seg, &[])
-    };
-    Ok(Members {
-        config,
-        servers: ServerList::new(rt.alloc()),
-    })
+    }
 }
 
 /// One command for the members.
@@ -46,24 +50,35 @@ pub fn take(
     command: &str,
     numbers: &[u64],
 ) -> io::Result<()> {
-    let config = &mut members.config;
-    match (command, numbers) {
-        ("hosts", marks) => {
-            members.servers = again!(rt; hosts(rt.alloc(), marks));
+    match command {
+        "hosts" => {
+            members.servers = hosts(rt.alloc(), numbers)?;
             print!(rt; " ok")
         }
-        ("choose", [seg, factor]) => choosing(rt, &members.servers, short(*seg), byte(*factor)),
-        ("stored", [from, epoch, len, closed]) => {
-            let noted = config.stored(host(*from), short(*epoch), *len as usize, *closed != 0);
-            print!(rt; " noted {},", printing::yes_or_no(noted))?;
-            durable(rt, config)
-        }
-        ("commit", [epoch]) => {
-            config.committed_at(short(*epoch));
-            durable(rt, config)
-        }
-        ("lose", []) => lose(rt, config, &members.servers),
-        ("refill", []) => refill(rt, config, &members.servers),
+        "choose" => choosing(rt, &members.servers, numbers),
+        "lose" => lose(rt, &mut members.config, &members.servers),
+        "refill" => refill(rt, &mut members.config, &members.servers),
+        _ => go_on(rt, &mut members.config, command, numbers),
+    }
+}
+
+/// A command that asks for no servers.
+fn go_on(
+    rt: &(impl AllocGlobal + Eprint + Print),
+    config: &mut Config,
+    command: &str,
+    numbers: &[u64],
+) -> io::Result<()> {
+    match (command, numbers) {
+        ("stored", [from, epoch, len, closed]) => stored(
+            rt,
+            config,
+            host(*from),
+            short(*epoch),
+            *len as usize,
+            *closed != 0,
+        ),
+        ("commit", [epoch]) => commit(rt, config, short(*epoch)),
         ("write", []) => write_members(rt, &config.copy()),
         ("has", [index]) => has(rt, config, host(*index)),
         ("change", [last]) => change_until(rt, config, short(*last)),
@@ -71,26 +86,46 @@ pub fn take(
     }
 }
 
+fn stored(
+    rt: &impl Print,
+    config: &mut Config,
+    from: ServerId,
+    epoch: u16,
+    len: usize,
+    closed: bool,
+) -> io::Result<()> {
+    let noted = config.stored(from, epoch, len, closed);
+    print!(rt; " noted {},", printing::yes_or_no(noted))?;
+    durable(rt, config)
+}
+
+fn commit(rt: &impl Print, config: &mut Config, epoch: u16) -> io::Result<()> {
+    config.committed_at(epoch);
+    durable(rt, config)
+}
+
 /// The list of these hosts in their first generations, each with a mark: 1 for one that has crashed.
-pub fn hosts(alloc: Global, marks: &[u64]) -> Result<ServerList, Fault> {
+pub fn hosts(alloc: Global, marks: &[u64]) -> Result<ServerList, AllocError> {
     let rows: Vec<(ServerId, bool)> = (0..marks.len() / 2)
         .map(|row| (
             host(number_in(marks, 2, row, 0)),
             number_in(marks, 2, row, 1) == 0,
         ))
         .collect(alloc)?;
-    ServerList::from_rows(alloc, 1, rows.as_slice())
+    printing::value(ServerList::from_rows(alloc, 1, rows.as_slice()))
 }
 
 fn choosing(
-    rt: &(impl AllocGlobal + Eprint + Print),
+    rt: &(impl AllocGlobal + Print),
     servers: &ServerList,
-    seg: u16,
-    factor: u8,
+    numbers: &[u64],
 ) -> io::Result<()> {
-    match answer!(rt; choose(rt.alloc(), seg, own(), factor, servers)) {
+    let [seg, factor] = numbers else {
+        return printing::unknown(rt);
+    };
+    match choose(rt.alloc(), short(*seg), own(), byte(*factor), servers) {
         Ok(ids) => printing::ids(rt, ids.as_slice()),
-        Err(fault) => print!(rt; " {}", fault.code()),
+        Err(fault) => printing::code(rt, fault),
     }
 }
 
@@ -105,29 +140,35 @@ fn durable(rt: &impl Print, config: &Config) -> io::Result<()> {
 }
 
 fn lose(
-    rt: &(impl AllocGlobal + Eprint + Print),
+    rt: &(impl AllocGlobal + Print),
     config: &mut Config,
     servers: &ServerList,
 ) -> io::Result<()> {
-    match answer!(rt; config.lose(rt.alloc(), own(), servers)) {
-        Ok(changed) => print!(rt; " change {},", printing::yes_or_no(changed))?,
-        Err(fault) => print!(rt; " {},", fault.code())?,
+    match config.lose(rt.alloc(), own(), servers) {
+        Ok(changed) => print!(rt; " change {}", printing::yes_or_no(changed))?,
+        Err(fault) => printing::code(rt, fault)?,
     }
+    print!(rt; ",")?;
     write_members(rt, config)
 }
 
 fn refill(
-    rt: &(impl AllocGlobal + Eprint + Print),
+    rt: &(impl AllocGlobal + Print),
     config: &mut Config,
     servers: &ServerList,
 ) -> io::Result<()> {
-    print!(rt; " new")?;
-    match answer!(rt; config.refill(rt.alloc(), own(), servers)) {
-        Ok(ids) => printing::ids(rt, ids.as_slice())?,
-        Err(fault) => print!(rt; " {}", fault.code())?,
+    match config.refill(rt.alloc(), own(), servers) {
+        Ok(ids) => write_new(rt, ids.as_slice())?,
+        Err(Fault::OutOfMemory) => return Err(io::Error::from(AllocError)),
+        Err(fault) => print!(rt; " new {}", fault.code())?,
     }
     print!(rt; ",")?;
     write_members(rt, config)
+}
+
+fn write_new(rt: &impl Print, ids: &[ServerId]) -> io::Result<()> {
+    print!(rt; " new")?;
+    printing::ids(rt, ids)
 }
 
 /// Whether the server is a member, and whether it is among none.
@@ -163,31 +204,66 @@ fn change_until(
     config: &mut Config,
     last: u16,
 ) -> io::Result<()> {
-    let second = again!(rt; hosts(rt.alloc(), &[1, 1, 2, 0]));
-    let first = again!(rt; hosts(rt.alloc(), &[1, 0, 2, 1]));
-    let mut changes = 0u32;
-    for epoch in 1..=last.min(LAST_EPOCH) {
-        let changed = if epoch % 2 == 1 {
-            change(rt, config, &second, 2, epoch)?
-        } else {
-            change(rt, config, &first, 1, epoch)?
-        };
-        changes = changes.saturating_add(u32::from(changed));
-    }
+    let turns = Turns::new(rt.alloc())?;
+    let changes = turns.take(rt, config, last)?;
     print!(rt; " {changes} changes,")?;
     write_members(rt, config)
 }
 
-/// Whether a change begins; then the next member tells, and the epoch is committed.
-fn change(
+/// The lists of servers by turns: in the one host 1 has crashed, in the other host 2.
+#[derive(Drop)]
+struct Turns {
+    odd: ServerList,
+    even: ServerList,
+}
+
+impl Turns {
+    fn new(alloc: Global) -> Result<Turns, AllocError> {
+        Ok(Turns {
+            odd: hosts(alloc, &[1, 1, 2, 0])?,
+            even: hosts(alloc, &[1, 0, 2, 1])?,
+        })
+    }
+
+    /// Takes all turns up to this epoch, and answers how many changes began.
+    fn take(
+        &self,
+        rt: &(impl AllocGlobal + Eprint),
+        config: &mut Config,
+        last: u16,
+    ) -> io::Result<u32> {
+        let mut changes = 0u32;
+        for epoch in 1..=last.min(LAST_EPOCH) {
+            let changed = self.change(rt, config, epoch)?;
+            changes = changes.saturating_add(u32::from(changed));
+        }
+        Ok(changes)
+    }
+
+    /// Whether the turn of this epoch begins a change; then the next member tells, and the epoch is committed.
+    fn change(
+        &self,
+        rt: &(impl AllocGlobal + Eprint),
+        config: &mut Config,
+        epoch: u16,
+    ) -> io::Result<bool> {
+        let (servers, next) = match epoch % 2 {
+            1 => (&self.odd, host(2)),
+            _ => (&self.even, host(1)),
+        };
+        let begins = begin_change(rt, config, servers)?;
+        config.stored(next, epoch, 7, false);
+        config.committed_at(epoch);
+        Ok(begins)
+    }
+}
+
+/// Whether a loss of members begins a change.
+fn begin_change(
     rt: &(impl AllocGlobal + Eprint),
     config: &mut Config,
     servers: &ServerList,
-    next: u64,
-    epoch: u16,
 ) -> io::Result<bool> {
     let lost = answer!(rt; config.lose(rt.alloc(), own(), servers));
-    config.stored(host(next), epoch, 7, false);
-    config.committed_at(epoch);
     Ok(matches!(lost, Ok(true)))
 }

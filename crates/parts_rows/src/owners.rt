@@ -4,7 +4,8 @@ use crate::entries::entry;
 use crate::printing;
 use crate::words::{byte, long};
 use rc_ownership::Ownership;
-use std::alloc::AllocError;
+use rc_types::Seq;
+use std::alloc::{AllocError, Global};
 use std::io;
 
 /// The table of all entries.
@@ -15,14 +16,14 @@ const KEY: u64 = 5;
 
 /// One command for the owner.
 pub fn take(
-    rt: &(impl AllocGlobal + Eprint + Print),
+    rt: &(impl AllocGlobal + Print),
     owner: &mut Ownership,
     command: &str,
     numbers: &[u64],
 ) -> io::Result<()> {
     match (command, numbers) {
         ("note", [term, version, value]) => {
-            note(rt, owner, long(*term), *version, byte(*value))?;
+            note(rt.alloc(), owner, long(*term), *version, byte(*value))?;
             print!(rt; " {} noted", owner.count_noted())
         }
         ("durable", [count]) => durable(rt, owner, *count as usize),
@@ -43,15 +44,14 @@ pub fn take(
 
 /// Notes an entry under a term.
 fn note(
-    rt: &(impl AllocGlobal + Eprint),
+    alloc: Global,
     owner: &mut Ownership,
     term: u32,
     version: u64,
     value: u8,
-) -> io::Result<()> {
-    let entry = again!(rt; entry(rt.alloc(), term, KEY, version, value));
-    again!(rt; owner.note(rt.alloc(), &entry));
-    Ok(())
+) -> Result<(), AllocError> {
+    let entry = entry(alloc, term, KEY, version, value)?;
+    printing::value(owner.note(alloc, &entry))
 }
 
 /// The first entries are durable.
@@ -84,16 +84,24 @@ fn next(rt: &impl Print, owner: &Ownership, term: u32) -> io::Result<()> {
 }
 
 /// The greatest durable version, and its value.
-fn read(rt: &(impl AllocGlobal + Eprint + Print), owner: &Ownership, term: u32) -> io::Result<()> {
-    let (version, value) = again!(rt; owner.read(rt.alloc(), term, TABLE, KEY));
+fn read(rt: &(impl AllocGlobal + Print), owner: &Ownership, term: u32) -> io::Result<()> {
+    match owner.read(rt.alloc(), term, TABLE, KEY) {
+        Ok((version, value)) => write_read(rt, version, value),
+        Err(_) => Err(io::Error::from(AllocError)),
+    }
+}
+
+fn write_read(rt: &impl Print, version: u64, value: Option<Seq<u8>>) -> io::Result<()> {
     print!(rt; " version {version} value")?;
     match value {
-        Some(bytes) => {
-            for byte in bytes.as_slice() {
-                print!(rt; " {byte}")?;
-            }
-            Ok(())
-        }
+        Some(bytes) => write_bytes(rt, bytes.as_slice()),
         None => print!(rt; " none"),
     }
+}
+
+fn write_bytes(rt: &impl Print, bytes: &[u8]) -> io::Result<()> {
+    for byte in bytes {
+        print!(rt; " {byte}")?;
+    }
+    Ok(())
 }

@@ -1,6 +1,7 @@
 //! How the answers write lists and marks.
 
 use rc_types::{Entry, Fault, ServerId};
+use std::alloc::AllocError;
 use std::io;
 
 /// `closed` or `open`.
@@ -50,7 +51,23 @@ pub fn ids(rt: &impl Print, ids: &[ServerId]) -> io::Result<()> {
 pub fn done(rt: &impl Print, answer: Result<(), Fault>) -> io::Result<()> {
     match answer {
         Ok(()) => print!(rt; " ok"),
-        Err(fault) => print!(rt; " {}", fault.code()),
+        Err(fault) => code(rt, fault),
+    }
+}
+
+/// Writes the code of a refusal; where that was of memory, fails with it.
+pub fn code(rt: &impl Print, fault: Fault) -> io::Result<()> {
+    match fault {
+        Fault::OutOfMemory => Err(io::Error::from(AllocError)),
+        fault => print!(rt; " {}", fault.code()),
+    }
+}
+
+/// The value of a call that is refused nothing but memory.
+pub fn value<T>(answer: Result<T, Fault>) -> Result<T, AllocError> {
+    match answer {
+        Ok(value) => Ok(value),
+        Err(_) => Err(AllocError),
     }
 }
 

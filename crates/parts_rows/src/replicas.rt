@@ -4,30 +4,30 @@ use crate::entries::entries;
 use crate::printing;
 use crate::words::{short, shorts};
 use rc_replica::Replica;
-use std::alloc::AllocError;
+use std::alloc::{AllocError, Global};
 use std::io;
 
 /// An empty replica under an epoch, whose segment was opened with these segments as its digest.
-pub fn new(rt: &(impl AllocGlobal + Eprint), numbers: &[u64]) -> io::Result<Replica> {
+pub fn new(alloc: Global, numbers: &[u64]) -> Result<Replica, AllocError> {
     let (epoch, segs) = match numbers {
         [epoch, segs @ ..] => (short(*epoch), segs),
         [] => (0, numbers),
     };
-    let digest = again!(rt; shorts(rt.alloc(), segs));
-    Ok(Replica::new(epoch, false, digest, Vec::new(rt.alloc())))
+    let digest = shorts(alloc, segs)?;
+    Ok(Replica::new(epoch, false, digest, Vec::new(alloc)))
 }
 
 /// One command for the replica. It writes how the replica is afterwards.
 pub fn take(
-    rt: &(impl AllocGlobal + Eprint + Print),
+    rt: &(impl AllocGlobal + Print),
     replica: &mut Replica,
     command: &str,
     numbers: &[u64],
 ) -> io::Result<()> {
     match (command, numbers) {
-        ("append", [offset, keys @ ..]) => append(rt, replica, *offset as usize, keys)?,
+        ("append", [offset, keys @ ..]) => append(rt.alloc(), replica, *offset as usize, keys)?,
         ("place", [epoch, closed, keys @ ..]) => place(
-            rt,
+            rt.alloc(),
             replica,
             short(*epoch),
             *closed != 0,
@@ -46,26 +46,24 @@ pub fn take(
 }
 
 fn append(
-    rt: &(impl AllocGlobal + Eprint),
+    alloc: Global,
     replica: &mut Replica,
     offset: usize,
     keys: &[u64],
-) -> io::Result<()> {
-    let added = again!(rt; entries(rt.alloc(), keys));
-    again!(rt; replica.append(rt.alloc(), offset, added.as_slice()));
-    Ok(())
+) -> Result<(), AllocError> {
+    let added = entries(alloc, keys)?;
+    printing::value(replica.append(alloc, offset, added.as_slice()))
 }
 
 fn place(
-    rt: &(impl AllocGlobal + Eprint),
+    alloc: Global,
     replica: &mut Replica,
     epoch: u16,
     closed: bool,
     keys: &[u64],
-) -> io::Result<()> {
-    let whole = again!(rt; entries(rt.alloc(), keys));
-    again!(rt; replica.place(rt.alloc(), epoch, whole.as_slice(), closed));
-    Ok(())
+) -> Result<(), AllocError> {
+    let whole = entries(alloc, keys)?;
+    printing::value(replica.place(alloc, epoch, whole.as_slice(), closed))
 }
 
 /// How many entries it has, whether it is empty, and its digest.

@@ -25,8 +25,8 @@ pub fn take(
     numbers: &[u64],
 ) -> io::Result<()> {
     match (command, numbers) {
-        ("create", [table]) => create(rt, tree, long(*table)),
-        ("split", [table, at]) => split(rt, tree, long(*table), *at),
+        ("create", [table]) => printing::done(rt, tree.create(long(*table), owner(), 1)),
+        ("split", [table, at]) => printing::done(rt, tree.split(long(*table), *at)),
         ("find", [table, key]) => find(rt, tree, long(*table), *key),
         ("crash", [index, generation]) => {
             print!(rt; " {} marked", tree.mark_crashed(id(*index, *generation)))
@@ -42,7 +42,7 @@ pub fn take(
         ("list", []) => list(rt, tree),
         ("owned", [index, generation]) => owned(rt, tree, id(*index, *generation)),
         ("copy", []) => {
-            *tree = again!(rt; tree.try_clone_in(rt.alloc()));
+            *tree = printing::value(tree.try_clone_in(rt.alloc()))?;
             list(rt, tree)
         }
         _ => many(rt, tree, command, numbers),
@@ -74,16 +74,6 @@ fn many(
     }
 }
 
-fn create(rt: &(impl Eprint + Print), tree: &mut Tree, table: u32) -> io::Result<()> {
-    let done = answer!(rt; tree.create(table, owner(), 1));
-    printing::done(rt, done)
-}
-
-fn split(rt: &(impl Eprint + Print), tree: &mut Tree, table: u32, at: u64) -> io::Result<()> {
-    let done = answer!(rt; tree.split(table, at));
-    printing::done(rt, done)
-}
-
 /// The tablet of a key; both look-ups have to find the same one.
 fn find(rt: &impl Print, tree: &Tree, table: u32, key: u64) -> io::Result<()> {
     let (counted, _) = tree.find_counted(table, key);
@@ -111,13 +101,13 @@ fn write_tablets(rt: &impl Print, tablets: &[Tablet]) -> io::Result<()> {
     Ok(())
 }
 
-fn list(rt: &(impl AllocGlobal + Eprint + Print), tree: &Tree) -> io::Result<()> {
-    let tablets = again!(rt; tree.tablets(rt.alloc()));
+fn list(rt: &(impl AllocGlobal + Print), tree: &Tree) -> io::Result<()> {
+    let tablets = printing::value(tree.tablets(rt.alloc()))?;
     write_tablets(rt, tablets.as_slice())
 }
 
-fn owned(rt: &(impl AllocGlobal + Eprint + Print), tree: &Tree, owner: ServerId) -> io::Result<()> {
-    let tablets = again!(rt; tree.tablets_of(rt.alloc(), owner));
+fn owned(rt: &(impl AllocGlobal + Print), tree: &Tree, owner: ServerId) -> io::Result<()> {
+    let tablets = printing::value(tree.tablets_of(rt.alloc(), owner))?;
     write_tablets(rt, tablets.as_slice())
 }
 
@@ -171,7 +161,7 @@ fn split_downwards(
     count(rt, tree)
 }
 
-/// Writes how many tablets there are.
+/// Writes how many tablets there are; where memory is refused, they are counted again.
 fn count(rt: &(impl AllocGlobal + Eprint + Print), tree: &Tree) -> io::Result<()> {
     let tablets = again!(rt; tree.tablets(rt.alloc()));
     print!(rt; " {} tablets", tablets.len())

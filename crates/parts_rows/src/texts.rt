@@ -103,8 +103,14 @@ fn late_fault(number: u64, detail: u64) -> Option<Fault> {
 }
 
 /// A list of bytes: its length, whether it is empty, its second and fourth byte, and a copy.
-fn sequence(rt: &(impl AllocGlobal + Eprint + Print), numbers: &[u64]) -> io::Result<()> {
-    let list = Seq::from_vec(again!(rt; bytes(rt.alloc(), numbers)));
+fn sequence(rt: &(impl AllocGlobal + Print), numbers: &[u64]) -> io::Result<()> {
+    let list = Seq::from_vec(bytes(rt.alloc(), numbers)?);
+    let copy = printing::value(list.try_clone(rt.alloc()))?;
+    write_list(rt, &list)?;
+    write_bytes(rt, copy.into_vec().as_slice())
+}
+
+fn write_list(rt: &impl Print, list: &Seq<u8>) -> io::Result<()> {
     let empty = printing::yes_or_no(list.is_empty());
     print!(rt; " length {} empty {empty}", list.len())?;
     for index in [1, 3] {
@@ -113,9 +119,12 @@ fn sequence(rt: &(impl AllocGlobal + Eprint + Print), numbers: &[u64]) -> io::Re
             None => print!(rt; ", none at {index}")?,
         }
     }
-    let copy = again!(rt; list.try_clone(rt.alloc()));
+    Ok(())
+}
+
+fn write_bytes(rt: &impl Print, bytes: &[u8]) -> io::Result<()> {
     print!(rt; ", copy")?;
-    for byte in copy.into_vec() {
+    for byte in bytes {
         print!(rt; " {byte}")?;
     }
     Ok(())
@@ -129,14 +138,37 @@ fn bytes(alloc: Global, numbers: &[u64]) -> Result<Vec<u8>, AllocError> {
     Ok(bytes)
 }
 
-/// Copies of a Place, of a row, of the start of a host and of a plan.
+/// Copies of a Place, of a row, of the start of a host and of a plan. Where memory is refused, the copy for
+/// which it was refused is made again.
 fn copies(rt: &(impl AllocGlobal + Eprint + Print), keys: &[u64]) -> io::Result<()> {
-    let input = again!(rt; place(rt.alloc(), keys));
-    let copy = again!(rt; input.try_clone(rt.alloc()));
-    write_input(rt, &copy)?;
+    copy_input(rt, keys)?;
     copy_row(rt)?;
     copy_start(rt)?;
     copy_plan(rt)
+}
+
+fn copy_input(rt: &(impl AllocGlobal + Eprint + Print), keys: &[u64]) -> io::Result<()> {
+    let copy = again!(rt; copy_of_input(rt.alloc(), keys));
+    write_input(rt, &copy)
+}
+
+fn copy_row(rt: &(impl AllocGlobal + Eprint + Print)) -> io::Result<()> {
+    let copy = again!(rt; copy_of_row(rt.alloc()));
+    write_row(rt, &copy)
+}
+
+fn copy_start(rt: &(impl AllocGlobal + Eprint + Print)) -> io::Result<()> {
+    let copy = again!(rt; copy_of_start(rt.alloc()));
+    write_start(rt, &copy)
+}
+
+fn copy_plan(rt: &(impl AllocGlobal + Eprint + Print)) -> io::Result<()> {
+    let copy = again!(rt; copy_of_plan(rt.alloc()));
+    write_plan(rt, &copy)
+}
+
+fn copy_of_input(alloc: Global, keys: &[u64]) -> Result<Input, AllocError> {
+    printing::value(place(alloc, keys)?.try_clone(alloc))
 }
 
 /// A Place of these entries, as a node is given it.
@@ -176,33 +208,37 @@ fn write_input(rt: &impl Print, input: &Input) -> io::Result<()> {
 }
 
 /// A copy of what a backup tells of a replica.
-fn copy_row(rt: &(impl AllocGlobal + Eprint + Print)) -> io::Result<()> {
+fn copy_of_row(alloc: Global) -> Result<Row, AllocError> {
     let row = Row {
         seg: 1,
         epoch: 0,
         closed: true,
         len: 4,
-        digest: Seq::from_vec(again!(rt; shorts(rt.alloc(), &[1]))),
+        digest: Seq::from_vec(shorts(alloc, &[1])?),
     };
-    let copy = again!(rt; row.try_clone(rt.alloc()));
-    let closed = printing::closed_or_open(copy.closed);
-    print!(rt; "; row {} {} {closed} {}", copy.seg, copy.epoch, copy.len)?;
-    printing::numbers(rt, copy.digest.as_slice())
+    printing::value(row.try_clone(alloc))
+}
+
+fn write_row(rt: &impl Print, row: &Row) -> io::Result<()> {
+    let closed = printing::closed_or_open(row.closed);
+    print!(rt; "; row {} {} {closed} {}", row.seg, row.epoch, row.len)?;
+    printing::numbers(rt, row.digest.as_slice())
 }
 
 /// A copy of the start of a host that keeps one replica.
-fn copy_start(rt: &(impl AllocGlobal + Eprint + Print)) -> io::Result<()> {
-    let start = again!(rt; start(rt.alloc()));
-    match again!(rt; start.try_clone(rt.alloc())) {
-        Event::Start { host, kept } => {
-            print!(rt; "; start {host}")?;
-            for (master, seg) in kept.as_slice() {
-                print!(rt; " {master} {seg}")?;
-            }
-            Ok(())
-        }
-        _ => print!(rt; "; no start"),
+fn copy_of_start(alloc: Global) -> Result<Event, AllocError> {
+    printing::value(start(alloc)?.try_clone(alloc))
+}
+
+fn write_start(rt: &impl Print, event: &Event) -> io::Result<()> {
+    let Event::Start { host, kept } = event else {
+        return print!(rt; "; no start");
+    };
+    print!(rt; "; start {host}")?;
+    for (master, seg) in kept.as_slice() {
+        print!(rt; " {master} {seg}")?;
     }
+    Ok(())
 }
 
 /// The start of a host that keeps one replica.
@@ -215,11 +251,13 @@ fn start(alloc: Global) -> Result<Event, AllocError> {
 }
 
 /// A copy of a plan of one row.
-fn copy_plan(rt: &(impl AllocGlobal + Eprint + Print)) -> io::Result<()> {
-    let plan = again!(rt; plan(rt.alloc()));
-    let copy = again!(rt; plan.try_clone(rt.alloc()));
-    print!(rt; "; plan {}", copy.head)?;
-    for row in copy.rows.as_slice() {
+fn copy_of_plan(alloc: Global) -> Result<Plan, AllocError> {
+    printing::value(plan(alloc)?.try_clone(alloc))
+}
+
+fn write_plan(rt: &impl Print, plan: &Plan) -> io::Result<()> {
+    print!(rt; "; plan {}", plan.head)?;
+    for row in plan.rows.as_slice() {
         print!(rt; " {} {} {}", row.seg, row.holder, row.len)?;
     }
     Ok(())

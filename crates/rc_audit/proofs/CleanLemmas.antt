@@ -1,5 +1,6 @@
 -- Recoveries that were seen to miss nothing.
-use Rattle.std.proofs.Common.{◌≡◌, ℕ, ◌+◌, ◌<◌, Bool, true, false, cond, not, ◌&&◌, ◌||◌, List, [], ◌∷◌, ◌++◌, length, drop, get_or, Option, Some, None, nat_eq, refl, sym, ap, ◌∙◌, subst, arith}
+use Rattle.std.proofs.Common.{◌≡◌, ℕ, ◌+◌, ◌<◌, Bool, true, false, cond, not, ◌&&◌, ◌||◌, List, [], ◌∷◌, ◌++◌, length}
+use Rattle.std.proofs.Common.{drop, get_or, Option, Some, None, nat_eq, refl, sym, ap, ◌∙◌, subst, arith}
 use Rattle.std.specs.Option.{is_some}
 use Rattle.std.specs.BTreeMap.{BTreeMap, get, is_at}
 use Rattle.std.specs.Cmp.Lexicographic.{pointwise}
@@ -24,26 +25,37 @@ use Rattle.rc_audit.proofs.SenderLemmas.{drop_step}
 
 -- what is superseded hangs on no number of an attempt
 superseded_any : (sent : List Message) (m : ServerId) (rows : List PlanRow) (one other : ℕ) (ack : Ack) →
-    is_superseded sent (record { attempt = one; master = m; rows = rows }) ack ≡ is_superseded sent (record { attempt = other; master = m; rows = rows }) ack
+    is_superseded sent (record { attempt = one; master = m; rows = rows }) ack ≡ is_superseded sent
+    (record { attempt = other; master = m; rows = rows }) ack
 superseded_any [] m rows one other ack = refl
-superseded_any (message ∷ sent) m rows one other ack = ap (λ x. (is_server m message.from && holds_greater rows ack message.body) || x) (superseded_any sent m rows one other ack)
+superseded_any (message ∷ sent) m rows one other ack =
+    ap (λ x. (is_server m message.from && holds_greater rows ack message.body) || x)
+    (superseded_any sent m rows one other ack)
 
 missing_any : (sent : List Message) (m : ServerId) (rows : List PlanRow) (one other : ℕ) (ack : Ack) →
-    is_missing sent (record { attempt = one; master = m; rows = rows }) ack ≡ is_missing sent (record { attempt = other; master = m; rows = rows }) ack
+    is_missing sent (record { attempt = one; master = m; rows = rows }) ack ≡ is_missing sent
+    (record { attempt = other; master = m; rows = rows }) ack
 missing_any sent m rows one other ack =
-    ap (λ x. not (is_recovered rows ack.seg ack.offset || x) || not (all_agree ack (made sent m ack.seg ack.offset))) (superseded_any sent m rows one other ack)
+    ap (λ x. not (is_recovered rows ack.seg ack.offset || x) || not (all_agree ack (made sent m ack.seg ack.offset)))
+    (superseded_any sent m rows one other ack)
 
 -- nothing is missing under one number of an attempt where nothing is under another
 any_attempt : (sent : List Message) (m : ServerId) (rows : List PlanRow) (one other : ℕ) (acks : List Ack) →
-    first_missing sent (record { attempt = one; master = m; rows = rows }) acks ≡ None → first_missing sent (record { attempt = other; master = m; rows = rows }) acks ≡ None
+    first_missing sent (record { attempt = one; master = m; rows = rows }) acks ≡ None →
+    first_missing sent (record { attempt = other; master = m; rows = rows }) acks ≡ None
 any_attempt sent m rows one other [] e = refl
 any_attempt sent m rows one other (ack ∷ acks) e =
-    by (is_missing sent (record { attempt = one; master = m; rows = rows }) ack) (is_missing sent (record { attempt = other; master = m; rows = rows }) ack)
+    by (is_missing sent (record { attempt = one; master = m; rows = rows }) ack)
+    (is_missing sent (record { attempt = other; master = m; rows = rows }) ack)
     (missing_any sent m rows one other ack) e (any_attempt sent m rows one other acks)
   where
-    by : (b c : Bool) → b ≡ c → cond b (Some (Missing one m ack.seg ack.offset)) (first_missing sent (record { attempt = one; master = m; rows = rows }) acks) ≡ None →
-        (first_missing sent (record { attempt = one; master = m; rows = rows }) acks ≡ None → first_missing sent (record { attempt = other; master = m; rows = rows }) acks ≡ None) →
-        cond c (Some (Missing other m ack.seg ack.offset)) (first_missing sent (record { attempt = other; master = m; rows = rows }) acks) ≡ None
+    by : (b c : Bool) → b ≡ c →
+        cond b (Some (Missing one m ack.seg ack.offset))
+        (first_missing sent (record { attempt = one; master = m; rows = rows }) acks) ≡ None →
+        (first_missing sent (record { attempt = one; master = m; rows = rows }) acks ≡ None →
+        first_missing sent (record { attempt = other; master = m; rows = rows }) acks ≡ None) →
+        cond c (Some (Missing other m ack.seg ack.offset))
+        (first_missing sent (record { attempt = other; master = m; rows = rows }) acks) ≡ None
     by true c same none later = cc
     by false true same none later = cc
     by false false same none later = later none
@@ -57,21 +69,27 @@ row_same a b e =
     let seg : a.seg ≡ b.seg = eqb-true a.seg b.seg one.0 in
     let holder : a.holder ≡ b.holder = same_id-true a.holder b.holder two.0 in
     let len : a.len ≡ b.len = eqb-true a.len b.len two.1 in
-    let whole : ◌≡◌ {A = PlanRow} (record { seg = a.seg; holder = a.holder; len = a.len }) (record { seg = b.seg; holder = b.holder; len = b.len }) = cc in whole
+    let whole : ◌≡◌ {A = PlanRow} (record { seg = a.seg; holder = a.holder; len = a.len })
+    (record { seg = b.seg; holder = b.holder; len = b.len }) = cc in whole
 
-pub rows_same : (xs ys : List PlanRow) → pointwise (λ (a b : PlanRow). nat_eq a.seg b.seg && (same_id a.holder b.holder && nat_eq a.len b.len)) xs ys ≡ true → xs ≡ ys
+pub rows_same : (xs ys : List PlanRow) →
+    pointwise (λ (a b : PlanRow). nat_eq a.seg b.seg && (same_id a.holder b.holder && nat_eq a.len b.len)) xs
+    ys ≡ true → xs ≡ ys
 rows_same [] [] e = refl
 rows_same [] (y ∷ ys) e = cc
 rows_same (x ∷ xs) [] e = cc
 rows_same (x ∷ xs) (y ∷ ys) e =
-    let parts = and_parts (nat_eq x.seg y.seg && (same_id x.holder y.holder && nat_eq x.len y.len)) (pointwise (λ (a b : PlanRow). nat_eq a.seg b.seg && (same_id a.holder b.holder && nat_eq a.len b.len)) xs ys) e in
+    let parts = and_parts (nat_eq x.seg y.seg && (same_id x.holder y.holder && nat_eq x.len y.len))
+    (pointwise (λ (a b : PlanRow). nat_eq a.seg b.seg && (same_id a.holder b.holder && nat_eq a.len b.len)) xs ys)
+    e in
     let first : x ≡ y = row_same x y parts.0 in let rest : xs ≡ ys = rows_same xs ys parts.1 in cc
 
 -- one more recovery that misses nothing
 pub clean_more : (old new : BTreeMap ServerId Clean) (sent : List Message) (m : ServerId) (clean : Clean) (attempt : ℕ) →
     first_missing sent (record { attempt = attempt; master = m; rows = clean.rows.now }) (acknowledged sent m) ≡ None → AreClean old sent →
     ((q : ServerId) → get id_order new q ≡ cond (is_at (id_order m) q) (Some clean) (get id_order old q)) → AreClean new sent
-clean_more old new sent m clean attempt none before updates = record { each = λ q c found a. by q c a (is_at (id_order m) q) refl (sym (updates q) ∙ found) }
+clean_more old new sent m clean attempt none before updates =
+    record { each = λ q c found a. by q c a (is_at (id_order m) q) refl (sym (updates q) ∙ found) }
   where
     same_master : (q : ServerId) → is_at (id_order m) q ≡ true → m ≡ q
     same_master q e =
@@ -84,16 +102,20 @@ clean_more old new sent m clean attempt none before updates = record { each = λ
     by : (q : ServerId) (c : Clean) (a : ℕ) (at : Bool) → is_at (id_order m) q ≡ at → cond at (Some clean) (get id_order old q) ≡ Some c →
         first_missing sent (record { attempt = a; master = q; rows = c.rows.now }) (acknowledged sent q) ≡ None
     by q c a true e found =
-        subst (λ x. first_missing sent (record { attempt = a; master = q; rows = x.rows.now }) (acknowledged sent q) ≡ None) (some_same clean c found)
-        (subst (λ x. first_missing sent (record { attempt = a; master = x; rows = clean.rows.now }) (acknowledged sent x) ≡ None) (same_master q e)
+        subst (λ x. first_missing sent (record { attempt = a; master = q; rows = x.rows.now })
+        (acknowledged sent q) ≡ None) (some_same clean c found)
+        (subst (λ x. first_missing sent (record { attempt = a; master = x; rows = clean.rows.now })
+        (acknowledged sent x) ≡ None) (same_master q e)
         (any_attempt sent m clean.rows.now attempt a (acknowledged sent m) none))
     by q c a false e found = before.each q c found a
 
 -- the rows are those of one that misses nothing
-pub clean_told : (table : BTreeMap ServerId Clean) (sent : List Message) (plan : Accepted) (clean : Clean) → get id_order table plan.master ≡ Some clean → clean.rows.now ≡ plan.rows →
+pub clean_told : (table : BTreeMap ServerId Clean) (sent : List Message) (plan : Accepted) (clean : Clean) →
+    get id_order table plan.master ≡ Some clean → clean.rows.now ≡ plan.rows →
     AreClean table sent → first_missing sent plan (acknowledged sent plan.master) ≡ None
 clean_told table sent plan clean found same are =
-    subst (λ rows. first_missing sent (record { attempt = plan.attempt; master = plan.master; rows = rows }) (acknowledged sent plan.master) ≡ None) same (are.each plan.master clean found plan.attempt)
+    subst (λ rows. first_missing sent (record { attempt = plan.attempt; master = plan.master; rows = rows })
+    (acknowledged sent plan.master) ≡ None) same (are.each plan.master clean found plan.attempt)
 
 -- the plans from a message on
 pub plans_from : (sent : List Message) (i : ℕ) (message : Message) → i < length sent → message ≡ get_or sent i message →
@@ -101,8 +123,10 @@ pub plans_from : (sent : List Message) (i : ℕ) (message : Message) → i < len
 plans_from sent i message within is = ap accepted (drop_step sent i message within is)
 
 -- the search passes a plan that misses nothing
-pub plan_kept : (sent : List Message) (body : Body) (plan : Accepted) (whole here rest : List Accepted) → here ≡ plan_in body ++ rest → plan ∷ [] ≡ plan_in body →
-    first_missing sent plan (acknowledged sent plan.master) ≡ None → missing_of sent whole ≡ missing_of sent here → missing_of sent whole ≡ missing_of sent rest
+pub plan_kept : (sent : List Message) (body : Body) (plan : Accepted) (whole here rest : List Accepted) →
+    here ≡ plan_in body ++ rest → plan ∷ [] ≡ plan_in body →
+    first_missing sent plan (acknowledged sent plan.master) ≡ None → missing_of sent whole ≡ missing_of sent here →
+    missing_of sent whole ≡ missing_of sent rest
 plan_kept sent body plan whole here rest next is none before =
     before ∙ ap (missing_of sent) (next ∙ ap (λ plans. plans ++ rest) (sym is)) ∙ ap (λ found. or_else found (missing_of sent rest)) none
 

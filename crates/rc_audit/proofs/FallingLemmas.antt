@@ -1,5 +1,6 @@
 -- Versions rise over owners: write by write.
-use Rattle.std.proofs.Common.{◌≡◌, ℕ, ◌+◌, ◌<◌, Bool, true, false, not, ◌&&◌, List, [], ◌∷◌, ◌++◌, Option, Some, None, nat_eq, nat_lt, length, drop, get_or, refl, sym, ap, ◌∙◌, inl, inr, arith}
+use Rattle.std.proofs.Common.{◌≡◌, ℕ, ◌+◌, ◌<◌, Bool, true, false, not, ◌&&◌, List, [], ◌∷◌, ◌++◌, Option, Some, None}
+use Rattle.std.proofs.Common.{nat_eq, nat_lt, length, drop, get_or, refl, sym, ap, ◌∙◌, inl, inr, arith}
 use Rattle.std.proofs.lemmas.Bool.{cond-false, and_parts, eqb-true, false_from_ne_true}
 use Rattle.std.proofs.lemmas.Bool.Decides.{nat_tests}
 use Rattle.rc_types.specs.declared.messages.Message.{Message}
@@ -19,14 +20,19 @@ pub acks_from : (sent : List Message) (i : ℕ) (message : Message) → i < leng
 acks_from sent i message within is = ap all_acknowledged (drop_step sent i message within is)
 
 -- a write above its bar falls from none
-fall_none : (sent : List Message) (later : Ack) (acks : List Ack) → ((earlier : Ack) → In earlier acks → falls sent later earlier ≡ false) → first_fall sent later acks ≡ None
+fall_none : (sent : List Message) (later : Ack) (acks : List Ack) →
+    ((earlier : Ack) → In earlier acks → falls sent later earlier ≡ false) → first_fall sent later acks ≡ None
 fall_none sent later [] each = refl
 fall_none sent later (first ∷ acks) each =
-    cond-false (falls sent later first) (Some (Version later.table later.key first.term first.version later.term later.version)) (first_fall sent later acks) (each first (inl refl))
+    cond-false (falls sent later first)
+    (Some (Version later.table later.key first.term first.version later.term later.version))
+    (first_fall sent later acks) (each first (inl refl))
     ∙ fall_none sent later acks (λ other at. each other (inr at))
 
-pub above_bar : (sent : List Message) (later : Ack) (bar : Option ℕ) → IsBar bar sent (ack_key later) → is_level bar later.version ≡ false → first_fall sent later (all_acknowledged sent) ≡ None
-above_bar sent later bar is above = fall_none sent later (all_acknowledged sent) (λ earlier at. false_from_ne_true (falls sent later earlier) (no_fall earlier at))
+pub above_bar : (sent : List Message) (later : Ack) (bar : Option ℕ) → IsBar bar sent (ack_key later) →
+    is_level bar later.version ≡ false → first_fall sent later (all_acknowledged sent) ≡ None
+above_bar sent later bar is above = fall_none sent later (all_acknowledged sent)
+    (λ earlier at. false_from_ne_true (falls sent later earlier) (no_fall earlier at))
   where
     less : (found : Option ℕ) (high low : ℕ) → is_level found high ≡ true → is_level found low ≡ false → nat_lt high low ≡ false → ⊥
     less None high low e f g = cc
@@ -38,14 +44,21 @@ above_bar sent later bar is above = fall_none sent later (all_acknowledged sent)
 
     no_fall : (earlier : Ack) → In earlier (all_acknowledged sent) → falls sent later earlier ≡ true → ⊥
     no_fall earlier at e =
-        let one = and_parts (nat_eq earlier.table later.table) (nat_eq earlier.key later.key && (not (nat_lt earlier.version later.version) && is_earlier sent later.table later.key earlier.term later.term)) e in
-        let two = and_parts (nat_eq earlier.key later.key) (not (nat_lt earlier.version later.version) && is_earlier sent later.table later.key earlier.term later.term) one.1 in
-        let three = and_parts (not (nat_lt earlier.version later.version)) (is_earlier sent later.table later.key earlier.term later.term) two.1 in
+        let one = and_parts (nat_eq earlier.table later.table) (nat_eq earlier.key later.key &&
+        (not (nat_lt earlier.version later.version) && is_earlier sent later.table later.key earlier.term
+        later.term)) e in
+        let two = and_parts (nat_eq earlier.key later.key) (not (nat_lt earlier.version later.version) &&
+        is_earlier sent later.table later.key earlier.term later.term) one.1 in
+        let three = and_parts (not (nat_lt earlier.version later.version))
+        (is_earlier sent later.table later.key earlier.term later.term) two.1 in
         less bar earlier.version later.version
-        (is.each earlier at (eqb-true earlier.table later.table one.0) (eqb-true earlier.key later.key two.0) three.1) above (not_true (nat_lt earlier.version later.version) three.0)
+        (is.each earlier at (eqb-true earlier.table later.table one.0) (eqb-true earlier.key later.key two.0) three.1)
+        above (not_true (nat_lt earlier.version later.version) three.0)
 
 -- and a write that falls from none
-pub all_not : (sent : List Message) (body : Body) (later : Ack) (whole here rest : List Ack) → here ≡ ack_in body ++ rest → later ∷ [] ≡ ack_in body →
-    first_fall sent later (all_acknowledged sent) ≡ None → falls_of sent whole ≡ falls_of sent here → falls_of sent whole ≡ falls_of sent rest
+pub all_not : (sent : List Message) (body : Body) (later : Ack) (whole here rest : List Ack) →
+    here ≡ ack_in body ++ rest → later ∷ [] ≡ ack_in body →
+    first_fall sent later (all_acknowledged sent) ≡ None → falls_of sent whole ≡ falls_of sent here →
+    falls_of sent whole ≡ falls_of sent rest
 all_not sent body later whole here rest next is none before =
     before ∙ ap (falls_of sent) (next ∙ ap (λ acks. acks ++ rest) (sym is)) ∙ ap (λ found. or_else found (falls_of sent rest)) none

@@ -1,5 +1,6 @@
 -- How far the rows of a plan reach, row by row.
-use Rattle.std.proofs.Common.{◌≡◌, ℕ, Bool, true, false, cond, List, [], ◌∷◌, ◌++◌, length, subst, Option, Some, max, unwrap_or, refl, ap, ◌∙◌, arith}
+use Rattle.std.proofs.Common.{◌≡◌, ℕ, Bool, true, false, cond, List, [], ◌∷◌, ◌++◌, length, subst, Option, Some, max}
+use Rattle.std.proofs.Common.{unwrap_or, refl, ap, ◌∙◌, arith}
 use Rattle.std.specs.Prelude.{nat_eq}
 use Rattle.std.specs.Ordering.{nat_cmp}
 use Rattle.std.specs.BTreeMap.{BTreeMap, get, keys, insert_entry, is_at}
@@ -26,20 +27,25 @@ has_reaches_none reaches none = record {
 }
 
 -- one more row
-pub has_reaches_more : (old new : BTreeMap ℕ ℕ) (row : PlanRow) (rows : List PlanRow) → HasReaches old rows → keys new ≡ insert_once row.seg (keys old) →
-    ((s : ℕ) → get nat_cmp new s ≡ cond (nat_eq row.seg s) (Some (max (unwrap_or (get nat_cmp old row.seg) 0) row.len)) (get nat_cmp old s)) → HasReaches new (row ∷ rows)
+pub has_reaches_more : (old new : BTreeMap ℕ ℕ) (row : PlanRow) (rows : List PlanRow) → HasReaches old rows →
+    keys new ≡ insert_once row.seg (keys old) →
+    ((s : ℕ) → get nat_cmp new s ≡ cond (nat_eq row.seg s) (Some (max (unwrap_or (get nat_cmp old row.seg) 0) row.len))
+    (get nat_cmp old s)) → HasReaches new (row ∷ rows)
 has_reaches_more old new row rows before key raised = record {
   segments = key ∙ ap (λ x. insert_once row.seg x) before.segments;
   reach_of = λ s. ap (λ x. unwrap_or x 0) (raised s)
-      ∙ more (nat_eq row.seg s) (get nat_cmp old row.seg) (get nat_cmp old s) (reach rows row.seg) (reach rows s) row.len (λ e. ap (λ x. reach rows x) (eqb-true row.seg s e)) (before.reach_of row.seg) (before.reach_of s);
+      ∙ more (nat_eq row.seg s) (get nat_cmp old row.seg) (get nat_cmp old s) (reach rows row.seg) (reach rows s)
+      row.len (λ e. ap (λ x. reach rows x) (eqb-true row.seg s e)) (before.reach_of row.seg) (before.reach_of s);
 }
   where
-    more : (b : Bool) (here there : Option ℕ) (reach_here reach_there len : ℕ) → (b ≡ true → reach_here ≡ reach_there) → unwrap_or here 0 ≡ reach_here → unwrap_or there 0 ≡ reach_there →
+    more : (b : Bool) (here there : Option ℕ) (reach_here reach_there len : ℕ) → (b ≡ true → reach_here ≡ reach_there) →
+        unwrap_or here 0 ≡ reach_here → unwrap_or there 0 ≡ reach_there →
         unwrap_or (cond b (Some (max (unwrap_or here 0) len)) there) 0 ≡ cond b (max len reach_there) reach_there
     more true here there reach_here reach_there len same at_here at_there = let is : reach_here ≡ reach_there = same refl in omega arith
     more false here there reach_here reach_there len same at_here at_there = at_there
 
 -- and when no row is left, all were taken
-pub has_reaches_all : (reaches : BTreeMap ℕ ℕ) (rest taken rows : List PlanRow) → length rest ≡ 0 → rest ++ taken ≡ rows → HasReaches reaches taken → HasReaches reaches rows
+pub has_reaches_all : (reaches : BTreeMap ℕ ℕ) (rest taken rows : List PlanRow) → length rest ≡ 0 →
+    rest ++ taken ≡ rows → HasReaches reaches taken → HasReaches reaches rows
 has_reaches_all reaches [] taken rows none all h = subst (λ x. HasReaches reaches x) all h
 has_reaches_all reaches (row ∷ rest) taken rows none all h = absurd (omega arith)

@@ -20,7 +20,8 @@ pub record NotesTerm (old new : BTreeSet ℕ) (waited waiting : List ℕ) (term 
 -- how many of these grants have a previous term that is not noted yet
 abbrev pub unseen : BTreeSet ℕ → List Grant → ℕ
 unseen before [] = 0
-unseen before (grant ∷ grants) = if contains nat_cmp before grant.previous then unseen before grants else unseen before grants + 1
+unseen before (grant ∷ grants) =
+    if contains nat_cmp before grant.previous then unseen before grants else unseen before grants + 1
 
 -- a grant among these that holds the point, with this previous term
 pub record IsStep (table key : ℕ) (grants : List Grant) (term : ℕ) : Type 0 where
@@ -32,7 +33,8 @@ pub record IsStep (table key : ℕ) (grants : List Grant) (term : ℕ) : Type 0 
 -- the previous terms of those of these grants that hold the point are noted, and each that is new waits
 pub record Follows (table key : ℕ) (grants : List Grant) (old new : BTreeSet ℕ) (waited waiting : List ℕ) : Type 0 where
   pub kept : (t : ℕ) → contains nat_cmp old t ≡ true → contains nat_cmp new t ≡ true
-  pub noted : (grant : Grant) → In grant grants → holds_point table key grant ≡ true → contains nat_cmp new grant.previous ≡ true
+  pub noted : (grant : Grant) → In grant grants → holds_point table key grant ≡ true →
+      contains nat_cmp new grant.previous ≡ true
   pub from : (t : ℕ) → contains nat_cmp new t ≡ true → (contains nat_cmp old t ≡ true) ⊎ IsStep table key grants t
   pub waits : (t : ℕ) → In t waited → In t waiting
   pub waits_new : (t : ℕ) → contains nat_cmp new t ≡ true → (contains nat_cmp old t ≡ true) ⊎ In t waiting

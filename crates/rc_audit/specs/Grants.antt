@@ -1,5 +1,6 @@
 -- The grants of each term.
-use Rattle.std.specs.Prelude.{◌≡◌, ℕ, Bool, nat_eq, nat_le, ◌&&◌, if◌then◌else◌, List, [], ◌∷◌, ◌++◌, Option, Some, None, map}
+use Rattle.std.specs.Prelude.{◌≡◌, ℕ, Bool, nat_eq, nat_le, ◌&&◌, if◌then◌else◌, List, [], ◌∷◌, ◌++◌, Option, Some}
+use Rattle.std.specs.Prelude.{None, map}
 use Rattle.std.specs.Ordering.{nat_cmp}
 use Rattle.std.specs.BTreeMap.{BTreeMap, get}
 use Rattle.rc_types.specs.declared.messages.Message.{Message}
@@ -32,7 +33,8 @@ grants_at table term = grants_in (get nat_cmp table term)
 -- the new table has one more grant, and of the other terms what the old one has
 pub record NotesGrant (old new : BTreeMap ℕ TermGrants) (grant : Grant) : Type 0 where
   pub each : (term : ℕ) →
-      grants_at new term ≡ (if nat_eq grant.term term then grants_at old grant.term ++ grant ∷ [] else grants_at old term)
+      grants_at new term ≡ (if nat_eq grant.term term then grants_at old grant.term ++ grant ∷ []
+      else grants_at old term)
 
 -- the new table has these grants too
 pub record AddsGrants (old new : BTreeMap ℕ TermGrants) (grants : List Grant) : Type 0 where

@@ -1,5 +1,6 @@
 -- The greatest version of each key under each term, among those that were noted.
-use Rattle.std.specs.Prelude.{◌≡◌, ℕ, Bool, false, nat_eq, nat_lt, nat_le, ◌&&◌, if◌then◌else◌, max, Option, Some, None, unwrap_or}
+use Rattle.std.specs.Prelude.{◌≡◌, ℕ, Bool, false, nat_eq, nat_lt, nat_le, ◌&&◌, if◌then◌else◌, max, Option, Some}
+use Rattle.std.specs.Prelude.{None, unwrap_or}
 use Rattle.std.specs.declared.cmp.Ordering.{Ordering}
 use Rattle.std.specs.Ordering.{nat_cmp, ordering_then}
 use Rattle.std.specs.BTreeMap.{BTreeMap, get}
@@ -25,7 +26,8 @@ high_at highs key = get key_order highs key
 
 -- the new table knows of one more version of a key, and of the others what the old one does
 pub record NotesVersion (old new : BTreeMap TermKey ℕ) (key : TermKey) (version : ℕ) : Type 0 where
-  pub each : (q : TermKey) → high_at new q ≡ (if same_key key q then Some (max (unwrap_or (high_at old key) 0) version) else high_at old q)
+  pub each : (q : TermKey) →
+      high_at new q ≡ (if same_key key q then Some (max (unwrap_or (high_at old key) 0) version) else high_at old q)
 
 -- the greatest version, if there is one, is above a version
 abbrev pub is_above : Option ℕ → ℕ → Bool

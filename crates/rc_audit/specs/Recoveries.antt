@@ -14,7 +14,8 @@ accepted_of recovery = record { attempt = recovery.attempt; master = recovery.ma
 
 -- the number of one segment is at least so much, and otherwise as it was; those of the others are as they were
 pub record Raises (old new : BTreeMap ℕ ℕ) (seg least : ℕ) : Type 0 where
-  pub each : (s : ℕ) → get nat_cmp new s ≡ (if nat_eq seg s then Some (max (unwrap_or (get nat_cmp old seg) 0) least) else get nat_cmp old s)
+  pub each : (s : ℕ) → get nat_cmp new s ≡ (if nat_eq seg s then Some (max (unwrap_or (get nat_cmp old seg) 0) least)
+      else get nat_cmp old s)
 
 -- the segments of the rows, with how far the rows reach in each
 pub record HasReaches (reaches : BTreeMap ℕ ℕ) (rows : List PlanRow) : Type 0 where

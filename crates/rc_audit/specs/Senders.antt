@@ -25,7 +25,8 @@ sent_at senders m = sent_in (get id_order senders m)
 
 -- the new table has one more message of one server, and of the others what the old one has
 pub record NotesSender (old new : BTreeMap ServerId Sent) (master : ServerId) (message : Message) : Type 0 where
-  pub each : (m : ServerId) → sent_at new m ≡ (if same_id master m then sent_at old master ++ message ∷ [] else sent_at old m)
+  pub each : (m : ServerId) →
+      sent_at new m ≡ (if same_id master m then sent_at old master ++ message ∷ [] else sent_at old m)
 
 -- the message, where this server has sent it
 abbrev pub from_by : ServerId → Message → List Message

@@ -1,5 +1,6 @@
 -- What the acknowledged writes of each master ask of a recovery of it.
-use Rattle.std.specs.Prelude.{◌≡◌, ℕ, ◌+◌, Bool, true, max, nat_eq, ◌&&◌, if◌then◌else◌, List, [], ◌∷◌, Option, Some, None}
+use Rattle.std.specs.Prelude.{◌≡◌, ℕ, ◌+◌, Bool, true, max, nat_eq, ◌&&◌, if◌then◌else◌, List, [], ◌∷◌, Option, Some}
+use Rattle.std.specs.Prelude.{None}
 use Rattle.std.specs.Ordering.{nat_cmp}
 use Rattle.std.specs.BTreeMap.{BTreeMap, get}
 use Rattle.rc_types.specs.declared.ids.ServerId.{ServerId}
@@ -41,11 +42,15 @@ abbrev pub below_at : BTreeMap ServerId Standing → ServerId → ℕ → ℕ
 below_at standings m s = below_in (get id_order standings m) s
 
 -- the standings are those of the masters that have acknowledged these writes
-pub record StandsFor (standings : BTreeMap ServerId Standing) (sent : List Message) (acked : ServerId → List Ack) : Type 0 where
+pub record StandsFor (standings : BTreeMap ServerId Standing) (sent : List Message) (acked : ServerId → List Ack) :
+    Type 0 where
   pub kept : (m : ServerId) → kept_at standings m ≡ all_kept sent m (acked m)
   pub below : (m : ServerId) (s : ℕ) → below_at standings m s ≡ acked_below (acked m) s
 
 -- one more acknowledged write of one master, which agrees with all that was sent for its place or not
-pub record AddsWrite (old new : BTreeMap ServerId Standing) (master : ServerId) (ack : Ack) (agrees : Bool) : Type 0 where
-  pub kept : (m : ServerId) → kept_at new m ≡ (if same_id master m then kept_at old m && agrees else kept_at old m)
-  pub below : (m : ServerId) (s : ℕ) → below_at new m s ≡ (if same_id master m && nat_eq ack.seg s then max (ack.offset + 1) (below_at old m s) else below_at old m s)
+pub record AddsWrite (old new : BTreeMap ServerId Standing) (master : ServerId) (ack : Ack) (agrees : Bool) : Type 0
+  where
+    pub kept : (m : ServerId) → kept_at new m ≡ (if same_id master m then kept_at old m && agrees else kept_at old m)
+    pub below : (m : ServerId) (s : ℕ) →
+        below_at new m s ≡ (if same_id master m && nat_eq ack.seg s then max (ack.offset + 1) (below_at old m s)
+        else below_at old m s)

@@ -12,7 +12,8 @@ use Rattle.rc_audit.specs.Highs.{ack_key, high_at, is_above}
 -- among these entries, the first of which stands at the offset, one below the limit is a greater version
 abbrev pub greater_below : ℕ → Ack → ℕ → List Entry → Bool
 greater_below limit ack o [] = false
-greater_below limit ack o (entry ∷ entries) = (nat_lt o limit && is_greater ack entry) || greater_below limit ack (o + 1) entries
+greater_below limit ack o (entry ∷ entries) =
+    (nat_lt o limit && is_greater ack entry) || greater_below limit ack (o + 1) entries
 
 -- a message among these sends a greater version for a place that a row holds
 abbrev pub superseded_in : List PlanRow → List Message → Ack → Bool

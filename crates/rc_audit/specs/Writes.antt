@@ -8,7 +8,14 @@ use Rattle.rc_audit.specs.declared.writes.AckedWrite.{AckedWrite}
 
 -- the acknowledged write, as the definitions know it
 abbrev pub ack_of : AckedWrite → Ack
-ack_of write = record { seg = write.seg; offset = write.offset; term = write.term; table = write.table; key = write.key; version = write.version }
+ack_of write = record {
+  seg = write.seg;
+  offset = write.offset;
+  term = write.term;
+  table = write.table;
+  key = write.key;
+  version = write.version;
+}
 
 -- the write that this message acknowledges for this master
 abbrev pub acks_from : Message → ServerId → List Ack

@@ -13,7 +13,8 @@ use Rattle.std.specs.declared.cmp.Ordering.{Ordering}
 use Rattle.std.specs.declared.cmp.Ordering.TheVariants.{Less, Equal, Greater}
 
 -- a value that is written where a look-up finds one is inserted
-pub set_value-inserted : {K X : Type 0} {cmp : K → K → Ordering} (total : IsTotalOrder cmp) (k : K) (found value : X) (es : List (K × X)) → IsStrictlySortedBy cmp (keys_of es)
+pub set_value-inserted : {K X : Type 0} {cmp : K → K → Ordering} (total : IsTotalOrder cmp) (k : K) (found value : X)
+    (es : List (K × X)) → IsStrictlySortedBy cmp (keys_of es)
     → Some found ≡ lookup (is_at (cmp k)) es → set_value (is_at (cmp k)) es value ≡ insert_entry cmp es k value
 set_value-inserted total k found value [] sorted there = absurd (cc)
 set_value-inserted {K} {X} {cmp} total k found value (e ∷ es) sorted there =
@@ -34,19 +35,22 @@ filter-none : {K X : Type 0} (test : K → Bool) (es : List (K × X)) → NonePa
 filter-none test [] none = refl
 filter-none test (e ∷ es) none = by (test e.0) none.0 (filter-none test es none.1)
   where
-    by : (b : Bool) → b ≡ false → filter (λ one. not (test one.0)) es ≡ es → cond (not b) (e ∷ filter (λ one. not (test one.0)) es) (filter (λ one. not (test one.0)) es) ≡ e ∷ es
+    by : (b : Bool) → b ≡ false → filter (λ one. not (test one.0)) es ≡ es →
+        cond (not b) (e ∷ filter (λ one. not (test one.0)) es) (filter (λ one. not (test one.0)) es) ≡ e ∷ es
     by true is rest = absurd (cc)
     by false is rest = ap (λ tail. e ∷ tail) rest
 
 -- taking the entry of a key out leaves those of the other keys, where it leaves none of that key
-pub remove_entry-filter : {K X : Type 0} (test : K → Bool) (es : List (K × X)) → NonePasses test (remove_entry test es) → remove_entry test es ≡ filter (λ e. not (test e.0)) es
+pub remove_entry-filter : {K X : Type 0} (test : K → Bool) (es : List (K × X)) →
+    NonePasses test (remove_entry test es) → remove_entry test es ≡ filter (λ e. not (test e.0)) es
 remove_entry-filter test [] none = refl
 remove_entry-filter {K} {X} test (e ∷ es) none = by (test e.0) refl none (remove_entry-filter test es)
   where
     others : List (K × X)
     others = filter (λ one. not (test one.0)) es
 
-    by : (b : Bool) → test e.0 ≡ b → NonePasses test (cond b es (e ∷ remove_entry test es)) → (NonePasses test (remove_entry test es) → remove_entry test es ≡ others)
+    by : (b : Bool) → test e.0 ≡ b → NonePasses test (cond b es (e ∷ remove_entry test es)) →
+        (NonePasses test (remove_entry test es) → remove_entry test es ≡ others)
         → cond b es (e ∷ remove_entry test es) ≡ cond (not b) (e ∷ others) others
     by true is none rest = sym (filter-none test es none)
     by false is none rest = ap (λ tail. e ∷ tail) (rest none.1)

@@ -23,12 +23,15 @@ found_from_all table [] all = tt
 found_from_all table (e ∷ es) all = (all 0 e (omega arith), found_from_all table es (λ k d h. all (suc k) d (omega arith)))
 
 -- so they are the names that the definitions look up
-looked_up : (own : ServerId) (table es : Table) → AllFound table es → names_among es ≡ open_names_among (backup_of (holds own table)) (keys_of es)
+looked_up : (own : ServerId) (table es : Table) → AllFound table es →
+    names_among es ≡ open_names_among (backup_of (holds own table)) (keys_of es)
 looked_up own table [] all = refl
 looked_up own table (e ∷ es) all =
     let is : e.1 ≡ held_in table e.0 = found-held e.0 table (Some e.1) (sym all.0) in
     ap (λ (held : Held). open_names_of e.0 held.replicas ++ names_among es) is
     ∙ ap (λ names. open_names_of e.0 (held_in table e.0).replicas ++ names) (looked_up own table es all.1)
 
-pub names_among-all : (own : ServerId) (table : Table) → All (λ e. lookup (is_at (id_order e.0)) table ≡ Some e.1) table → names_among table ≡ open_names (backup_of (holds own table))
+pub names_among-all : (own : ServerId) (table : Table) →
+    All (λ e. lookup (is_at (id_order e.0)) table ≡ Some e.1) table →
+    names_among table ≡ open_names (backup_of (holds own table))
 names_among-all own table all = looked_up own table table (found_from_all table table all)

@@ -4,7 +4,8 @@ use Rattle.rc_types.specs.declared.rows.Part.{Part}
 use Rattle.rc_types.specs.declared.messages.Body.{Body}
 use Rattle.rc_types.specs.declared.messages.Body.TheVariants.{Data}
 use Rattle.rc_model.specs.Replica.{Replica}
-use Rattle.rc_model.specs.Backup.{Held, replica_of, put_replica, without_replica, replica_after, stored_of, is_refused, insert_number, is_in_part}
+use Rattle.rc_model.specs.Backup.{Held, replica_of, put_replica, without_replica, replica_after, stored_of}
+use Rattle.rc_model.specs.Backup.{is_refused, insert_number, is_in_part}
 
 -- the segment's replica after a Place, an Append or a Close; none: the message does nothing
 abbrev pub next_replica : Held → ℕ → Body → Option Replica

@@ -1,5 +1,6 @@
 -- What lines without options ask for, by their words.
-use Rattle.std.proofs.Common.{◌≡◌, ◌∙◌, ◌↔◌, ◌&&◌, ◌||◌, ⊎_elim, ℕ, Bool, true, false, not, List, [], ◌∷◌, Option, Some, None, codes, refl, sym, ap, ap₂, subst, true≢false, option_map, is_some}
+use Rattle.std.proofs.Common.{◌≡◌, ◌∙◌, ◌↔◌, ◌&&◌, ◌||◌, ⊎_elim, ℕ, Bool, true, false, not, List, [], ◌∷◌, Option}
+use Rattle.std.proofs.Common.{Some, None, codes, refl, sym, ap, ap₂, subst, true≢false, option_map, is_some}
 use Rattle.std.specs.Option.{option_map_or}
 use Rattle.std.proofs.Math.Bool.{or-false}
 use Rattle.std.specs.Prelude.{⊤, option_and_then, unwrap_or, if◌then◌else◌}
@@ -15,14 +16,19 @@ use Rattle.clap.proofs.OnLiterals.{clap_on_literals}
 use Rattle.clap.proofs.WalkLemmas.{both}
 use Rattle.rc_commands.specs.declared.asking.Asked.{Asked}
 use Rattle.rc_commands.specs.declared.asking.Asked.TheVariants as asked
-use Rattle.rc_commands.specs.Asking.{Tells, as_command, asked_in, asks_for_text, begins_with_help, command_in, fuzz_in, is_alone, is_command, is_end, is_help, is_option, is_plain, is_request, is_text, is_version, run_in, stops_in, where_taken, heap_line, option_zip_with}
+use Rattle.rc_commands.specs.Asking.{Tells, as_command, asked_in, asks_for_text, begins_with_help, command_in, fuzz_in}
+use Rattle.rc_commands.specs.Asking.{is_alone, is_command, is_end, is_help, is_option, is_plain, is_request, is_text}
+use Rattle.rc_commands.specs.Asking.{is_version, run_in, stops_in, where_taken, heap_line, option_zip_with}
 use Rattle.rc_commands.specs.Asking as line_of
 use Rattle.rc_commands.specs.Commands as command
 use Rattle.rc_commands.specs.Commands.{ramseg}
-use Rattle.rc_commands.proofs.Words.{IsLevel, asks, audit_is, fuzz_is, leaf, line_told, run_is, same, stops_is, tells, tells_first, text_tells, trace_is}
+use Rattle.rc_commands.proofs.Words.{IsLevel, asks, audit_is, fuzz_is, leaf, line_told, run_is, same, stops_is, tells}
+use Rattle.rc_commands.proofs.Words.{tells_first, text_tells, trace_is}
 use Rattle.rc_commands.specs.Numbers.{decimal_in}
 use Rattle.rc_commands.proofs.Heap.{heap_given, none_first}
-use Rattle.rc_commands.proofs.Lines.{audit_found, audit_line, by_command, empty_told, faults_at, fuzz_found, fuzz_line, no_option, run_found, run_line, stops_found, stops_line, told, trace_found, trace_line}
+use Rattle.rc_commands.proofs.Lines.{audit_found, audit_line, by_command, empty_told, faults_at, fuzz_found, fuzz_line}
+use Rattle.rc_commands.proofs.Lines.{no_option, run_found, run_line, stops_found, stops_line, told, trace_found}
+use Rattle.rc_commands.proofs.Lines.{trace_line}
 
 -- no error comes exactly where a command stands alone; else each is a request exactly where a text is asked for
 abbrev agrees : Bool → Bool → Kinds → Bool
@@ -42,11 +48,14 @@ abbrev NoOption : List Text → List Text → Type 0
 NoOption options [] = ⊤
 NoOption options (word ∷ rest) = is_option options word ≡ false
 
-module _ (s : Shape) (options : List Text) (level : IsLevel (leaf s) false options) (alone : After s []) (ended : (rest : List Text) → After s (codes "--" ∷ rest)) where
+module _ (s : Shape) (options : List Text) (level : IsLevel (leaf s) false options) (alone : After s [])
+    (ended : (rest : List Text) → After s (codes "--" ∷ rest)) where
   goes_on : (word : Text) (rest : List Text) → is_option options word ≡ false → bytes_eq word (codes "--") ≡ false → After s (word ∷ rest)
   goes_on word rest none other =
       ap₂ (λ b t. agrees b t (faults_at s (word ∷ rest))) (no_end rest) (sym (or-false (is_help word)))
-      ∙ agrees_told (asks false word) (faults_at s (word ∷ rest)) (tells_first (asks false word) _ [] (line_told (leaf s) false options level [] word rest false [] refl none other))
+      ∙ agrees_told (asks false word) (faults_at s (word ∷ rest))
+      (tells_first (asks false word) _ [] (line_told (leaf s) false options level [] word rest false [] refl none
+      other))
     where
       no_end : (rest : List Text) → is_end (word ∷ rest) ≡ false
       no_end [] = other
@@ -132,14 +141,16 @@ not_true : (b : Bool) → not b ≡ true → b ≡ false
 not_true true e = absurd (true≢false (sym e))
 not_true false e = refl
 
-plain_after : (options rest : List Text) → (word : Text) → (next : (w : Text) (more : List Text) → is_plain (word ∷ w ∷ more) ≡ true → is_option options w ≡ false)
+plain_after : (options rest : List Text) → (word : Text) →
+    (next : (w : Text) (more : List Text) → is_plain (word ∷ w ∷ more) ≡ true → is_option options w ≡ false)
     → is_plain (word ∷ rest) ≡ true → NoOption options rest
 plain_after options [] word next e = tt
 plain_after options (w ∷ more) word next e = next w more e
 
 line : (word : Text) (rest : List Text) → is_plain (word ∷ rest) ≡ true → Agrees (word ∷ rest)
 line word rest plain = by_command (λ w. is_plain (w ∷ rest) ≡ true → Agrees (w ∷ rest))
-    (λ e. ap (agrees (is_end rest) (begins_with_help rest)) (run_line rest) ∙ after_run rest (plain_after (codes "heap" ∷ []) rest (codes "run") (λ w more h. not_true _ h) e))
+    (λ e. ap (agrees (is_end rest) (begins_with_help rest)) (run_line rest) ∙
+    after_run rest (plain_after (codes "heap" ∷ []) rest (codes "run") (λ w more h. not_true _ h) e))
     (λ e. ap (agrees (is_end rest) (begins_with_help rest)) (trace_line rest) ∙ after_trace rest)
     (λ e. ap (agrees (is_end rest) (begins_with_help rest)) (audit_line rest) ∙ after_audit rest)
     (λ e. ap (agrees (is_end rest) (begins_with_help rest)) (fuzz_line rest)
@@ -171,7 +182,8 @@ text_agrees alone text (k ∷ ks) a e told = sym told.2 ∙ all_told (k ∷ ks) 
     same_told true false h = absurd (true≢false (sym h))
     same_told false false h = refl
 
-    all_told : (kinds : Kinds) → list_all (λ k. same text (is_request k)) kinds ≡ true → (one : ErrorKind) → IsAmong one kinds → is_request one ≡ text
+    all_told : (kinds : Kinds) → list_all (λ k. same text (is_request k)) kinds ≡ true → (one : ErrorKind) →
+        IsAmong one kinds → is_request one ≡ text
     all_told [] h one among = absurd among
     all_told (x ∷ xs) h one among =
         let parts = both (same text (is_request x)) (list_all (λ k. same text (is_request k)) xs) h in
@@ -185,7 +197,8 @@ texts_told words a told plain = text_agrees _ _ (fault_of ramseg words) a (agree
 abbrev asked_by : Kinds → Option (Text × List Row) → Option Asked
 asked_by faults found = where_taken faults (option_and_then (λ p. command_in p.0 p.1) found)
 
-pub asked_run : (rest : List Text) → asked_in (codes "run" ∷ rest) ≡ where_taken (faults_at command.run.top rest) (run_in (rows_at (leaf command.run.top) rest).1)
+pub asked_run : (rest : List Text) → asked_in (codes "run" ∷ rest) ≡ where_taken (faults_at command.run.top rest)
+    (run_in (rows_at (leaf command.run.top) rest).1)
 asked_run rest = ap₂ asked_by (run_line rest) (run_found rest)
 
 asked_trace : (rest : List Text) → asked_in (codes "trace" ∷ rest) ≡ where_taken (faults_at command.trace.top rest) (Some asked.Trace)
@@ -194,10 +207,12 @@ asked_trace rest = ap₂ asked_by (trace_line rest) (trace_found rest)
 asked_audit : (rest : List Text) → asked_in (codes "audit" ∷ rest) ≡ where_taken (faults_at command.audit.top rest) (Some asked.Audit)
 asked_audit rest = ap₂ asked_by (audit_line rest) (audit_found rest)
 
-asked_fuzz : (rest : List Text) → asked_in (codes "fuzz" ∷ rest) ≡ where_taken (faults_at command.fuzz.top rest) (fuzz_in (rows_at (leaf command.fuzz.top) rest).1)
+asked_fuzz : (rest : List Text) → asked_in (codes "fuzz" ∷ rest) ≡ where_taken (faults_at command.fuzz.top rest)
+    (fuzz_in (rows_at (leaf command.fuzz.top) rest).1)
 asked_fuzz rest = ap₂ asked_by (fuzz_line rest) (fuzz_found rest)
 
-asked_stops : (rest : List Text) → asked_in (codes "stops" ∷ rest) ≡ where_taken (faults_at command.stops.top rest) (stops_in (rows_at (leaf command.stops.top) rest).1)
+asked_stops : (rest : List Text) → asked_in (codes "stops" ∷ rest) ≡ where_taken (faults_at command.stops.top rest)
+    (stops_in (rows_at (leaf command.stops.top) rest).1)
 asked_stops rest = ap₂ asked_by (stops_line rest) (stops_found rest)
 
 -- of which command an answer is not
@@ -223,7 +238,8 @@ module _ (T : Option Asked → Bool) (none : T None ≡ false) where
   pub no_audit : T (Some asked.Audit) ≡ false → (rest : List Text) → T (asked_in (codes "audit" ∷ rest)) ≡ false
   no_audit e rest = ap T (asked_audit rest) ∙ never _ _ e
 
-  pub no_fuzz : ((seed steps : ℕ) (free : Bool) → T (Some (asked.Fuzz seed steps free)) ≡ false) → (rest : List Text) → T (asked_in (codes "fuzz" ∷ rest)) ≡ false
+  pub no_fuzz : ((seed steps : ℕ) (free : Bool) → T (Some (asked.Fuzz seed steps free)) ≡ false) → (rest : List Text) →
+      T (asked_in (codes "fuzz" ∷ rest)) ≡ false
   no_fuzz each rest = ap T (asked_fuzz rest) ∙ never _ _ (go _ _ _)
     where
       go : (free : Bool) (o p : Option (Option ℕ))
@@ -232,10 +248,13 @@ module _ (T : Option Asked → Bool) (none : T None ≡ false) where
       go free (Some seed) None = none
       go free (Some seed) (Some steps) = each _ _ _
 
-  pub no_stops : ((seed steps : ℕ) → T (Some (asked.Stops seed steps)) ≡ false) → (rest : List Text) → T (asked_in (codes "stops" ∷ rest)) ≡ false
+  pub no_stops : ((seed steps : ℕ) → T (Some (asked.Stops seed steps)) ≡ false) → (rest : List Text) →
+      T (asked_in (codes "stops" ∷ rest)) ≡ false
   no_stops each rest = ap T (asked_stops rest) ∙ never _ _ (go _ _)
     where
-      go : (o p : Option (Option ℕ)) → T (option_and_then (λ seed. option_map (λ steps. asked.Stops (unwrap_or seed 1) (unwrap_or steps 300)) p) o) ≡ false
+      go : (o p : Option (Option ℕ)) →
+          T (option_and_then (λ seed. option_map (λ steps. asked.Stops (unwrap_or seed 1) (unwrap_or steps 300)) p) o) ≡
+          false
       go None p = none
       go (Some seed) None = none
       go (Some seed) (Some steps) = each _ _
@@ -244,7 +263,8 @@ module _ (T : Option Asked → Bool) (none : T None ≡ false) where
   unfolding clap_on_literals
   no_help rest = none
 
-  pub no_other : (rest : List Text) (word : Text) → is_command word ≡ false → bytes_eq (codes "help") word ≡ false → T (asked_in (word ∷ rest)) ≡ false
+  pub no_other : (rest : List Text) (word : Text) → is_command word ≡ false → bytes_eq (codes "help") word ≡ false →
+      T (asked_in (word ∷ rest)) ≡ false
   no_other rest word no_name no_about = faulty (fault_of ramseg (word ∷ rest)) _ (asks true word) (told word rest no_name no_about)
 
   pub no_words : T (asked_in []) ≡ false
@@ -259,7 +279,8 @@ is_audit (Some asked.Audit) = true
 is_audit _ = false
 
 -- where no fault comes, nothing stands after the command
-pub clean : (T : Option Asked → Bool) → T None ≡ false → (alone text : Bool) (faults : Kinds) (x : Option Asked) → agrees alone text faults ≡ true → T (where_taken faults x) ≡ true → alone ≡ true
+pub clean : (T : Option Asked → Bool) → T None ≡ false → (alone text : Bool) (faults : Kinds) (x : Option Asked) →
+    agrees alone text faults ≡ true → T (where_taken faults x) ≡ true → alone ≡ true
 clean T none alone text [] x e h = (both alone (not text) e).0
 clean T none alone text (k ∷ ks) x e h = absurd (true≢false (sym h ∙ none))
 
@@ -267,7 +288,8 @@ pub trace_only : (words : List Text) → is_trace (asked_in words) ≡ true → 
 trace_only [] h = absurd (true≢false (sym h ∙ no_words is_trace refl))
 trace_only (word ∷ rest) h = by_command (λ w. is_trace (asked_in (w ∷ rest)) ≡ true → is_alone (codes "trace") (w ∷ rest) ≡ true)
     (λ e. absurd (true≢false (sym e ∙ no_run is_trace refl (λ heap. refl) rest)))
-    (λ e. clean is_trace refl (is_end rest) (begins_with_help rest) _ (Some asked.Trace) (after_trace rest) (sym (ap is_trace (asked_trace rest)) ∙ e))
+    (λ e. clean is_trace refl (is_end rest) (begins_with_help rest) _ (Some asked.Trace) (after_trace rest)
+    (sym (ap is_trace (asked_trace rest)) ∙ e))
     (λ e. absurd (true≢false (sym e ∙ no_audit is_trace refl refl rest)))
     (λ e. absurd (true≢false (sym e ∙ no_fuzz is_trace refl (λ seed steps free. refl) rest)))
     (λ e. absurd (true≢false (sym e ∙ no_stops is_trace refl (λ seed steps. refl) rest)))
@@ -288,12 +310,15 @@ bare (Some t) some = go (decimal_in 16 1048576 t)
     go None = refl
     go (Some bytes) = refl
 
-heap_run : (word : Text) (rest : List Text) → bytes_eq word (codes "--") ≡ false → (faults : Kinds) → faults_at command.run.top (word ∷ rest) ≡ faults
+heap_run : (word : Text) (rest : List Text) → bytes_eq word (codes "--") ≡ false → (faults : Kinds) →
+    faults_at command.run.top (word ∷ rest) ≡ faults
     → is_bare_run (where_taken faults (run_in (rows_at (leaf command.run.top) (word ∷ rest)).1)) ≡ false
 heap_run word rest other [] e = bare _ (heap_given word rest other (none_first _ [] e).0)
 heap_run word rest other (k ∷ ks) e = refl
 
-run_ends : (rest : List Text) → is_bare_run (where_taken (faults_at command.run.top rest) (run_in (rows_at (leaf command.run.top) rest).1)) ≡ true → is_end rest ≡ true
+run_ends : (rest : List Text) →
+    is_bare_run (where_taken (faults_at command.run.top rest) (run_in (rows_at (leaf command.run.top) rest).1)) ≡ true →
+    is_end rest ≡ true
 run_ends [] h = refl
 run_ends (word ∷ rest) h = ⊎_elim {C = is_end (word ∷ rest) ≡ true}
     (λ e. clean is_bare_run refl (is_end (word ∷ rest)) _ _ _ (subst (λ w. After command.run.top (w ∷ rest)) (sym e.1) (run_ended rest)) h)
@@ -315,7 +340,8 @@ audit_only [] h = absurd (true≢false (sym h ∙ no_words is_audit refl))
 audit_only (word ∷ rest) h = by_command (λ w. is_audit (asked_in (w ∷ rest)) ≡ true → is_alone (codes "audit") (w ∷ rest) ≡ true)
     (λ e. absurd (true≢false (sym e ∙ no_run is_audit refl (λ heap. refl) rest)))
     (λ e. absurd (true≢false (sym e ∙ no_trace is_audit refl refl rest)))
-    (λ e. clean is_audit refl (is_end rest) (begins_with_help rest) _ (Some asked.Audit) (after_audit rest) (sym (ap is_audit (asked_audit rest)) ∙ e))
+    (λ e. clean is_audit refl (is_end rest) (begins_with_help rest) _ (Some asked.Audit) (after_audit rest)
+    (sym (ap is_audit (asked_audit rest)) ∙ e))
     (λ e. absurd (true≢false (sym e ∙ no_fuzz is_audit refl (λ seed steps free. refl) rest)))
     (λ e. absurd (true≢false (sym e ∙ no_stops is_audit refl (λ seed steps. refl) rest)))
     (λ e. absurd (true≢false (sym e ∙ no_help is_audit refl rest)))
@@ -366,7 +392,8 @@ fuzz_asked : (seed steps : Text) → asked_in (line_of.fuzz_line seed steps)
 unfolding clap_on_literals
 fuzz_asked seed steps = go (decimal_in 0 18446744073709551615 seed) (decimal_in 0 100000 steps)
   where
-    go : (o p : Option ℕ) → option_and_then (λ s. option_map (λ n. asked.Fuzz (unwrap_or s 1) (unwrap_or n 1000) true) (option_map Some p)) (option_map Some o)
+    go : (o p : Option ℕ) → option_and_then (λ s. option_map (λ n. asked.Fuzz (unwrap_or s 1) (unwrap_or n 1000) true)
+        (option_map Some p)) (option_map Some o)
         ≡ option_zip_with (λ s n. asked.Fuzz s n true) o p
     go None p = refl
     go (Some s) None = refl
@@ -377,7 +404,8 @@ stops_asked : (seed steps : Text) → asked_in (line_of.stops_line seed steps)
 unfolding clap_on_literals
 stops_asked seed steps = go (decimal_in 0 18446744073709551615 seed) (decimal_in 0 1000 steps)
   where
-    go : (o p : Option ℕ) → option_and_then (λ s. option_map (λ n. asked.Stops (unwrap_or s 1) (unwrap_or n 300)) (option_map Some p)) (option_map Some o)
+    go : (o p : Option ℕ) → option_and_then (λ s. option_map (λ n. asked.Stops (unwrap_or s 1) (unwrap_or n 300))
+        (option_map Some p)) (option_map Some o)
         ≡ option_zip_with (λ s n. asked.Stops s n) o p
     go None p = refl
     go (Some s) None = refl
@@ -415,7 +443,11 @@ module _ (words : List Text) (a : Asked) (asks : as_command a ≡ asked_in words
   trace_told = (λ e. trace_only words (ap is_trace (sym asks ∙ ap as_command e)), λ h. is_answer a asked.Trace (asks ∙ trace_gives words h))
 
   pub run_told : (a ≡ asked.Run None) ↔ (is_alone (codes "run") words ≡ true)
-  run_told = (λ e. run_only words (ap is_bare_run (sym asks ∙ ap as_command e)), λ h. is_answer a (asked.Run None) (asks ∙ run_gives words h))
+  run_told = (
+    λ e. run_only words (ap is_bare_run (sym asks ∙ ap as_command e)),
+    λ h.
+        is_answer a (asked.Run None) (asks ∙ run_gives words h),
+  )
 
   pub audit_told : (a ≡ asked.Audit) ↔ (is_alone (codes "audit") words ≡ true)
   audit_told = (λ e. audit_only words (ap is_audit (sym asks ∙ ap as_command e)), λ h. is_answer a asked.Audit (asks ∙ audit_gives words h))
@@ -426,7 +458,8 @@ module _ (words : List Text) (a : Asked) (asks : as_command a ≡ asked_in words
   pub stops_told : is_alone (codes "stops") words ≡ true → a ≡ asked.Stops 1 300
   stops_told h = is_answer a (asked.Stops 1 300) (asks ∙ stops_gives words h)
 
-  pub heap_told : (bytes : Text) → words ≡ heap_line bytes → as_command a ≡ option_map asked.Run (option_map Some (decimal_in 16 1048576 bytes))
+  pub heap_told : (bytes : Text) → words ≡ heap_line bytes →
+      as_command a ≡ option_map asked.Run (option_map Some (decimal_in 16 1048576 bytes))
   heap_told bytes e = asks ∙ ap asked_in e ∙ heap_asked bytes
 
   pub drawn_told : (seed steps : Text) → words ≡ line_of.fuzz_line seed steps

@@ -1,5 +1,6 @@
 -- What `parse` and the getters of `clap` tell of a number.
-use Rattle.std.proofs.Common.{◌≡◌, ◌≢◌, ◌∙◌, ◌<◌, ◌≤◌, ◌^◌, ◌&&◌, ℕ, Bool, cond, true, false, length, Option, Some, None, Result, Ok, Err, refl, sym, ap, arith, nat_lt, lt-ltb, ltb-true}
+use Rattle.std.proofs.Common.{◌≡◌, ◌≢◌, ◌∙◌, ◌<◌, ◌≤◌, ◌^◌, ◌&&◌, ℕ, Bool, cond, true, false, length, Option, Some}
+use Rattle.std.proofs.Common.{None, Result, Ok, Err, refl, sym, ap, arith, nat_lt, lt-ltb, ltb-true}
 use Rattle.std.specs.Prelude.{⊤, nat_le, option_map}
 use Rattle.std.specs.Option.{option_map_or}
 use Rattle.std.specs.List.{slice_index}
@@ -31,7 +32,12 @@ module _ (least most : ℕ) where
         let value : n ≡ digits_value 10 text = h.1 in
         let low_is : least ≤ digits_value 10 text = omega arith in
         let high_is : digits_value 10 text ≤ most = omega arith in
-        rw (lt-ltb 0 (length text) h.0.1, h.0.0, le-leb least (digits_value 10 text) low_is, le-leb (digits_value 10 text) most high_is) (ap Some value)
+        rw (
+          lt-ltb 0 (length text) h.0.1,
+          h.0.0,
+          le-leb least (digits_value 10 text) low_is,
+          le-leb (digits_value 10 text) most high_is,
+        ) (ap Some value)
 
     pub refused : {E : Type 0} (e : E) → ParsesUnsigned 64 10 text (Err e) → most < 2 ^ 64 → None ≡ decimal_in least most text
     refused e read fits = go _ refl
@@ -39,7 +45,8 @@ module _ (least most : ℕ) where
         none : Digits text → 0 < length text → digits_value 10 text < 2 ^ 64 → ⊥
         none digits some below = parse_plain own 64 text (Err e) read plain (digits, some, below)
 
-        go : (b : Bool) → b ≡ ((nat_lt 0 (length text) && all_ascii_digits text) && (nat_le least (digits_value 10 text) && nat_le (digits_value 10 text) most))
+        go : (b : Bool) → b ≡ ((nat_lt 0 (length text) && all_ascii_digits text) &&
+            (nat_le least (digits_value 10 text) && nat_le (digits_value 10 text) most))
             → None ≡ cond b (Some (digits_value 10 text)) None
         go true h =
             let outer = both _ _ (sym h) in
@@ -52,6 +59,7 @@ module _ (least most : ℕ) where
 -- ---- the getters
 
 -- what `get_str` gave, by the rows
-pub as_given : {X : Type 0} (read : Text → X) (default : X) (f : Found) (name : Text) (o : Option (Bor Text)) → option_map (λ s. s.now) o ≡ first_value f name
+pub as_given : {X : Type 0} (read : Text → X) (default : X) (f : Found) (name : Text) (o : Option (Bor Text)) →
+    option_map (λ s. s.now) o ≡ first_value f name
     → option_map_or read (first_of name (rows_of f)) default ≡ option_map_or read (option_map (λ s. s.now) o) default
 as_given read default f name o is = ap (λ t. option_map_or read t default) (sym (is ∙ first_value-rows f name))

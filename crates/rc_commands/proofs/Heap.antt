@@ -1,5 +1,7 @@
 -- A line that begins with `run` and goes on past it is refused, or gives `--heap` a value.
-use Rattle.std.proofs.Common.{◌≡◌, ◌∙◌, ◌⊎◌, inl, inr, ⊎_elim, ◌||◌, ℕ, Bool, true, false, List, [], ◌∷◌, ◌++◌, length, drop, Option, Some, None, codes, is_some, eqb, nat_lt, refl, sym, ap, subst, true≢false, option_map}
+use Rattle.std.proofs.Common.{◌≡◌, ◌∙◌, ◌⊎◌, inl, inr, ⊎_elim, ◌||◌, ℕ, Bool, true, false, List, [], ◌∷◌, ◌++◌, length}
+use Rattle.std.proofs.Common.{drop, Option, Some, None, codes, is_some, eqb, nat_lt, refl, sym, ap, subst, true≢false}
+use Rattle.std.proofs.Common.{option_map}
 use Rattle.std.specs.List.{fold}
 use Rattle.std.specs.Option.{option_map_or}
 use Rattle.std.specs.Prelude.{encode_utf8, slice_get, if◌then◌else◌}
@@ -9,9 +11,14 @@ use Rattle.clap.specs.Kinds.{Kinds, or_else}
 use Rattle.clap.specs.declared.parser.matches.ValueSource.{ValueSource}
 use Rattle.clap.specs.declared.parser.matches.ValueSource.TheVariants.{CommandLine}
 use Rattle.clap.specs.declared.builder.value_parser.Reading.{Reading}
-use Rattle.clap.specs.Walk.{Held, Row, Rule, Step, Text, Waiting, Walk, after_flag, after_step, arg_by_long, arg_by_short, bundle_met, bundle_step, done, finished, first_of, has_row, idle, long_met, long_or_other, most_values, nothing_held, option, pending_count, plain, plain_word, reading_by, settled, short_met, short_or_plain, trailing, used, walk, walk_from, walked, with_default, with_values, without}
+use Rattle.clap.specs.Walk.{Held, Row, Rule, Step, Text, Waiting, Walk, after_flag, after_step, arg_by_long}
+use Rattle.clap.specs.Walk.{arg_by_short, bundle_met, bundle_step, done, finished, first_of, has_row, idle, long_met}
+use Rattle.clap.specs.Walk.{long_or_other, most_values, nothing_held, option, pending_count, plain, plain_word}
+use Rattle.clap.specs.Walk.{reading_by, settled, short_met, short_or_plain, trailing, used, walk, walk_from, walked}
+use Rattle.clap.specs.Walk.{with_default, with_values, without}
 use Rattle.clap.specs.Simple.{Shape, filled, help_rule}
-use Rattle.clap.specs.Faults.{bundle_fault, bundle_step_fault, flag_word_fault, flags_fault, level_fault, long_fault, settle_fault, short_fault, step_fault, turn_fault, walk_fault}
+use Rattle.clap.specs.Faults.{bundle_fault, bundle_step_fault, flag_word_fault, flags_fault, level_fault, long_fault}
+use Rattle.clap.specs.Faults.{settle_fault, short_fault, step_fault, turn_fault, walk_fault}
 use Rattle.clap.proofs.OnLiterals.{clap_on_literals}
 use Rattle.rc_commands.specs.Commands as command
 use Rattle.rc_commands.proofs.Words.{leaf}
@@ -84,7 +91,8 @@ has_value : (how : Reading) (source : ValueSource) (v : Text) (vs : List Text) (
 has_value how source v vs [] = refl
 has_value how source v vs (r ∷ rs) = go (bytes_eq r.id (codes "heap")) refl (has_value how source v vs rs)
   where
-    go : (b : Bool) → b ≡ bytes_eq r.id (codes "heap") → is_some (first_of (codes "heap") (with_values (codes "heap") how source (v ∷ vs) rs)) ≡ true
+    go : (b : Bool) → b ≡ bytes_eq r.id (codes "heap") →
+        is_some (first_of (codes "heap") (with_values (codes "heap") how source (v ∷ vs) rs)) ≡ true
         → is_some (first_of (codes "heap") (with_values (codes "heap") how source (v ∷ vs) (r ∷ rs))) ≡ true
     go true e more = rw (← e, ← e) (first_more r.values vs v)
     go false e more = rw (← e, ← e) more
@@ -97,7 +105,8 @@ module _ (rows : List Row) (position : ℕ) (word : Text) where
       (or_else faults (step_fault level position met.0 met.1), after_step rules word (at rows values waits position false) met.0 met.1)
 
   abbrev by_flag : Bool → Option (List Text) → Option (Text × Option Text) → Kinds × Walk
-  by_flag waits values o = by_step waits values (flag_word_fault rules false o word (held rows values)) (long_or_other rules (waiting waits) word o (held rows values))
+  by_flag waits values o = by_step waits values (flag_word_fault rules false o word (held rows values))
+      (long_or_other rules (waiting waits) word o (held rows values))
 
   abbrev by_dashes : Bool → Option (List Text) → Bool → Kinds × Walk
   by_dashes waits values b = by_step waits values (if b then [] else flag_word_fault rules false (long_of word) word (held rows values))
@@ -118,7 +127,8 @@ module _ (rows : List Row) (position : ℕ) (word : Text) where
   unfolding clap_on_literals
   long_is name = refl
 
-  out_found : (waits : Bool) (values : Option (List Text)) (is_heap is_help : Bool) (v : Option Text) → Out (by_found waits values (find_rule is_heap is_help) v)
+  out_found : (waits : Bool) (values : Option (List Text)) (is_heap is_help : Bool) (v : Option Text) →
+      Out (by_found waits values (find_rule is_heap is_help) v)
   out_found waits values true is_help (Some v) = inr (record {
     rows = used heap (v ∷ []) (settled rules (held rows values)).rows;
     values = None;
@@ -142,7 +152,8 @@ module _ (rows : List Row) (position : ℕ) (word : Text) where
   out_found waits values false false v = inl refl
 
   -- a word that is no flag
-  out_plain : (waits : Bool) (values : Option (List Text)) → Out (by_step waits values [] (plain_word rules (waiting waits) word (held rows values)))
+  out_plain : (waits : Bool) (values : Option (List Text)) →
+      Out (by_step waits values [] (plain_word rules (waiting waits) word (held rows values)))
   out_plain true None = inr (record {
     rows = rows;
     values = Some (word ∷ []);
@@ -164,12 +175,14 @@ module _ (rows : List Row) (position : ℕ) (word : Text) where
   out_plain false values = inl refl
 
   abbrev by_first : Bool → Option (List Text) → Text → ℕ → Option ℕ → Kinds × Walk
-  by_first waits values flags n o = by_step waits values (bundle_step_fault rules false o flags 0 (held rows values) (flags_fault rules false n))
+  by_first waits values flags n o =
+      by_step waits values (bundle_step_fault rules false o flags 0 (held rows values) (flags_fault rules false n))
       (after_flag rules (waiting waits) word (bundle_step rules o flags 0 plain (held rows values) (bundle_met rules n)).0
       (bundle_step rules o flags 0 plain (held rows values) (bundle_met rules n)).1)
 
   abbrev by_short : Bool → Option (List Text) → Text → ℕ → Option Rule → Kinds × Walk
-  by_short waits values rest n found = by_step waits values (short_fault rules false found rest (held rows values) (flags_fault rules false n rest 0))
+  by_short waits values rest n found =
+      by_step waits values (short_fault rules false found rest (held rows values) (flags_fault rules false n rest 0))
       (after_flag rules (waiting waits) word (short_met rules found rest (held rows values) (bundle_met rules n rest 0 done)).0
       (short_met rules found rest (held rows values) (bundle_met rules n rest 0 done)).1)
 
@@ -180,8 +193,10 @@ module _ (rows : List Row) (position : ℕ) (word : Text) where
   unfolding clap_on_literals
   short_is x = refl
 
-  out_short : (waits : Bool) (values : Option (List Text)) (rest : Text) (n : ℕ) (is_help : Bool) → Out (by_short waits values rest n (find_short is_help))
-  out_short waits values rest n true = inl (fails_first _ _ (fails_first _ _ (fails_later (settle_fault rules false (held rows values)) _ refl)))
+  out_short : (waits : Bool) (values : Option (List Text)) (rest : Text) (n : ℕ) (is_help : Bool) →
+      Out (by_short waits values rest n (find_short is_help))
+  out_short waits values rest n true =
+      inl (fails_first _ _ (fails_first _ _ (fails_later (settle_fault rules false (held rows values)) _ refl)))
   out_short waits values rest n false = inl refl
 
   out_first : (waits : Bool) (values : Option (List Text)) (flags : Text) (n : ℕ) (o : Option ℕ) → Out (by_first waits values flags n o)
@@ -199,22 +214,27 @@ module _ (rows : List Row) (position : ℕ) (word : Text) where
   out_flag : (waits : Bool) (values : Option (List Text)) (o : Option (Text × Option Text)) → Out (by_flag waits values o)
   out_flag waits values None = out_letters waits values (short_of word)
   out_flag waits values (Some p) =
-      subst (λ f. Out (by_found waits values f p.1)) (sym (long_is p.0)) (out_found waits values (bytes_eq (codes "heap") p.0) (bytes_eq (codes "help") p.0) p.1)
+      subst (λ f. Out (by_found waits values f p.1)) (sym (long_is p.0))
+      (out_found waits values (bytes_eq (codes "heap") p.0) (bytes_eq (codes "help") p.0) p.1)
 
   abbrev turn : Walk → Kinds × Walk
   turn w = (turn_fault level [] w word, walked rules [] w word)
 
-  turn_is : (waits : Bool) (values : Option (List Text)) → turn (at rows values waits position false) ≡ by_dashes waits values (bytes_eq word (codes "--"))
+  turn_is : (waits : Bool) (values : Option (List Text)) →
+      turn (at rows values waits position false) ≡ by_dashes waits values (bytes_eq word (codes "--"))
   unfolding walked
   turn_is true values = refl
   turn_is false values = refl
 
   -- a word other than `--`
-  out_word : (waits : Bool) (values : Option (List Text)) → bytes_eq word (codes "--") ≡ false → Out (turn (at rows values waits position false))
-  out_word waits values other = subst Out (sym (turn_is waits values ∙ ap (by_dashes waits values) other)) (out_flag waits values (long_of word))
+  out_word : (waits : Bool) (values : Option (List Text)) → bytes_eq word (codes "--") ≡ false →
+      Out (turn (at rows values waits position false))
+  out_word waits values other =
+      subst Out (sym (turn_is waits values ∙ ap (by_dashes waits values) other)) (out_flag waits values (long_of word))
 
   -- any word, once `--heap` was there
-  out_turn : (waits : Bool) (values : Option (List Text)) (is_trailing : Bool) → (is_some values || is_some (first_of (codes "heap") rows)) ≡ true
+  out_turn : (waits : Bool) (values : Option (List Text)) (is_trailing : Bool) →
+      (is_some values || is_some (first_of (codes "heap") rows)) ≡ true
       → Out (turn (at rows values waits position is_trailing))
   out_turn waits values true has = inl refl
   out_turn waits values false has = go (bytes_eq word (codes "--")) refl
@@ -232,7 +252,8 @@ module _ (rows : List Row) (position : ℕ) (word : Text) where
       }))
 
 step : (word : Text) (w : Walk) → State w → Out (turn_fault level [] w word, walked rules [] w word)
-step word w st = subst (λ v. Out (turn_fault level [] v word, walked rules [] v word)) (sym st.is) (out_turn st.rows st.position word st.waits st.values st.is_trailing st.has)
+step word w st = subst (λ v. Out (turn_fault level [] v word, walked rules [] v word)) (sym st.is)
+    (out_turn st.rows st.position word st.waits st.values st.is_trailing st.has)
 
 -- ---- all words
 
@@ -247,7 +268,8 @@ goes_on (x ∷ xs) w st e =
     let parts = none_first (turn_fault level [] w x) (walk_fault level [] (walked rules [] w x) xs) e in
     ⊎_elim (λ f. absurd (true≢false (sym f ∙ ap fails parts.0))) (λ next. goes_on xs (walked rules [] w x) next parts.1) (step x w st)
 
-begins : (word : Text) (rest : List Text) → bytes_eq word (codes "--") ≡ false → walk_fault level [] (walk_from nothing_held) (word ∷ rest) ≡ []
+begins : (word : Text) (rest : List Text) → bytes_eq word (codes "--") ≡ false →
+    walk_fault level [] (walk_from nothing_held) (word ∷ rest) ≡ []
     → State (fold (walked rules []) (walk_from nothing_held) (word ∷ rest))
 unfolding walk_fault
 begins word rest other e =
@@ -265,16 +287,20 @@ finished_is rows = ap (λ r. with_default r help) (same (has_row (codes "heap") 
     same false = refl
 
 ends : (w : Walk) → State w → settle_fault rules false w.held ≡ [] → is_some (first_of (codes "heap") (finished rules w.held)) ≡ true
-ends w st e = subst (λ v. settle_fault rules false v.held ≡ [] → is_some (first_of (codes "heap") (finished rules v.held)) ≡ true) (sym st.is)
-    (λ none. ap (λ rows. is_some (first_of (codes "heap") rows)) (finished_is (settled rules (held st.rows st.values)).rows) ∙ go st.values st.has none) e
+ends w st e = subst (λ v. settle_fault rules false v.held ≡ [] →
+    is_some (first_of (codes "heap") (finished rules v.held)) ≡ true) (sym st.is)
+    (λ none. ap (λ rows. is_some (first_of (codes "heap") rows))
+    (finished_is (settled rules (held st.rows st.values)).rows) ∙ go st.values st.has none) e
   where
-    go : (values : Option (List Text)) → (is_some values || is_some (first_of (codes "heap") st.rows)) ≡ true → settle_fault rules false (held st.rows values) ≡ []
+    go : (values : Option (List Text)) → (is_some values || is_some (first_of (codes "heap") st.rows)) ≡ true →
+        settle_fault rules false (held st.rows values) ≡ []
         → is_some (first_of (codes "heap") (settled rules (held st.rows values)).rows) ≡ true
     go None has none = has
     go (Some []) has none = absurd (true≢false (ap fails none))
     go (Some (v ∷ vs)) has none = has_value (reading_by heap) CommandLine v vs (without (codes "heap") st.rows)
 
-pub heap_given : (word : Text) (rest : List Text) → bytes_eq word (codes "--") ≡ false → level_fault level [] nothing_held (word ∷ rest) false [] ≡ []
+pub heap_given : (word : Text) (rest : List Text) → bytes_eq word (codes "--") ≡ false →
+    level_fault level [] nothing_held (word ∷ rest) false [] ≡ []
     → is_some (first_of (codes "heap") (finished rules (walk rules [] nothing_held (word ∷ rest)).held)) ≡ true
 heap_given word rest other e =
     let w = walk rules [] nothing_held (word ∷ rest) in

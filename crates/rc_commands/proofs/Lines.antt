@@ -1,12 +1,14 @@
 -- What `clap` makes of a command line.
-use Rattle.std.proofs.Common.{◌≡◌, ⊎_elim, is_some, ◌||◌, Bool, true, false, List, [], ◌∷◌, Option, Some, None, codes, refl, sym, ap, ap₂, subst, true≢false}
+use Rattle.std.proofs.Common.{◌≡◌, ⊎_elim, is_some, ◌||◌, Bool, true, false, List, [], ◌∷◌, Option, Some, None, codes}
+use Rattle.std.proofs.Common.{refl, sym, ap, ap₂, subst, true≢false}
 use Rattle.std.specs.Str.{bytes_eq}
 use Rattle.clap.specs.Kinds.{Kinds, or_else}
 use Rattle.clap.specs.Lexer.{long_of}
 use Rattle.std.specs.Option.{option_map_or}
 use Rattle.clap.specs.Walk.{Row, finished, is_empty, settled, walked, Names, Text, Walk, nothing_held, walk_from, idle, subcommand_met}
 use Rattle.clap.specs.Simple.{Shape, entered, names_of, built, is_simple, rows_at, subcommand_of}
-use Rattle.clap.specs.Faults.{check_fault, defaults_fault, settle_fault, fault_of, is_simple_and_free, walk_fault, level_fault, entered_fault}
+use Rattle.clap.specs.Faults.{check_fault, defaults_fault, settle_fault, fault_of, is_simple_and_free, walk_fault}
+use Rattle.clap.specs.Faults.{level_fault, entered_fault}
 use Rattle.clap.proofs.FaultLemmas.{stopped_fault}
 use Rattle.clap.proofs.WalkLemmas.{walk_stopped}
 use Rattle.clap.proofs.OnLiterals.{clap_on_literals}
@@ -44,23 +46,28 @@ found_at end = entered (built ramseg) end.stopped
 
 pub run_line : (words : List Text) → fault_of ramseg (codes "run" ∷ words) ≡ faults_at command.run.top words
 unfolding walked walk_fault defaults_fault
-run_line words = ap₂ fault_at (stopped_fault top top_names (walk_from nothing_held) (codes "run", []) words) (sym (walk_stopped top.rules top_names (walk_from nothing_held) (codes "run") [] words))
+run_line words = ap₂ fault_at (stopped_fault top top_names (walk_from nothing_held) (codes "run", []) words)
+    (sym (walk_stopped top.rules top_names (walk_from nothing_held) (codes "run") [] words))
 
 pub trace_line : (words : List Text) → fault_of ramseg (codes "trace" ∷ words) ≡ faults_at command.trace.top words
 unfolding walked walk_fault defaults_fault
-trace_line words = ap₂ fault_at (stopped_fault top top_names (walk_from nothing_held) (codes "trace", []) words) (sym (walk_stopped top.rules top_names (walk_from nothing_held) (codes "trace") [] words))
+trace_line words = ap₂ fault_at (stopped_fault top top_names (walk_from nothing_held) (codes "trace", []) words)
+    (sym (walk_stopped top.rules top_names (walk_from nothing_held) (codes "trace") [] words))
 
 pub audit_line : (words : List Text) → fault_of ramseg (codes "audit" ∷ words) ≡ faults_at command.audit.top words
 unfolding walked walk_fault defaults_fault
-audit_line words = ap₂ fault_at (stopped_fault top top_names (walk_from nothing_held) (codes "audit", []) words) (sym (walk_stopped top.rules top_names (walk_from nothing_held) (codes "audit") [] words))
+audit_line words = ap₂ fault_at (stopped_fault top top_names (walk_from nothing_held) (codes "audit", []) words)
+    (sym (walk_stopped top.rules top_names (walk_from nothing_held) (codes "audit") [] words))
 
 pub fuzz_line : (words : List Text) → fault_of ramseg (codes "fuzz" ∷ words) ≡ faults_at command.fuzz.top words
 unfolding walked walk_fault defaults_fault
-fuzz_line words = ap₂ fault_at (stopped_fault top top_names (walk_from nothing_held) (codes "fuzz", []) words) (sym (walk_stopped top.rules top_names (walk_from nothing_held) (codes "fuzz") [] words))
+fuzz_line words = ap₂ fault_at (stopped_fault top top_names (walk_from nothing_held) (codes "fuzz", []) words)
+    (sym (walk_stopped top.rules top_names (walk_from nothing_held) (codes "fuzz") [] words))
 
 pub stops_line : (words : List Text) → fault_of ramseg (codes "stops" ∷ words) ≡ faults_at command.stops.top words
 unfolding walked walk_fault defaults_fault
-stops_line words = ap₂ fault_at (stopped_fault top top_names (walk_from nothing_held) (codes "stops", []) words) (sym (walk_stopped top.rules top_names (walk_from nothing_held) (codes "stops") [] words))
+stops_line words = ap₂ fault_at (stopped_fault top top_names (walk_from nothing_held) (codes "stops", []) words)
+    (sym (walk_stopped top.rules top_names (walk_from nothing_held) (codes "stops") [] words))
 
 pub run_found : (words : List Text) → subcommand_of ramseg (codes "run" ∷ words) ≡ Some (rows_at (leaf command.run.top) words)
 unfolding walked
@@ -108,7 +115,8 @@ no_option word = go (long_of word)
     go None = refl
     go (Some flag) = refl
 
-none_of : (a b c d e : Bool) → (a || (b || (c || (d || (e || false))))) ≡ false → (a ≡ false) × (b ≡ false) × (c ≡ false) × (d ≡ false) × (e ≡ false)
+none_of : (a b c d e : Bool) → (a || (b || (c || (d || (e || false))))) ≡ false →
+    (a ≡ false) × (b ≡ false) × (c ≡ false) × (d ≡ false) × (e ≡ false)
 none_of true b c d e h = absurd (true≢false h)
 none_of false true c d e h = absurd (true≢false h)
 none_of false false true d e h = absurd (true≢false h)
@@ -119,7 +127,8 @@ none_of false false false false false h = (refl, refl, refl, refl, refl)
 module _ (word : Text) (rest : List Text) (none : is_command word ≡ false) (no_help : bytes_eq (codes "help") word ≡ false) where
   no_command : subcommand_met top_names idle word ≡ None
   no_command =
-      let p = none_of (bytes_eq (codes "run") word) (bytes_eq (codes "trace") word) (bytes_eq (codes "audit") word) (bytes_eq (codes "fuzz") word)
+      let p = none_of (bytes_eq (codes "run") word) (bytes_eq (codes "trace") word) (bytes_eq (codes "audit") word)
+      (bytes_eq (codes "fuzz") word)
       (bytes_eq (codes "stops") word) none in
       rw (p.0, p.1, p.2, p.3, p.4, no_help) refl
 
@@ -130,7 +139,8 @@ module _ (word : Text) (rest : List Text) (none : is_command word ≡ false) (no
 -- ---- by the first word
 
 -- what holds of a line by its first word, if it holds of each command's, of those of `help`, and of those of neither
-pub by_command : (P : Text → Type 0) → P (codes "run") → P (codes "trace") → P (codes "audit") → P (codes "fuzz") → P (codes "stops") → P (codes "help")
+pub by_command : (P : Text → Type 0) → P (codes "run") → P (codes "trace") → P (codes "audit") → P (codes "fuzz") →
+    P (codes "stops") → P (codes "help")
     → ((word : Text) → is_command word ≡ false → bytes_eq (codes "help") word ≡ false → P word) → (word : Text) → P word
 by_command P run trace audit fuzz stops help other word =
     ⊎_elim (λ h. subst P h.1 run) (λ a.
@@ -139,7 +149,8 @@ by_command P run trace audit fuzz stops help other word =
     ⊎_elim (λ h. subst P h.1 fuzz) (λ d.
     ⊎_elim (λ h. subst P h.1 stops) (λ e.
     ⊎_elim (λ h. subst P h.1 help) (λ f. other word (no_name a b c d e) f)
-    (text_tells (codes "help") word)) (text_tells (codes "stops") word)) (text_tells (codes "fuzz") word)) (text_tells (codes "audit") word))
+    (text_tells (codes "help") word)) (text_tells (codes "stops") word)) (text_tells (codes "fuzz") word))
+    (text_tells (codes "audit") word))
     (text_tells (codes "trace") word)) (text_tells (codes "run") word)
   where
     no_name : bytes_eq (codes "run") word ≡ false → bytes_eq (codes "trace") word ≡ false → bytes_eq (codes "audit") word ≡ false

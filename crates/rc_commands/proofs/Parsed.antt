@@ -1,5 +1,6 @@
 -- What a parse of the program's command line tells.
-use Rattle.std.proofs.Common.{◌≡◌, ◌∙◌, ◌≢◌, ⊎_elim, true, false, List, [], ◌∷◌, Option, Some, None, Global, refl, sym, ap, subst, true≢false, option_map}
+use Rattle.std.proofs.Common.{◌≡◌, ◌∙◌, ◌≢◌, ⊎_elim, true, false, List, [], ◌∷◌, Option, Some, None, Global, refl, sym}
+use Rattle.std.proofs.Common.{ap, subst, true≢false, option_map}
 use Rattle.std.specs.Prelude.{Box, option_and_then}
 use Rattle.std.specs.Box.{box_value}
 use Rattle.clap.specs.declared.error.kind.ErrorKind.{ErrorKind}
@@ -19,7 +20,8 @@ use Rattle.rc_commands.specs.Asking.{Tells, asked_in, command_in, is_command, is
 use Rattle.rc_commands.specs.Commands as command
 use Rattle.rc_commands.specs.Commands.{ramseg}
 use Rattle.rc_commands.proofs.Words.{asks, leaf, tells}
-use Rattle.rc_commands.proofs.Lines.{about_fails, audit_found, by_command, empty_told, fuzz_found, is_known, is_plain, run_found, stops_found, told, trace_found}
+use Rattle.rc_commands.proofs.Lines.{about_fails, audit_found, by_command, empty_told, fuzz_found, is_known, is_plain}
+use Rattle.rc_commands.proofs.Lines.{run_found, stops_found, told, trace_found}
 
 -- ---- where no fault comes, the line begins with a command
 
@@ -56,9 +58,11 @@ module _ (a : App) (words : List Text) (is : a ≡ ramseg) where
   pub taken : (is_simple_and_free a ≡ true → fault_of a words ≡ []) → fault_of ramseg words ≡ []
   taken none = ap (λ b. fault_of b words) (sym is) ∙ none (ap is_simple_and_free is ∙ is_plain)
 
-  pub refused : (e : Error) → (is_simple_and_free a ≡ true → HasKind (fault_of a words) e) → kind_of e ≢ OutOfMemory → IsAmong (kind_of e) (fault_of ramseg words)
+  pub refused : (e : Error) → (is_simple_and_free a ≡ true → HasKind (fault_of a words) e) → kind_of e ≢ OutOfMemory →
+      IsAmong (kind_of e) (fault_of ramseg words)
   refused e kinds had_memory =
-      subst (λ b. IsAmong (kind_of e) (fault_of b words)) is (⊎_elim (λ h. absurd (had_memory h)) (λ h. h) (kinds (ap is_simple_and_free is ∙ is_plain)))
+      subst (λ b. IsAmong (kind_of e) (fault_of b words)) is
+      (⊎_elim (λ h. absurd (had_memory h)) (λ h. h) (kinds (ap is_simple_and_free is ∙ is_plain)))
 
   module _ (m : ArgMatches) (has : HasMatchesOf a words m) where
     rows_are : subcommand_rows_of m ≡ subcommand_of ramseg words
@@ -70,10 +74,12 @@ module _ (a : App) (words : List Text) (is : a ≡ ramseg) where
           let p = commanded words none in
           ap (option_map is_command) (twice (out-ArgMatches m).subcommand ∙ ap (option_map (λ p. p.0)) (rows_are ∙ p.1)) ∙ ap Some p.2
         where
-          twice : (o : Option (Box SubCommand Global)) → option_map (λ b. (out-SubCommand (box_value b)).name.now) o ≡ option_map (λ p. p.0) (subcommand_rows o)
+          twice : (o : Option (Box SubCommand Global)) →
+              option_map (λ b. (out-SubCommand (box_value b)).name.now) o ≡ option_map (λ p. p.0) (subcommand_rows o)
           twice None = refl
           twice (Some b) = refl
 
       pub gives_command : option_and_then (λ p. command_in p.0 p.1) (subcommand_rows_of m) ≡ asked_in words
       gives_command =
-          ap (option_and_then (λ (p : Text × List Row). command_in p.0 p.1)) rows_are ∙ sym (ap (λ faults. asked_by faults (subcommand_of ramseg words)) none)
+          ap (option_and_then (λ (p : Text × List Row). command_in p.0 p.1)) rows_are ∙
+          sym (ap (λ faults. asked_by faults (subcommand_of ramseg words)) none)

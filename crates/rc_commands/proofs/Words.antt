@@ -1,5 +1,7 @@
 -- What `clap` makes of one word that names no command.
-use Rattle.std.proofs.Common.{◌≡◌, ◌∙◌, ◌⊎◌, inl, inr, ⊎_elim, is_some, eqb, ◌==◌, ◌&&◌, ◌||◌, ℕ, Bool, true, false, not, cond, suc, arith, ◌+◌, take, List, [], ◌∷◌, Option, Some, None, codes, length, refl, sym, ap, ap₂, subst, true≢false}
+use Rattle.std.proofs.Common.{◌≡◌, ◌∙◌, ◌⊎◌, inl, inr, ⊎_elim, is_some, eqb, ◌==◌, ◌&&◌, ◌||◌, ℕ, Bool, true, false}
+use Rattle.std.proofs.Common.{not, cond, suc, arith, ◌+◌, take, List, [], ◌∷◌, Option, Some, None, codes, length, refl}
+use Rattle.std.proofs.Common.{sym, ap, ap₂, subst, true≢false}
 use Rattle.std.proofs.Math.Bool.{or-false}
 use Rattle.std.proofs.lemmas.Bool.Decides.{eqb_tells}
 use Rattle.std.specs.List.{list_all, list_any, before_first, after_first, prefix_len}
@@ -9,9 +11,13 @@ use Rattle.std.specs.Str.{bytes_eq, chars}
 use Rattle.std.specs.Cmp.Lexicographic.{same_text}
 use Rattle.clap.specs.Lexer.{long_of, short_of, has_byte}
 use Rattle.clap.specs.Kinds.{Kinds, or_else}
-use Rattle.clap.specs.Walk.{arg_by_index, done, short_met, Held, Names, Rule, Step, Text, nothing_held, walk_from, idle, subcommand_met, long_or_other, short_or_plain, after_flag, subcommand_or_other, arg_by_long, arg_by_short, bundle_step, bundle_met, long_met, plain, trailing, value}
+use Rattle.clap.specs.Walk.{arg_by_index, done, short_met, Held, Names, Rule, Step, Text, nothing_held, walk_from}
+use Rattle.clap.specs.Walk.{idle, subcommand_met, long_or_other, short_or_plain, after_flag, subcommand_or_other}
+use Rattle.clap.specs.Walk.{arg_by_long, arg_by_short, bundle_step, bundle_met, long_met, plain, trailing, value}
 use Rattle.clap.specs.Simple.{Shape, built, built_leaf, filled, help_rule, version_rule}
-use Rattle.clap.specs.Faults.{positional_fault, short_fault, turn_fault, walk_fault, flag_word_fault, other_fault, step_fault, stray_fault, level_fault, flags_fault, bundle_step_fault, bundle_fault, long_fault}
+use Rattle.clap.specs.Faults.{positional_fault, short_fault, turn_fault, walk_fault, flag_word_fault, other_fault}
+use Rattle.clap.specs.Faults.{step_fault, stray_fault, level_fault, flags_fault, bundle_step_fault, bundle_fault}
+use Rattle.clap.specs.Faults.{long_fault}
 use Rattle.clap.proofs.OnLiterals.{clap_on_literals}
 use Rattle.rc_commands.specs.Asking.{is_help, is_option, is_request, is_version}
 use Rattle.rc_commands.specs.Commands as command
@@ -41,10 +47,12 @@ module _ (s : Shape) (word : Text) where
   by_name o = or_else (other_fault s o word nothing_held) (met (subcommand_or_other s.rules o idle 1 word nothing_held))
 
   abbrev by_flag : Option (Text × Option Text) → Kinds
-  by_flag o = or_else (flag_word_fault s.rules s.args_override_self o word nothing_held) (met (long_or_other s.rules idle word o nothing_held))
+  by_flag o = or_else (flag_word_fault s.rules s.args_override_self o word nothing_held)
+      (met (long_or_other s.rules idle word o nothing_held))
 
   abbrev by_letters : Option Text → Kinds
-  by_letters o = or_else (option_map_or (λ flags. bundle_fault s.rules s.args_override_self flags nothing_held) o []) (met (short_or_plain s.rules idle word o nothing_held))
+  by_letters o = or_else (option_map_or (λ flags. bundle_fault s.rules s.args_override_self flags nothing_held) o [])
+      (met (short_or_plain s.rules idle word o nothing_held))
 
   abbrev by_dashes : Bool → Kinds
   by_dashes b = or_else (if b then [] else flag_word_fault s.rules s.args_override_self (long_of word) word nothing_held)
@@ -103,7 +111,12 @@ passed b here past e = ap (λ c. cond (c || false) here past) e
 
 pub run_is : IsLevel (leaf command.run.top) false (codes "heap" ∷ [])
 unfolding clap_on_literals
-run_is = record { long = λ name e. passed (bytes_eq (codes "heap") name) _ _ (or_parts _ _ e).0; short = λ x. refl; strays = refl; positional = refl }
+run_is = record {
+  long = λ name e. passed (bytes_eq (codes "heap") name) _ _ (or_parts _ _ e).0;
+  short = λ x. refl;
+  strays = refl;
+  positional = refl;
+}
 
 pub trace_is : IsLevel (leaf command.trace.top) false []
 unfolding clap_on_literals
@@ -132,7 +145,8 @@ fuzz_is = record { long = long; short = λ x. refl; strays = refl; positional = 
     long name e =
         let p = or_parts _ _ e in
         let q = or_parts _ _ p.1 in
-        passed (bytes_eq (codes "seed") name) _ _ p.0 ∙ passed (bytes_eq (codes "steps") name) _ _ q.0 ∙ passed (bytes_eq (codes "free") name) _ _ (or_parts _ _ q.1).0
+        passed (bytes_eq (codes "seed") name) _ _ p.0 ∙ passed (bytes_eq (codes "steps") name) _ _ q.0 ∙
+        passed (bytes_eq (codes "free") name) _ _ (or_parts _ _ q.1).0
 
 -- whether the word asks for help, or where there is one for the version
 abbrev pub asks : Bool → Text → Bool
@@ -153,13 +167,15 @@ module _ (s : Shape) (v : Bool) (options : List Text) (level : IsLevel s v optio
   untold k e = ap (λ b. tells b k) (and-false v) ∙ e
 
   stray : tells false (met s word (nothing_held, value)) ≡ true
-  stray = ap (λ o. tells false (option_map_or (λ a. positional_fault s.rules s.args_override_self a nothing_held) o (stray_fault s))) level.positional ∙ level.strays
+  stray = ap (λ o. tells false (option_map_or (λ a. positional_fault s.rules s.args_override_self a nothing_held) o
+      (stray_fault s))) level.positional ∙ level.strays
 
   -- ---- `--name` and `--name=value`
 
   abbrev by_long : Option Rule → Option Text → Kinds
   by_long found given = or_else (long_fault s.rules s.args_override_self found given nothing_held)
-      (met s word (after_flag s.rules idle word (long_met s.rules found given nothing_held).0 (long_met s.rules found given nothing_held).1))
+      (met s word (after_flag s.rules idle word (long_met s.rules found given nothing_held).0
+      (long_met s.rules found given nothing_held).1))
 
   -- a flag with a value is wrong
   valued : (b1 b2 : Bool) (given : Text) → tells false (by_long (flag_of b1 b2) (Some given)) ≡ true
@@ -178,7 +194,8 @@ module _ (s : Shape) (v : Bool) (options : List Text) (level : IsLevel s v optio
   -- ---- `-letters`
 
   abbrev by_letter : Text → ℕ → Option Rule → Kinds
-  by_letter rest n found = or_else (short_fault s.rules s.args_override_self found rest nothing_held (flags_fault s.rules s.args_override_self n rest 0))
+  by_letter rest n found = or_else (short_fault s.rules s.args_override_self found rest nothing_held
+      (flags_fault s.rules s.args_override_self n rest 0))
       (met s word (after_flag s.rules idle word (short_met s.rules found rest nothing_held (bundle_met s.rules n rest 0 done)).0
       (short_met s.rules found rest nothing_held (bundle_met s.rules n rest 0 done)).1))
 
@@ -189,7 +206,8 @@ module _ (s : Shape) (v : Bool) (options : List Text) (level : IsLevel s v optio
   pressed rest n false false = refl
 
   abbrev by_first : Text → ℕ → Option ℕ → Kinds
-  by_first flags n o = or_else (bundle_step_fault s.rules s.args_override_self o flags 0 nothing_held (flags_fault s.rules s.args_override_self n))
+  by_first flags n o = or_else (bundle_step_fault s.rules s.args_override_self o flags 0 nothing_held
+      (flags_fault s.rules s.args_override_self n))
       (met s word (after_flag s.rules idle word (bundle_step s.rules o flags 0 plain nothing_held (bundle_met s.rules n)).0
       (bundle_step s.rules o flags 0 plain nothing_held (bundle_met s.rules n)).1))
 
@@ -210,7 +228,8 @@ module _ (s : Shape) (v : Bool) (options : List Text) (level : IsLevel s v optio
   no_long : bytes_eq (codes "--help") word ≡ false → bytes_eq (codes "--version") word ≡ false → long_of word ≡ None
       → tells (asks v word) (by_flag s word (long_of word)) ≡ true
   no_long not_help not_version short =
-      ap₂ (λ b1 b2. tells ((b1 || is_letter 104 (short_of word)) || (v && (b2 || is_letter 86 (short_of word)))) (by_flag s word (long_of word))) not_help not_version
+      ap₂ (λ b1 b2. tells ((b1 || is_letter 104 (short_of word)) || (v && (b2 || is_letter 86 (short_of word))))
+      (by_flag s word (long_of word))) not_help not_version
       ∙ ap (λ o. tells (is_letter 104 (short_of word) || (v && is_letter 86 (short_of word))) (by_flag s word o)) short
       ∙ letters_told (short_of word)
 
@@ -225,13 +244,17 @@ text_tells a b = go (bytes_eq a b) refl
 
 -- a word with a long name is none of those without
 not_named : (a word : Text) → is_some (long_of a) ≡ true → long_of word ≡ None → bytes_eq a word ≡ false
-not_named a word long none = ⊎_elim (λ h. absurd (true≢false (sym long ∙ ap (λ w. is_some (long_of w)) h.1 ∙ ap is_some none))) (λ e. e) (text_tells a word)
+not_named a word long none =
+    ⊎_elim (λ h. absurd (true≢false (sym long ∙ ap (λ w. is_some (long_of w)) h.1 ∙ ap is_some none))) (λ e. e)
+    (text_tells a word)
 
 -- a word other than `--` has no long name, or is two hyphens and more
-word_forms : (word : Text) → bytes_eq word (45 ∷ 45 ∷ []) ≡ false → (long_of word ≡ None) ⊎ ((zzs : ℕ × Text) × (word ≡ 45 ∷ 45 ∷ zzs.0 ∷ zzs.1))
+word_forms : (word : Text) → bytes_eq word (45 ∷ 45 ∷ []) ≡ false →
+    (long_of word ≡ None) ⊎ ((zzs : ℕ × Text) × (word ≡ 45 ∷ 45 ∷ zzs.0 ∷ zzs.1))
 word_forms [] e = inl refl
 word_forms (x ∷ []) e = ⊎_elim (λ h. inl (rw h.0 refl)) (λ h. inl (rw h.0 refl)) (eqb_tells x 45)
-word_forms (x ∷ y ∷ ys) e = ⊎_elim (λ h. ⊎_elim (λ g. go ys h g e) (λ g. inl (rw (h.0, g.0) refl)) (eqb_tells y 45)) (λ h. inl (rw h.0 refl)) (eqb_tells x 45)
+word_forms (x ∷ y ∷ ys) e = ⊎_elim (λ h. ⊎_elim (λ g. go ys h g e) (λ g. inl (rw (h.0, g.0) refl)) (eqb_tells y 45))
+    (λ h. inl (rw h.0 refl)) (eqb_tells x 45)
   where
     go : (ys : Text) → ((eqb x 45 ≡ true) × (x ≡ 45)) → ((eqb y 45 ≡ true) × (y ≡ 45)) → bytes_eq (x ∷ y ∷ ys) (45 ∷ 45 ∷ []) ≡ false
         → (long_of (x ∷ y ∷ ys) ≡ None) ⊎ ((zzs : ℕ × Text) × (x ∷ y ∷ ys ≡ 45 ∷ 45 ∷ zzs.0 ∷ zzs.1))
@@ -248,7 +271,8 @@ before_none (x ∷ xs) e =
     ap (λ b. take (cond (not b) (1 + n) 0) (x ∷ xs)) p.0 ∙ ap (λ k. take k (x ∷ xs)) more ∙ ap (λ t. x ∷ t) (before_none xs p.1)
 
 without_equals : (a word : Text) → has_byte 61 a ≡ false → has_byte 61 word ≡ true → bytes_eq a word ≡ false
-without_equals a word lacks has = ⊎_elim (λ h. absurd (true≢false (sym has ∙ ap (has_byte 61) (sym h.1) ∙ lacks))) (λ e. e) (text_tells a word)
+without_equals a word lacks has =
+    ⊎_elim (λ h. absurd (true≢false (sym has ∙ ap (has_byte 61) (sym h.1) ∙ lacks))) (λ e. e) (text_tells a word)
 
 module _ (s : Shape) (v : Bool) (options : List Text) (level : IsLevel s v options) where
   module _ (z : ℕ) (zs : Text) where
@@ -276,14 +300,16 @@ module _ (s : Shape) (v : Bool) (options : List Text) (level : IsLevel s v optio
         ∙ ap (λ f. tells (asks v dashed) (by_long s v options level dashed f (Some given))) (level.long name none)
         ∙ ap₂ (λ b1 b2. tells ((b1 || false) || (v && (b2 || false))) (by_long s v options level dashed (found name) (Some given)))
         (without_equals (codes "help") (z ∷ zs) refl e) (without_equals (codes "version") (z ∷ zs) refl e)
-        ∙ untold s v options level dashed _ (valued s v options level dashed (bytes_eq (codes "help") name) (v && bytes_eq (codes "version") name) given)
+        ∙ untold s v options level dashed _ (valued s v options level dashed (bytes_eq (codes "help") name)
+        (v && bytes_eq (codes "version") name) given)
 
     bare_word : NoOption → has_byte 61 (z ∷ zs) ≡ false → tells (asks v dashed) (by_flag s dashed (long_of dashed)) ≡ true
     bare_word none e =
         ap (λ b. tells (asks v dashed) (by_given b)) e
         ∙ ap (λ f. tells (asks v dashed) (by_long s v options level dashed f None)) (level.long name none)
         ∙ ap (λ t. tells (asks v dashed) (by_long s v options level dashed (found t) None)) (before_none (z ∷ zs) e)
-        ∙ ap₂ (λ b1 b2. tells (b1 || (v && b2)) (by_long s v options level dashed (found (z ∷ zs)) None)) (or-false (bytes_eq (codes "help") (z ∷ zs))) (or-false (bytes_eq (codes "version") (z ∷ zs)))
+        ∙ ap₂ (λ b1 b2. tells (b1 || (v && b2)) (by_long s v options level dashed (found (z ∷ zs)) None))
+        (or-false (bytes_eq (codes "help") (z ∷ zs))) (or-false (bytes_eq (codes "version") (z ∷ zs)))
         ∙ alone s v options level dashed (bytes_eq (codes "help") (z ∷ zs)) (v && bytes_eq (codes "version") (z ∷ zs))
 
     long_told : NoOption → tells (asks v dashed) (by_flag s dashed (long_of dashed)) ≡ true
@@ -293,13 +319,16 @@ module _ (s : Shape) (v : Bool) (options : List Text) (level : IsLevel s v optio
         go true e = valued_word none (sym e)
         go false e = bare_word none (sym e)
 
-  word_told : (word : Text) → is_option options word ≡ false → bytes_eq word (45 ∷ 45 ∷ []) ≡ false → tells (asks v word) (by_flag s word (long_of word)) ≡ true
+  word_told : (word : Text) → is_option options word ≡ false → bytes_eq word (45 ∷ 45 ∷ []) ≡ false →
+      tells (asks v word) (by_flag s word (long_of word)) ≡ true
   word_told word none other =
       ⊎_elim (λ e. no_long s v options level word (not_named (codes "--help") word refl e) (not_named (codes "--version") word refl e) e)
-      (λ h. subst (λ w. tells (asks v w) (by_flag s w (long_of w)) ≡ true) (sym h.1) (long_told h.0.0 h.0.1 (ap (is_option options) (sym h.1) ∙ none))) (word_forms word other)
+      (λ h. subst (λ w. tells (asks v w) (by_flag s w (long_of w)) ≡ true) (sym h.1)
+      (long_told h.0.0 h.0.1 (ap (is_option options) (sym h.1) ∙ none))) (word_forms word other)
 
   -- a line whose first word is no subcommand and not `--` is told of that word
-  pub line_told : (names : Names) (word : Text) (rest : List Text) (has_subcommand : Bool) (below : Kinds) → subcommand_met names idle word ≡ None
+  pub line_told : (names : Names) (word : Text) (rest : List Text) (has_subcommand : Bool) (below : Kinds) →
+      subcommand_met names idle word ≡ None
       → is_option options word ≡ false → bytes_eq word (45 ∷ 45 ∷ []) ≡ false
       → tells (asks v word) (level_fault s names nothing_held (word ∷ rest) has_subcommand below) ≡ true
   unfolding walk_fault

@@ -1,5 +1,6 @@
 -- Loops over members, one after another.
-use Rattle.std.proofs.Common.{◌≡◌, ◌⊎◌, ⊎_elim, ℕ, ◌+◌, ◌<◌, ◌≤◌, true, false, List, [], ◌∷◌, ◌++◌, length, take, drop, get_or, set, map, min, None, refl, ap, sym, ◌∙◌, arith, append_assoc}
+use Rattle.std.proofs.Common.{◌≡◌, ◌⊎◌, ⊎_elim, ℕ, ◌+◌, ◌<◌, ◌≤◌, true, false, List, [], ◌∷◌, ◌++◌, length, take, drop}
+use Rattle.std.proofs.Common.{get_or, set, map, min, None, refl, ap, sym, ◌∙◌, arith, append_assoc}
 use Rattle.std.proofs.lemmas.List.{take_more, take_more_set, drop_more, drop-set-lt, drop_all, get_or_default, length-set}
 use Rattle.std.proofs.lemmas.List.Edits.{map_over_more}
 use Rattle.rc_types.specs.declared.kept.Member.{Member}
@@ -20,7 +21,8 @@ pub least_told-push : (first : Member) (members : List Member) (last : Member) �
     least_told (first ∷ (members ++ last ∷ [])) ≡ min (least_told (first ∷ members)) (told_len last.told)
 least_told-push first [] last = refl
 least_told-push first (member ∷ members) last =
-    let rest : least_told (member ∷ (members ++ last ∷ [])) ≡ min (least_told (member ∷ members)) (told_len last.told) = least_told-push member members last in
+    let rest : least_told (member ∷ (members ++ last ∷ [])) ≡ min (least_told (member ∷ members)) (told_len last.told) =
+    least_told-push member members last in
     rw rest (omega arith)
 
 -- one more member of a list
@@ -31,7 +33,8 @@ least_told-more first members i d h = rw (take_more members i d h) (least_told-p
 -- A change of each member in its place
 
 -- one more member is changed
-pub map_over_step : (f : Member → Member) (xs ys : List Member) (i : ℕ) → i < length ys → i < length xs → ys ≡ map f (take i xs) ++ drop i xs →
+pub map_over_step : (f : Member → Member) (xs ys : List Member) (i : ℕ) → i < length ys → i < length xs →
+    ys ≡ map f (take i xs) ++ drop i xs →
     set ys i (f (get_or ys i no_member)) ≡ map f (take (i + 1) xs) ++ drop (i + 1) xs
 map_over_step f xs ys i within h so_far =
     map_over_more f xs ys i (get_or ys i no_member) h so_far (get_or_default ys i no_member (get_or ys i no_member) within)

@@ -45,14 +45,21 @@ impl Model for Config {
 
     ghost Value = { Members };
 
-    ghost view = { λ c. record { seg = c.seg; members = take c.count c.slots; epoch = c.epoch; committed = c.committed } };
+    ghost view = { λ c. record {
+      seg = c.seg;
+      members = take c.count c.slots;
+      epoch = c.epoch;
+      committed = c.committed;
+    } };
 
     ghost invariant = { λ c. c.count ≤ MAX_MEMBERS };
 }
 
 impl Config {
     ghost use Rattle.rc_model.specs.Master.{ids_of};
-    ghost use Rattle.rc_model.specs.Config.{new_config, notes, noted, committed_at, all_placed, all_closed, durable_len, with_lost, any_lost, substitutes_for, changed, changes_to, refills_with, lose, refill};
+    ghost use Rattle.rc_model.specs.Config.{new_config, notes, noted, committed_at, all_placed, all_closed};
+    ghost use Rattle.rc_model.specs.Config.{durable_len, with_lost, any_lost, substitutes_for, changed, changes_to};
+    ghost use Rattle.rc_model.specs.Config.{refills_with, lose, refill};
 
     /// A segment's first members, under epoch 0, which is committed from the start.
     pub fn new(seg: u16, ids: &[ServerId]) -> Config

@@ -2,7 +2,8 @@
 
 ghost use Rattle.std.specs.Prelude.{◌≡◌, map};
 ghost use Rattle.std.specs.List.{list_all, list_any};
-ghost use Rattle.rc_model.specs.Config.{new_member, is_heard, told_with, told_if_heard, is_placed, told_closed, is_closed, any_lost, told_len, least_told, lost_if_crashed};
+ghost use Rattle.rc_model.specs.Config.{new_member, is_heard, told_with, told_if_heard, is_placed, told_closed};
+ghost use Rattle.rc_model.specs.Config.{is_closed, any_lost, told_len, least_told, lost_if_crashed};
 
 use rc_serverlist::ServerList;
 use rc_types::{Member, ServerId, Told};

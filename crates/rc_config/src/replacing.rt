@@ -16,7 +16,8 @@ pub(crate) fn substitutes(
     ids: &[ServerId],
     members: &[Member],
 ) -> Result<Option<Vec<ServerId>>, AllocError>
-    ensures { IfOk result (λ found. option_map (λ chosen. chosen.items) found ≡ substitutes ids.now (staying members.now) members.now) }
+    ensures { IfOk result (λ found. option_map (λ chosen. chosen.items) found ≡ substitutes ids.now
+        (staying members.now) members.now) }
 {
     let mut taken = staying(alloc, members)?;
     let mut chosen = Vec::new(alloc);

@@ -5,8 +5,11 @@ use Rattle.rc_types.specs.declared.rows.Tablet.{Tablet}
 use Rattle.rc_model.specs.Attempts.{GivenPart, part_of, gives_parts, given_to}
 
 -- a tablet is given next
-pub given-next : (ids : List ServerId) (place term next_place next_term : ℕ) (parts now : List GivenPart) (tablet : Tablet) (rest : List Tablet) (to : ServerId)
-    → slice_get ids (place % length ids) ≡ Some to → now ≡ parts ++ (record { to = to; part = part_of tablet term }) ∷ [] → next_place ≡ place + 1 → next_term ≡ term + 1
+pub given-next : (ids : List ServerId) (place term next_place next_term : ℕ) (parts now : List GivenPart)
+    (tablet : Tablet) (rest : List Tablet) (to : ServerId)
+    → slice_get ids (place % length ids) ≡ Some to →
+    now ≡ parts ++ (record { to = to; part = part_of tablet term }) ∷ [] → next_place ≡ place + 1 →
+    next_term ≡ term + 1
     → now ++ gives_parts ids next_place next_term rest ≡ parts ++ gives_parts ids place term (tablet ∷ rest)
 given-next ids place term next_place next_term parts now tablet rest to found next np nt =
     let one : GivenPart = record { to = to; part = part_of tablet term } in

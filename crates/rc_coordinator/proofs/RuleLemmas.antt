@@ -1,5 +1,6 @@
 -- The rules of the coordinator, case by case.
-use Rattle.std.proofs.Common.{◌≡◌, ℕ, ◌+◌, ◌-◌, ◌<◌, ◌≤◌, Bool, true, false, cond, nat_eq, nat_lt, ◌&&◌, List, [], ◌∷◌, ◌++◌, length, get_or, slice_get, Some, None, refl, sym, ap, ◌∙◌, arith}
+use Rattle.std.proofs.Common.{◌≡◌, ℕ, ◌+◌, ◌-◌, ◌<◌, ◌≤◌, Bool, true, false, cond, nat_eq, nat_lt, ◌&&◌, List, [], ◌∷◌}
+use Rattle.std.proofs.Common.{◌++◌, length, get_or, slice_get, Some, None, refl, sym, ap, ◌∙◌, arith}
 use Rattle.std.proofs.lemmas.Bool.Decides.{nat_tests}
 use Rattle.std.proofs.lemmas.Option.{slice_get-get_or}
 use Rattle.rc_types.specs.declared.ids.ServerId.{ServerId}
@@ -10,7 +11,8 @@ use Rattle.rc_model.specs.Messages.{to_each}
 use Rattle.rc_model.specs.ServerList.{ServerList, has_crashed, up}
 use Rattle.rc_model.specs.Tablets.{marked_crashed}
 use Rattle.rc_model.specs.Attempts.{Attempt, new_attempt}
-use Rattle.rc_model.specs.Coordinator.{Coordinator, spreads_list, has_tablets, begins_attempt, begins_if_needed, spreads_then_begins, attempt_at}
+use Rattle.rc_model.specs.Coordinator.{Coordinator, spreads_list, has_tablets, begins_attempt, begins_if_needed}
+use Rattle.rc_model.specs.Coordinator.{spreads_then_begins, attempt_at}
 use Rattle.rc_coordinator.proofs.TabletLemmas.{tablets_of-marked}
 
 -- with a new list, in which an id has crashed
@@ -26,7 +28,8 @@ pub follows-quietly : (c : Coordinator) (servers : ServerList) (gone : ServerId)
     → spreads_then_begins (with_gone c servers gone) gone ≡ (with_gone c servers gone, spreads_list servers ++ [])
 follows-quietly c servers gone e =
     let after : Coordinator = with_gone c servers gone in
-    let begun : begins_if_needed after gone ≡ (after, []) = ap (λ b. cond b (begins_attempt after gone) (after, [])) (begins-gone c servers gone false e) in
+    let begun : begins_if_needed after gone ≡ (after, []) =
+    ap (λ b. cond b (begins_attempt after gone) (after, [])) (begins-gone c servers gone false e) in
     ap (λ (r : Coordinator × List Message). (r.0, spreads_list servers ++ r.1)) begun
 
 abbrev pub begun_at : Coordinator → ServerList → ServerId → Coordinator
@@ -38,16 +41,23 @@ begun_at c servers gone = record c {
 }
 
 pub follows-beginning : (c : Coordinator) (servers : ServerList) (gone : ServerId) → true ≡ (has_crashed servers gone && has_tablets c gone)
-    → spreads_then_begins (with_gone c servers gone) gone ≡ (begun_at c servers gone, spreads_list servers ++ to_each (up servers) (Gather (length c.attempts + 1) gone))
+    → spreads_then_begins (with_gone c servers gone) gone ≡ (
+      begun_at c servers gone,
+      spreads_list servers ++
+          to_each (up servers) (Gather (length c.attempts + 1) gone),
+    )
 follows-beginning c servers gone e =
     let after : Coordinator = with_gone c servers gone in
-    let begun : begins_if_needed after gone ≡ begins_attempt after gone = ap (λ b. cond b (begins_attempt after gone) (after, [])) (begins-gone c servers gone true e) in
+    let begun : begins_if_needed after gone ≡ begins_attempt after gone =
+    ap (λ b. cond b (begins_attempt after gone) (after, [])) (begins-gone c servers gone true e) in
     ap (λ (r : Coordinator × List Message). (r.0, spreads_list servers ++ r.1)) begun
 
 -- there is an attempt of each number from 1 to their count
-pub attempt-there : (c : Coordinator) (number : ℕ) → 0 < number → number ≤ length c.attempts → (attempt : Attempt) × (attempt_at c number ≡ Some attempt)
+pub attempt-there : (c : Coordinator) (number : ℕ) → 0 < number → number ≤ length c.attempts →
+    (attempt : Attempt) × (attempt_at c number ≡ Some attempt)
 attempt-there c number above within =
     let d : Attempt = record { master = record { index = 0; generation = 0 }; replies = []; decided = None } in
     let other : nat_eq number 0 ≡ false = grind (arith, nat_tests) in
-    let there : slice_get c.attempts (number - 1) ≡ Some (get_or c.attempts (number - 1) d) = slice_get-get_or c.attempts (number - 1) d (omega arith) in
+    let there : slice_get c.attempts (number - 1) ≡ Some (get_or c.attempts (number - 1) d) =
+    slice_get-get_or c.attempts (number - 1) d (omega arith) in
     (get_or c.attempts (number - 1) d, ap (λ b. cond b None (slice_get c.attempts (number - 1))) other ∙ there)

@@ -14,8 +14,10 @@ abbrev pub Numbers : Type 0
 Numbers = IndexMap ServerId ℕ (BuildHasherDefault FoldHasher)
 
 -- what an insertion makes of the table
-pub number_in-inserted : (old new : Numbers) (master : ServerId) (number : ℕ) → Updates same_id old new master (Some number) → number_in new ≡ put_id (number_in old) master number
-number_in-inserted old new master number updates = fun_ext (λ other. ap (λ o. unwrap_or o 0) (updates.0 other) ∙ by (same_id master other) (get same_id old other))
+pub number_in-inserted : (old new : Numbers) (master : ServerId) (number : ℕ) →
+    Updates same_id old new master (Some number) → number_in new ≡ put_id (number_in old) master number
+number_in-inserted old new master number updates =
+    fun_ext (λ other. ap (λ o. unwrap_or o 0) (updates.0 other) ∙ by (same_id master other) (get same_id old other))
   where
     by : (b : Bool) (o : Option ℕ) → unwrap_or (cond b (Some number) o) 0 ≡ cond b number (unwrap_or o 0)
     by true o = refl
@@ -24,9 +26,13 @@ number_in-inserted old new master number updates = fun_ext (λ other. ap (λ o. 
 abbrev pub Pairs : Type 0
 Pairs = IndexMap ServerId Pair (BuildHasherDefault FoldHasher)
 
-pub pair_in-inserted : (old new : Pairs) (master : ServerId) (pair : Pair) → Updates same_id old new master (Some pair) → pair_in new ≡ put_id (pair_in old) master pair
-pair_in-inserted old new master pair updates = fun_ext (λ other. ap (λ o. unwrap_or o (record { seg = 0; epoch = 0 })) (updates.0 other) ∙ by (same_id master other) (get same_id old other))
+pub pair_in-inserted : (old new : Pairs) (master : ServerId) (pair : Pair) →
+    Updates same_id old new master (Some pair) → pair_in new ≡ put_id (pair_in old) master pair
+pair_in-inserted old new master pair updates =
+    fun_ext (λ other. ap (λ o. unwrap_or o (record { seg = 0; epoch = 0 })) (updates.0 other) ∙
+    by (same_id master other) (get same_id old other))
   where
-    by : (b : Bool) (o : Option Pair) → unwrap_or (cond b (Some pair) o) (record { seg = 0; epoch = 0 }) ≡ cond b pair (unwrap_or o (record { seg = 0; epoch = 0 }))
+    by : (b : Bool) (o : Option Pair) → unwrap_or (cond b (Some pair) o) (record { seg = 0; epoch = 0 }) ≡ cond b pair
+        (unwrap_or o (record { seg = 0; epoch = 0 }))
     by true o = refl
     by false o = refl

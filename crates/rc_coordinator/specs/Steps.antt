@@ -8,7 +8,8 @@ use Rattle.rc_types.specs.declared.messages.Message.{Message}
 use Rattle.rc_model.specs.Messages.{coordinator_refuses}
 use Rattle.rc_model.specs.Coordinator.{Coordinator, suspects}
 use Rattle.rc_model.specs.Deciding.{decides}
-use Rattle.rc_model.specs.CoordinatorStep.{creates_table, is_too_many, creates, splits, coordinator_ticks, coordinator_takes}
+use Rattle.rc_model.specs.CoordinatorStep.{creates_table, is_too_many, creates, splits, coordinator_ticks}
+use Rattle.rc_model.specs.CoordinatorStep.{coordinator_takes}
 
 -- a stop and a start are for hosts, and do nothing here
 abbrev pub steps : Coordinator → Input → Coordinator × List Message

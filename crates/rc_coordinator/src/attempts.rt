@@ -1,6 +1,7 @@
 //! The attempts to recover crashed masters, with the answers of the backups and what was decided.
 
-ghost use Rattle.std.specs.Prelude.{◌≡◌, ◌+◌, ◌-◌, ◌^◌, ◌<◌, ◌++◌, ◌∷◌, [], nat_eq, if◌then◌else◌, length, slice_get, Some, OnOk, OnErr, IfErr};
+ghost use Rattle.std.specs.Prelude.{◌≡◌, ◌+◌, ◌-◌, ◌^◌, ◌<◌, ◌++◌, ◌∷◌, [], nat_eq, if◌then◌else◌, length, slice_get};
+ghost use Rattle.std.specs.Prelude.{Some, OnOk, OnErr, IfErr};
 ghost use Rattle.std.specs.Option.{option_copied};
 ghost use Rattle.rc_types.specs.declared.faults.Fault.TheVariants.{OutOfMemory};
 ghost use Rattle.rc_types.specs.declared.messages.Body.TheVariants.{Gather};
@@ -200,7 +201,8 @@ impl Recoveries {
 
     /// The attempt of this number.
     pub(crate) fn attempt(&self, number: u32) -> Option<&Attempt>
-        ensures { option_copied result ≡ (if nat_eq number 0 then None else slice_get self.now.attempts.items (number - 1)) }
+        ensures { option_copied result ≡ (if nat_eq number 0 then None else slice_get self.now.attempts.items
+            (number - 1)) }
     {
         match number {
             0 => None,
@@ -221,8 +223,10 @@ impl Recoveries {
     ) -> Result<(), Fault>
         requires { length self.old.attempts.items < 2 ^ 32 - 1 }
         ensures attempts { OnOk result (self.new.attempts.items ≡ self.old.attempts.items ++ new_attempt master ∷ []) }
-        ensures current { OnOk result (number_in self.new.current ≡ put_id (number_in self.old.current) master (length self.old.attempts.items + 1)) }
-        ensures sends { OnOk result (sent.new.items ≡ sent.old.items ++ (messages.items ++ to_each (up servers.now) (Gather (length self.old.attempts.items + 1) master))) }
+        ensures current { OnOk result (number_in self.new.current ≡ put_id (number_in self.old.current) master
+            (length self.old.attempts.items + 1)) }
+        ensures sends { OnOk result (sent.new.items ≡ sent.old.items ++
+            (messages.items ++ to_each (up servers.now) (Gather (length self.old.attempts.items + 1) master))) }
         ensures attempts_stay { OnErr result (self.new.attempts.items ≡ self.old.attempts.items) }
         ensures current_stays { OnErr result (self.new.current.entries ≡ self.old.current.entries) }
         ensures unsent { OnErr result (sent.new.items ≡ sent.old.items) }

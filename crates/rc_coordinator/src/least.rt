@@ -29,7 +29,8 @@ pub(crate) fn raise(
     master: ServerId,
     pair: Pair,
 ) -> Result<(), AllocError>
-    ensures ok { OnOk result (pair_in least.new ≡ put_id (pair_in least.old) master (greater_pair (pair_in least.old master) pair)) }
+    ensures ok { OnOk result (pair_in least.new ≡ put_id (pair_in least.old) master
+        (greater_pair (pair_in least.old master) pair)) }
     ensures err { OnErr result (least.new.entries ≡ least.old.entries) }
 {
     let greater = greater_pair(least_of(least, master), pair);

@@ -111,7 +111,8 @@ pub(crate) fn add_gathers(
     master: ServerId,
     messages: &mut Vec<Message>,
 ) -> Result<(), Fault>
-    ensures ok { OnOk result (messages.new.items ≡ messages.old.items ++ to_each (up servers.now) (Gather attempt master)) }
+    ensures ok { OnOk result (messages.new.items ≡ messages.old.items ++
+        to_each (up servers.now) (Gather attempt master)) }
     ensures no_memory { IfErr result (λ fault. fault ≡ OutOfMemory) }
 {
     for id in &servers.up(alloc)? {

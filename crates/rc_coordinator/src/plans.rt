@@ -80,7 +80,8 @@ fn plan_to(
     id: ServerId,
     parts: Vec<Part>,
 ) -> Result<Message, Fault>
-    ensures ok { IfOk result (λ message. message ≡ from_coordinator id (Planned number master plan.now.head plan.now.rows parts.items)) }
+    ensures ok { IfOk result (λ message. message ≡ from_coordinator id
+        (Planned number master plan.now.head plan.now.rows parts.items)) }
     ensures no_memory { IfErr result (λ fault. fault ≡ OutOfMemory) }
 {
     let rows = plan.rows.try_clone(alloc)?;

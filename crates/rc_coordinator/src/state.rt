@@ -1,6 +1,7 @@
 //! The coordinator's state, and what each input does to it.
 
-ghost use Rattle.std.specs.Prelude.{◌≡◌, ◌⊎◌, ◌+◌, ◌-◌, ◌^◌, ◌<◌, ◌≤◌, ◌++◌, ◌∷◌, [], length, find, nat_eq, nat_lt, not, true, ◌&&◌, filter, false, Some, None, IfOk, OnOk, OnErr, IfErr};
+ghost use Rattle.std.specs.Prelude.{◌≡◌, ◌⊎◌, ◌+◌, ◌-◌, ◌^◌, ◌<◌, ◌≤◌, ◌++◌, ◌∷◌, [], length, find, nat_eq, nat_lt};
+ghost use Rattle.std.specs.Prelude.{not, true, ◌&&◌, filter, false, Some, None, IfOk, OnOk, OnErr, IfErr};
 ghost use Rattle.std.specs.List.{list_any};
 ghost use Rattle.rc_types.specs.declared.faults.Fault.TheVariants.{OutOfMemory, Deposed, StaleGeneration};
 ghost use Rattle.rc_types.specs.declared.limits.TheConstants.{MAX_TABLETS as TABLETS};
@@ -8,9 +9,13 @@ ghost use Rattle.rc_model.specs.Messages.{coordinator_refuses};
 ghost use Rattle.rc_model.specs.ServerList.{is_up, has_crashed, up};
 ghost use Rattle.rc_model.specs.Tablets.{tablets_of, marked_crashed, has_table};
 ghost use Rattle.rc_model.specs.Attempts.{Attempt as Attempted, gives_parts};
-ghost use Rattle.rc_model.specs.Coordinator.{new_coordinator, enlists, notes_ready, commits_pair, suspects, begins_if_needed, spreads_then_begins, follows_generation, has_tablets, attempt_at, up_of_host};
-ghost use Rattle.rc_model.specs.Deciding.{keeps_answer, decides, decides_on, ready_ids, is_grant_to, part_of_sender, grants_part, takes_recovered};
-ghost use Rattle.rc_model.specs.CoordinatorStep.{creates, creates_table, splits, has_open_part, asks_again, asks_again_of, coordinator_ticks, coordinator_takes};
+ghost use Rattle.rc_model.specs.Coordinator.{new_coordinator, enlists, notes_ready, commits_pair, suspects};
+ghost use Rattle.rc_model.specs.Coordinator.{begins_if_needed, spreads_then_begins, follows_generation, has_tablets};
+ghost use Rattle.rc_model.specs.Coordinator.{attempt_at, up_of_host};
+ghost use Rattle.rc_model.specs.Deciding.{keeps_answer, decides, decides_on, ready_ids, is_grant_to, part_of_sender};
+ghost use Rattle.rc_model.specs.Deciding.{grants_part, takes_recovered};
+ghost use Rattle.rc_model.specs.CoordinatorStep.{creates, creates_table, splits, has_open_part, asks_again};
+ghost use Rattle.rc_model.specs.CoordinatorStep.{asks_again_of, coordinator_ticks, coordinator_takes};
 ghost use Rattle.rc_coordinator.specs.View.{book_of, state_view};
 ghost use Rattle.rc_coordinator.specs.Steps.{steps, creates_unless_full, HasNumbers};
 
@@ -86,7 +91,8 @@ impl<A: Allocator + Clone> State<A> {
     ) -> Result<(), Fault>
         requires { HasNumbers (state_view self.old) }
         ensures state { OnOk result (state_view self.new ≡ (coordinator_takes (state_view self.old) from body.now).0) }
-        ensures sends { OnOk result (sent.new.items ≡ sent.old.items ++ (coordinator_takes (state_view self.old) from body.now).1) }
+        ensures sends { OnOk result (sent.new.items ≡ sent.old.items ++
+            (coordinator_takes (state_view self.old) from body.now).1) }
         ensures err { OnErr result (book_of self.new ≡ book_of self.old) }
         ensures unsent { OnErr result (sent.new.items ≡ sent.old.items) }
         ensures no_memory { IfErr result (λ fault. fault ≡ OutOfMemory) }
@@ -148,8 +154,10 @@ impl<A: Allocator + Clone> State<A> {
 
     /// Takes a new list, and spreads it.
     fn spread(&mut self, servers: ServerList, sent: &mut Vec<Message>) -> Result<(), Fault>
-        ensures state { OnOk result (state_view self.new ≡ (follows_generation (record (state_view self.old) { servers = servers }) None).0) }
-        ensures sends { OnOk result (sent.new.items ≡ sent.old.items ++ (follows_generation (record (state_view self.old) { servers = servers }) None).1) }
+        ensures state { OnOk result
+            (state_view self.new ≡ (follows_generation (record (state_view self.old) { servers = servers }) None).0) }
+        ensures sends { OnOk result (sent.new.items ≡ sent.old.items ++
+            (follows_generation (record (state_view self.old) { servers = servers }) None).1) }
         ensures err { OnErr result (book_of self.new ≡ book_of self.old) }
         ensures unsent { OnErr result (sent.new.items ≡ sent.old.items) }
         ensures no_memory { IfErr result (λ fault. fault ≡ OutOfMemory) }
@@ -169,9 +177,11 @@ impl<A: Allocator + Clone> State<A> {
         sent: &mut Vec<Message>,
     ) -> Result<(), Fault>
         requires { HasNumbers (state_view self.old) }
-        ensures state { let after = record (state_view self.old) { servers = servers; tablets = marked_crashed gone (state_view self.old).tablets } in
+        ensures state { let after = record (state_view self.old)
+            { servers = servers; tablets = marked_crashed gone (state_view self.old).tablets } in
             OnOk result (state_view self.new ≡ (spreads_then_begins after gone).0) }
-        ensures sends { let after = record (state_view self.old) { servers = servers; tablets = marked_crashed gone (state_view self.old).tablets } in
+        ensures sends { let after = record (state_view self.old)
+            { servers = servers; tablets = marked_crashed gone (state_view self.old).tablets } in
             OnOk result (sent.new.items ≡ sent.old.items ++ (spreads_then_begins after gone).1) }
         ensures err { OnErr result (book_of self.new ≡ book_of self.old) }
         ensures unsent { OnErr result (sent.new.items ≡ sent.old.items) }
@@ -194,7 +204,8 @@ impl<A: Allocator + Clone> State<A> {
 
     /// Whether an attempt begins for this id under this list: it has crashed, and has tablets.
     fn begins(&self, servers: &ServerList, gone: ServerId) -> Result<bool, Fault>
-        ensures ok { IfOk result (λ begins. begins ≡ (has_crashed servers.now gone && has_tablets (state_view self.now) gone)) }
+        ensures ok { IfOk result (λ begins.
+            begins ≡ (has_crashed servers.now gone && has_tablets (state_view self.now) gone)) }
         ensures no_memory { IfErr result (λ fault. fault ≡ OutOfMemory) }
     {
         if !servers.has_crashed(gone) {
@@ -265,7 +276,8 @@ impl<A: Allocator + Clone> State<A> {
     /// Takes a Commit.
     fn commit(&mut self, id: ServerId, pair: Pair, sent: &mut Vec<Message>) -> Result<(), Fault>
         ensures state { OnOk result (state_view self.new ≡ (commits_pair (state_view self.old) id pair).0) }
-        ensures sends { OnOk result (sent.new.items ≡ sent.old.items ++ (commits_pair (state_view self.old) id pair).1) }
+        ensures sends { OnOk result (sent.new.items ≡ sent.old.items ++
+            (commits_pair (state_view self.old) id pair).1) }
         ensures err { OnErr result (book_of self.new ≡ book_of self.old) }
         ensures unsent { OnErr result (sent.new.items ≡ sent.old.items) }
         ensures no_memory { IfErr result (λ fault. fault ≡ OutOfMemory) }
@@ -331,12 +343,17 @@ impl<A: Allocator + Clone> State<A> {
     /// What a Decide comes to, or why it is refused.
     fn choose(&self, master: ServerId) -> Result<Choice, Fault>
         requires { HasNumbers (state_view self.now) }
-        ensures place { IfOk result (λ choice. (0 < choice.number) × (choice.number ≤ length (state_view self.now).attempts)) }
+        ensures place { IfOk result (λ choice. (0 < choice.number) ×
+            (choice.number ≤ length (state_view self.now).attempts)) }
         ensures few { IfOk result (λ choice. length choice.decision.parts ≤ length (state_view self.now).tablets) }
-        ensures master { IfOk result (λ choice. (attempt : Attempted) → attempt_at (state_view self.now) choice.number ≡ Some attempt → choice.master ≡ attempt.master) }
-        ensures chosen { IfOk result (λ choice. (attempt : Attempted) → attempt_at (state_view self.now) choice.number ≡ Some attempt →
-            decides (state_view self.now) master ≡ decides_on (state_view self.now) choice.number attempt choice.decision choice.ids.items) }
-        ensures refused { IfErr result (λ fault. (fault ≡ OutOfMemory) ⊎ (decides (state_view self.now) master ≡ (state_view self.now, coordinator_refuses fault ∷ []))) }
+        ensures master { IfOk result (λ choice. (attempt : Attempted) →
+            attempt_at (state_view self.now) choice.number ≡ Some attempt → choice.master ≡ attempt.master) }
+        ensures chosen { IfOk result (λ choice. (attempt : Attempted) →
+            attempt_at (state_view self.now) choice.number ≡ Some attempt →
+            decides (state_view self.now) master ≡ decides_on (state_view self.now) choice.number attempt
+            choice.decision choice.ids.items) }
+        ensures refused { IfErr result (λ fault. (fault ≡ OutOfMemory) ⊎
+            (decides (state_view self.now) master ≡ (state_view self.now, coordinator_refuses fault ∷ []))) }
     {
         let number = self.recoveries.current_number(master);
         let Some(attempt) = self.recoveries.attempt(number) else {
@@ -365,7 +382,8 @@ impl<A: Allocator + Clone> State<A> {
     fn parts(&self, master: ServerId, first: u32, ids: &[ServerId]) -> Result<Vec<GivenPart>, Fault>
         requires numbers { HasNumbers (state_view self.now) }
         requires someone { 0 < length ids.now }
-        ensures ok { IfOk result (λ parts. parts.items ≡ gives_parts ids.now first ((state_view self.now).last_term + 1) (tablets_of master (state_view self.now).tablets)) }
+        ensures ok { IfOk result (λ parts. parts.items ≡ gives_parts ids.now first
+            ((state_view self.now).last_term + 1) (tablets_of master (state_view self.now).tablets)) }
         ensures few { IfOk result (λ parts. length parts.items ≤ length (state_view self.now).tablets) }
         ensures no_memory { IfErr result (λ fault. fault ≡ OutOfMemory) }
     {
@@ -377,10 +395,13 @@ impl<A: Allocator + Clone> State<A> {
     fn decide_on(&mut self, choice: Choice, sent: &mut Vec<Message>) -> Result<(), Fault>
         requires place { (0 < choice.number) × (choice.number ≤ length (state_view self.old).attempts) }
         requires terms { (state_view self.old).last_term + length choice.decision.parts < 2 ^ 32 }
-        ensures state { OnOk result ((attempt : Attempted) → attempt_at (state_view self.old) choice.number ≡ Some attempt →
-            state_view self.new ≡ (decides_on (state_view self.old) choice.number attempt choice.decision choice.ids.items).0) }
+        ensures state { OnOk result ((attempt : Attempted) →
+            attempt_at (state_view self.old) choice.number ≡ Some attempt →
+            state_view self.new ≡ (decides_on (state_view self.old) choice.number attempt choice.decision
+            choice.ids.items).0) }
         ensures sends { OnOk result ((attempt : Attempted) → choice.master ≡ attempt.master →
-            sent.new.items ≡ sent.old.items ++ (decides_on (state_view self.old) choice.number attempt choice.decision choice.ids.items).1) }
+            sent.new.items ≡ sent.old.items ++
+            (decides_on (state_view self.old) choice.number attempt choice.decision choice.ids.items).1) }
         ensures err { OnErr result (book_of self.new ≡ book_of self.old) }
         ensures unsent { OnErr result (sent.new.items ≡ sent.old.items) }
         ensures no_memory { IfErr result (λ fault. fault ≡ OutOfMemory) }
@@ -430,7 +451,8 @@ impl<A: Allocator + Clone> State<A> {
         requires absent { has_table (state_view self.old).tablets table ≡ false }
         requires few { length (state_view self.old).tablets ≤ TABLETS }
         ensures state { OnOk result (state_view self.new ≡ (creates_unless_full (state_view self.old) table owner).0) }
-        ensures sends { OnOk result (sent.new.items ≡ sent.old.items ++ (creates_unless_full (state_view self.old) table owner).1) }
+        ensures sends { OnOk result (sent.new.items ≡ sent.old.items ++
+            (creates_unless_full (state_view self.old) table owner).1) }
         ensures err { OnErr result (book_of self.new ≡ book_of self.old) }
         ensures unsent { OnErr result (sent.new.items ≡ sent.old.items) }
         ensures no_memory { IfErr result (λ fault. fault ≡ OutOfMemory) }
@@ -489,7 +511,8 @@ impl<A: Allocator + Clone> State<A> {
         sent: &mut Vec<Message>,
     ) -> Result<(), Fault>
         ensures state { OnOk result (state_view self.new ≡ (takes_recovered (state_view self.old) id number term).0) }
-        ensures sends { OnOk result (sent.new.items ≡ sent.old.items ++ (takes_recovered (state_view self.old) id number term).1) }
+        ensures sends { OnOk result (sent.new.items ≡ sent.old.items ++
+            (takes_recovered (state_view self.old) id number term).1) }
         ensures err { OnErr result (book_of self.new ≡ book_of self.old) }
         ensures unsent { OnErr result (sent.new.items ≡ sent.old.items) }
         ensures no_memory { IfErr result (λ fault. fault ≡ OutOfMemory) }
@@ -529,7 +552,8 @@ impl<A: Allocator + Clone> State<A> {
         sent: &mut Vec<Message>,
     ) -> Result<(), Fault>
         ensures state { OnOk result (state_view self.new ≡ (grants_part (state_view self.old) id number part.now).0) }
-        ensures sends { OnOk result (sent.new.items ≡ sent.old.items ++ (grants_part (state_view self.old) id number part.now).1) }
+        ensures sends { OnOk result (sent.new.items ≡ sent.old.items ++
+            (grants_part (state_view self.old) id number part.now).1) }
         ensures err { OnErr result (book_of self.new ≡ book_of self.old) }
         ensures unsent { OnErr result (sent.new.items ≡ sent.old.items) }
         ensures no_memory { IfErr result (λ fault. fault ≡ OutOfMemory) }
@@ -566,7 +590,8 @@ impl<A: Allocator + Clone> State<A> {
     fn ask_all_again(&self, ids: &[ServerId], messages: &mut Vec<Message>) -> Result<(), Fault>
         requires numbers { HasNumbers (state_view self.now) }
         requires ids { ids.now ≡ up (state_view self.now).servers }
-        ensures ok { OnOk result (messages.new.items ≡ messages.old.items ++ asks_again_of (state_view self.now) 1 (state_view self.now).attempts) }
+        ensures ok { OnOk result (messages.new.items ≡ messages.old.items ++ asks_again_of (state_view self.now) 1
+            (state_view self.now).attempts) }
         ensures no_memory { IfErr result (λ fault. fault ≡ OutOfMemory) }
     {
         let mut number = 0;
@@ -588,7 +613,8 @@ impl<A: Allocator + Clone> State<A> {
         messages: &mut Vec<Message>,
     ) -> Result<(), Fault>
         requires { ids.now ≡ up (state_view self.now).servers }
-        ensures ok { OnOk result (messages.new.items ≡ messages.old.items ++ asks_again (state_view self.now) number attempt.now attempt.now.decided) }
+        ensures ok { OnOk result (messages.new.items ≡ messages.old.items ++ asks_again (state_view self.now) number
+            attempt.now attempt.now.decided) }
         ensures no_memory { IfErr result (λ fault. fault ≡ OutOfMemory) }
     {
         match attempt.decided() {
@@ -605,7 +631,8 @@ impl<A: Allocator + Clone> State<A> {
 
     /// Those of these ids that have a part whose term isn't granted.
     fn open_ids(&self, decision: &Decision, ids: &[ServerId]) -> Result<Vec<ServerId>, Fault>
-        ensures ok { IfOk result (λ those. those.items ≡ filter (has_open_part (state_view self.now) decision.now) ids.now) }
+        ensures ok { IfOk result (λ those. those.items ≡ filter (has_open_part (state_view self.now) decision.now)
+            ids.now) }
         ensures no_memory { IfErr result (λ fault. fault ≡ OutOfMemory) }
     {
         let mut open = Vec::new(self.alloc);

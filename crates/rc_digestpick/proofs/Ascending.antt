@@ -1,5 +1,6 @@
 -- `ascending` gives the one ascending list of the same numbers.
-use Rattle.std.proofs.Common.{◌≡◌, ℕ, zero, suc, ◌+◌, ◌<◌, ◌⊎◌, Bool, true, false, cond, eqb, List, [], ◌∷◌, get_or, refl, sym, inl, inr, ⊎_elim, subst, arith, nat_eq, nat_lt}
+use Rattle.std.proofs.Common.{◌≡◌, ℕ, zero, suc, ◌+◌, ◌<◌, ◌⊎◌, Bool, true, false, cond, eqb, List, [], ◌∷◌, get_or}
+use Rattle.std.proofs.Common.{refl, sym, inl, inr, ⊎_elim, subst, arith, nat_eq, nat_lt}
 use Rattle.std.specs.List.{Contains, dedup}
 use Rattle.std.specs.List.Sorted.{IsStrictlyIncreasing, IsSorted, IsPermutation}
 use Rattle.std.specs.Ordering.{nat_cmp}
@@ -50,7 +51,8 @@ IsAscending-insert_once n (m ∷ ms) up =
     either IsAscending (nat_lt n m) (n ∷ m ∷ ms) (cond (nat_eq n m) (m ∷ ms) (m ∷ insert_once n ms))
     (λ e. let less : n < m = ltb-true n m e in ((less, IsBelow-from_below n m ms less up.0), up)) (λ e.
     either IsAscending (nat_eq n m) (m ∷ ms) (m ∷ insert_once n ms) (λ _. up)
-    (λ ne. let less : m < n = omega (arith, ltb-false n m e, eqb-false n m ne) in (IsBelow-insert_once m n ms less up.0, IsAscending-insert_once n ms up.1)))
+    (λ ne. let less : m < n = omega (arith, ltb-false n m e, eqb-false n m ne) in
+    (IsBelow-insert_once m n ms less up.0, IsAscending-insert_once n ms up.1)))
 
 pub IsAscending-ascending : (ns : List ℕ) → IsAscending (ascending ns)
 IsAscending-ascending [] = tt
@@ -67,12 +69,14 @@ In-insert_once_old k n [] at = absurd at
 In-insert_once_old k n (m ∷ ms) at =
     either (In k) (nat_lt n m) (n ∷ m ∷ ms) (cond (nat_eq n m) (m ∷ ms) (m ∷ insert_once n ms)) (λ _. inr at) (λ _.
     either (In k) (nat_eq n m) (m ∷ ms) (m ∷ insert_once n ms) (λ _. at)
-    (λ _. let goal : Type 0 = In k (m ∷ insert_once n ms) in ⊎_elim {C = goal} (λ e. inl e) (λ rest. inr (In-insert_once_old k n ms rest)) at))
+    (λ _. let goal : Type 0 = In k (m ∷ insert_once n ms) in ⊎_elim {C = goal} (λ e. inl e)
+    (λ rest. inr (In-insert_once_old k n ms rest)) at))
 
 In-from_insert_once : (k n : ℕ) (ms : List ℕ) → In k (insert_once n ms) → (k ≡ n) ⊎ In k ms
 In-from_insert_once k n [] at = at
 In-from_insert_once k n (m ∷ ms) at =
-    either (λ ks. In k ks → (k ≡ n) ⊎ In k (m ∷ ms)) (nat_lt n m) (n ∷ m ∷ ms) (cond (nat_eq n m) (m ∷ ms) (m ∷ insert_once n ms)) (λ _ new. new) (λ _.
+    either (λ ks. In k ks → (k ≡ n) ⊎ In k (m ∷ ms)) (nat_lt n m) (n ∷ m ∷ ms)
+    (cond (nat_eq n m) (m ∷ ms) (m ∷ insert_once n ms)) (λ _ new. new) (λ _.
     either (λ ks. In k ks → (k ≡ n) ⊎ In k (m ∷ ms)) (nat_eq n m) (m ∷ ms) (m ∷ insert_once n ms) (λ _ old. inr old)
     (λ _ new. after (In-from_insert_once k n ms) new)) at
   where
@@ -103,13 +107,15 @@ tail_in : (n m : ℕ) (ns ms : List ℕ) → n ≡ m → IsBelow n ns → (k : �
 tail_in n m ns ms same below k at (inl e) = absurd (omega (arith, IsBelow-in n k ns below at))
 tail_in n m ns ms same below k at (inr rest) = rest
 
-pub same_from_in : (ns ms : List ℕ) → IsAscending ns → IsAscending ms → ((k : ℕ) → In k ns → In k ms) → ((k : ℕ) → In k ms → In k ns) → ns ≡ ms
+pub same_from_in : (ns ms : List ℕ) → IsAscending ns → IsAscending ms → ((k : ℕ) → In k ns → In k ms) →
+    ((k : ℕ) → In k ms → In k ns) → ns ≡ ms
 same_from_in [] [] up_n up_m to from = refl
 same_from_in [] (m ∷ ms) up_n up_m to from = absurd (from m (inl refl))
 same_from_in (n ∷ ns) [] up_n up_m to from = absurd (to n (inl refl))
 same_from_in (n ∷ ns) (m ∷ ms) up_n up_m to from =
     let heads : n ≡ m = first (to n (inl refl)) (from m (inl refl)) in
-    let tails : ns ≡ ms = same_from_in ns ms up_n.1 up_m.1 (λ k at. tail_in n m ns ms heads up_n.0 k at (to k (inr at))) (λ k at. tail_in m n ms ns (sym heads) up_m.0 k at (from k (inr at))) in
+    let tails : ns ≡ ms = same_from_in ns ms up_n.1 up_m.1 (λ k at. tail_in n m ns ms heads up_n.0 k at (to k (inr at)))
+    (λ k at. tail_in m n ms ns (sym heads) up_m.0 k at (from k (inr at))) in
     cc
   where
     first : In n (m ∷ ms) → In m (n ∷ ns) → n ≡ m
@@ -133,7 +139,9 @@ pub IsAscending-increasing : (ns : List ℕ) → IsStrictlyIncreasing ns → IsA
 IsAscending-increasing [] up = tt
 IsAscending-increasing (n ∷ []) up = (tt, tt)
 IsAscending-increasing (n ∷ m ∷ ms) up =
-    let rest : IsAscending (m ∷ ms) = IsAscending-increasing (m ∷ ms) (λ k inside. let further : suc k + 1 ≡ suc (k + 1) = omega arith in let next : get_or (m ∷ ms) k 0 < get_or (n ∷ m ∷ ms) (suc k + 1) 0 = up (suc k) (omega arith) in rw further at next) in
+    let rest : IsAscending (m ∷ ms) = IsAscending-increasing (m ∷ ms)
+    (λ k inside. let further : suc k + 1 ≡ suc (k + 1) = omega arith in let next : get_or (m ∷ ms) k 0 < get_or
+    (n ∷ m ∷ ms) (suc k + 1) 0 = up (suc k) (omega arith) in rw further at next) in
     let less : n < m = up 0 (omega arith) in
     ((less, IsBelow-from_below n m ms less rest.0), rest)
 
@@ -145,8 +153,15 @@ IsStrictlyIncreasing-ascending (n ∷ m ∷ ms) up (suc k) inside =
     let further : suc k + 1 ≡ suc (k + 1) = omega arith in rw further (IsStrictlyIncreasing-ascending (m ∷ ms) up.1 k (omega arith))
 
 -- what a sort and a `dedup` leave
-pub ascending-sorted : (digest sorted : List ℕ) → IsPermutation digest sorted → IsSorted nat_cmp sorted → dedup eqb sorted ≡ ascending digest
+pub ascending-sorted : (digest sorted : List ℕ) → IsPermutation digest sorted → IsSorted nat_cmp sorted →
+    dedup eqb sorted ≡ ascending digest
 ascending-sorted digest sorted moved up =
-    same_from_in (dedup eqb sorted) (ascending digest) (IsAscending-increasing (dedup eqb sorted) (IsStrictlyIncreasing-dedup sorted up)) (IsAscending-ascending digest)
-    (λ k at. In-ascending k digest (In-contains k digest (Contains-permutation sorted digest k (IsPermutation-sym digest sorted moved) (Contains-from_dedup eqb sorted k (Contains-in k (dedup eqb sorted) at)))))
-    (λ k at. In-contains k (dedup eqb sorted) (Contains-dedup_nat sorted k (Contains-permutation digest sorted k moved (Contains-in k digest (In-from_ascending k digest at)))))
+    same_from_in (dedup eqb sorted) (ascending digest)
+    (IsAscending-increasing (dedup eqb sorted) (IsStrictlyIncreasing-dedup sorted up))
+    (IsAscending-ascending digest)
+    (λ k at. In-ascending k digest
+    (In-contains k digest (Contains-permutation sorted digest k (IsPermutation-sym digest sorted moved)
+    (Contains-from_dedup eqb sorted k (Contains-in k (dedup eqb sorted) at)))))
+    (λ k at. In-contains k (dedup eqb sorted)
+    (Contains-dedup_nat sorted k
+    (Contains-permutation digest sorted k moved (Contains-in k digest (In-from_ascending k digest at)))))

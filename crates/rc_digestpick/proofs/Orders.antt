@@ -17,7 +17,8 @@ module _ (a b c : ℕ) where
   apart_down Rab Rba rest (inr p) (inl q) = omega (arith, p.0)
   apart_down Rab Rba rest (inr p) (inr q) = rest p.1 q.1
 
-  split_down : (Rac Rab Rbc : Type 0) → (Rac → Rab ⊎ Rbc) → (c < a) ⊎ ((a ≡ c) × Rac) → ((b < a) ⊎ ((a ≡ b) × Rab)) ⊎ ((c < b) ⊎ ((b ≡ c) × Rbc))
+  split_down : (Rac Rab Rbc : Type 0) → (Rac → Rab ⊎ Rbc) → (c < a) ⊎ ((a ≡ c) × Rac) →
+      ((b < a) ⊎ ((a ≡ b) × Rab)) ⊎ ((c < b) ⊎ ((b ≡ c) × Rbc))
   split_down Rac Rab Rbc rest (inl p) = at (cases_order a b)
     where
       at : (a ≡ b) ⊎ ((a < b) ⊎ (b < a)) → ((b < a) ⊎ ((a ≡ b) × Rab)) ⊎ ((c < b) ⊎ ((b ≡ c) × Rbc))
@@ -40,7 +41,8 @@ module _ (a b c : ℕ) where
   apart_up Rab Rba rest (inr p) (inl q) = omega (arith, p.0)
   apart_up Rab Rba rest (inr p) (inr q) = rest p.1 q.1
 
-  split_up : (Rac Rab Rbc : Type 0) → (Rac → Rab ⊎ Rbc) → (a < c) ⊎ ((a ≡ c) × Rac) → ((a < b) ⊎ ((a ≡ b) × Rab)) ⊎ ((b < c) ⊎ ((b ≡ c) × Rbc))
+  split_up : (Rac Rab Rbc : Type 0) → (Rac → Rab ⊎ Rbc) → (a < c) ⊎ ((a ≡ c) × Rac) →
+      ((a < b) ⊎ ((a ≡ b) × Rab)) ⊎ ((b < c) ⊎ ((b ≡ c) × Rbc))
   split_up Rac Rab Rbc rest (inl p) = at (cases_order a b)
     where
       at : (a ≡ b) ⊎ ((a < b) ⊎ (b < a)) → ((a < b) ⊎ ((a ≡ b) × Rab)) ⊎ ((b < c) ⊎ ((b ≡ c) × Rbc))
@@ -56,13 +58,15 @@ module _ (a b c : ℕ) where
       at (inr (inr g)) _ = inr (inl (omega (arith, g, p.0)))
 
 -- true first
-apart_flags : (a b : Bool) (Rab Rba : Type 0) → (Rab → Rba → ⊥) → ((a ≡ true) × (b ≡ false)) ⊎ ((a ≡ b) × Rab) → ((b ≡ true) × (a ≡ false)) ⊎ ((b ≡ a) × Rba) → ⊥
+apart_flags : (a b : Bool) (Rab Rba : Type 0) → (Rab → Rba → ⊥) → ((a ≡ true) × (b ≡ false)) ⊎ ((a ≡ b) × Rab) →
+    ((b ≡ true) × (a ≡ false)) ⊎ ((b ≡ a) × Rba) → ⊥
 apart_flags a b Rab Rba rest (inl p) (inl q) = cc
 apart_flags a b Rab Rba rest (inl p) (inr q) = cc
 apart_flags a b Rab Rba rest (inr p) (inl q) = cc
 apart_flags a b Rab Rba rest (inr p) (inr q) = rest p.1 q.1
 
-split_flags : (a b c : Bool) (Rac Rab Rbc : Type 0) → (Rac → Rab ⊎ Rbc) → ((a ≡ true) × (c ≡ false)) ⊎ ((a ≡ c) × Rac) → (((a ≡ true) × (b ≡ false)) ⊎ ((a ≡ b) × Rab)) ⊎ (((b ≡ true) × (c ≡ false)) ⊎ ((b ≡ c) × Rbc))
+split_flags : (a b c : Bool) (Rac Rab Rbc : Type 0) → (Rac → Rab ⊎ Rbc) → ((a ≡ true) × (c ≡ false)) ⊎ ((a ≡ c) × Rac) →
+    (((a ≡ true) × (b ≡ false)) ⊎ ((a ≡ b) × Rab)) ⊎ (((b ≡ true) × (c ≡ false)) ⊎ ((b ≡ c) × Rbc))
 split_flags a true c Rac Rab Rbc rest (inl p) = inr (inl (refl, p.1))
 split_flags a false c Rac Rab Rbc rest (inl p) = inl (inl (p.0, refl))
 split_flags a b c Rac Rab Rbc rest (inr p) = at a b p.0 (rest p.1)
@@ -79,7 +83,8 @@ apart_lower : (a b : ServerId) → IsLower a b → IsLower b a → ⊥
 apart_lower a b = apart_up a.index b.index 0 (a.generation < b.generation) (b.generation < a.generation) (λ p q. omega (arith, p, q))
 
 split_lower : (a b c : ServerId) → IsLower a c → IsLower a b ⊎ IsLower b c
-split_lower a b c = split_up a.index b.index c.index (a.generation < c.generation) (a.generation < b.generation) (b.generation < c.generation) at
+split_lower a b c = split_up a.index b.index c.index (a.generation < c.generation) (a.generation < b.generation)
+    (b.generation < c.generation) at
   where
     at : a.generation < c.generation → (a.generation < b.generation) ⊎ (b.generation < c.generation)
     at p = grind (arith, cases_order a.generation b.generation)
@@ -88,7 +93,8 @@ pub apart_longer : (a b : HeldRow) → IsLonger a b → IsLonger b a → ⊥
 apart_longer a b = apart_down a.row.epoch b.row.epoch 0 _ _ (apart_down a.row.len b.row.len 0 _ _ (apart_lower a.holder b.holder))
 
 pub split_longer : (a b c : HeldRow) → IsLonger a c → IsLonger a b ⊎ IsLonger b c
-split_longer a b c = split_down a.row.epoch b.row.epoch c.row.epoch _ _ _ (split_down a.row.len b.row.len c.row.len _ _ _ (split_lower a.holder b.holder c.holder))
+split_longer a b c = split_down a.row.epoch b.row.epoch c.row.epoch _ _ _
+    (split_down a.row.len b.row.len c.row.len _ _ _ (split_lower a.holder b.holder c.holder))
 
 pub apart_higher : (a b : HeldRow) → IsHigher a b → IsHigher b a → ⊥
 apart_higher a b = apart_down a.row.seg b.row.seg 0 _ _ (apart_longer a b)
@@ -103,7 +109,8 @@ pub split_better : (a b c : HeldRow) → IsBetter a c → IsBetter a b ⊎ IsBet
 split_better a b c = split_flags a.row.closed b.row.closed c.row.closed _ _ _ (split_longer a b c)
 
 tells_lower : (a b : ServerId) → Decides (id_before a b) (IsLower a b)
-tells_lower a b = Decides-or _ _ (Decides-ltb a.index b.index) (Decides-and _ _ (Decides-eqb a.index b.index) (Decides-ltb a.generation b.generation))
+tells_lower a b = Decides-or _ _ (Decides-ltb a.index b.index)
+    (Decides-and _ _ (Decides-eqb a.index b.index) (Decides-ltb a.generation b.generation))
 
 pub tells_longer : (a b : HeldRow) → Decides (longer_first a b) (IsLonger a b)
 tells_longer a b =
@@ -113,11 +120,24 @@ tells_longer a b =
 pub tells_higher : (a b : HeldRow) → Decides (head_first a b) (IsHigher a b)
 tells_higher a b = Decides-or _ _ (Decides-ltb b.row.seg a.row.seg) (Decides-and _ _ (Decides-eqb a.row.seg b.row.seg) (tells_longer a b))
 
-tells_flags : (x y r : Bool) (R : Type 0) → Decides r R → Decides ((x && not y) || (not (not x && y) && r)) (((x ≡ true) × (y ≡ false)) ⊎ ((x ≡ y) × R))
-tells_flags true true r R d = (λ t. inr (refl, d.0 t), λ s. ⊎_elim {C = r ≡ true} (λ (p : (true ≡ true) × (true ≡ false)). absurd (false≢true (sym p.1))) (λ (p : (true ≡ true) × R). d.1 p.1) s)
+tells_flags : (x y r : Bool) (R : Type 0) → Decides r R →
+    Decides ((x && not y) || (not (not x && y) && r)) (((x ≡ true) × (y ≡ false)) ⊎ ((x ≡ y) × R))
+tells_flags true true r R d = (
+  λ t. inr (refl, d.0 t),
+  λ s. ⊎_elim {C = r ≡ true} (λ (p : (true ≡ true) × (true ≡ false)).
+      absurd (false≢true (sym p.1))) (λ (p : (true ≡ true) × R). d.1 p.1) s,
+)
 tells_flags true false r R d = (λ _. inl (refl, refl), λ _. refl)
-tells_flags false true r R d = (λ t. absurd (false≢true t), λ s. ⊎_elim {C = false ≡ true} (λ (p : (false ≡ true) × (true ≡ false)). p.0) (λ (p : (false ≡ true) × R). p.0) s)
-tells_flags false false r R d = (λ t. inr (refl, d.0 t), λ s. ⊎_elim {C = r ≡ true} (λ (p : (false ≡ true) × (false ≡ false)). absurd (false≢true p.0)) (λ (p : (false ≡ false) × R). d.1 p.1) s)
+tells_flags false true r R d = (
+  λ t. absurd (false≢true t),
+  λ s. ⊎_elim {C = false ≡ true} (λ (p : (false ≡ true) × (true ≡ false)). p.0)
+      (λ (p : (false ≡ true) × R). p.0) s,
+)
+tells_flags false false r R d = (
+  λ t. inr (refl, d.0 t),
+  λ s. ⊎_elim {C = r ≡ true} (λ (p : (false ≡ true) × (false ≡ false)).
+      absurd (false≢true p.0)) (λ (p : (false ≡ false) × R). d.1 p.1) s,
+)
 
 pub tells_better : (a b : HeldRow) → Decides (closed_first a b) (IsBetter a b)
 tells_better a b = tells_flags a.row.closed b.row.closed (longer_first a b) (IsLonger a b) (tells_longer a b)

@@ -10,7 +10,9 @@ IsLower a b = (a.index < b.index) ⊎ ((a.index ≡ b.index) × (a.generation < 
 -- the greater epoch, then the greater length, then the lower holder
 abbrev pub IsLonger : HeldRow → HeldRow → Type 0
 IsLonger a b =
-    (b.row.epoch < a.row.epoch) ⊎ ((a.row.epoch ≡ b.row.epoch) × ((b.row.len < a.row.len) ⊎ ((a.row.len ≡ b.row.len) × IsLower a.holder b.holder)))
+    (b.row.epoch < a.row.epoch) ⊎
+    ((a.row.epoch ≡ b.row.epoch) ×
+    ((b.row.len < a.row.len) ⊎ ((a.row.len ≡ b.row.len) × IsLower a.holder b.holder)))
 
 -- the greater segment, and in one segment as above
 abbrev pub IsHigher : HeldRow → HeldRow → Type 0

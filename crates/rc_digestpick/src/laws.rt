@@ -2,7 +2,10 @@
 
 ghost use Rattle.rc_model.specs.Pick.{longer_first, head_first, closed_first};
 ghost use Rattle.rc_digestpick.specs.Orders.{IsLonger, IsHigher, IsBetter};
-ghost use Rattle.rc_digestpick.specs.Meaning.{PickableIsPicked, OnePlanIsPickable, RowsAreOfSegments, AscendingIncreases, AscendingListsTheSame, HeadIsMissing, SegmentIsMissing, Tells, FirstByIsFirst, FirstByOfNone, HeadRowIsFirst, RowOfIsFirst};
+ghost use Rattle.rc_digestpick.specs.Meaning.{PickableIsPicked, OnePlanIsPickable, RowsAreOfSegments};
+ghost use Rattle.rc_digestpick.specs.Meaning.{AscendingIncreases, AscendingListsTheSame, HeadIsMissing};
+ghost use Rattle.rc_digestpick.specs.Meaning.{SegmentIsMissing, Tells, FirstByIsFirst, FirstByOfNone, HeadRowIsFirst};
+ghost use Rattle.rc_digestpick.specs.Meaning.{RowOfIsFirst};
 
 /// A plan is pickable exactly where it is the one that is picked, so at most one is.
 pub fn one_plan_is_picked()

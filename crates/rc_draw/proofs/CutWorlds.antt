@@ -29,18 +29,21 @@ passes_step old new event room still cannot =
 pub replay_more : (start now next : World) (events : List Event) (i : ℕ) (event : Event) → i < length events → event ≡ get_or events i event
     → now ≡ replay_from start (take i events) → next ≡ step now event → next ≡ replay_from start (take (i + 1) events)
 replay_more start now next events i event below is so_far made =
-    let longer : take (i + 1) events ≡ take i events ++ event ∷ [] = take_more events i event below ∙ ap (λ (e : Event). take i events ++ e ∷ []) (sym is) in
+    let longer : take (i + 1) events ≡ take i events ++ event ∷ [] =
+    take_more events i event below ∙ ap (λ (e : Event). take i events ++ e ∷ []) (sym is) in
     made ∙ ap (λ (w : World). step w event) so_far ∙ sym (replay_from-push start (take i events) event)
     ∙ ap (λ (es : List Event). replay_from start es) (sym longer)
 
 -- all of them
-pub replay_all : (start now : World) (events : List Event) (i : ℕ) → length events ≤ i → now ≡ replay_from start (take i events) → now ≡ replay_from start events
+pub replay_all : (start now : World) (events : List Event) (i : ℕ) → length events ≤ i →
+    now ≡ replay_from start (take i events) → now ≡ replay_from start events
 replay_all start now events i all so_far = so_far ∙ ap (λ (es : List Event). replay_from start es) (take_all i events all)
 
 -- the events, and what follows
 pub cut_after : (keeping : Keeping) (events : List Event) (setup : Setup) (start before seen after : Happened) (scene : List ScenarioEvent)
     → setup ≡ drawing_setup false → start ≡ opened setup → replayed before ≡ replay_from (replayed start) events → seen ≡ before
-    → scene ≡ cut_scene keeping (replayed seen) → replayed after ≡ played (replayed before) scene → replayed after ≡ cut_world keeping events
+    → scene ≡ cut_scene keeping (replayed seen) → replayed after ≡ played (replayed before) scene →
+    replayed after ≡ cut_world keeping events
 unfolding cut_world
 cut_after keeping events setup start before seen after scene setup_is begins replays same made ran =
     let world : replayed before ≡ replay_from (opening (drawing_setup false)) events =

@@ -26,7 +26,8 @@ from_more : (left number : ℕ) (g : Lcg) (world : World)
 unfolding drawn_from
 from_more left number g world = ap (λ n. drawn_from n number g world) (add-one left)
 
-pub steps_begin : (steps : ℕ) (g start : Lcg) (world : World) → g ≡ start → drawn_from (steps - 0) 0 g world ≡ drawn_from steps 0 start world
+pub steps_begin : (steps : ℕ) (g start : Lcg) (world : World) → g ≡ start →
+    drawn_from (steps - 0) 0 g world ≡ drawn_from steps 0 start world
 steps_begin steps g start world same =
     let all : steps - 0 ≡ steps = omega arith in
     ap (λ n. drawn_from n 0 g world) all ∙ ap (λ h. drawn_from steps 0 h world) same
@@ -47,7 +48,8 @@ steps_go_on steps number g after words world next end below words_are rest made 
     step_made (steps - (number + 1)) number g after words world next words_are rest made
     ∙ ap (λ n. drawn_from n number g world) one ∙ left
 
-pub steps_end : (steps number : ℕ) (g : Lcg) (world end : World) → steps ≤ number → drawn_from (steps - number) number g world ≡ end → world ≡ end
+pub steps_end : (steps number : ℕ) (g : Lcg) (world end : World) → steps ≤ number →
+    drawn_from (steps - number) number g world ≡ end → world ≡ end
 steps_end steps number g world end all left =
     let none : steps - number ≡ 0 = omega arith in
     sym (from_none number g world) ∙ ap (λ n. drawn_from n number g world) (sym none) ∙ left

@@ -17,11 +17,12 @@ BeginningDoesNotStop = (free : Bool) → (run_from MAX_EVENTS 0 (opening (drawin
 abbrev pub BeginningHas52Events : Type 0
 BeginningHas52Events = (seed : ℕ) (free : Bool) → length (drawn seed 0 free) ≡ 52
 
--- the first seven steps of seed 1: a write of key 3 of value 0 to the first server of host 0, four deliveries, the timer
--- of the first server of host 4, and a delivery
+-- the first seven steps of seed 1: a write of key 3 of value 0 to the first server of host 0, four deliveries, the
+-- timer of the first server of host 4, and a delivery
 abbrev pub first_steps : List Event
 first_steps =
-    Ask (record { index = 0; generation = 1 }) (Write 1 3 (Some (48 ∷ []))) ∷ Deliver 35 ∷ Deliver 31 ∷ Deliver 20 ∷ Deliver 28
+    Ask (record { index = 0; generation = 1 }) (Write 1 3 (Some (48 ∷ []))) ∷ Deliver 35 ∷ Deliver 31 ∷ Deliver
+    20 ∷ Deliver 28
     ∷ Tick (Server (record { index = 4; generation = 1 })) ∷ Deliver 30 ∷ []
 
 abbrev pub SeedOneBeginsSo : Type 0

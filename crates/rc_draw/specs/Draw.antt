@@ -1,6 +1,7 @@
 -- Drawn events. After a beginning, each step takes three words, which choose an event; one that can't happen is passed
 -- over.
-use Rattle.std.specs.Prelude.{ℕ, zero, suc, ◌+◌, ◌%◌, Bool, nat_eq, nat_lt, if◌then◌else◌, List, [], ◌∷◌, length, Option, Some, None}
+use Rattle.std.specs.Prelude.{ℕ, zero, suc, ◌+◌, ◌%◌, Bool, nat_eq, nat_lt, if◌then◌else◌, List, [], ◌∷◌, length}
+use Rattle.std.specs.Prelude.{Option, Some, None}
 use Rattle.std.specs.Fmt.{decimal}
 use Rattle.rand_pcg.specs.Lcg.{Lcg}
 use Rattle.rc_types.specs.declared.ids.ServerId.{ServerId}
@@ -52,7 +53,8 @@ begun free = played (opening (drawing_setup free)) beginning
 abbrev pub choice_of : ℕ → Choice
 choice_of n =
     if nat_lt n 70 then choice.Deliver else (if nat_lt n 80 then choice.Write else (if nat_lt n 90 then choice.Tick
-    else (if nat_lt n 93 then choice.TickCoordinator else (if nat_lt n 94 then choice.Stop else (if nat_lt n 96 then choice.Start
+    else (if nat_lt n 93 then choice.TickCoordinator
+    else (if nat_lt n 94 then choice.Stop else (if nat_lt n 96 then choice.Start
     else (if nat_lt n 97 then choice.Suspect else choice.Decide))))))
 
 -- one of so many messages
@@ -109,7 +111,8 @@ drawn_step world number words = tried_if_any world (event_of world number words)
 -- so many steps from this number on
 unfoldable pub drawn_from : ℕ → ℕ → Lcg → World → World
 drawn_from zero number g world = world
-drawn_from (suc left) number g world = drawn_from left (number + 1) (after_words g) (drawn_step world number (next_words g))
+drawn_from (suc left) number g world =
+    drawn_from left (number + 1) (after_words g) (drawn_step world number (next_words g))
 
 -- the world after the steps, and all events that have happened in it
 unfoldable pub drawn_world : ℕ → ℕ → Bool → World

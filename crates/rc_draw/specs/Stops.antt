@@ -1,6 +1,7 @@
--- Power failure after each event of a drawing: all servers stop, all hosts start again with what they have kept, and all
--- crashed servers are recovered as far as that goes.
-use Rattle.std.specs.Prelude.{ℕ, zero, suc, ◌+◌, ◌%◌, false, nat_eq, if◌then◌else◌, List, [], ◌∷◌, ◌++◌, take, filter, is_some}
+-- Power failure after each event of a drawing: all servers stop, all hosts start again with what they have kept, and
+-- all crashed servers are recovered as far as that goes.
+use Rattle.std.specs.Prelude.{ℕ, zero, suc, ◌+◌, ◌%◌, false, nat_eq, if◌then◌else◌, List, [], ◌∷◌, ◌++◌, take}
+use Rattle.std.specs.Prelude.{filter, is_some}
 use Rattle.rc_types.specs.declared.ids.ServerId.{ServerId}
 use Rattle.rc_types.specs.declared.ids.Addr.TheVariants.{Server, Coordinator}
 use Rattle.rc_types.specs.declared.events.Event.{Event}
@@ -28,7 +29,8 @@ gathered part (suc n) = gathered part n ++ part n
 -- the newest server of the host stops, where it runs
 abbrev pub stop_of : World → ℕ → List ScenarioEvent
 stop_of world host =
-    if is_running_at (world.hosts host) (Server (newest_server world host)) then Stop (newest_server world host) ∷ [] else []
+    if is_running_at (world.hosts host) (Server (newest_server world host)) then Stop (newest_server world host) ∷ []
+    else []
 
 -- the host starts, where it was ever started
 abbrev pub start_of : Keeping → World → ℕ → List ScenarioEvent
@@ -62,7 +64,8 @@ breaks world = if is_some (breach world.sent) then 1 else 0
 
 -- in how many ways a power failure after these events leads to a breach
 unfoldable pub breaches_at : List Event → ℕ
-breaches_at events = breaks (cut_world All events) + breaks (cut_world OddSegments events) + breaks (cut_world Nothing events)
+breaches_at events = breaks (cut_world All events) + breaks (cut_world OddSegments events) + breaks
+    (cut_world Nothing events)
 
 -- the same of a power failure after each of the first so many events
 unfoldable pub breaches_below : List Event → ℕ → ℕ

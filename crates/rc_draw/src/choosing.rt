@@ -4,7 +4,8 @@ ghost use Rattle.std.specs.Prelude.{◌≡◌, ◌<◌, ◌+◌, ◌%◌, Some, 
 ghost use Rattle.rc_types.specs.declared.faults.Fault.TheVariants.{OutOfMemory};
 ghost use Rattle.rc_reading.specs.Scenario.{core_event};
 ghost use Rattle.rc_world.specs.Happened.{replayed};
-ghost use Rattle.rc_draw.specs.Draw.{choice_of, delivery_of, write_of, start_of, decision_of, event_of, chosen, newest_server};
+ghost use Rattle.rc_draw.specs.Draw.{choice_of, delivery_of, write_of, start_of, decision_of, event_of, chosen};
+ghost use Rattle.rc_draw.specs.Draw.{newest_server};
 
 use crate::words::Words;
 use rc_reading::ScenarioEvent;
@@ -56,7 +57,8 @@ pub(crate) fn event_of(
     number: usize,
     words: Words,
 ) -> Result<Option<ScenarioEvent>, Fault>
-    ensures ok { IfOk result (λ event. option_map core_event event ≡ option_map Some (event_of (replayed world.now) number words)) }
+    ensures ok { IfOk result (λ event. option_map core_event event ≡ option_map Some
+        (event_of (replayed world.now) number words)) }
     ensures no_memory { IfErr result (λ fault. fault ≡ OutOfMemory) }
 {
     let host = (words.target % HOSTS as u32) as u8;
@@ -77,7 +79,8 @@ fn chosen(
     choice: Choice,
     words: Words,
 ) -> Result<Option<ScenarioEvent>, Fault>
-    ensures ok { IfOk result (λ event. option_map core_event event ≡ option_map Some (chosen (replayed world.now) number id choice words)) }
+    ensures ok { IfOk result (λ event. option_map core_event event ≡ option_map Some
+        (chosen (replayed world.now) number id choice words)) }
     ensures no_memory { IfErr result (λ fault. fault ≡ OutOfMemory) }
 {
     Ok(match choice {

@@ -29,7 +29,8 @@ use std::alloc::Global;
 /// `OutOfMemory` (F1): memory was refused.
 pub fn stops(alloc: Global, seed: u64, steps: usize) -> Result<(usize, usize), Fault>
     ensures cuts { IfOk result (λ numbers. numbers.0 ≡ 3 * length (drawn seed steps false)) }
-    ensures breaches { IfOk result (λ numbers. numbers.1 ≡ breaches_below (drawn seed steps false) (length (drawn seed steps false))) }
+    ensures breaches { IfOk result (λ numbers. numbers.1 ≡ breaches_below (drawn seed steps false)
+        (length (drawn seed steps false))) }
     ensures none { IfOk result (λ numbers. numbers.1 ≡ 0) }
     ensures no_memory { IfErr result (λ fault. fault ≡ OutOfMemory) }
 {

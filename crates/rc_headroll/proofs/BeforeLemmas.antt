@@ -1,16 +1,20 @@
 -- What a log goes back to: from now on, and whatever is done with the log.
-use Rattle.std.proofs.Common.{◌≡◌, ◌⊎◌, ⊎_elim, inl, inr, ℕ, ◌+◌, ◌-◌, ◌<◌, ◌≤◌, Bool, true, false, cond, eqb, ltb, leb, List, length, get_or, take, Option, Some, None, refl, ap, sym, ◌∙◌, arith, is_some, slice_get, option_map}
+use Rattle.std.proofs.Common.{◌≡◌, ◌⊎◌, ⊎_elim, inl, inr, ℕ, ◌+◌, ◌-◌, ◌<◌, ◌≤◌, Bool, true, false, cond, eqb, ltb}
+use Rattle.std.proofs.Common.{leb, List, length, get_or, take, Option, Some, None, refl, ap, sym, ◌∙◌, arith, is_some}
+use Rattle.std.proofs.Common.{slice_get, option_map}
 use Rattle.std.proofs.Math.Path.{fun_ext}
 use Rattle.std.proofs.Math.Seq.{take-length}
 use Rattle.std.proofs.lemmas.Option.{slice_get-get_or}
-use Rattle.std.proofs.lemmas.Bool.{cond-true, cond-false, cond_both, cases_eq, eq-eqb, ne_eqb, and_parts, ltb-true, leb-true, lt-ltb, le-ltb, false≢true}
+use Rattle.std.proofs.lemmas.Bool.{cond-true, cond-false, cond_both, cases_eq, eq-eqb, ne_eqb, and_parts, ltb-true}
+use Rattle.std.proofs.lemmas.Bool.{leb-true, lt-ltb, le-ltb, false≢true}
 use Rattle.std.proofs.lemmas.Bool.Decides.{nat_tests}
 use Rattle.rc_types.specs.declared.kept.Phase.{Phase}
 use Rattle.rc_model.specs.Tables.{put}
 use Rattle.rc_model.specs.Segment.{Segment, no_segment}
 use Rattle.rc_headroll.specs.declared.state.SegmentState.{SegmentState}
 use Rattle.rc_headroll.specs.LogData.{segment_at}
-use Rattle.rc_headroll.specs.Before.{Mark, mark_of, state_at, state_of, with_state, as_it_was, kept_of, kept_len, was_there, segments_before, IsKept, CanGoBack}
+use Rattle.rc_headroll.specs.Before.{Mark, mark_of, state_at, state_of, with_state, as_it_was, kept_of, kept_len}
+use Rattle.rc_headroll.specs.Before.{was_there, segments_before, IsKept, CanGoBack}
 use Rattle.rc_headroll.proofs.SegmentTables.{put-other, put_each, segment_at-zero, segment_at-past, segment_at-within}
 
 -- Segments as they were
@@ -38,7 +42,8 @@ extends_from x old y e entries digest =
       beginning = λ n within. ap (take n) same;
     }
 
-with_state-same : (s : SegmentState) (x y : Segment) → x.digest ≡ y.digest → take s.len x.entries ≡ take s.len y.entries → with_state s x ≡ with_state s y
+with_state-same : (s : SegmentState) (x y : Segment) → x.digest ≡ y.digest →
+    take s.len x.entries ≡ take s.len y.entries → with_state s x ≡ with_state s y
 with_state-same s x y digest entries j = record {
   digest = digest j;
   entries = entries j;
@@ -49,7 +54,8 @@ with_state-same s x y digest entries j = record {
   freed = s.freed;
 }
 
-as_it_was-same : (kept : Option SegmentState) (x old : Segment) → is_some kept ≡ true → Extends x old → kept_len kept ≤ length old.entries → as_it_was kept x ≡ as_it_was kept old
+as_it_was-same : (kept : Option SegmentState) (x old : Segment) → is_some kept ≡ true → Extends x old →
+    kept_len kept ≤ length old.entries → as_it_was kept x ≡ as_it_was kept old
 as_it_was-same None x old there more fits = absurd (false≢true there)
 as_it_was-same (Some s) x old there more fits = with_state-same s x old more.digest (more.beginning s.len fits)
 
@@ -60,7 +66,8 @@ was_there-parts mark seg e =
 
 -- One segment is changed that was kept, or that is newer
 
-pub before-put : (mark : Mark) (t : ℕ → Segment) (k : ℕ) (x : Segment) → IsKept mark k → Extends x (t k) → kept_len (kept_of mark k) ≤ length (t k).entries →
+pub before-put : (mark : Mark) (t : ℕ → Segment) (k : ℕ) (x : Segment) → IsKept mark k → Extends x (t k) →
+    kept_len (kept_of mark k) ≤ length (t k).entries →
     segments_before mark (put t k x) ≡ segments_before mark t
 unfolding segments_before
 before-put mark t k x kept more fits = fun_ext (λ o.
@@ -68,14 +75,16 @@ before-put mark t k x kept more fits = fun_ext (λ o.
     put_each (λ o s. o ≤ mark.head → as_it_was (kept_of mark o) s ≡ as_it_was (kept_of mark o) (t o)) t k x
     (λ within. as_it_was-same (kept_of mark k) x (t k) (kept within) more fits) (λ o within. refl) o (was_there-parts mark o there).1))
 
-pub before-new : (mark : Mark) (t : ℕ → Segment) (k : ℕ) (x : Segment) → mark.head < k → segments_before mark (put t k x) ≡ segments_before mark t
+pub before-new : (mark : Mark) (t : ℕ → Segment) (k : ℕ) (x : Segment) → mark.head < k →
+    segments_before mark (put t k x) ≡ segments_before mark t
 unfolding segments_before
 before-new mark t k x newer = fun_ext (λ o.
     only_if (was_there mark o) (as_it_was (kept_of mark o) (put t k x o)) (as_it_was (kept_of mark o) (t o)) (no_segment o) (λ there.
     let within : o ≤ mark.head = (was_there-parts mark o there).1 in
     ap (as_it_was (kept_of mark o)) (put-other t k x o (λ (same : k ≡ o). omega arith))))
 
-pub back-put : (mark : Mark) (head head' : ℕ) (t : ℕ → Segment) (k : ℕ) (x : Segment) → CanGoBack mark head t → head ≤ head' → length (t k).entries ≤ length x.entries →
+pub back-put : (mark : Mark) (head head' : ℕ) (t : ℕ → Segment) (k : ℕ) (x : Segment) → CanGoBack mark head t →
+    head ≤ head' → length (t k).entries ≤ length x.entries →
     CanGoBack mark head' (put t k x)
 back-put mark head head' t k x back grows longer = record {
   known = omega (arith, back.known);
@@ -86,18 +95,22 @@ back-put mark head head' t k x back grows longer = record {
 -- From now on
 
 -- how a segment of the log is
-state_at-is : (segments : List Segment) (back o : ℕ) → 0 < o → 0 < back → o + back ≡ length segments + 1 → state_at segments back ≡ Some (state_of (segment_at segments o))
+state_at-is : (segments : List Segment) (back o : ℕ) → 0 < o → 0 < back → o + back ≡ length segments + 1 →
+    state_at segments back ≡ Some (state_of (segment_at segments o))
 state_at-is segments back o above some e =
     let inside : length segments - back < length segments = omega arith in
     let x : Segment = segment_at segments o in
-    let read : x ≡ get_or segments (length segments - back) x = segment_at-within segments o (length segments - back) x (omega arith) inside in
-    cond-false (ltb (length segments) back) None (option_map state_of (slice_get segments (length segments - back))) (le-ltb (length segments) back (omega arith))
+    let read : x ≡ get_or segments (length segments - back) x =
+    segment_at-within segments o (length segments - back) x (omega arith) inside in
+    cond-false (ltb (length segments) back) None (option_map state_of (slice_get segments (length segments - back)))
+    (le-ltb (length segments) back (omega arith))
     ∙ ap (option_map state_of) (slice_get-get_or segments (length segments - back) x inside)
     ∙ ap (λ (s : Segment). Some (state_of s)) (sym read)
 
 state_at-none : (segments : List Segment) (back : ℕ) → length segments < back → state_at segments back ≡ None
 state_at-none segments back few =
-    cond-true (ltb (length segments) back) None (option_map state_of (slice_get segments (length segments - back))) (lt-ltb (length segments) back few)
+    cond-true (ltb (length segments) back) None (option_map state_of (slice_get segments (length segments - back)))
+    (lt-ltb (length segments) back few)
 
 module _ (segments : List Segment) (phase : Phase) (durable passed passed_entries : ℕ) where
   now : Mark
@@ -110,7 +123,8 @@ module _ (segments : List Segment) (phase : Phase) (durable passed passed_entrie
   kept-previous : (o : ℕ) → o + 1 ≡ length segments → kept_of now o ≡ state_at segments 2
   unfolding now
   kept-previous o is =
-      cond-false (eqb o (length segments)) (state_at segments 1) _ (ne_eqb o (length segments) (λ (same : o ≡ length segments). omega arith))
+      cond-false (eqb o (length segments)) (state_at segments 1) _
+      (ne_eqb o (length segments) (λ (same : o ≡ length segments). omega arith))
       ∙ cond-true (eqb (o + 1) (length segments)) (state_at segments 2) None (eq-eqb (o + 1) (length segments) is)
 
   kept-other : (o : ℕ) → (o ≡ length segments → ⊥) → (o + 1 ≡ length segments → ⊥) → kept_of now o ≡ None
@@ -135,7 +149,8 @@ module _ (segments : List Segment) (phase : Phase) (durable passed passed_entrie
       (λ (some : o ≡ 0 → ⊥). inr (kept-last o (omega (arith, some)) (omega arith) (omega arith)))
       (cases_eq o 0))
       (λ (older : o ≡ length segments → ⊥). ⊎_elim {C = (kept_of now o ≡ None) ⊎ (kept_of now o ≡ Some (state_of (segment_at segments o)))}
-      (λ (previous : o + 1 ≡ length segments). ⊎_elim {C = (kept_of now o ≡ None) ⊎ (kept_of now o ≡ Some (state_of (segment_at segments o)))}
+      (λ (previous : o + 1 ≡ length segments).
+      ⊎_elim {C = (kept_of now o ≡ None) ⊎ (kept_of now o ≡ Some (state_of (segment_at segments o)))}
       (λ (none : o ≡ 0). inl (kept-previous o previous ∙ state_at-none segments 2 (omega arith)))
       (λ (some : o ≡ 0 → ⊥). inr (kept-last o (omega (arith, some)) (omega arith) (omega arith)))
       (cases_eq o 0))
@@ -146,7 +161,8 @@ module _ (segments : List Segment) (phase : Phase) (durable passed passed_entrie
   -- as it is now
   pub begin-before : segments_before (mark_of segments phase durable passed passed_entries) (segment_at segments) ≡ segment_at segments
   unfolding segments_before now
-  begin-before = fun_ext (λ o. cond_both (was_there now o) (as_it_was (kept_of now o) (segment_at segments o)) (no_segment o) (λ s. s ≡ segment_at segments o)
+  begin-before = fun_ext (λ o. cond_both (was_there now o) (as_it_was (kept_of now o) (segment_at segments o))
+      (no_segment o) (λ s. s ≡ segment_at segments o)
       (λ there. ⊎_elim {C = as_it_was (kept_of now o) (segment_at segments o) ≡ segment_at segments o}
       (λ (none : kept_of now o ≡ None). ap (λ (kept : Option SegmentState). as_it_was kept (segment_at segments o)) none)
       (λ (some : kept_of now o ≡ Some (state_of (segment_at segments o))).

@@ -1,5 +1,6 @@
 -- A segment that the list doesn't concern.
-use Rattle.std.proofs.Common.{◌≡◌, ℕ, ◌+◌, suc, Bool, true, false, cond, ◌||◌, eqb, List, [], ◌∷◌, ◌++◌, map, filter, Some, Result, Ok, refl, ap, sym, ◌∙◌, arith}
+use Rattle.std.proofs.Common.{◌≡◌, ℕ, ◌+◌, suc, Bool, true, false, cond, ◌||◌, eqb, List, [], ◌∷◌, ◌++◌, map, filter}
+use Rattle.std.proofs.Common.{Some, Result, Ok, refl, ap, sym, ◌∙◌, arith}
 use Rattle.std.specs.List.{list_any}
 use Rattle.std.proofs.Math.Path.{fun_ext}
 use Rattle.std.proofs.lemmas.List.{append-nil}
@@ -10,7 +11,8 @@ use Rattle.rc_types.specs.declared.kept.Member.{Member}
 use Rattle.rc_types.specs.declared.faults.Fault.{Fault}
 use Rattle.rc_model.specs.Tables.{put}
 use Rattle.rc_model.specs.ServerList.{ServerList, has_crashed}
-use Rattle.rc_model.specs.Config.{Config, any_lost, lost_if_crashed, with_lost, staying, substitutes, substitutes_for, replaced, candidates, changes_to, refills_with, lose, refill}
+use Rattle.rc_model.specs.Config.{Config, any_lost, lost_if_crashed, with_lost, staying, substitutes, substitutes_for}
+use Rattle.rc_model.specs.Config.{replaced, candidates, changes_to, refills_with, lose, refill}
 use Rattle.rc_model.specs.Segment.{Segment}
 use Rattle.rc_model.specs.Log.{Log, numbers_to}
 use Rattle.rc_model.specs.Heads.{with_config, refills, opens_change, loses}
@@ -24,19 +26,24 @@ is_bad : ServerList → Member → Bool
 is_bad servers member = member.lost || has_crashed servers member.id
 
 -- where no member is lost or crashed, marking the crashed ones changes nothing
-marked-same : (servers : ServerList) (members : List Member) → list_any (λ member. member.lost || has_crashed servers member.id) members ≡ false →
+marked-same : (servers : ServerList) (members : List Member) →
+    list_any (λ member. member.lost || has_crashed servers member.id) members ≡ false →
     map (lost_if_crashed servers) members ≡ members
 marked-same servers [] none = refl
 marked-same servers (member ∷ members) none =
-    let parts = or-false (member.lost || has_crashed servers member.id) (list_any (λ other. other.lost || has_crashed servers other.id) members) none in
+    let parts = or-false (member.lost || has_crashed servers member.id)
+    (list_any (λ other. other.lost || has_crashed servers other.id) members) none in
     let well = or-false member.lost (has_crashed servers member.id) parts.0 in
-    ap (λ (m : Member). m ∷ map (lost_if_crashed servers) members) (cond-false (has_crashed servers member.id) (record member { lost = true }) member well.1)
+    ap (λ (m : Member). m ∷ map (lost_if_crashed servers) members)
+    (cond-false (has_crashed servers member.id) (record member { lost = true }) member well.1)
     ∙ ap (λ (ms : List Member). member ∷ ms) (marked-same servers members parts.1)
 
-none-lost : (servers : ServerList) (members : List Member) → list_any (λ member. member.lost || has_crashed servers member.id) members ≡ false → any_lost members ≡ false
+none-lost : (servers : ServerList) (members : List Member) →
+    list_any (λ member. member.lost || has_crashed servers member.id) members ≡ false → any_lost members ≡ false
 none-lost servers [] none = refl
 none-lost servers (member ∷ members) none =
-    let parts = or-false (member.lost || has_crashed servers member.id) (list_any (λ other. other.lost || has_crashed servers other.id) members) none in
+    let parts = or-false (member.lost || has_crashed servers member.id)
+    (list_any (λ other. other.lost || has_crashed servers other.id) members) none in
     let well = or-false member.lost (has_crashed servers member.id) parts.0 in
     ap (λ (b : Bool). b || any_lost members) well.0 ∙ none-lost servers members parts.1
 
@@ -59,13 +66,19 @@ module _ (own : ServerId) (servers : ServerList) (config : Config)
   lose-none : lose own servers config ≡ (config, Ok false)
   lose-none =
       ap (λ (c : Config). cond (any_lost c.members) (changes_to c (substitutes_for own servers c)) (c, Ok false)) marked
-      ∙ cond-false (any_lost config.members) (changes_to config (substitutes_for own servers config)) (config, Ok false) (none-lost servers config.members none)
+      ∙ cond-false (any_lost config.members) (changes_to config (substitutes_for own servers config)) (config, Ok false)
+      (none-lost servers config.members none)
 
   refill-none : refill own servers config ≡ (config, Ok [])
   refill-none =
       ap (λ (c : Config). refills_with c (substitutes_for own servers c)) marked
-      ∙ ap (refills_with config) (no-substitutes (candidates config.seg own servers) (staying config.members) config.members (none-lost servers config.members none))
-      ∙ ap (λ (ms : List Member). (record config { members = ms }, let nobody : Result (List ServerId) Fault = Ok [] in nobody)) (replaced-none config.members)
+      ∙ ap (refills_with config) (no-substitutes (candidates config.seg own servers) (staying config.members)
+      config.members (none-lost servers config.members none))
+      ∙ ap (λ (ms : List Member). (
+        record config { members = ms },
+        let nobody : Result (List ServerId) Fault = Ok [] in
+            nobody,
+      )) (replaced-none config.members)
 
 put-same : (t : ℕ → Segment) (k o : ℕ) → put t k (t k) o ≡ t o
 put-same t k o = cond_both (eqb k o) (t k) (t o) (λ s. s ≡ t o) (λ e. ap t (eqb-true k o e)) (λ e. refl)
@@ -74,12 +87,15 @@ config-same : (seg : ℕ) (log : Log) → with_config seg (log.segments seg).con
 config-same seg log = ap (λ (t : ℕ → Segment). record log { segments = t }) (fun_ext (put-same log.segments seg))
 
 -- its loss changes nothing, and nobody is sent a Place
-pub loses-unconcerned : (servers : ServerList) (seg : ℕ) (log : Log) → is_concerned servers (log.segments seg) ≡ false → loses servers seg log ≡ (log, Ok [])
+pub loses-unconcerned : (servers : ServerList) (seg : ℕ) (log : Log) → is_concerned servers (log.segments seg) ≡ false →
+    loses servers seg log ≡ (log, Ok [])
 loses-unconcerned servers seg log none =
     let segment : Segment = log.segments seg in
     let nobody : Result (List ServerId) Fault = Ok [] in
-    ap (λ after. cond segment.shut (refills seg log after) (opens_change seg log (lose log.own servers segment.config))) (refill-none log.own servers segment.config none)
-    ∙ ap (λ after. cond segment.shut (with_config seg segment.config log, nobody) (opens_change seg log after)) (lose-none log.own servers segment.config none)
+    ap (λ after. cond segment.shut (refills seg log after) (opens_change seg log (lose log.own servers segment.config)))
+    (refill-none log.own servers segment.config none)
+    ∙ ap (λ after. cond segment.shut (with_config seg segment.config log, nobody) (opens_change seg log after))
+    (lose-none log.own servers segment.config none)
     ∙ either segment.shut (with_config seg segment.config log, nobody)
     ∙ ap (λ (l : Log). (l, nobody)) (config-same seg log)
   where
@@ -93,20 +109,23 @@ numbers_to-more : (n : ℕ) → numbers_to (n + 1) ≡ numbers_to n ++ (n + 1) �
 numbers_to-more n = let next : n + 1 ≡ suc n = omega arith in rw next refl
 
 concerned-more : (servers : ServerList) (t : ℕ → Segment) (n : ℕ) (b : Bool) → is_concerned servers (t (n + 1)) ≡ b →
-    filter (λ seg. is_concerned servers (t seg)) (numbers_to (n + 1)) ≡ filter (λ seg. is_concerned servers (t seg)) (numbers_to n) ++ cond b ((n + 1) ∷ []) []
+    filter (λ seg. is_concerned servers (t seg)) (numbers_to (n + 1)) ≡ filter (λ seg. is_concerned servers (t seg))
+    (numbers_to n) ++ cond b ((n + 1) ∷ []) []
 concerned-more servers t n b e =
     ap (filter (λ seg. is_concerned servers (t seg))) (numbers_to-more n)
     ∙ filter-append (λ seg. is_concerned servers (t seg)) (numbers_to n) ((n + 1) ∷ [])
     ∙ ap (λ (here : Bool). filter (λ seg. is_concerned servers (t seg)) (numbers_to n) ++ cond here ((n + 1) ∷ []) []) e
 
-pub concerned-then : (servers : ServerList) (t : ℕ → Segment) (n : ℕ) (before after : List ℕ) (x : Segment) → x ≡ t (n + 1) → true ≡ is_concerned servers x →
+pub concerned-then : (servers : ServerList) (t : ℕ → Segment) (n : ℕ) (before after : List ℕ) (x : Segment) →
+    x ≡ t (n + 1) → true ≡ is_concerned servers x →
     before ≡ filter (λ seg. is_concerned servers (t seg)) (numbers_to n) → after ≡ before ++ (n + 1) ∷ [] →
     after ≡ filter (λ seg. is_concerned servers (t seg)) (numbers_to (n + 1))
 concerned-then servers t n before after x is yes' so_far added =
     added ∙ ap (λ (ns : List ℕ). ns ++ (n + 1) ∷ []) so_far
     ∙ sym (concerned-more servers t n true (ap (is_concerned servers) (sym is) ∙ sym yes'))
 
-pub concerned-else : (servers : ServerList) (t : ℕ → Segment) (n : ℕ) (before after : List ℕ) (x : Segment) → x ≡ t (n + 1) → false ≡ is_concerned servers x →
+pub concerned-else : (servers : ServerList) (t : ℕ → Segment) (n : ℕ) (before after : List ℕ) (x : Segment) →
+    x ≡ t (n + 1) → false ≡ is_concerned servers x →
     before ≡ filter (λ seg. is_concerned servers (t seg)) (numbers_to n) → after ≡ before →
     after ≡ filter (λ seg. is_concerned servers (t seg)) (numbers_to (n + 1))
 concerned-else servers t n before after x is no' so_far same =

@@ -1,5 +1,7 @@
 -- How much of a log is durable, counted from its shut segments on.
-use Rattle.std.proofs.Common.{◌≡◌, ⊎_elim, ℕ, ◌+◌, ◌-◌, ◌*◌, ◌<◌, ◌≤◌, zero, suc, Bool, true, false, cond, not, List, [], ◌∷◌, ◌++◌, length, get_or, map, find, Some, None, refl, ap, sym, ◌∙◌, subst, arith, append_assoc, add_assoc, zero-add, add-zero, ltb, leb}
+use Rattle.std.proofs.Common.{◌≡◌, ⊎_elim, ℕ, ◌+◌, ◌-◌, ◌*◌, ◌<◌, ◌≤◌, zero, suc, Bool, true, false, cond, not, List}
+use Rattle.std.proofs.Common.{[], ◌∷◌, ◌++◌, length, get_or, map, find, Some, None, refl, ap, sym, ◌∙◌, subst, arith}
+use Rattle.std.proofs.Common.{append_assoc, add_assoc, zero-add, add-zero, ltb, leb}
 use Rattle.std.proofs.lemmas.Bool.{cases_eq, and_from, lt-ltb, le-leb}
 use Rattle.std.proofs.lemmas.List.{map-append, append-nil}
 use Rattle.rc_types.specs.declared.limits.TheConstants.{MAX_SEGMENT}
@@ -30,7 +32,8 @@ durable_after t zero rest shut = sym (zero-add (durable_among rest))
 durable_after t (suc s) rest shut =
     let here : (t (suc s)).shut ≡ true = shut (suc s) (omega arith) (omega arith) in
     let cut : map t (numbers_to s ++ suc s ∷ []) ++ rest ≡ map t (numbers_to s) ++ (t (suc s) ∷ rest) =
-    ap (λ (xs : List Segment). xs ++ rest) (map-append t (numbers_to s) (suc s ∷ [])) ∙ append_assoc (map t (numbers_to s)) (t (suc s) ∷ []) rest in
+    ap (λ (xs : List Segment). xs ++ rest) (map-append t (numbers_to s) (suc s ∷ [])) ∙
+    append_assoc (map t (numbers_to s)) (t (suc s) ∷ []) rest in
     ap durable_among cut
     ∙ durable_after t s (t (suc s) ∷ rest) (λ seg above below. shut seg above (omega arith))
     ∙ ap (λ (b : Bool). entries_to t s + cond b (length (t (suc s)).entries + durable_among rest) (durable_in (t (suc s)))) here
@@ -46,7 +49,8 @@ durable_now-all log p e shut =
     ∙ add-zero (entries_to log.segments p)
 
 -- the first open segment
-pub durable_now-open : (log : Log) (p : ℕ) → p < log.head → ((seg : ℕ) → 0 < seg → seg ≤ p → (log.segments seg).shut ≡ true) → (log.segments (p + 1)).shut ≡ false →
+pub durable_now-open : (log : Log) (p : ℕ) → p < log.head →
+    ((seg : ℕ) → 0 < seg → seg ≤ p → (log.segments seg).shut ≡ true) → (log.segments (p + 1)).shut ≡ false →
     durable_now log ≡ entries_to log.segments p + durable_in (log.segments (p + 1))
 unfolding numbers_after
 durable_now-open log p below shut next_open =
@@ -59,7 +63,8 @@ durable_now-open log p below shut next_open =
     ∙ ap (λ (ns : List ℕ). durable_among (map t ns)) (numbers_to-split p (suc n))
     ∙ ap durable_among (map-append t (numbers_to p) (suc p ∷ numbers_after (suc p) n))
     ∙ durable_after t p (t (suc p) ∷ map t (numbers_after (suc p) n)) shut
-    ∙ ap (λ (b : Bool). entries_to t p + cond b (length (t (suc p)).entries + durable_among (map t (numbers_after (suc p) n))) (durable_in (t (suc p)))) open'
+    ∙ ap (λ (b : Bool). entries_to t p + cond b
+    (length (t (suc p)).entries + durable_among (map t (numbers_after (suc p) n))) (durable_in (t (suc p)))) open'
     ∙ ap (λ (seg : ℕ). entries_to t p + durable_in (t seg)) next
 
 -- no less is durable than the shut segments have
@@ -87,13 +92,15 @@ find_after t (suc s) rest shut =
     ∙ find_after t s (suc s ∷ rest) (λ seg above below. shut seg above (omega arith))
     ∙ ap (λ (b : Bool). cond (not b) (Some (suc s)) (find (λ seg. not (t seg).shut) rest)) here
 
-pub first_open-none : (log : Log) (p : ℕ) → p ≡ log.head → ((seg : ℕ) → 0 < seg → seg ≤ p → (log.segments seg).shut ≡ true) → first_open log ≡ None
+pub first_open-none : (log : Log) (p : ℕ) → p ≡ log.head →
+    ((seg : ℕ) → 0 < seg → seg ≤ p → (log.segments seg).shut ≡ true) → first_open log ≡ None
 first_open-none log p e shut =
     ap (λ (n : ℕ). find (λ seg. not (log.segments seg).shut) (numbers_to n)) (sym e)
     ∙ ap (find (λ seg. not (log.segments seg).shut)) (sym (append-nil (numbers_to p)))
     ∙ find_after log.segments p [] shut
 
-pub first_open-some : (log : Log) (p : ℕ) → p < log.head → ((seg : ℕ) → 0 < seg → seg ≤ p → (log.segments seg).shut ≡ true) → (log.segments (p + 1)).shut ≡ false →
+pub first_open-some : (log : Log) (p : ℕ) → p < log.head →
+    ((seg : ℕ) → 0 < seg → seg ≤ p → (log.segments seg).shut ≡ true) → (log.segments (p + 1)).shut ≡ false →
     first_open log ≡ Some (p + 1)
 unfolding numbers_after
 first_open-some log p below shut next_open =
@@ -110,7 +117,8 @@ first_open-some log p below shut next_open =
 
 -- Numbers of entries are small
 
-pub entries_to-small : (log : Log) (passed entries p : ℕ) → IsSound log passed entries → p ≤ log.head → entries_to log.segments p ≤ MAX_SEGMENT * p
+pub entries_to-small : (log : Log) (passed entries p : ℕ) → IsSound log passed entries → p ≤ log.head →
+    entries_to log.segments p ≤ MAX_SEGMENT * p
 entries_to-small log passed entries zero sound below = omega arith
 entries_to-small log passed entries (suc s) sound below =
     let earlier : entries_to log.segments s ≤ MAX_SEGMENT * s = entries_to-small log passed entries s sound (omega arith) in
@@ -130,7 +138,8 @@ shut-more t p earlier here seg above below = ⊎_elim {C = (t seg).shut ≡ true
     (cases_eq seg (p + 1))
 
 -- a segment that is read is sound
-pub sound_segment-read : (kept : LogData) (passed entries place : ℕ) (x : Segment) → IsSound (log_of kept) passed entries → place < length kept.segments → x ≡ get_or kept.segments place x →
+pub sound_segment-read : (kept : LogData) (passed entries place : ℕ) (x : Segment) →
+    IsSound (log_of kept) passed entries → place < length kept.segments → x ≡ get_or kept.segments place x →
     IsSoundSegment kept.size (length kept.segments) x
 sound_segment-read kept passed entries place x sound inside read =
     let is : x ≡ segment_at kept.segments (place + 1) = segment_at-read kept.segments (place + 1) place x (omega arith) inside read in
@@ -138,4 +147,5 @@ sound_segment-read kept passed entries place x sound inside read =
 
 -- the first open segment is one of the log
 pub has-from_below : (log : Log) (p : ℕ) → p < log.head → has_segment log (p + 1) ≡ true
-has-from_below log p below = and_from (ltb 0 (p + 1)) (leb (p + 1) log.head) (lt-ltb 0 (p + 1) (omega arith)) (le-leb (p + 1) log.head (omega arith))
+has-from_below log p below = and_from (ltb 0 (p + 1)) (leb (p + 1) log.head) (lt-ltb 0 (p + 1) (omega arith))
+    (le-leb (p + 1) log.head (omega arith))

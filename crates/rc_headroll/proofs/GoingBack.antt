@@ -1,5 +1,7 @@
 -- What was kept of segments, and segments that are put back.
-use Rattle.std.proofs.Common.{◌≡◌, ⊎_elim, ℕ, ◌+◌, ◌-◌, ◌<◌, ◌≤◌, Bool, true, false, cond, ◌&&◌, eqb, ltb, leb, List, [], ◌∷◌, ◌++◌, length, get_or, set, Option, Some, None, refl, ap, sym, ◌∙◌, arith, is_some, is_none}
+use Rattle.std.proofs.Common.{◌≡◌, ⊎_elim, ℕ, ◌+◌, ◌-◌, ◌<◌, ◌≤◌, Bool, true, false, cond, ◌&&◌, eqb, ltb, leb, List}
+use Rattle.std.proofs.Common.{[], ◌∷◌, ◌++◌, length, get_or, set, Option, Some, None, refl, ap, sym, ◌∙◌, arith}
+use Rattle.std.proofs.Common.{is_some, is_none}
 use Rattle.std.proofs.Math.Path.{fun_ext}
 use Rattle.std.proofs.lemmas.Bool.{cond-true, cond-false, cases_eq, cases_lt, eq-eqb, ne_eqb, and_from, lt-ltb, le-ltb, false≢true}
 use Rattle.std.proofs.lemmas.Bool.Decides.{nat_tests}
@@ -16,13 +18,15 @@ none-parts : (b : Bool) (v : SegmentState) (rest : Option SegmentState) → cond
 none-parts true v rest e = absurd cc
 none-parts false v rest e = (refl, e)
 
-pub other_of-push_same : (xs : List (ℕ × SegmentState)) (k : ℕ) (s : SegmentState) → other_of xs k ≡ None → other_of (xs ++ (k, s) ∷ []) k ≡ Some s
+pub other_of-push_same : (xs : List (ℕ × SegmentState)) (k : ℕ) (s : SegmentState) → other_of xs k ≡ None →
+    other_of (xs ++ (k, s) ∷ []) k ≡ Some s
 other_of-push_same [] k s none = cond-true (eqb k k) (Some s) None (eq-eqb k k refl)
 other_of-push_same (e ∷ xs) k s none =
     let parts = none-parts (eqb k e.0) e.1 (other_of xs k) none in
     cond-false (eqb k e.0) (Some e.1) (other_of (xs ++ (k, s) ∷ []) k) parts.0 ∙ other_of-push_same xs k s parts.1
 
-pub other_of-push_other : (xs : List (ℕ × SegmentState)) (k o : ℕ) (s : SegmentState) → (o ≡ k → ⊥) → other_of (xs ++ (k, s) ∷ []) o ≡ other_of xs o
+pub other_of-push_other : (xs : List (ℕ × SegmentState)) (k o : ℕ) (s : SegmentState) → (o ≡ k → ⊥) →
+    other_of (xs ++ (k, s) ∷ []) o ≡ other_of xs o
 other_of-push_other [] k o s apart = cond-false (eqb o k) (Some s) None (ne_eqb o k apart)
 other_of-push_other (e ∷ xs) k o s apart =
     ap (λ (rest : Option SegmentState). cond (eqb o e.0) (Some e.1) rest) (other_of-push_other xs k o s apart)
@@ -31,7 +35,8 @@ pub none-from : (kept : Option SegmentState) → false ≡ is_some kept → kept
 none-from None e = refl
 none-from (Some state) e = absurd (false≢true e)
 
-pub kept-is : (mark : Mark) (seg : ℕ) (state : SegmentState) (entries : List (ℕ × SegmentState)) → seg + 1 < mark.head → other_of mark.others seg ≡ None →
+pub kept-is : (mark : Mark) (seg : ℕ) (state : SegmentState) (entries : List (ℕ × SegmentState)) → seg + 1 < mark.head →
+    other_of mark.others seg ≡ None →
     entries ≡ mark.others ++ (seg, state) ∷ [] → record mark { others = entries } ≡ with_kept seg state mark
 kept-is mark seg state entries below none added =
     let more : Mark = record mark { others = mark.others ++ (seg, state) ∷ [] } in
@@ -63,7 +68,8 @@ pub one_back-zero : (t : ℕ → Segment) (seg : ℕ) (kept : Option SegmentStat
 unfolding one_back
 one_back-zero t seg kept zero' = rw zero' refl
 
-pub put_back-is : (segments : List Segment) (seg place : ℕ) (s : SegmentState) (x was : Segment) → seg ≡ place + 1 → place < length segments → was ≡ get_or segments place was →
+pub put_back-is : (segments : List Segment) (seg place : ℕ) (s : SegmentState) (x was : Segment) → seg ≡ place + 1 →
+    place < length segments → was ≡ get_or segments place was →
     x ≡ with_state s was → segment_at (set segments place x) ≡ one_back seg (Some s) (segment_at segments)
 put_back-is segments seg place s x was e inside read is =
     segment_at-set segments place x seg e inside
@@ -76,15 +82,19 @@ and-false_right : (a b : Bool) → b ≡ false → (a && b) ≡ false
 and-false_right true b e = e
 and-false_right false b e = refl
 
-pub other_back-then : (t : ℕ → Segment) (head seg : ℕ) (s : SegmentState) → 0 < seg → seg + 1 < head → one_back seg (Some s) t ≡ other_back head seg s t
+pub other_back-then : (t : ℕ → Segment) (head seg : ℕ) (s : SegmentState) → 0 < seg → seg + 1 < head →
+    one_back seg (Some s) t ≡ other_back head seg s t
 unfolding other_back
 other_back-then t head seg s above below =
-    let guard : (ltb 0 seg && ltb (seg + 1) head) ≡ true = and_from (ltb 0 seg) (ltb (seg + 1) head) (lt-ltb 0 seg above) (lt-ltb (seg + 1) head below) in
+    let guard : (ltb 0 seg && ltb (seg + 1) head) ≡ true =
+    and_from (ltb 0 seg) (ltb (seg + 1) head) (lt-ltb 0 seg above) (lt-ltb (seg + 1) head below) in
     fun_ext (λ o. sym (cond-true (ltb 0 seg && ltb (seg + 1) head) (one_back seg (Some s) t o) (t o) guard))
 
-other_back-not : (t : ℕ → Segment) (head seg : ℕ) (s : SegmentState) → (ltb 0 seg && ltb (seg + 1) head) ≡ false → t ≡ other_back head seg s t
+other_back-not : (t : ℕ → Segment) (head seg : ℕ) (s : SegmentState) → (ltb 0 seg && ltb (seg + 1) head) ≡ false →
+    t ≡ other_back head seg s t
 unfolding other_back
-other_back-not t head seg s guard = fun_ext (λ o. sym (cond-false (ltb 0 seg && ltb (seg + 1) head) (one_back seg (Some s) t o) (t o) guard))
+other_back-not t head seg s guard =
+    fun_ext (λ o. sym (cond-false (ltb 0 seg && ltb (seg + 1) head) (one_back seg (Some s) t o) (t o) guard))
 
 pub other_back-last : (t : ℕ → Segment) (head seg : ℕ) (s : SegmentState) → head ≤ seg + 1 → t ≡ other_back head seg s t
 other_back-last t head seg s last =
@@ -96,7 +106,8 @@ other_back-zero t head seg s none =
 
 -- All of the others are put back
 
-others_back-push_at : (head : ℕ) (xs : List (ℕ × SegmentState)) (k : ℕ) (s : SegmentState) (t : ℕ → Segment) → other_of xs k ≡ None → (o : ℕ) →
+others_back-push_at : (head : ℕ) (xs : List (ℕ × SegmentState)) (k : ℕ) (s : SegmentState) (t : ℕ → Segment) →
+    other_of xs k ≡ None → (o : ℕ) →
     others_back head (xs ++ (k, s) ∷ []) t o ≡ others_back head xs (other_back head k s t) o
 unfolding others_back other_back one_back
 others_back-push_at head xs k s t none o = ⊎_elim
@@ -113,18 +124,22 @@ others_back-push_at head xs k s t none o = ⊎_elim
     (cases_eq o k)
   where
     guarded_twice : (above below : Bool) (x y : Segment) →
-        cond (above && below) x y ≡ cond (above && below) (cond (above && below) (cond (above && true) x y) y) (cond (above && below) (cond (above && true) x y) y)
+        cond (above && below) x y ≡ cond (above && below) (cond (above && below) (cond (above && true) x y) y)
+        (cond (above && below) (cond (above && true) x y) y)
     guarded_twice true true x y = refl
     guarded_twice true false x y = refl
     guarded_twice false below x y = refl
 
     skips : (g h above : Bool) (kept : Option SegmentState) (x : Segment) →
-        cond g (as_it_was kept x) x ≡ cond g (as_it_was kept (cond h (cond (above && false) (as_it_was (Some s) x) x) x)) (cond h (cond (above && false) (as_it_was (Some s) x) x) x)
+        cond g (as_it_was kept x) x ≡ cond g
+        (as_it_was kept (cond h (cond (above && false) (as_it_was (Some s) x) x) x))
+        (cond h (cond (above && false) (as_it_was (Some s) x) x) x)
     skips g true true kept x = refl
     skips g true false kept x = refl
     skips g false above kept x = refl
 
-pub others_back-push : (head : ℕ) (xs ys : List (ℕ × SegmentState)) (k : ℕ) (s : SegmentState) (t u : ℕ → Segment) → ys ≡ xs ++ (k, s) ∷ [] → other_of xs k ≡ None →
+pub others_back-push : (head : ℕ) (xs ys : List (ℕ × SegmentState)) (k : ℕ) (s : SegmentState) (t u : ℕ → Segment) →
+    ys ≡ xs ++ (k, s) ∷ [] → other_of xs k ≡ None →
     u ≡ other_back head k s t → others_back head xs u ≡ others_back head ys t
 others_back-push head xs ys k s t u e none put' =
     ap (others_back head xs) put' ∙ sym (fun_ext (others_back-push_at head xs k s t none)) ∙ ap (λ zs. others_back head zs t) (sym e)
@@ -146,7 +161,8 @@ nothing-left (x ∷ xs) some = absurd (false≢true (some (omega arith)))
 module _ (mark : Mark) (t : ℕ → Segment) (o : ℕ) where
   -- each segment is put back once
   IsBack : Type 0
-  IsBack = one_back (mark.head - 1) mark.previous (one_back mark.head mark.newest (others_back mark.head mark.others t)) o ≡ segments_before mark t o
+  IsBack = one_back (mark.head - 1) mark.previous (one_back mark.head mark.newest (others_back mark.head mark.others t))
+      o ≡ segments_before mark t o
 
   back-none : o ≡ 0 → t o ≡ no_segment o → IsBack
   unfolding IsBack others_back one_back segments_before
@@ -214,6 +230,10 @@ module _ (mark : Mark) (t : ℕ → Segment) (o : ℕ) where
       (cases_eq o 0)
 
 pub put_back-all : (mark : Mark) (segments : List Segment) → length segments ≡ mark.head →
-    one_back (mark.head - 1) mark.previous (one_back mark.head mark.newest (others_back mark.head mark.others (segment_at segments))) ≡ segments_before mark (segment_at segments)
+    one_back (mark.head - 1) mark.previous
+    (one_back mark.head mark.newest (others_back mark.head mark.others (segment_at segments))) ≡ segments_before
+    mark (segment_at segments)
 unfolding IsBack
-put_back-all mark segments len = fun_ext (λ o. back-at mark (segment_at segments) o (segment_at-zero segments) (λ past. segment_at-past segments o (omega arith)))
+put_back-all mark segments len =
+    fun_ext (λ o. back-at mark (segment_at segments) o (segment_at-zero segments)
+    (λ past. segment_at-past segments o (omega arith)))

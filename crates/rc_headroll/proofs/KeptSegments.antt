@@ -1,18 +1,23 @@
 -- One more segment is kept: the log still goes back to the same.
-use Rattle.std.proofs.Common.{◌≡◌, ◌⊎◌, ⊎_elim, inl, inr, ℕ, ◌+◌, ◌<◌, ◌≤◌, Bool, true, false, cond, ◌&&◌, eqb, ltb, [], ◌∷◌, ◌++◌, length, Option, Some, None, Result, Ok, Err, OnOk, OnErr, refl, ap, sym, ◌∙◌, subst, arith, is_some, is_none}
+use Rattle.std.proofs.Common.{◌≡◌, ◌⊎◌, ⊎_elim, inl, inr, ℕ, ◌+◌, ◌<◌, ◌≤◌, Bool, true, false, cond, ◌&&◌, eqb, ltb}
+use Rattle.std.proofs.Common.{[], ◌∷◌, ◌++◌, length, Option, Some, None, Result, Ok, Err, OnOk, OnErr, refl, ap, sym}
+use Rattle.std.proofs.Common.{◌∙◌, subst, arith, is_some, is_none}
 use Rattle.std.proofs.Math.Path.{fun_ext}
-use Rattle.std.proofs.lemmas.Bool.{cond-true, cond-false, cond_both, cases_eq, cases_lt, ne_eqb, and_parts, ltb-true, lt-ltb, le-ltb, false≢true}
+use Rattle.std.proofs.lemmas.Bool.{cond-true, cond-false, cond_both, cases_eq, cases_lt, ne_eqb, and_parts, ltb-true}
+use Rattle.std.proofs.lemmas.Bool.{lt-ltb, le-ltb, false≢true}
 use Rattle.rc_model.specs.Segment.{Segment, no_segment}
 use Rattle.rc_headroll.specs.declared.state.SegmentState.{SegmentState}
 use Rattle.rc_headroll.specs.LogData.{LogData, segment_at, before_of}
 use Rattle.rc_headroll.specs.Soundness.{IsSoundLog}
-use Rattle.rc_headroll.specs.Before.{Mark, state_of, as_it_was, other_of, kept_of, kept_len, was_there, segments_before, with_kept, IsKept, CanGoBack}
+use Rattle.rc_headroll.specs.Before.{Mark, state_of, as_it_was, other_of, kept_of, kept_len, was_there}
+use Rattle.rc_headroll.specs.Before.{segments_before, with_kept, IsKept, CanGoBack}
 use Rattle.rc_headroll.proofs.GoingBack.{other_of-push_same, other_of-push_other}
 use Rattle.rc_headroll.proofs.BeforeLemmas.{with_state-now}
 
 -- more is kept, and the log goes back to the same
 pub record KeepsMore (old new : Mark) (head : ℕ) (t : ℕ → Segment) : Type 0 where
-  pub scalars : (new.head ≡ old.head) × (new.phase ≡ old.phase) × (new.durable ≡ old.durable) × (new.passed ≡ old.passed) × (new.passed_entries ≡ old.passed_entries)
+  pub scalars : (new.head ≡ old.head) × (new.phase ≡ old.phase) × (new.durable ≡ old.durable) ×
+      (new.passed ≡ old.passed) × (new.passed_entries ≡ old.passed_entries)
   pub before : segments_before new t ≡ segments_before old t
   pub back : CanGoBack new head t
   pub others : (o : ℕ) → IsKept old o → IsKept new o
@@ -36,21 +41,25 @@ module _ (mark : Mark) (seg : ℕ) (state : SegmentState) (below : seg + 1 < mar
   kept-here : kept_of mark seg ≡ None
   kept-here =
       cond-false (eqb seg mark.head) mark.newest _ (ne_eqb seg mark.head (λ (same : seg ≡ mark.head). omega arith))
-      ∙ cond-false (eqb (seg + 1) mark.head) mark.previous (other_of mark.others seg) (ne_eqb (seg + 1) mark.head (λ (same : seg + 1 ≡ mark.head). omega arith))
+      ∙ cond-false (eqb (seg + 1) mark.head) mark.previous (other_of mark.others seg)
+      (ne_eqb (seg + 1) mark.head (λ (same : seg + 1 ≡ mark.head). omega arith))
       ∙ none
 
   more-here : kept_of more seg ≡ Some state
   unfolding more
   more-here =
       cond-false (eqb seg mark.head) mark.newest _ (ne_eqb seg mark.head (λ (same : seg ≡ mark.head). omega arith))
-      ∙ cond-false (eqb (seg + 1) mark.head) mark.previous (other_of (mark.others ++ (seg, state) ∷ []) seg) (ne_eqb (seg + 1) mark.head (λ (same : seg + 1 ≡ mark.head). omega arith))
+      ∙ cond-false (eqb (seg + 1) mark.head) mark.previous (other_of (mark.others ++ (seg, state) ∷ []) seg)
+      (ne_eqb (seg + 1) mark.head (λ (same : seg + 1 ≡ mark.head). omega arith))
       ∙ other_of-push_same mark.others seg state none
 
   more-other : (o : ℕ) → (o ≡ seg → ⊥) → kept_of more o ≡ kept_of mark o
   unfolding more
-  more-other o apart = ap (λ (kept : Option SegmentState). cond (eqb o mark.head) mark.newest (cond (eqb (o + 1) mark.head) mark.previous kept)) (other_of-push_other mark.others seg o state apart)
+  more-other o apart = ap (λ (kept : Option SegmentState). cond (eqb o mark.head) mark.newest
+      (cond (eqb (o + 1) mark.head) mark.previous kept)) (other_of-push_other mark.others seg o state apart)
 
-  more-keeps : (head : ℕ) (t : ℕ → Segment) → CanGoBack mark head t → state ≡ state_of (t seg) → KeepsMore mark (record mark { others = mark.others ++ (seg, state) ∷ [] }) head t
+  more-keeps : (head : ℕ) (t : ℕ → Segment) → CanGoBack mark head t → state ≡ state_of (t seg) →
+      KeepsMore mark (record mark { others = mark.others ++ (seg, state) ∷ [] }) head t
   unfolding more segments_before
   more-keeps head t back is = record {
     scalars = (refl, refl, refl, refl, refl);
@@ -60,14 +69,16 @@ module _ (mark : Mark) (seg : ℕ) (state : SegmentState) (below : seg + 1 < mar
         ap (λ (p : ℕ). as_it_was (kept_of more p) (t p)) here
         ∙ ap (λ (kept : Option SegmentState). as_it_was kept (t seg)) (more-here ∙ ap Some is)
         ∙ with_state-now (t seg)
-        ∙ sym (ap (λ (p : ℕ). as_it_was (kept_of mark p) (t p)) here ∙ ap (λ (kept : Option SegmentState). as_it_was kept (t seg)) kept-here))
+        ∙ sym (ap (λ (p : ℕ). as_it_was (kept_of mark p) (t p)) here ∙
+        ap (λ (kept : Option SegmentState). as_it_was kept (t seg)) kept-here))
         (λ (apart : o ≡ seg → ⊥). ap (λ (kept : Option SegmentState). as_it_was kept (t o)) (more-other o apart))
         (cases_eq o seg)));
     back = record {
       known = back.known;
       beginnings = λ o. ⊎_elim {C = kept_len (kept_of more o) ≤ length (t o).entries}
           (λ (here : o ≡ seg).
-          subst (λ (p : ℕ). kept_len (kept_of more p) ≤ length (t p).entries) (sym here) (omega (arith, ap kept_len (more-here ∙ ap Some is))))
+          subst (λ (p : ℕ). kept_len (kept_of more p) ≤ length (t p).entries) (sym here)
+          (omega (arith, ap kept_len (more-here ∙ ap Some is))))
           (λ (apart : o ≡ seg → ⊥). omega (arith, ap kept_len (more-other o apart), back.beginnings o))
           (cases_eq o seg);
       last = λ o above last within. still o (back.last o above last within);
@@ -81,10 +92,12 @@ module _ (mark : Mark) (seg : ℕ) (state : SegmentState) (below : seg + 1 < mar
           (λ (apart : o ≡ seg → ⊥). ap is_some (more-other o apart) ∙ there)
           (cases_eq o seg)
 
-pub with_kept-keeps : (mark : Mark) (head : ℕ) (t : ℕ → Segment) (seg : ℕ) (state : SegmentState) → CanGoBack mark head t → state ≡ state_of (t seg) →
+pub with_kept-keeps : (mark : Mark) (head : ℕ) (t : ℕ → Segment) (seg : ℕ) (state : SegmentState) →
+    CanGoBack mark head t → state ≡ state_of (t seg) →
     KeepsMore mark (with_kept seg state mark) head t
 with_kept-keeps mark head t seg state back is =
-    cond_both (ltb (seg + 1) mark.head && is_none (other_of mark.others seg)) (record mark { others = mark.others ++ (seg, state) ∷ [] }) mark
+    cond_both (ltb (seg + 1) mark.head && is_none (other_of mark.others seg))
+    (record mark { others = mark.others ++ (seg, state) ∷ [] }) mark
     (λ m. KeepsMore mark m head t)
     (λ guard.
     let parts = and_parts (ltb (seg + 1) mark.head) (is_none (other_of mark.others seg)) guard in
@@ -95,27 +108,33 @@ there-or : (kept : Option SegmentState) → (kept ≡ None) ⊎ (is_some kept �
 there-or None = inl refl
 there-or (Some state) = inr refl
 
-pub with_kept-is : (mark : Mark) (head : ℕ) (t : ℕ → Segment) (seg : ℕ) (state : SegmentState) → CanGoBack mark head t → 0 < seg → IsKept (with_kept seg state mark) seg
+pub with_kept-is : (mark : Mark) (head : ℕ) (t : ℕ → Segment) (seg : ℕ) (state : SegmentState) → CanGoBack mark head t →
+    0 < seg → IsKept (with_kept seg state mark) seg
 unfolding more
 with_kept-is mark head t seg state back above = ⊎_elim {C = IsKept (with_kept seg state mark) seg}
     (λ (below : seg + 1 < mark.head). ⊎_elim {C = IsKept (with_kept seg state mark) seg}
     (λ (none : other_of mark.others seg ≡ None).
     let added : with_kept seg state mark ≡ record mark { others = mark.others ++ (seg, state) ∷ [] } =
-    cond-true (ltb (seg + 1) mark.head && is_none (other_of mark.others seg)) (record mark { others = mark.others ++ (seg, state) ∷ [] }) mark
+    cond-true (ltb (seg + 1) mark.head && is_none (other_of mark.others seg))
+    (record mark { others = mark.others ++ (seg, state) ∷ [] }) mark
     (ap (λ (b : Bool). b && is_none (other_of mark.others seg)) (lt-ltb (seg + 1) mark.head below) ∙ ap is_none none) in
     subst (λ (m : Mark). IsKept m seg) (sym added) (λ within. ap is_some (more-here mark seg state below none)))
     (λ (there : is_some (other_of mark.others seg) ≡ true).
     let same : with_kept seg state mark ≡ mark =
-    cond-false (ltb (seg + 1) mark.head && is_none (other_of mark.others seg)) (record mark { others = mark.others ++ (seg, state) ∷ [] }) mark
-    (ap (λ (b : Bool). b && is_none (other_of mark.others seg)) (lt-ltb (seg + 1) mark.head below) ∙ not-none (other_of mark.others seg) there) in
+    cond-false (ltb (seg + 1) mark.head && is_none (other_of mark.others seg))
+    (record mark { others = mark.others ++ (seg, state) ∷ [] }) mark
+    (ap (λ (b : Bool). b && is_none (other_of mark.others seg)) (lt-ltb (seg + 1) mark.head below) ∙
+    not-none (other_of mark.others seg) there) in
     let kept : kept_of mark seg ≡ other_of mark.others seg =
     cond-false (eqb seg mark.head) mark.newest _ (ne_eqb seg mark.head (λ (same : seg ≡ mark.head). omega arith))
-    ∙ cond-false (eqb (seg + 1) mark.head) mark.previous (other_of mark.others seg) (ne_eqb (seg + 1) mark.head (λ (same : seg + 1 ≡ mark.head). omega arith)) in
+    ∙ cond-false (eqb (seg + 1) mark.head) mark.previous (other_of mark.others seg)
+    (ne_eqb (seg + 1) mark.head (λ (same : seg + 1 ≡ mark.head). omega arith)) in
     subst (λ (m : Mark). IsKept m seg) (sym same) (λ within. ap is_some kept ∙ there))
     (there-or (other_of mark.others seg)))
     (λ (last : mark.head ≤ seg + 1).
     let same : with_kept seg state mark ≡ mark =
-    cond-false (ltb (seg + 1) mark.head && is_none (other_of mark.others seg)) (record mark { others = mark.others ++ (seg, state) ∷ [] }) mark
+    cond-false (ltb (seg + 1) mark.head && is_none (other_of mark.others seg))
+    (record mark { others = mark.others ++ (seg, state) ∷ [] }) mark
     (ap (λ (b : Bool). b && is_none (other_of mark.others seg)) (le-ltb (seg + 1) mark.head last)) in
     subst (λ (m : Mark). IsKept m seg) (sym same) (back.last seg above last))
     (cases_lt (seg + 1) mark.head)
@@ -126,16 +145,20 @@ with_kept-is mark head t seg state back above = ⊎_elim {C = IsKept (with_kept 
 
 -- What the code does when it keeps a segment
 
-module _ {T E : Type 0} (mark new : Mark) (head : ℕ) (t : ℕ → Segment) (seg : ℕ) (x : Segment) (back : CanGoBack mark head t) (read : x ≡ t seg) where
+module _ {T E : Type 0} (mark new : Mark) (head : ℕ) (t : ℕ → Segment) (seg : ℕ) (x : Segment)
+    (back : CanGoBack mark head t) (read : x ≡ t seg) where
   pub keep-keeps : (r : Result T E) → OnOk r (new ≡ with_kept seg (state_of x) mark) → OnErr r (new ≡ mark) → KeepsMore mark new head t
-  keep-keeps (Ok value) ok err = subst (λ (m : Mark). KeepsMore mark m head t) (sym ok) (with_kept-keeps mark head t seg (state_of x) back (ap state_of read))
+  keep-keeps (Ok value) ok err = subst (λ (m : Mark). KeepsMore mark m head t) (sym ok)
+      (with_kept-keeps mark head t seg (state_of x) back (ap state_of read))
   keep-keeps (Err fault) ok err = subst (λ (m : Mark). KeepsMore mark m head t) (sym err) (keeps-same mark head t back)
 
   pub keep-kept : (r : Result T E) → 0 < seg → OnOk r (new ≡ with_kept seg (state_of x) mark) → OnOk r (IsKept new seg)
   keep-kept (Ok value) above ok = subst (λ (m : Mark). IsKept m seg) (sym ok) (with_kept-is mark head t seg (state_of x) back above)
   keep-kept (Err fault) above ok = tt
 
-pub before_of-kept : (kept : LogData) (new : Mark) → KeepsMore kept.mark new (length kept.segments) (segment_at kept.segments) → before_of (record kept { mark = new }) ≡ before_of kept
+pub before_of-kept : (kept : LogData) (new : Mark) →
+    KeepsMore kept.mark new (length kept.segments) (segment_at kept.segments) →
+    before_of (record kept { mark = new }) ≡ before_of kept
 before_of-kept kept new keeps j = record {
   own = kept.own;
   factor = kept.factor;
@@ -146,7 +169,8 @@ before_of-kept kept new keeps j = record {
   durable = keeps.scalars.2 j;
 }
 
-pub sound-kept : (kept : LogData) (passed entries : ℕ) (new : Mark) → IsSoundLog kept passed entries → KeepsMore kept.mark new (length kept.segments) (segment_at kept.segments) →
+pub sound-kept : (kept : LogData) (passed entries : ℕ) (new : Mark) → IsSoundLog kept passed entries →
+    KeepsMore kept.mark new (length kept.segments) (segment_at kept.segments) →
     IsSoundLog (record kept { mark = new }) passed entries
 sound-kept kept passed entries new sound keeps = record {
   now = sound.now;

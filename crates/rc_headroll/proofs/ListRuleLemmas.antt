@@ -1,5 +1,6 @@
 -- A master's list rules have to go over the concerned segments alone.
-use Rattle.std.proofs.Common.{◌≡◌, ℕ, ◌≤◌, zero, suc, Bool, true, false, cond, List, [], ◌∷◌, ◌++◌, filter, Result, Ok, Err, refl, ap, sym, ◌∙◌, arith}
+use Rattle.std.proofs.Common.{◌≡◌, ℕ, ◌≤◌, zero, suc, Bool, true, false, cond, List, [], ◌∷◌, ◌++◌, filter, Result, Ok}
+use Rattle.std.proofs.Common.{Err, refl, ap, sym, ◌∙◌, arith}
 use Rattle.std.proofs.lemmas.Bool.{cond_both}
 use Rattle.rc_types.specs.declared.ids.ServerId.{ServerId}
 use Rattle.rc_types.specs.declared.faults.Fault.{Fault}
@@ -23,13 +24,16 @@ either true x = refl
 either false x = refl
 
 -- nothing is done about a segment that the list doesn't concern
-pub replaces-unconcerned : (master : Master) (seg : ℕ) → is_concerned master.known (master.log.segments seg) ≡ false → replaces_lost master seg ≡ (master, [])
+pub replaces-unconcerned : (master : Master) (seg : ℕ) → is_concerned master.known (master.log.segments seg) ≡ false →
+    replaces_lost master seg ≡ (master, [])
 replaces-unconcerned master seg none =
     let nothing : Master × List Message = (master, []) in
-    ap (λ after. cond (master.log.segments seg).freed nothing (places_segment seg master after)) (loses-unconcerned master.known seg master.log none)
+    ap (λ after. cond (master.log.segments seg).freed nothing (places_segment seg master after))
+    (loses-unconcerned master.known seg master.log none)
     ∙ either (master.log.segments seg).freed nothing
 
-placed-log : (seg : ℕ) (master : Master) (log : Log) (answer : Result (List ServerId) Fault) → (places_segment seg master (log, answer)).0 ≡ with_log master log
+placed-log : (seg : ℕ) (master : Master) (log : Log) (answer : Result (List ServerId) Fault) →
+    (places_segment seg master (log, answer)).0 ≡ with_log master log
 placed-log seg master log (Ok ids) = refl
 placed-log seg master log (Err fault) = refl
 
@@ -46,11 +50,13 @@ module _ (master : Master) (seg : ℕ) where
       ∙ placed-log seg master (with_segment seg changed master.log) answer
 
   replaced-known : (replaces_lost master seg).0.known ≡ master.known
-  replaced-known = cond_both (master.log.segments seg).freed (master, []) (places_segment seg master (loses master.known seg master.log)) (λ after. after.0.known ≡ master.known)
+  replaced-known = cond_both (master.log.segments seg).freed (master, [])
+      (places_segment seg master (loses master.known seg master.log)) (λ after. after.0.known ≡ master.known)
       (λ freed. refl) (λ not_freed. ap (λ (m : Master). m.known) after-loss)
 
   replaced-other : (o : ℕ) → (seg ≡ o → ⊥) → (replaces_lost master seg).0.log.segments o ≡ master.log.segments o
-  replaced-other o apart = cond_both (master.log.segments seg).freed (master, []) (places_segment seg master (loses master.known seg master.log))
+  replaced-other o apart = cond_both (master.log.segments seg).freed (master, [])
+      (places_segment seg master (loses master.known seg master.log))
       (λ after. after.0.log.segments o ≡ master.log.segments o)
       (λ freed. refl) (λ not_freed. ap (λ (m : Master). m.log.segments o) after-loss ∙ put-other master.log.segments seg changed o apart)
 
@@ -70,7 +76,8 @@ Agrees : (ℕ → Bool) → Master → List ℕ → Type 0
 Agrees p master [] = Unit {0}
 Agrees p master (seg ∷ segs) = (p seg ≡ is_concerned master.known (master.log.segments seg)) × Agrees p master segs
 
-agrees-after : (p : ℕ → Bool) (master : Master) (seg : ℕ) (segs : List ℕ) → IsApart seg segs → Agrees p master segs → Agrees p (replaces_lost master seg).0 segs
+agrees-after : (p : ℕ → Bool) (master : Master) (seg : ℕ) (segs : List ℕ) → IsApart seg segs → Agrees p master segs →
+    Agrees p (replaces_lost master seg).0 segs
 unfolding IsApart Agrees
 agrees-after p master seg [] apart agrees = tt
 agrees-after p master seg (o ∷ os) apart agrees = (
@@ -80,7 +87,8 @@ agrees-after p master seg (o ∷ os) apart agrees = (
   agrees-after p master seg os apart.1 agrees.1,
 )
 
-only-concerned : (p : ℕ → Bool) (segs : List ℕ) (master : Master) → AreApart segs → Agrees p master segs → replaces_lost_of segs master ≡ replaces_lost_of (filter p segs) master
+only-concerned : (p : ℕ → Bool) (segs : List ℕ) (master : Master) → AreApart segs → Agrees p master segs →
+    replaces_lost_of segs master ≡ replaces_lost_of (filter p segs) master
 unfolding AreApart Agrees
 only-concerned p [] master apart agrees = refl
 only-concerned p (seg ∷ segs) master apart agrees =
@@ -94,7 +102,8 @@ only-concerned p (seg ∷ segs) master apart agrees =
         replaces_lost_of (seg ∷ segs) master ≡ replaces_lost_of (cond b (seg ∷ filter p segs) (filter p segs)) master
     by true e after same = ap (λ (next : Master × List Message). (next.0, (replaces_lost master seg).1 ++ next.1)) after
     by false e after same =
-        ap (λ (done : Master × List Message). then_does done (λ next. replaces_lost_of segs next)) (replaces-unconcerned master seg (sym agrees.0 ∙ e)) ∙ same
+        ap (λ (done : Master × List Message). then_does done (λ next. replaces_lost_of segs next))
+        (replaces-unconcerned master seg (sym agrees.0 ∙ e)) ∙ same
 
 -- The numbers of a log's segments
 
@@ -134,7 +143,8 @@ agrees-now master [] = tt
 agrees-now master (seg ∷ segs) = (refl, agrees-now master segs)
 
 -- what the list rules do about all segments they do about the concerned ones
-pub replaces_lost_of-concerned : (master : Master) → replaces_lost_of (numbers_to master.log.head) master ≡ replaces_lost_of (concerned master.known master.log) master
+pub replaces_lost_of-concerned : (master : Master) →
+    replaces_lost_of (numbers_to master.log.head) master ≡ replaces_lost_of (concerned master.known master.log) master
 replaces_lost_of-concerned master =
     only-concerned (λ seg. is_concerned master.known (master.log.segments seg)) (numbers_to master.log.head) master
     (apart-numbers master.log.head) (agrees-now master (numbers_to master.log.head))

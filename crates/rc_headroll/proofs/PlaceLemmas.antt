@@ -1,8 +1,10 @@
 -- Places of a log, segment by segment.
-use Rattle.std.proofs.Common.{◌≡◌, ℕ, ◌+◌, ◌-◌, ◌<◌, ◌≤◌, zero, suc, Bool, List, [], ◌∷◌, ◌++◌, length, take, drop, min, get_or, ⊎_elim, refl, ap, sym, ◌∙◌, arith, append_assoc, add-zero}
+use Rattle.std.proofs.Common.{◌≡◌, ℕ, ◌+◌, ◌-◌, ◌<◌, ◌≤◌, zero, suc, Bool, List, [], ◌∷◌, ◌++◌, length, take, drop}
+use Rattle.std.proofs.Common.{min, get_or, ⊎_elim, refl, ap, sym, ◌∙◌, arith, append_assoc, add-zero}
 use Rattle.std.proofs.Math.Seq.{take-append-add, drop-append-add}
 use Rattle.std.proofs.lemmas.Bool.{cases_lt}
-use Rattle.std.proofs.lemmas.List.{take-append-le, drop-append-le, take_all, drop_all, append-nil, length-take, length-append, take_more, take_min, drop-take}
+use Rattle.std.proofs.lemmas.List.{take-append-le, drop-append-le, take_all, drop_all, append-nil, length-take}
+use Rattle.std.proofs.lemmas.List.{length-append, take_more, take_min, drop-take}
 use Rattle.rc_types.specs.declared.entries.Entry.{Entry}
 use Rattle.rc_model.specs.Segment.{Segment}
 use Rattle.rc_model.specs.Log.{LogPlace, places_in, places_to}
@@ -41,7 +43,8 @@ drop-nothing : (X : Type 0) (n : ℕ) → let none : List X = [] in drop n none 
 drop-nothing X n = drop_all n [] (omega arith)
 
 -- from the place d up to the place n
-pub window-parts : {X : Type 0} (d n : ℕ) (xs ys : List X) → drop d (take n (xs ++ ys)) ≡ drop d (take n xs) ++ drop (d - length xs) (take (n - length xs) ys)
+pub window-parts : {X : Type 0} (d n : ℕ) (xs ys : List X) → drop d (take n (xs ++ ys)) ≡ drop d (take n xs) ++
+    drop (d - length xs) (take (n - length xs) ys)
 window-parts {X} d n xs ys =
     ap (drop d) (take-parts n xs ys) ∙ drop-parts d (take n xs) (take (n - length xs) ys)
     ∙ ap (λ (zs : List X). drop d (take n xs) ++ zs)
@@ -51,7 +54,8 @@ window-parts {X} d n xs ys =
     ap (λ (m : ℕ). drop (d - m) (take (n - length xs) ys)) len)
     (λ (less : n ≤ length xs).
     let none : take (n - length xs) ys ≡ [] = nothing-taken (n - length xs) ys (omega arith) in
-    ap (drop (d - length (take n xs))) none ∙ drop-nothing X (d - length (take n xs)) ∙ sym (drop-nothing X (d - length xs)) ∙ ap (drop (d - length xs)) (sym none))
+    ap (drop (d - length (take n xs))) none ∙ drop-nothing X (d - length (take n xs)) ∙
+    sym (drop-nothing X (d - length xs)) ∙ ap (drop (d - length xs)) (sym none))
     (cases_lt (length xs) n))
 
 -- Places in a segment
@@ -61,7 +65,8 @@ length-places_in seg offset [] = refl
 length-places_in seg offset (x ∷ xs) = ap suc (length-places_in seg (offset + 1) xs)
 
 pub places_in-push : (seg offset : ℕ) (xs : List (Entry × Bool)) (x : Entry × Bool) →
-    places_in seg offset (xs ++ x ∷ []) ≡ places_in seg offset xs ++ record { seg = seg; offset = offset + length xs; entry = x.0; client = x.1 } ∷ []
+    places_in seg offset (xs ++ x ∷ []) ≡ places_in seg offset xs ++
+    record { seg = seg; offset = offset + length xs; entry = x.0; client = x.1 } ∷ []
 places_in-push seg offset [] x = ap (λ (at : ℕ). record { seg = seg; offset = at; entry = x.0; client = x.1 } ∷ []) (sym (add-zero offset))
 places_in-push seg offset (y ∷ ys) x =
     let at : offset + 1 + length ys ≡ offset + suc (length ys) = omega arith in
@@ -119,7 +124,8 @@ places_to-more : (t : ℕ → Segment) (p : ℕ) → places_to t (p + 1) ≡ pla
 places_to-more t p = let next : p + 1 ≡ suc p = omega arith in rw next refl
 
 -- one more segment's places
-pub window-more : (t : ℕ → Segment) (d n p before start end : ℕ) (xs : List (Entry × Bool)) → before ≡ entries_to t p → xs ≡ (t (p + 1)).entries →
+pub window-more : (t : ℕ → Segment) (d n p before start end : ℕ) (xs : List (Entry × Bool)) → before ≡ entries_to t p →
+    xs ≡ (t (p + 1)).entries →
     end ≡ min (n - before) (length xs) → start ≡ min (d - before) end →
     drop d (take n (places_to t (p + 1))) ≡ drop d (take n (places_to t p)) ++ places_in (p + 1) start (take (end - start) (drop start xs))
 window-more t d n p before start end xs is entries at_end at_start =
@@ -127,9 +133,11 @@ window-more t d n p before start end xs is entries at_end at_start =
     ap (λ (places : List LogPlace). drop d (take n places)) (places_to-more t p)
     ∙ window-parts d n (places_to t p) (places_in (p + 1) 0 (t (p + 1)).entries)
     ∙ ap (λ (m : ℕ). drop d (take n (places_to t p)) ++ drop (d - m) (take (n - m) (places_in (p + 1) 0 (t (p + 1)).entries))) len
-    ∙ ap (λ (es : List (Entry × Bool)). drop d (take n (places_to t p)) ++ drop (d - before) (take (n - before) (places_in (p + 1) 0 es))) (sym entries)
+    ∙ ap (λ (es : List (Entry × Bool)). drop d (take n (places_to t p)) ++
+    drop (d - before) (take (n - before) (places_in (p + 1) 0 es))) (sym entries)
     ∙ ap (λ (places : List LogPlace). drop d (take n (places_to t p)) ++ places)
-    (window-places_in (d - before) (n - before) (p + 1) start end xs at_end at_start ∙ ap (places_in (p + 1) start) (cut-between start end xs (omega arith)))
+    (window-places_in (d - before) (n - before) (p + 1) start end xs at_end at_start ∙ ap (places_in (p + 1) start)
+    (cut-between start end xs (omega arith)))
 
 -- nothing is new among places that were kept
 pub window-none : (t : ℕ → Segment) (d n p : ℕ) → entries_to t p ≤ d → drop d (take n (places_to t p)) ≡ []
@@ -137,19 +145,24 @@ window-none t d n p kept = drop_all d (take n (places_to t p)) (omega (arith, ke
 
 -- a loop that adds one more place
 pub places_in-more : (seg offset i : ℕ) (xs : List (Entry × Bool)) (d : Entry × Bool) → i < length xs →
-    places_in seg offset (take (i + 1) xs) ≡ places_in seg offset (take i xs) ++ record { seg = seg; offset = offset + i; entry = (get_or xs i d).0; client = (get_or xs i d).1 } ∷ []
+    places_in seg offset (take (i + 1) xs) ≡ places_in seg offset (take i xs) ++
+    record { seg = seg; offset = offset + i; entry = (get_or xs i d).0; client = (get_or xs i d).1 } ∷ []
 places_in-more seg offset i xs d inside =
     let len : length (take i xs) ≡ i = omega (arith, length-take i xs) in
     ap (places_in seg offset) (take_more xs i d inside)
     ∙ places_in-push seg offset (take i xs) (get_or xs i d)
-    ∙ ap (λ (n : ℕ). places_in seg offset (take i xs) ++ record { seg = seg; offset = offset + n; entry = (get_or xs i d).0; client = (get_or xs i d).1 } ∷ []) len
+    ∙ ap (λ (n : ℕ). places_in seg offset (take i xs) ++
+    record { seg = seg; offset = offset + n; entry = (get_or xs i d).0; client = (get_or xs i d).1 } ∷ []) len
 
-pub add-step : (old now : List LogPlace) (seg offset i at : ℕ) (xs : List (Entry × Bool)) (e : Entry × Bool) → i < length xs → at ≡ offset + i → e ≡ get_or xs i e →
+pub add-step : (old now : List LogPlace) (seg offset i at : ℕ) (xs : List (Entry × Bool)) (e : Entry × Bool) →
+    i < length xs → at ≡ offset + i → e ≡ get_or xs i e →
     now ≡ old ++ places_in seg offset (take i xs) →
     now ++ record { seg = seg; offset = at; entry = e.0; client = e.1 } ∷ [] ≡ old ++ places_in seg offset (take (i + 1) xs)
 add-step old now seg offset i at xs e inside is read so_far =
     ap (λ (places : List LogPlace). places ++ record { seg = seg; offset = at; entry = e.0; client = e.1 } ∷ []) so_far
     ∙ append_assoc old (places_in seg offset (take i xs)) (record { seg = seg; offset = at; entry = e.0; client = e.1 } ∷ [])
     ∙ ap (λ (n : ℕ). old ++ (places_in seg offset (take i xs) ++ record { seg = seg; offset = n; entry = e.0; client = e.1 } ∷ [])) is
-    ∙ ap (λ (x : Entry × Bool). old ++ (places_in seg offset (take i xs) ++ record { seg = seg; offset = offset + i; entry = x.0; client = x.1 } ∷ [])) read
+    ∙ ap (λ (x : Entry × Bool). old ++
+    (places_in seg offset (take i xs) ++ record { seg = seg; offset = offset + i; entry = x.0; client = x.1 } ∷ []))
+    read
     ∙ ap (λ (places : List LogPlace). old ++ places) (sym (places_in-more seg offset i xs e inside))

@@ -1,8 +1,11 @@
 -- Segments in a list, as the definitions see them.
-use Rattle.std.proofs.Common.{◌≡◌, ◌≢◌, ⊎_elim, ℕ, ◌+◌, ◌-◌, ◌<◌, ◌≤◌, zero, suc, true, false, eqb, ltb, leb, List, [], ◌∷◌, ◌++◌, length, get_or, set, refl, ap, sym, ◌∙◌, subst, arith}
+use Rattle.std.proofs.Common.{◌≡◌, ◌≢◌, ⊎_elim, ℕ, ◌+◌, ◌-◌, ◌<◌, ◌≤◌, zero, suc, true, false, eqb, ltb, leb, List, []}
+use Rattle.std.proofs.Common.{◌∷◌, ◌++◌, length, get_or, set, refl, ap, sym, ◌∙◌, subst, arith}
 use Rattle.std.proofs.Math.Path.{fun_ext}
-use Rattle.std.proofs.lemmas.Bool.{cases_eq, cases_lt, eq-eqb, ne_eqb, eqb-true, cond_both, and_parts, and_from, ltb-true, leb-true, lt-ltb, le-leb}
-use Rattle.std.proofs.lemmas.List.{get_or-set_same, get_or-set_other, get_or_push, get_or_append_left, get_or_past, get_or_default, length-set, length_push}
+use Rattle.std.proofs.lemmas.Bool.{cases_eq, cases_lt, eq-eqb, ne_eqb, eqb-true, cond_both, and_parts, and_from}
+use Rattle.std.proofs.lemmas.Bool.{ltb-true, leb-true, lt-ltb, le-leb}
+use Rattle.std.proofs.lemmas.List.{get_or-set_same, get_or-set_other, get_or_push, get_or_append_left, get_or_past}
+use Rattle.std.proofs.lemmas.List.{get_or_default, length-set, length_push}
 use Rattle.rc_model.specs.Tables.{put}
 use Rattle.rc_model.specs.Segment.{Segment, no_segment}
 use Rattle.rc_types.specs.declared.ids.ServerId.{ServerId}
@@ -20,20 +23,24 @@ pub put-other : (table : ℕ → Segment) (k : ℕ) (x : Segment) (o : ℕ) → 
 put-other table k x o apart = rw (ne_eqb k o apart) refl
 
 -- what holds of the new value and of all old ones holds of all
-pub put_each : (P : ℕ → Segment → Type 0) (table : ℕ → Segment) (k : ℕ) (x : Segment) → P k x → ((o : ℕ) → P o (table o)) → (o : ℕ) → P o (put table k x o)
+pub put_each : (P : ℕ → Segment → Type 0) (table : ℕ → Segment) (k : ℕ) (x : Segment) → P k x →
+    ((o : ℕ) → P o (table o)) → (o : ℕ) → P o (put table k x o)
 put_each P table k x here others o =
     cond_both (eqb k o) x (table o) (P o) (λ e. subst (λ (j : ℕ). P j x) (eqb-true k o e) here) (λ e. others o)
 
 -- Lists as tables
 
 -- the segment at a place of the list
-pub segment_at-place : (segments : List Segment) (seg place : ℕ) → seg ≡ place + 1 → segment_at segments seg ≡ get_or segments place (no_segment seg)
+pub segment_at-place : (segments : List Segment) (seg place : ℕ) → seg ≡ place + 1 →
+    segment_at segments seg ≡ get_or segments place (no_segment seg)
 unfolding segment_at
 segment_at-place segments zero place e = absurd (omega arith)
 segment_at-place segments (suc s) place e = let same : s ≡ place = omega arith in rw same refl
 
-pub segment_at-within : (segments : List Segment) (seg place : ℕ) (d : Segment) → seg ≡ place + 1 → place < length segments → segment_at segments seg ≡ get_or segments place d
-segment_at-within segments seg place d e inside = segment_at-place segments seg place e ∙ get_or_default segments place (no_segment seg) d inside
+pub segment_at-within : (segments : List Segment) (seg place : ℕ) (d : Segment) → seg ≡ place + 1 →
+    place < length segments → segment_at segments seg ≡ get_or segments place d
+segment_at-within segments seg place d e inside =
+    segment_at-place segments seg place e ∙ get_or_default segments place (no_segment seg) d inside
 
 pub segment_at-zero : (segments : List Segment) → segment_at segments 0 ≡ no_segment 0
 unfolding segment_at
@@ -76,7 +83,8 @@ segment_at-set segments place x seg e inside = fun_ext (segment_at-set_at segmen
 
 -- a segment at the end
 
-get_or-push_other : (segments : List Segment) (x : Segment) (o : ℕ) (d : Segment) → (length segments ≡ o → ⊥) → get_or (segments ++ x ∷ []) o d ≡ get_or segments o d
+get_or-push_other : (segments : List Segment) (x : Segment) (o : ℕ) (d : Segment) → (length segments ≡ o → ⊥) →
+    get_or (segments ++ x ∷ []) o d ≡ get_or segments o d
 get_or-push_other segments x o d apart = ⊎_elim {C = get_or (segments ++ x ∷ []) o d ≡ get_or segments o d}
     (λ (inside : o < length segments). get_or_append_left segments (x ∷ []) d o inside)
     (λ (past : length segments ≤ o).
@@ -93,7 +101,8 @@ segment_at-push_at segments x seg e (suc o) =
     ⊎_elim {C = segment_at (segments ++ x ∷ []) (suc o) ≡ put (segment_at segments) seg x (suc o)}
     (λ (same : seg ≡ suc o). rw (eq-eqb seg (suc o) same) (get_or_push segments x (no_segment (suc o)) o (omega arith)))
     (λ (apart : seg ≡ suc o → ⊥).
-    rw (ne_eqb seg (suc o) apart) (get_or-push_other segments x o (no_segment (suc o)) (λ (same : length segments ≡ o). apart (omega arith))))
+    rw (ne_eqb seg (suc o) apart)
+    (get_or-push_other segments x o (no_segment (suc o)) (λ (same : length segments ≡ o). apart (omega arith))))
     (cases_eq seg (suc o))
 
 pub segment_at-push : (segments : List Segment) (x : Segment) (seg : ℕ) → seg ≡ length segments + 1 →
@@ -106,17 +115,27 @@ pub log_of-set : (kept : LogData) (place : ℕ) (x : Segment) (seg : ℕ) → se
     log_of (record kept { segments = set kept.segments place x }) ≡ with_segment seg x (log_of kept)
 log_of-set kept place x seg e inside =
     let head : length (set kept.segments place x) ≡ length kept.segments = length-set kept.segments place x in
-    let table : segment_at (set kept.segments place x) ≡ put (segment_at kept.segments) seg x = segment_at-set kept.segments place x seg e inside in
+    let table : segment_at (set kept.segments place x) ≡ put (segment_at kept.segments) seg x =
+    segment_at-set kept.segments place x seg e inside in
     rw (head, table) refl
 
 -- a segment that is read at a place of the list
-pub segment_at-read : (segments : List Segment) (seg place : ℕ) (x : Segment) → seg ≡ place + 1 → place < length segments → x ≡ get_or segments place x →
+pub segment_at-read : (segments : List Segment) (seg place : ℕ) (x : Segment) → seg ≡ place + 1 →
+    place < length segments → x ≡ get_or segments place x →
     x ≡ segment_at segments seg
 segment_at-read segments seg place x e inside read = read ∙ sym (segment_at-within segments seg place x e inside)
 
 -- a log with no segment is a new one
 pub log_of-nil : (own : ServerId) (factor size : ℕ) →
-    log_of (record { own = own; factor = factor; size = size; segments = []; phase = Opening; durable = 0; mark = first_mark }) ≡ new_log own factor size
+    log_of (record {
+      own = own;
+      factor = factor;
+      size = size;
+      segments = [];
+      phase = Opening;
+      durable = 0;
+      mark = first_mark;
+    }) ≡ new_log own factor size
 log_of-nil own factor size = rw segment_at-nil refl
 
 -- what is behind a model, at a segment

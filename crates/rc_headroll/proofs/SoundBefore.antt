@@ -1,5 +1,6 @@
 -- A log that goes back to now, and one that has gone back.
-use Rattle.std.proofs.Common.{◌≡◌, ℕ, ◌-◌, ◌<◌, ◌≤◌, Bool, true, false, cond, List, [], length, take, refl, ap, sym, ◌∙◌, subst, arith, length-take}
+use Rattle.std.proofs.Common.{◌≡◌, ℕ, ◌-◌, ◌<◌, ◌≤◌, Bool, true, false, cond, List, [], length, take, refl, ap, sym}
+use Rattle.std.proofs.Common.{◌∙◌, subst, arith, length-take}
 use Rattle.std.proofs.Math.Path.{fun_ext}
 use Rattle.std.proofs.lemmas.Bool.{and_parts, leb-true, ltb-true}
 use Rattle.std.proofs.lemmas.List.{get_or-take}
@@ -16,13 +17,15 @@ use Rattle.rc_headroll.proofs.SegmentTables.{segment_at-within, segment_at-nil, 
 use Rattle.rc_headroll.proofs.SoundLogs.{sound-new}
 use Rattle.rc_headroll.proofs.BeforeLemmas.{begin-before, begin-back}
 
-pub before_of-begin : (kept : LogData) (passed entries : ℕ) (new : Mark) → new ≡ mark_of kept.segments kept.phase kept.durable passed entries →
+pub before_of-begin : (kept : LogData) (passed entries : ℕ) (new : Mark) →
+    new ≡ mark_of kept.segments kept.phase kept.durable passed entries →
     before_of (record kept { mark = new }) ≡ log_of kept
 before_of-begin kept passed entries new is =
     ap (λ (m : Mark). before_of (record kept { mark = m })) is
     ∙ ap (λ (t : ℕ → Segment). record (log_of kept) { segments = t }) (begin-before kept.segments kept.phase kept.durable passed entries)
 
-pub sound-begin : (kept : LogData) (passed entries : ℕ) (new : Mark) → IsSound (log_of kept) passed entries → new ≡ mark_of kept.segments kept.phase kept.durable passed entries →
+pub sound-begin : (kept : LogData) (passed entries : ℕ) (new : Mark) → IsSound (log_of kept) passed entries →
+    new ≡ mark_of kept.segments kept.phase kept.durable passed entries →
     IsSoundLog (record kept { mark = new }) passed entries
 sound-begin kept passed entries new sound is =
     subst (λ (m : Mark). IsSoundLog (record kept { mark = m }) passed entries) (sym is) (record {
@@ -34,7 +37,15 @@ sound-begin kept passed entries new sound is =
 -- A log with no segment
 
 pub before_of-nil : (own : ServerId) (factor size : ℕ) →
-    before_of (record { own = own; factor = factor; size = size; segments = []; phase = Opening; durable = 0; mark = first_mark }) ≡ new_log own factor size
+    before_of (record {
+      own = own;
+      factor = factor;
+      size = size;
+      segments = [];
+      phase = Opening;
+      durable = 0;
+      mark = first_mark;
+    }) ≡ new_log own factor size
 before_of-nil own factor size =
     ap (λ (t : ℕ → Segment). record (new_log own factor size) { segments = t }) (begin-before [] Opening 0 0 0 ∙ segment_at-nil)
 
@@ -51,7 +62,9 @@ sound_log-new own factor size few small = record {
 segments_before-take : (mark : Mark) (segments : List Segment) → mark.head ≤ length segments →
     segments_before mark (segment_at (take mark.head segments)) ≡ segments_before mark (segment_at segments)
 unfolding segments_before
-segments_before-take mark segments known = fun_ext (λ o. within_only (was_there mark o) (as_it_was (kept_of mark o) (segment_at (take mark.head segments) o)) (as_it_was (kept_of mark o) (segment_at segments o)) (no_segment o) (λ there.
+segments_before-take mark segments known =
+    fun_ext (λ o. within_only (was_there mark o) (as_it_was (kept_of mark o) (segment_at (take mark.head segments) o))
+    (as_it_was (kept_of mark o) (segment_at segments o)) (no_segment o) (λ there.
     let parts = and_parts _ _ there in
     let above : 0 < o = ltb-true 0 o parts.0 in
     let within : o ≤ mark.head = leb-true o mark.head parts.1 in
@@ -65,7 +78,8 @@ segments_before-take mark segments known = fun_ext (λ o. within_only (was_there
     within_only true x y z e = e refl
     within_only false x y z e = refl
 
-pub gone_back-is : (kept : LogData) (cut segments : List Segment) → kept.mark.head ≤ length kept.segments → cut ≡ take kept.mark.head kept.segments →
+pub gone_back-is : (kept : LogData) (cut segments : List Segment) → kept.mark.head ≤ length kept.segments →
+    cut ≡ take kept.mark.head kept.segments →
     length segments ≡ length cut → segment_at segments ≡ segments_before kept.mark (segment_at cut) →
     log_of (record kept { segments = segments; phase = kept.mark.phase; durable = kept.mark.durable }) ≡ before_of kept
 gone_back-is kept cut segments known is len table =
@@ -84,9 +98,12 @@ gone_back-is kept cut segments known is len table =
 
 -- What the code makes when it goes back
 
-module _ (kept : LogData) (cut segments all : List Segment) (phase : Phase) (durable passed entries : ℕ) (new : Mark) (known : kept.mark.head ≤ length kept.segments)
-    (cut_is : cut ≡ take kept.mark.head kept.segments) (len : length segments ≡ length cut) (table : segment_at segments ≡ segments_before kept.mark (segment_at cut))
-    (all_is : all ≡ segments) (phase_is : phase ≡ kept.mark.phase) (durable_is : durable ≡ kept.mark.durable) (passed_is : passed ≡ kept.mark.passed)
+module _ (kept : LogData) (cut segments all : List Segment) (phase : Phase) (durable passed entries : ℕ) (new : Mark)
+    (known : kept.mark.head ≤ length kept.segments)
+    (cut_is : cut ≡ take kept.mark.head kept.segments) (len : length segments ≡ length cut)
+    (table : segment_at segments ≡ segments_before kept.mark (segment_at cut))
+    (all_is : all ≡ segments) (phase_is : phase ≡ kept.mark.phase) (durable_is : durable ≡ kept.mark.durable)
+    (passed_is : passed ≡ kept.mark.passed)
     (entries_is : entries ≡ kept.mark.passed_entries) where
   gone_back : log_of (record kept { segments = all; phase = phase; durable = durable }) ≡ before_of kept
   gone_back = rw (all_is, phase_is, durable_is) (gone_back-is kept cut segments known cut_is len table)
@@ -101,4 +118,5 @@ module _ (kept : LogData) (cut segments all : List Segment) (phase : Phase) (dur
   pub restored-sound : (passed' entries' : ℕ) → IsSoundLog kept passed' entries' → new ≡ mark_of all phase durable passed entries →
       IsSoundLog (record kept { segments = all; phase = phase; durable = durable; mark = new }) passed entries
   restored-sound passed' entries' sound is =
-      sound-begin (record kept { segments = all; phase = phase; durable = durable }) passed entries new (rw (gone_back, passed_is, entries_is) sound.before) is
+      sound-begin (record kept { segments = all; phase = phase; durable = durable }) passed entries new
+      (rw (gone_back, passed_is, entries_is) sound.before) is

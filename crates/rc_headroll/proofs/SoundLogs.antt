@@ -1,5 +1,6 @@
 -- A sound log stays sound, whatever is done with it.
-use Rattle.std.proofs.Common.{◌≡◌, ⊎_elim, ℕ, ◌+◌, ◌-◌, ◌<◌, ◌≤◌, zero, suc, Bool, true, false, List, [], ◌∷◌, ◌++◌, length, get_or, filter, refl, ap, sym, ◌∙◌, subst, arith}
+use Rattle.std.proofs.Common.{◌≡◌, ⊎_elim, ℕ, ◌+◌, ◌-◌, ◌<◌, ◌≤◌, zero, suc, Bool, true, false, List, [], ◌∷◌, ◌++◌}
+use Rattle.std.proofs.Common.{length, get_or, filter, refl, ap, sym, ◌∙◌, subst, arith}
 use Rattle.std.specs.List.{All}
 use Rattle.std.proofs.lemmas.Bool.{cases_eq, cases_lt, false≢true, cond-false}
 use Rattle.std.proofs.lemmas.List.{length_push}
@@ -59,7 +60,8 @@ sound-put log k x passed entries sound same_entries same_digest same_shut = reco
   factor = sound.factor;
   size = sound.size;
   opening = sound.opening;
-  shut = put_each (λ o s. 0 < o → o < all_shut_below log → s.shut ≡ true) log.segments k x (λ above below. same_shut ∙ sound.shut k above below) sound.shut;
+  shut = put_each (λ o s. 0 < o → o < all_shut_below log → s.shut ≡ true) log.segments k x
+      (λ above below. same_shut ∙ sound.shut k above below) sound.shut;
   head_open = (put_each (λ o s. o ≡ log.head → s.shut ≡ false) log.segments k x
       (λ here. same_shut ∙ ap (λ (o : ℕ). (log.segments o).shut) here ∙ sound.head_open)
       (λ o here. ap (λ (o : ℕ). (log.segments o).shut) here ∙ sound.head_open)) log.head refl;
@@ -69,7 +71,8 @@ sound-put log k x passed entries sound same_entries same_digest same_shut = reco
         known = subst (λ (ds : List ℕ). All (IsKnown log.head) ds) (sym same_digest) (sound.each k above below).known;
       }) sound.each;
   passed_known = sound.passed_known;
-  passed_shut = put_each (λ o s. 0 < o → o ≤ passed → s.shut ≡ true) log.segments k x (λ above below. same_shut ∙ sound.passed_shut k above below) sound.passed_shut;
+  passed_shut = put_each (λ o s. 0 < o → o ≤ passed → s.shut ≡ true) log.segments k x
+      (λ above below. same_shut ∙ sound.passed_shut k above below) sound.passed_shut;
   passed_entries = sound.passed_entries ∙ entries_to-same log.segments (put log.segments k x) passed
       (λ seg above below. put_each (λ o s. length (log.segments o).entries ≡ length s.entries) log.segments k x
       (ap length (sym same_entries)) (λ o. refl) seg);
@@ -111,7 +114,8 @@ sound-appends log entry client passed entries sound some room =
       factor = sound.factor;
       size = sound.size;
       opening = sound.opening;
-      shut = put_each (λ o s. 0 < o → o < all_shut_below log → s.shut ≡ true) log.segments log.head x (λ above below. sound.shut log.head above below) sound.shut;
+      shut = put_each (λ o s. 0 < o → o < all_shut_below log → s.shut ≡ true) log.segments log.head x
+          (λ above below. sound.shut log.head above below) sound.shut;
       head_open = ap (λ (s : Segment). s.shut) (put-at log.segments log.head x) ∙ sound.head_open;
       each = put_each (λ o s. 0 < o → o ≤ log.head → IsSoundSegment log.size log.head s) log.segments log.head x
           (λ above below. record {
@@ -119,7 +123,8 @@ sound-appends log entry client passed entries sound some room =
             known = (sound.each log.head above below).known;
           }) sound.each;
       passed_known = sound.passed_known;
-      passed_shut = put_each (λ o s. 0 < o → o ≤ passed → s.shut ≡ true) log.segments log.head x (λ above below. sound.passed_shut log.head above below) sound.passed_shut;
+      passed_shut = put_each (λ o s. 0 < o → o ≤ passed → s.shut ≡ true) log.segments log.head x
+          (λ above below. sound.passed_shut log.head above below) sound.passed_shut;
       passed_entries = sound.passed_entries ∙ entries_to-same log.segments (put log.segments log.head x) passed
           (λ seg above within. ap (λ (s : Segment). length s.entries)
           (sym (put-other log.segments log.head x seg (λ (same : log.head ≡ seg). omega arith))));
@@ -132,7 +137,8 @@ sound-appends log entry client passed entries sound some room =
 known-more : (head : ℕ) (segs : List ℕ) → All (IsKnown head) segs → All (IsKnown (head + 1)) segs
 known-more head segs known = λ k d inside. let was : IsKnown head (get_or segs k d) = known k d inside in (was.0, omega (arith, was.1))
 
-pub sound-opens : (log : Log) (digest : List ℕ) (ids : List ServerId) (passed entries : ℕ) → IsSound log passed entries → log.head < LAST_SEGMENT →
+pub sound-opens : (log : Log) (digest : List ℕ) (ids : List ServerId) (passed entries : ℕ) →
+    IsSound log passed entries → log.head < LAST_SEGMENT →
     ((seg : ℕ) → 0 < seg → seg < log.head → (log.segments seg).shut ≡ true) → All (IsKnown (log.head + 1)) digest →
     IsSound (opens_head log digest ids) passed entries
 sound-opens log digest ids passed entries sound room shut known =
@@ -143,7 +149,8 @@ sound-opens log digest ids passed entries sound room shut known =
       factor = sound.factor;
       size = sound.size;
       opening = λ none. absurd (omega arith);
-      shut = put_each (λ o s. 0 < o → o < log.head + 1 - 1 → s.shut ≡ true) log.segments k x (λ above below. absurd (omega arith)) (λ o above below. shut o above (omega arith));
+      shut = put_each (λ o s. 0 < o → o < log.head + 1 - 1 → s.shut ≡ true) log.segments k x
+          (λ above below. absurd (omega arith)) (λ o above below. shut o above (omega arith));
       head_open = ap (λ (s : Segment). s.shut) (put-at log.segments (log.head + 1) x);
       each = λ seg above below. ⊎_elim {C = IsSoundSegment log.size (log.head + 1) (put log.segments k x seg)}
           (λ (here : seg ≡ k).
@@ -152,10 +159,15 @@ sound-opens log digest ids passed entries sound room shut known =
           (λ (apart : seg ≡ k → ⊥).
           let older : seg ≤ log.head = omega (arith, apart) in
           subst (IsSoundSegment log.size (log.head + 1)) (sym (put-other log.segments k x seg (λ (same : k ≡ seg). apart (sym same))))
-          (record { fits = (sound.each seg above older).fits; known = known-more log.head (log.segments seg).digest (sound.each seg above older).known }))
+          (record {
+            fits = (sound.each seg above older).fits;
+            known = known-more log.head (log.segments seg).digest
+                (sound.each seg above older).known;
+          }))
           (cases_eq seg k);
       passed_known = omega (arith, sound.passed_known);
-      passed_shut = put_each (λ o s. 0 < o → o ≤ passed → s.shut ≡ true) log.segments k x (λ above below. absurd (omega (arith, sound.passed_known))) sound.passed_shut;
+      passed_shut = put_each (λ o s. 0 < o → o ≤ passed → s.shut ≡ true) log.segments k x
+          (λ above below. absurd (omega (arith, sound.passed_known))) sound.passed_shut;
       passed_entries = sound.passed_entries ∙ entries_to-same log.segments (put log.segments k x) passed
           (λ seg above within. ap (λ (s : Segment). length s.entries)
           (sym (put-other log.segments k x seg (λ (same : log.head + 1 ≡ seg). omega (arith, sound.passed_known)))));
@@ -180,11 +192,13 @@ sound-starts log passed entries sound one = record {
 }
 
 -- while the head doesn't write
-shut_before : (log : Log) (passed entries seg : ℕ) → IsSound log passed entries → is_writing log.phase ≡ false → 0 < seg → seg < log.head - 1 → (log.segments seg).shut ≡ true
+shut_before : (log : Log) (passed entries seg : ℕ) → IsSound log passed entries → is_writing log.phase ≡ false →
+    0 < seg → seg < log.head - 1 → (log.segments seg).shut ≡ true
 shut_before log passed entries seg sound quiet above below =
     sound.shut seg above (subst (λ (n : ℕ). seg < n) (sym (cond-false (is_writing log.phase) log.head (log.head - 1) quiet)) below)
 
-pub sound-closes : (log : Log) (passed entries : ℕ) → IsSound log passed entries → 0 < log.head → is_writing log.phase ≡ false → IsSound (closes_old log) passed entries
+pub sound-closes : (log : Log) (passed entries : ℕ) → IsSound log passed entries → 0 < log.head →
+    is_writing log.phase ≡ false → IsSound (closes_old log) passed entries
 sound-closes log passed entries sound some quiet = record {
   few = sound.few;
   factor = sound.factor;
@@ -200,7 +214,8 @@ sound-closes log passed entries sound some quiet = record {
 }
 
 -- the old head is shut, and the new one writes
-pub sound-writes : (log : Log) (passed entries : ℕ) → IsSound log passed entries → 0 < log.head → is_writing log.phase ≡ false → (old_head_of log).shut ≡ true → IsSound (starts log) passed entries
+pub sound-writes : (log : Log) (passed entries : ℕ) → IsSound log passed entries → 0 < log.head →
+    is_writing log.phase ≡ false → (old_head_of log).shut ≡ true → IsSound (starts log) passed entries
 sound-writes log passed entries sound some quiet old_shut = record {
   few = sound.few;
   factor = sound.factor;
@@ -220,7 +235,8 @@ sound-writes log passed entries sound some quiet old_shut = record {
 
 -- more of it is durable, and more segments were passed
 pub sound-durable : (log : Log) (passed entries durable passed' entries' : ℕ) → IsSound log passed entries →
-    passed' ≤ log.head → ((seg : ℕ) → 0 < seg → seg ≤ passed' → (log.segments seg).shut ≡ true) → entries' ≡ entries_to log.segments passed' → entries' ≤ durable →
+    passed' ≤ log.head → ((seg : ℕ) → 0 < seg → seg ≤ passed' → (log.segments seg).shut ≡ true) →
+    entries' ≡ entries_to log.segments passed' → entries' ≤ durable →
     IsSound (record log { durable = durable }) passed' entries'
 sound-durable log passed entries durable passed' entries' sound known shut is below = record {
   few = sound.few;
@@ -237,7 +253,8 @@ sound-durable log passed entries durable passed' entries' sound known shut is be
 }
 
 -- the digest of the next head
-pub known-next : (p : ℕ → Bool) (head : ℕ) (digest : List ℕ) → All (IsKnown head) digest → All (IsKnown (head + 1)) (filter p digest ++ (head + 1) ∷ [])
+pub known-next : (p : ℕ → Bool) (head : ℕ) (digest : List ℕ) → All (IsKnown head) digest →
+    All (IsKnown (head + 1)) (filter p digest ++ (head + 1) ∷ [])
 known-next p head digest known =
     All-push (IsKnown (head + 1)) (filter p digest) (head + 1)
     (All-filter p (IsKnown (head + 1)) digest (known-more head digest known)) (omega arith, omega arith)

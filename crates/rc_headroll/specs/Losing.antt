@@ -8,7 +8,8 @@ use Rattle.rc_model.specs.Segment.{Segment, under_new_epoch}
 
 -- an open segment: a change of members, and all of them are to be sent a Place
 abbrev pub segment_changes : Segment → Config × Result Bool Fault → Segment × Result (List ServerId) Fault
-segment_changes segment (config, Ok true) = (under_new_epoch config segment, Ok (map (λ member. member.id) config.members))
+segment_changes segment (config, Ok true) =
+    (under_new_epoch config segment, Ok (map (λ member. member.id) config.members))
 segment_changes segment (config, Ok false) = (record segment { config = config }, Ok [])
 segment_changes segment (config, Err fault) = (record segment { config = config }, Err fault)
 

@@ -25,7 +25,8 @@ abbrev pub entries_to : (ℕ → Segment) → ℕ → ℕ
 entries_to segments zero = 0
 entries_to segments (suc s) = entries_to segments s + length (segments (suc s)).entries
 
--- the log is sound; so many segments from the first on were passed, which are shut and durable, and they have so many entries
+-- the log is sound; so many segments from the first on were passed, which are shut and durable, and they have so many
+-- entries
 pub record IsSound (log : Log) (passed entries : ℕ) : Type 0 where
   pub few : log.head ≤ LAST_SEGMENT
   pub factor : log.factor ≤ MAX_FACTOR

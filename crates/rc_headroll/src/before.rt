@@ -2,7 +2,8 @@
 
 ghost use Rattle.std.specs.Prelude.{◌≡◌, ◌+◌, ◌^◌, ◌<◌, ◌≤◌, Some, length, OnOk, OnErr};
 ghost use Rattle.std.specs.Option.{option_copied};
-ghost use Rattle.rc_headroll.specs.Before.{state_of, first_mark, mark_of, state_at, kept_of, with_kept, segments_before, others_back, other_back, one_back};
+ghost use Rattle.rc_headroll.specs.Before.{state_of, first_mark, mark_of, state_at, kept_of, with_kept};
+ghost use Rattle.rc_headroll.specs.Before.{segments_before, others_back, other_back, one_back};
 ghost use Rattle.rc_headroll.specs.LogData.{segment_at};
 
 use crate::segment::Segment;

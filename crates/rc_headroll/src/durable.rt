@@ -1,6 +1,7 @@
 //! How much of the log is durable.
 
-ghost use Rattle.std.specs.Prelude.{◌≡◌, ◌+◌, ◌*◌, ◌^◌, ◌<◌, ◌≤◌, ◌++◌, ℕ, true, false, length, map, IfOk, IfSome, OnOk};
+ghost use Rattle.std.specs.Prelude.{◌≡◌, ◌+◌, ◌*◌, ◌^◌, ◌<◌, ◌≤◌, ◌++◌, ℕ, true, false, length, map, IfOk, IfSome};
+ghost use Rattle.std.specs.Prelude.{OnOk};
 ghost use Rattle.rc_types.specs.declared.limits.TheConstants.{MAX_SEGMENT};
 ghost use Rattle.rc_model.specs.Log.{durable_now, has_segment, places_in};
 ghost use Rattle.rc_model.specs.FollowUps.{first_open, new_durable};
@@ -27,7 +28,8 @@ impl LogHead {
     fn shut_front(&self) -> ShutFront
         ensures known { result.segments ≤ (log_of self.now).head }
         ensures shut { (seg : ℕ) → 0 < seg → seg ≤ result.segments → ((log_of self.now).segments seg).shut ≡ true }
-        ensures ends { result.segments < (log_of self.now).head → ((log_of self.now).segments (result.segments + 1)).shut ≡ false }
+        ensures ends { result.segments < (log_of self.now).head →
+            ((log_of self.now).segments (result.segments + 1)).shut ≡ false }
         ensures entries { result.entries ≡ entries_to (log_of self.now).segments result.segments }
         ensures few { result.entries ≤ MAX_SEGMENT * result.segments }
     {
@@ -124,7 +126,8 @@ fn add_places<'a>(
     entries: &'a [(Entry, bool)],
 ) -> Result<(), AllocError>
     requires { offset + length entries.now < 2 ^ 64 }
-    ensures { OnOk result (map log_place places.new.items ≡ map log_place places.old.items ++ places_in seg offset entries.now) }
+    ensures { OnOk result (map log_place places.new.items ≡ map log_place places.old.items ++
+        places_in seg offset entries.now) }
 {
     let mut at = offset;
     for (entry, client) in entries {

@@ -3,7 +3,8 @@
 ghost use Rattle.std.specs.Prelude.{◌≡◌, true, length, filter, not, nat_eq, OnOk, OnErr, IfOk, All};
 ghost use Rattle.std.specs.List.{list_any};
 ghost use Rattle.rc_model.specs.Log.{is_opening, is_closing, has_segment, has_old_head, with_segment};
-ghost use Rattle.rc_model.specs.Heads.{shuts, with_shut, may_start, may_close, may_write, starts, closes_old, left_out, writes_on};
+ghost use Rattle.rc_model.specs.Heads.{shuts, with_shut, may_start, may_close, may_write, starts, closes_old};
+ghost use Rattle.rc_model.specs.Heads.{left_out, writes_on};
 ghost use Rattle.rc_model.specs.FollowUps.{close_is_due, close_marked};
 ghost use Rattle.rc_headroll.specs.Before.{IsKept};
 ghost use Rattle.rc_headroll.specs.LogData.{log_of, before_of, segment_at};
@@ -91,7 +92,9 @@ impl LogHead {
     /// is as it was.
     pub fn mark_commit_sent(&mut self, seg: u16) -> Result<(), AllocError>
         requires { has_segment (log_of self.old) seg ≡ true }
-        ensures marked { OnOk result (log_of self.new ≡ with_segment seg (record ((log_of self.old).segments seg) { commit_sent = true }) (log_of self.old)) }
+        ensures marked { OnOk result
+            (log_of self.new ≡ with_segment seg (record ((log_of self.old).segments seg) { commit_sent = true })
+            (log_of self.old)) }
         ensures unchanged { OnErr result (log_of self.new ≡ log_of self.old) }
         ensures before { before_of self.new ≡ before_of self.old }
     {
@@ -104,7 +107,8 @@ impl LogHead {
     fn mark_commit(&mut self, seg: u16)
         requires has { has_segment (log_of self.old) seg ≡ true }
         requires kept { IsKept self.old.mark seg }
-        ensures marked { log_of self.new ≡ with_segment seg (record ((log_of self.old).segments seg) { commit_sent = true }) (log_of self.old) }
+        ensures marked { log_of self.new ≡ with_segment seg
+            (record ((log_of self.old).segments seg) { commit_sent = true }) (log_of self.old) }
         ensures before { before_of self.new ≡ before_of self.old }
     {
         self.segments[usize::from(seg) - 1].mark_commit_sent();

@@ -1,6 +1,7 @@
 //! The log.
 
-ghost use Rattle.std.specs.Prelude.{◌≡◌, ◌⊎◌, ◌≤◌, ◌<◌, true, Some, None, Ok, Err, length, nat_lt, All, if◌then◌else◌, OnOk, OnErr, IfOk, IfErr};
+ghost use Rattle.std.specs.Prelude.{◌≡◌, ◌⊎◌, ◌≤◌, ◌<◌, true, Some, None, Ok, Err, length, nat_lt, All};
+ghost use Rattle.std.specs.Prelude.{if◌then◌else◌, OnOk, OnErr, IfOk, IfErr};
 ghost use Rattle.std.specs.Option.{option_copied};
 
 use crate::before::Before;
@@ -57,7 +58,8 @@ impl Model for LogHead {
 }
 
 impl LogHead {
-    ghost use Rattle.rc_model.specs.Log.{new_log, head_of, old_head_of, has_segment, has_old_head, is_opening, is_closing, is_writing};
+    ghost use Rattle.rc_model.specs.Log.{new_log, head_of, old_head_of, has_segment, has_old_head, is_opening};
+    ghost use Rattle.rc_model.specs.Log.{is_closing, is_writing};
     ghost use Rattle.rc_model.specs.Heads.{is_full};
     ghost use Rattle.rc_headroll.specs.LogData.{log_of, before_of};
     ghost use Rattle.rc_headroll.specs.Soundness.{IsKnown};

@@ -1,6 +1,7 @@
 //! Heads are opened, and entries appended.
 
-ghost use Rattle.std.specs.Prelude.{◌≡◌, ◌⊎◌, ◌+◌, ◌<◌, ◌≤◌, ◌∷◌, ◌++◌, [], ℕ, true, false, Some, None, Ok, Err, length, filter, not, nat_eq, ◌||◌, All, OnOk, OnErr, IfOk, IfErr};
+ghost use Rattle.std.specs.Prelude.{◌≡◌, ◌⊎◌, ◌+◌, ◌<◌, ◌≤◌, ◌∷◌, ◌++◌, [], ℕ, true, false, Some, None, Ok, Err};
+ghost use Rattle.std.specs.Prelude.{length, filter, not, nat_eq, ◌||◌, All, OnOk, OnErr, IfOk, IfErr};
 ghost use Rattle.std.specs.List.{list_any};
 ghost use Rattle.rc_types.specs.declared.faults.Fault.TheVariants.{OutOfMemory};
 ghost use Rattle.rc_types.specs.declared.limits.TheConstants.{MAX_FACTOR, LAST_SEGMENT};
@@ -45,7 +46,8 @@ impl LogHead {
     pub fn append(&mut self, entry: Entry) -> Result<(u16, usize), Fault>
         ensures possible { OnOk result (append_fault (log_of self.old) ≡ None) }
         ensures state { OnOk result (log_of self.new ≡ appends entry false (log_of self.old)) }
-        ensures place { IfOk result (λ place. place ≡ ((log_of self.old).head, length (head_of (log_of self.old)).entries)) }
+        ensures place { IfOk result
+            (λ place. place ≡ ((log_of self.old).head, length (head_of (log_of self.old)).entries)) }
         ensures err { IfErr result (λ fault. (fault ≡ OutOfMemory) ⊎ (append_fault (log_of self.old) ≡ Some fault)) }
         ensures unchanged { OnErr result (self.new ≡ self.old) }
         ensures before { before_of self.new ≡ before_of self.old }
@@ -61,7 +63,8 @@ impl LogHead {
     pub fn append_write(&mut self, entry: Entry) -> Result<(u16, usize), Fault>
         ensures possible { OnOk result (append_fault (log_of self.old) ≡ None) }
         ensures state { OnOk result (log_of self.new ≡ appends entry true (log_of self.old)) }
-        ensures place { IfOk result (λ place. place ≡ ((log_of self.old).head, length (head_of (log_of self.old)).entries)) }
+        ensures place { IfOk result
+            (λ place. place ≡ ((log_of self.old).head, length (head_of (log_of self.old)).entries)) }
         ensures err { IfErr result (λ fault. (fault ≡ OutOfMemory) ⊎ (append_fault (log_of self.old) ≡ Some fault)) }
         ensures unchanged { OnErr result (self.new ≡ self.old) }
         ensures before { before_of self.new ≡ before_of self.old }
@@ -72,7 +75,8 @@ impl LogHead {
     fn append_entry(&mut self, entry: Entry, client: bool) -> Result<(u16, usize), Fault>
         ensures possible { OnOk result (append_fault (log_of self.old) ≡ None) }
         ensures state { OnOk result (log_of self.new ≡ appends entry client (log_of self.old)) }
-        ensures place { IfOk result (λ place. place ≡ ((log_of self.old).head, length (head_of (log_of self.old)).entries)) }
+        ensures place { IfOk result
+            (λ place. place ≡ ((log_of self.old).head, length (head_of (log_of self.old)).entries)) }
         ensures err { IfErr result (λ fault. (fault ≡ OutOfMemory) ⊎ (append_fault (log_of self.old) ≡ Some fault)) }
         ensures unchanged { OnErr result (self.new ≡ self.old) }
         ensures before { before_of self.new ≡ before_of self.old }
@@ -171,7 +175,8 @@ impl LogHead {
         requires room { (log_of self.old).head < LAST_SEGMENT }
         requires members { length ids.now ≤ MAX_MEMBERS }
         requires known { All (IsKnown ((log_of self.old).head + 1)) digest.items }
-        requires shut { (seg : ℕ) → 0 < seg → seg < (log_of self.old).head → ((log_of self.old).segments seg).shut ≡ true }
+        requires shut { (seg : ℕ) → 0 < seg → seg < (log_of self.old).head →
+            ((log_of self.old).segments seg).shut ≡ true }
         ensures ok { OnOk result (log_of self.new ≡ opens_head (log_of self.old) digest.items ids.now) }
         ensures unchanged { OnErr result (self.new ≡ self.old) }
         ensures before { before_of self.new ≡ before_of self.old }
@@ -190,7 +195,8 @@ fn without_dead(
     head: u16,
     dead: &[u16],
 ) -> Result<Vec<u16>, AllocError>
-    ensures { IfOk result (λ rest. rest.items ≡ filter (λ seg. nat_eq seg head || not (list_any (nat_eq seg) dead.now)) digest.now) }
+    ensures { IfOk result (λ rest.
+        rest.items ≡ filter (λ seg. nat_eq seg head || not (list_any (nat_eq seg) dead.now)) digest.now) }
 {
     digest
         .iter()

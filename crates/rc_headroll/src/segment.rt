@@ -41,7 +41,8 @@ impl Model for Segment {
 }
 
 impl Segment {
-    ghost use Rattle.rc_model.specs.Segment.{new_segment, with_entry, is_unclosed, has_unclosed, with_closes_sent, is_ready, is_all_closed, durable_in};
+    ghost use Rattle.rc_model.specs.Segment.{new_segment, with_entry, is_unclosed, has_unclosed, with_closes_sent};
+    ghost use Rattle.rc_model.specs.Segment.{is_ready, is_all_closed, durable_in};
     ghost use Rattle.rc_model.specs.FollowUps.{wants_commit};
     ghost use Rattle.rc_model.specs.MasterTick.{awaits_commit};
     ghost use Rattle.rc_headroll.specs.Losing.{segment_loses};

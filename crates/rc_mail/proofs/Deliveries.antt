@@ -1,5 +1,6 @@
 -- One event more: the marks and the numbers that wait still fit.
-use Rattle.std.proofs.Common.{◌≡◌, ◌<◌, ℕ, zero, suc, Bool, true, false, ◌||◌, List, [], ◌∷◌, ◌++◌, length, Option, Some, None, slice_get, slice_set, refl, sym, ap, ◌∙◌, arith, true≢false, length-append}
+use Rattle.std.proofs.Common.{◌≡◌, ◌<◌, ℕ, zero, suc, Bool, true, false, ◌||◌, List, [], ◌∷◌, ◌++◌, length, Option}
+use Rattle.std.proofs.Common.{Some, None, slice_get, slice_set, refl, sym, ap, ◌∙◌, arith, true≢false, length-append}
 use Rattle.std.specs.List.{list_any}
 use Rattle.std.proofs.lemmas.List.Folds.{list_any-append}
 use Rattle.rc_types.specs.declared.events.Event.{Event}
@@ -22,15 +23,18 @@ still_at (x ∷ xs) ys zero lt = refl
 still_at (x ∷ xs) ys (suc n) lt = still_at xs ys n (omega (arith, lt))
 
 -- what is due by more marks is due by fewer
-due_before : (passing : Passing) (mark more : Bool) (message : Option Message) → is_due_marked passing (mark || more) message ≡ true → is_due_marked passing mark message ≡ true
+due_before : (passing : Passing) (mark more : Bool) (message : Option Message) →
+    is_due_marked passing (mark || more) message ≡ true → is_due_marked passing mark message ≡ true
 due_before passing true more message due = due
 due_before passing false true None due = due
 due_before passing false true (Some message) due = absurd (true≢false (sym due))
 due_before passing false false message due = due
 
 -- after an event, with the marks that it asks for
-fits_after : (events : List Event) (sent more : List Message) (one : Event) (delivered marks : List Bool) (waiting : List ℕ) → Fits events sent delivered waiting
-    → length marks ≡ length delivered → ((n : ℕ) → marked marks n ≡ (marked delivered n || delivers n one)) → Fits (events ++ one ∷ []) (sent ++ more) marks waiting
+fits_after : (events : List Event) (sent more : List Message) (one : Event) (delivered marks : List Bool)
+    (waiting : List ℕ) → Fits events sent delivered waiting
+    → length marks ≡ length delivered → ((n : ℕ) → marked marks n ≡ (marked delivered n || delivers n one)) →
+    Fits (events ++ one ∷ []) (sent ++ more) marks waiting
 fits_after events sent more one delivered marks waiting fits same says = record {
   marks = λ n. says n ∙ rw (fits.marks n, list_any-append (delivers n) events (one ∷ [])) (in_one n);
   within = omega (arith, same, fits.within, length-append sent more);
@@ -44,8 +48,10 @@ fits_after events sent more one delivered marks waiting fits same says = record 
     in_one n = ap (λ b. is_delivered n events || b) (sym (or_false (delivers n one)))
 
 -- after a delivery
-pub fits_delivered : (events : List Event) (sent more : List Message) (number : ℕ) (delivered marks : List Bool) (waiting numbers : List ℕ) → Fits events sent delivered waiting
-    → number < length delivered → marks ≡ slice_set delivered number true → numbers ≡ waiting → Fits (events ++ Deliver number ∷ []) (sent ++ more) marks numbers
+pub fits_delivered : (events : List Event) (sent more : List Message) (number : ℕ) (delivered marks : List Bool)
+    (waiting numbers : List ℕ) → Fits events sent delivered waiting
+    → number < length delivered → marks ≡ slice_set delivered number true → numbers ≡ waiting →
+    Fits (events ++ Deliver number ∷ []) (sent ++ more) marks numbers
 fits_delivered events sent more number delivered marks waiting numbers fits within set same =
     rw (set, same) (fits_after events sent more (Deliver number) delivered (slice_set delivered number true) waiting fits
     (mark_length delivered number) (λ n. mark_at delivered n number within))
@@ -59,7 +65,13 @@ waits_other events sent more one letters waits other =
 
 -- where nothing has happened, nothing is noted
 pub waits_none : (sent : List Message) → Fits [] sent [] []
-waits_none sent = record { marks = λ n. unmarked n; within = omega arith; ordered = tt; covers = λ passing n lt due. absurd (omega (arith, lt)) }
+waits_none sent = record {
+  marks = λ n. unmarked n;
+  within = omega arith;
+  ordered = tt;
+  covers = λ passing n lt due.
+      absurd (omega (arith, lt));
+}
   where
     unmarked : (n : ℕ) → marked [] n ≡ is_delivered n []
     unmarked zero = refl

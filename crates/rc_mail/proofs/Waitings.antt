@@ -1,5 +1,8 @@
 -- Which messages are due, by the marks and the numbers that wait.
-use Rattle.std.proofs.Common.{◌≡◌, ◌≢◌, ◌⊎◌, inl, inr, ◌≤◌, ◌<◌, ℕ, ◌+◌, ◌-◌, zero, suc, Bool, true, false, not, nat_eq, nat_lt, max, ◌||◌, if◌then◌else◌, cond, List, [], ◌∷◌, ◌++◌, length, drop, filter, Option, Some, None, slice_get, refl, sym, ap, ◌∙◌, arith, true≢false, slice_index_or, slice_set, is_some, subst, length-append}
+use Rattle.std.proofs.Common.{◌≡◌, ◌≢◌, ◌⊎◌, inl, inr, ◌≤◌, ◌<◌, ℕ, ◌+◌, ◌-◌, zero, suc, Bool, true, false, not}
+use Rattle.std.proofs.Common.{nat_eq, nat_lt, max, ◌||◌, if◌then◌else◌, cond, List, [], ◌∷◌, ◌++◌, length, drop}
+use Rattle.std.proofs.Common.{filter, Option, Some, None, slice_get, refl, sym, ap, ◌∙◌, arith, true≢false}
+use Rattle.std.proofs.Common.{slice_index_or, slice_set, is_some, subst, length-append}
 use Rattle.std.specs.Bool.{⊤}
 use Rattle.std.specs.List.{items_where_true, find, AllWithin}
 use Rattle.std.specs.List.Sorted.{IsPartitionedBy}
@@ -55,12 +58,15 @@ rises_parted from low high [] rise i j d le lt below = absurd (omega (arith, lt)
 rises_parted from low high (x ∷ xs) rise zero zero d le lt below = below
 rises_parted from low high (x ∷ xs) rise zero (suc j) d le lt below = below_first from x high xs j d rise.2 (omega (arith, lt)) below
   where
-    below_first : (from x high : ℕ) (xs : List ℕ) (j d : ℕ) → Ascends (x + 1) high xs → j < length xs → nat_lt (slice_index_or xs j d) from ≡ true → nat_lt x from ≡ true
+    below_first : (from x high : ℕ) (xs : List ℕ) (j d : ℕ) → Ascends (x + 1) high xs → j < length xs →
+        nat_lt (slice_index_or xs j d) from ≡ true → nat_lt x from ≡ true
     below_first from x high [] j d rise lt below = absurd (omega (arith, lt))
     below_first from x high (y ∷ ys) zero d rise lt below = grind (arith, rise.0)
-    below_first from x high (y ∷ ys) (suc j) d rise lt below = below_first from x high ys j d (rises_from (y + 1) (x + 1) high ys (omega (arith, rise.0)) rise.2) (omega (arith, lt)) below
+    below_first from x high (y ∷ ys) (suc j) d rise lt below = below_first from x high ys j d
+        (rises_from (y + 1) (x + 1) high ys (omega (arith, rise.0)) rise.2) (omega (arith, lt)) below
 rises_parted from low high (x ∷ xs) rise (suc i) zero d le lt below = absurd (omega (arith, le))
-rises_parted from low high (x ∷ xs) rise (suc i) (suc j) d le lt below = rises_parted from (x + 1) high xs rise.2 i j d (omega (arith, le)) (omega (arith, lt)) below
+rises_parted from low high (x ∷ xs) rise (suc i) (suc j) d le lt below =
+    rises_parted from (x + 1) high xs rise.2 i j d (omega (arith, le)) (omega (arith, lt)) below
 
 -- what the place between them divides
 pub rises_after : (from low high : ℕ) (xs : List ℕ) (place : ℕ) → Ascends low high xs
@@ -94,7 +100,8 @@ same_due passing events delivered marks n (message ∷ messages) = rw (marks n, 
 -- one number after another
 turned : Passing → List Bool → ℕ → List Message → Option Message → Option ℕ
 turned passing delivered n rest None = None
-turned passing delivered n rest (Some message) = if is_due_marked passing (marked delivered n) (Some message) then Some n else first_due passing delivered (n + 1) rest
+turned passing delivered n rest (Some message) = if is_due_marked passing (marked delivered n) (Some message) then Some
+    n else first_due passing delivered (n + 1) rest
 
 turn_at : (passing : Passing) (delivered : List Bool) (sent : List Message) (place n : ℕ)
     → first_due passing delivered n (drop place sent) ≡ turned passing delivered n (drop (suc place) sent) (slice_get sent place)
@@ -107,20 +114,25 @@ turn_at passing delivered (message ∷ sent) (suc place) n = turn_at passing del
 some_is_none : {message : Message} → Some message ≡ None → ⊥
 some_is_none {message} same = true≢false (ap is_some same)
 
-past_end : (passing : Passing) (delivered : List Bool) (sent : List Message) (place n : ℕ) → slice_get sent place ≡ None → first_due passing delivered n (drop (suc place) sent) ≡ None
+past_end : (passing : Passing) (delivered : List Bool) (sent : List Message) (place n : ℕ) →
+    slice_get sent place ≡ None → first_due passing delivered n (drop (suc place) sent) ≡ None
 past_end passing delivered [] place n none = refl
 past_end passing delivered (message ∷ sent) zero n none = absurd (some_is_none none)
 past_end passing delivered (message ∷ sent) (suc place) n none = past_end passing delivered sent place n none
 
 turn_by : (passing : Passing) (delivered : List Bool) (sent : List Message) (n : ℕ) (message : Option Message) → slice_get sent n ≡ message
-    → turned passing delivered n (drop (suc n) sent) message ≡ (if is_due_marked passing (marked delivered n) message then Some n else first_due passing delivered (n + 1) (drop (n + 1) sent))
+    → turned passing delivered n (drop (suc n) sent)
+    message ≡ (if is_due_marked passing (marked delivered n) message then Some n
+    else first_due passing delivered (n + 1) (drop (n + 1) sent))
 unfolding turned
-turn_by passing delivered sent n None none = let next : suc n ≡ n + 1 = omega arith in sym (rw (← next) (past_end passing delivered sent n (suc n) none))
+turn_by passing delivered sent n None none =
+    let next : suc n ≡ n + 1 = omega arith in sym (rw (← next) (past_end passing delivered sent n (suc n) none))
 turn_by passing delivered sent n (Some message) some = let next : suc n ≡ n + 1 = omega arith in rw next refl
 
 -- the first that is due from n on is n, or the first from n + 1 on
 turn : (passing : Passing) (delivered : List Bool) (sent : List Message) (n : ℕ)
-    → first_due passing delivered n (drop n sent) ≡ (if is_due_by passing delivered sent n then Some n else first_due passing delivered (n + 1) (drop (n + 1) sent))
+    → first_due passing delivered n (drop n sent) ≡ (if is_due_by passing delivered sent n then Some n
+    else first_due passing delivered (n + 1) (drop (n + 1) sent))
 turn passing delivered sent n = turn_at passing delivered sent n n ∙ turn_by passing delivered sent n (slice_get sent n) refl
 
 pub found_at : (passing : Passing) (delivered : List Bool) (sent : List Message) (n : ℕ) → is_due_by passing delivered sent n ≡ true
@@ -168,10 +180,12 @@ among passing delivered sent last from (x ∷ xs) le rise covers =
     let width : from + (x - from) ≡ x = omega (arith, rise.0) in
     let none_before : (m : ℕ) → from ≤ m → m < from + (x - from) → is_due_by passing delivered sent m ≡ false =
     λ m ge lt. not_true (is_due_by passing delivered sent m)
-    (λ due. either {R = ⊥} (λ same. omega (arith, same, lt, width)) (λ later. let h = in_range (x + 1) last xs m rise.2 later in omega (arith, h.0, lt, width))
+    (λ due. either {R = ⊥} (λ same. omega (arith, same, lt, width))
+    (λ later. let h = in_range (x + 1) last xs m rise.2 later in omega (arith, h.0, lt, width))
     (covers m ge (omega (arith, lt, width, rise.1)) due)) in
     let above : Covers passing delivered sent (x + 1) last xs =
-    λ m ge lt due. either {R = In m xs} (λ same. absurd (omega (arith, same, ge))) (λ later. later) (covers m (omega (arith, ge, rise.0)) lt due) in
+    λ m ge lt due. either {R = In m xs} (λ same. absurd (omega (arith, same, ge))) (λ later. later)
+    (covers m (omega (arith, ge, rise.0)) lt due) in
     passed_over passing delivered sent from (x - from) none_before ∙ rw width
     (turn passing delivered sent x ∙ at_first x (is_due_by passing delivered sent x) _ _ _
     (among passing delivered sent last (x + 1) xs (omega (arith, rise.1)) rise.2 above))
@@ -182,37 +196,45 @@ among passing delivered sent last from (x ∷ xs) le rise covers =
     at_first x false later found rest same = same
 
 -- what the marks and the waiting numbers give is what the definitions ask for
-due_in_mail : (events : List Event) (sent : List Message) (delivered : List Bool) (waiting : List ℕ) (passing : Passing) (from place last : ℕ) → Fits events sent delivered waiting
+due_in_mail : (events : List Event) (sent : List Message) (delivered : List Bool) (waiting : List ℕ) (passing : Passing)
+    (from place last : ℕ) → Fits events sent delivered waiting
     → Ascends from (length delivered) (drop place waiting)
     → ((n : ℕ) → from ≤ n → In n waiting → In n (drop place waiting))
     → from ≤ last → length delivered ≤ last → ((n : ℕ) → n < last → from ≤ n → n < length delivered)
-    → chosen (find (is_due_by passing delivered sent) (drop place waiting)) (first_due passing delivered last (drop last sent)) ≡ due_from passing events sent from
+    → chosen (find (is_due_by passing delivered sent) (drop place waiting))
+    (first_due passing delivered last (drop last sent)) ≡ due_from passing events sent from
 due_in_mail events sent delivered waiting passing from place last waits rise all le reach below =
-    sym (among passing delivered sent last from (drop place waiting) le (rises_to from (length delivered) last (drop place waiting) reach rise)
+    sym (among passing delivered sent last from (drop place waiting) le
+    (rises_to from (length delivered) last (drop place waiting) reach rise)
     (λ n ge lt due. all n ge (waits.covers passing n (below n lt ge) due)))
     ∙ same_due passing events delivered waits.marks from (drop from sent)
 
 below_max : (from high n : ℕ) → n < max from high → from ≤ n → n < high
 below_max from high n lt ge = omega (arith, lt, ge)
 
-pub noted_due : (events : List Event) (sent : List Message) (delivered : List Bool) (waiting : List ℕ) (passing : Passing) (from place number : ℕ) → Fits events sent delivered waiting
+pub noted_due : (events : List Event) (sent : List Message) (delivered : List Bool) (waiting : List ℕ)
+    (passing : Passing) (from place number : ℕ) → Fits events sent delivered waiting
     → Ascends from (length delivered) (drop place waiting)
     → ((n : ℕ) → from ≤ n → In n waiting → In n (drop place waiting))
     → find (is_due_by passing delivered sent) (drop place waiting) ≡ Some number → Some number ≡ due_from passing events sent from
 noted_due events sent delivered waiting passing from place number waits rise all found =
     let last : ℕ = max from (length delivered) in
     ap (λ f. chosen f (first_due passing delivered last (drop last sent))) (sym found)
-    ∙ due_in_mail events sent delivered waiting passing from place last waits rise all (omega arith) (omega arith) (below_max from (length delivered))
+    ∙ due_in_mail events sent delivered waiting passing from place last waits rise all (omega arith) (omega arith)
+    (below_max from (length delivered))
 
-pub new_due : (events : List Event) (sent : List Message) (delivered : List Bool) (waiting : List ℕ) (passing : Passing) (from place : ℕ) → Fits events sent delivered waiting
+pub new_due : (events : List Event) (sent : List Message) (delivered : List Bool) (waiting : List ℕ) (passing : Passing)
+    (from place : ℕ) → Fits events sent delivered waiting
     → Ascends from (length delivered) (drop place waiting)
     → ((n : ℕ) → from ≤ n → In n waiting → In n (drop place waiting))
     → find (is_due_by passing delivered sent) (drop place waiting) ≡ None
-    → first_due passing delivered (max from (length delivered)) (drop (max from (length delivered)) sent) ≡ due_from passing events sent from
+    → first_due passing delivered (max from (length delivered)) (drop (max from (length delivered)) sent) ≡ due_from
+    passing events sent from
 new_due events sent delivered waiting passing from place waits rise all none =
     let last : ℕ = max from (length delivered) in
     ap (λ f. chosen f (first_due passing delivered last (drop last sent))) (sym none)
-    ∙ due_in_mail events sent delivered waiting passing from place last waits rise all (omega arith) (omega arith) (below_max from (length delivered))
+    ∙ due_in_mail events sent delivered waiting passing from place last waits rise all (omega arith) (omega arith)
+    (below_max from (length delivered))
 
 -- Notes
 
@@ -227,7 +249,8 @@ abbrev pub IsForOutside : Option Message → Type 0
 IsForOutside None = ⊤
 IsForOutside (Some message) = message.to ≡ Outside
 
-outside_not_due : (passing : Passing) (mark : Bool) (message : Option Message) → IsForOutside message → is_due_marked passing mark message ≡ false
+outside_not_due : (passing : Passing) (mark : Bool) (message : Option Message) → IsForOutside message →
+    is_due_marked passing mark message ≡ false
 outside_not_due passing mark None outside = refl
 outside_not_due passing true (Some message) outside = refl
 outside_not_due passing false (Some message) outside = rw outside refl
@@ -240,7 +263,8 @@ last_or_before n high lt = by_test (nat_lt n high) refl
     by_test false is = inr (grind (arith, is, lt))
 
 -- one message more is noted, and its number waits
-pub noted_waiting : (events : List Event) (sent : List Message) (delivered : List Bool) (waiting : List ℕ) → Fits events sent delivered waiting → length delivered < length sent
+pub noted_waiting : (events : List Event) (sent : List Message) (delivered : List Bool) (waiting : List ℕ) →
+    Fits events sent delivered waiting → length delivered < length sent
     → Fits events sent (delivered ++ false ∷ []) (waiting ++ length delivered ∷ [])
 noted_waiting events sent delivered waiting waits more =
     let longer : length (delivered ++ false ∷ []) ≡ length delivered + 1 = length-append delivered (false ∷ []) in
@@ -251,13 +275,16 @@ noted_waiting events sent delivered waiting waits more =
       covers = λ passing n lt due. at_end passing n (omega (arith, lt, longer)) (rw (← unmarked_end delivered n) due);
     }
   where
-    at_end : (passing : Passing) (n : ℕ) → n < length delivered + 1 → is_due_by passing delivered sent n ≡ true → In n (waiting ++ length delivered ∷ [])
+    at_end : (passing : Passing) (n : ℕ) → n < length delivered + 1 → is_due_by passing delivered sent n ≡ true →
+        In n (waiting ++ length delivered ∷ [])
     at_end passing n lt due =
-        either {R = In n (waiting ++ length delivered ∷ [])} (λ before. in_more n waiting (length delivered ∷ []) (waits.covers passing n before due))
+        either {R = In n (waiting ++ length delivered ∷ [])}
+        (λ before. in_more n waiting (length delivered ∷ []) (waits.covers passing n before due))
         (λ same. rw same (in_last (length delivered) waiting)) (last_or_before n (length delivered) lt)
 
 -- one message more is noted, which is for the outside
-pub noted_outside : (events : List Event) (sent : List Message) (delivered : List Bool) (waiting : List ℕ) → Fits events sent delivered waiting → length delivered < length sent
+pub noted_outside : (events : List Event) (sent : List Message) (delivered : List Bool) (waiting : List ℕ) →
+    Fits events sent delivered waiting → length delivered < length sent
     → IsForOutside (slice_get sent (length delivered)) → Fits events sent (delivered ++ false ∷ []) waiting
 noted_outside events sent delivered waiting waits more outside =
     let longer : length (delivered ++ false ∷ []) ≡ length delivered + 1 = length-append delivered (false ∷ []) in
@@ -271,19 +298,27 @@ noted_outside events sent delivered waiting waits more outside =
     at_end : (passing : Passing) (n : ℕ) → n < length delivered + 1 → is_due_by passing delivered sent n ≡ true → In n waiting
     at_end passing n lt due =
         either {R = In n waiting} (λ before. waits.covers passing n before due)
-        (λ same. absurd (true≢false (sym due ∙ rw same (outside_not_due passing (marked delivered (length delivered)) (slice_get sent (length delivered)) outside))))
+        (λ same. absurd (true≢false
+        (sym due ∙ rw same (outside_not_due passing (marked delivered (length delivered))
+        (slice_get sent (length delivered)) outside))))
         (last_or_before n (length delivered) lt)
 
-noted_one : (events : List Event) (sent : List Message) (delivered : List Bool) (waiting : List ℕ) (message : Message) (to : Addr) → Fits events sent delivered waiting
-    → slice_get sent (length delivered) ≡ Some message → message.to ≡ to → Fits events sent (delivered ++ false ∷ []) (waiting_with to (length delivered) waiting)
+noted_one : (events : List Event) (sent : List Message) (delivered : List Bool) (waiting : List ℕ) (message : Message)
+    (to : Addr) → Fits events sent delivered waiting
+    → slice_get sent (length delivered) ≡ Some message → message.to ≡ to →
+    Fits events sent (delivered ++ false ∷ []) (waiting_with to (length delivered) waiting)
 noted_one events sent delivered waiting message Outside waits at to =
     noted_outside events sent delivered waiting waits (slice_get_within sent (length delivered) message at) (rw at to)
-noted_one events sent delivered waiting message Coordinator waits at to = noted_waiting events sent delivered waiting waits (slice_get_within sent (length delivered) message at)
-noted_one events sent delivered waiting message (Server id) waits at to = noted_waiting events sent delivered waiting waits (slice_get_within sent (length delivered) message at)
+noted_one events sent delivered waiting message Coordinator waits at to =
+    noted_waiting events sent delivered waiting waits (slice_get_within sent (length delivered) message at)
+noted_one events sent delivered waiting message (Server id) waits at to =
+    noted_waiting events sent delivered waiting waits (slice_get_within sent (length delivered) message at)
 
 -- either way
-pub noted_more : (events : List Event) (sent : List Message) (delivered : List Bool) (waiting : List ℕ) (marks : List Bool) (numbers : List ℕ) (message : Message) → Fits events sent delivered waiting
-    → slice_get sent (length delivered) ≡ Some message → marks ≡ delivered ++ false ∷ [] → numbers ≡ waiting_with message.to (length delivered) waiting
+pub noted_more : (events : List Event) (sent : List Message) (delivered : List Bool) (waiting : List ℕ)
+    (marks : List Bool) (numbers : List ℕ) (message : Message) → Fits events sent delivered waiting
+    → slice_get sent (length delivered) ≡ Some message → marks ≡ delivered ++ false ∷ [] →
+    numbers ≡ waiting_with message.to (length delivered) waiting
     → Fits events sent marks numbers
 noted_more events sent delivered waiting marks numbers message waits at same_marks same_numbers =
     rw (same_marks, same_numbers) (noted_one events sent delivered waiting message message.to waits at refl)
@@ -291,7 +326,8 @@ noted_more events sent delivered waiting marks numbers message waits at same_mar
 -- What was delivered waits no longer
 
 -- what `retain` keeps, where its test changes nothing
-pub retained : {X P : Type 0} (R : P → X → Bool → P → Type 0) (p : P) (test : X → Bool) → ((x : X) (b : Bool) (q : P) → R p x b q → (q ≡ p) × (b ≡ test x))
+pub retained : {X P : Type 0} (R : P → X → Bool → P → Type 0) (p : P) (test : X → Bool) →
+    ((x : X) (b : Bool) (q : P) → R p x b q → (q ≡ p) × (b ≡ test x))
     → (xs : List X) (bs : List Bool) (q : P) → length bs ≡ length xs → ReturnsInTurn R p bs xs q → items_where_true bs xs ≡ filter test xs
 retained R p test says [] [] q same turns = refl
 retained R p test says [] (b ∷ bs) q same turns = absurd (omega (arith, same))
@@ -327,7 +363,8 @@ due_unmarked passing mark None due = absurd (true≢false (sym due))
 due_unmarked passing true (Some message) due = absurd (true≢false (sym due))
 due_unmarked passing false (Some message) due = refl
 
-tidied : (events : List Event) (sent : List Message) (delivered : List Bool) (waiting : List ℕ) → Fits events sent delivered waiting → Fits events sent delivered (filter (λ n. not (marked delivered n)) waiting)
+tidied : (events : List Event) (sent : List Message) (delivered : List Bool) (waiting : List ℕ) →
+    Fits events sent delivered waiting → Fits events sent delivered (filter (λ n. not (marked delivered n)) waiting)
 tidied events sent delivered waiting waits = record {
   marks = waits.marks;
   within = waits.within;
@@ -338,9 +375,11 @@ tidied events sent delivered waiting waits = record {
 
 -- A step
 
-pub tidied_as : (events : List Event) (sent : List Message) (delivered marks : List Bool) (waiting numbers : List ℕ) → Fits events sent delivered waiting → marks ≡ delivered
+pub tidied_as : (events : List Event) (sent : List Message) (delivered marks : List Bool) (waiting numbers : List ℕ) →
+    Fits events sent delivered waiting → marks ≡ delivered
     → numbers ≡ filter (λ n. not (marked delivered n)) waiting → Fits events sent marks numbers
-tidied_as events sent delivered marks waiting numbers waits same_marks same_numbers = rw (same_marks, same_numbers) (tidied events sent delivered waiting waits)
+tidied_as events sent delivered marks waiting numbers waits same_marks same_numbers =
+    rw (same_marks, same_numbers) (tidied events sent delivered waiting waits)
 
 -- A step
 

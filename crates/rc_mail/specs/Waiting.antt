@@ -1,5 +1,6 @@
 -- Which messages are still to be delivered, by marks and by numbers that wait.
-use Rattle.std.specs.Prelude.{◌≡◌, ◌⊎◌, ◌≤◌, ◌<◌, ℕ, ◌+◌, Bool, true, false, not, ◌&&◌, if◌then◌else◌, List, [], ◌∷◌, ◌++◌, length, Option, Some, None, slice_get, unwrap_or, ⊤}
+use Rattle.std.specs.Prelude.{◌≡◌, ◌⊎◌, ◌≤◌, ◌<◌, ℕ, ◌+◌, Bool, true, false, not, ◌&&◌, if◌then◌else◌, List, [], ◌∷◌}
+use Rattle.std.specs.Prelude.{◌++◌, length, Option, Some, None, slice_get, unwrap_or, ⊤}
 use Rattle.rc_types.specs.declared.events.Event.{Event}
 use Rattle.rc_types.specs.declared.ids.Addr.{Addr}
 use Rattle.rc_types.specs.declared.ids.Addr.TheVariants.{Outside}
@@ -39,17 +40,19 @@ is_due_by passing delivered sent n = is_due_marked passing (marked delivered n) 
 abbrev pub first_due : Passing → List Bool → ℕ → List Message → Option ℕ
 first_due passing delivered n [] = None
 first_due passing delivered n (message ∷ messages) =
-    if is_due_marked passing (marked delivered n) (Some message) then Some n else first_due passing delivered (n + 1) messages
+    if is_due_marked passing (marked delivered n) (Some message) then Some n else first_due passing delivered (n + 1)
+    messages
 
 -- the number waits, unless the message is for the outside
 abbrev pub waiting_with : Addr → ℕ → List ℕ → List ℕ
 waiting_with Outside n waiting = waiting
 waiting_with _ n waiting = waiting ++ n ∷ []
 
--- The marks and numbers fit these events and messages: what is marked was delivered; and of the messages noted, each that a
--- pass may come to deliver is waiting.
+-- The marks and numbers fit these events and messages: what is marked was delivered; and of the messages noted, each
+-- that a pass may come to deliver is waiting.
 pub record Fits (events : List Event) (sent : List Message) (delivered : List Bool) (waiting : List ℕ) : Type 0 where
   pub marks : (n : ℕ) → marked delivered n ≡ is_delivered n events
   pub within : length delivered ≤ length sent
   pub ordered : Ascends 0 (length delivered) waiting
-  pub covers : (passing : Passing) (n : ℕ) → n < length delivered → is_due_by passing delivered sent n ≡ true → In n waiting
+  pub covers : (passing : Passing) (n : ℕ) → n < length delivered → is_due_by passing delivered sent n ≡ true →
+      In n waiting

@@ -40,7 +40,8 @@ impl Mail {
 
     /// The least number from `from` on of a message that the pass delivers.
     pub fn next_due(&self, passing: &Passing, sent: &[Message], from: usize) -> Option<usize>
-        ensures { (events : List Event) → Waits events sent.now self.now → result ≡ due_from passing.now events sent.now from }
+        ensures { (events : List Event) → Waits events sent.now self.now →
+            result ≡ due_from passing.now events sent.now from }
     {
         self.marks.next_due(passing, sent, from)
     }
@@ -64,7 +65,8 @@ impl Mail {
 
     /// What was delivered waits no longer.
     pub fn tidy(&mut self)
-        ensures { (events : List Event) (sent : List Message) → Waits events sent self.old → Waits events sent self.new }
+        ensures { (events : List Event) (sent : List Message) → Waits events sent self.old →
+            Waits events sent self.new }
     {
         self.marks.tidy();
     }

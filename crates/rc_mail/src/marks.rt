@@ -1,6 +1,7 @@
 //! Marks of what was delivered, and the numbers of what waits.
 
-ghost use Rattle.std.specs.Prelude.{◌≡◌, ◌≤◌, ◌<◌, ◌++◌, ◌∷◌, true, false, [], not, ℕ, List, length, drop, filter, OnOk, OnErr};
+ghost use Rattle.std.specs.Prelude.{◌≡◌, ◌≤◌, ◌<◌, ◌++◌, ◌∷◌, true, false, [], not, ℕ, List, length, drop, filter};
+ghost use Rattle.std.specs.Prelude.{OnOk, OnErr};
 ghost use Rattle.std.specs.List.{find, slice_set};
 ghost use Rattle.rc_types.specs.declared.events.Event.{Event};
 ghost use Rattle.rc_mail.specs.Settling.{due_from};
@@ -46,15 +47,18 @@ impl Marks {
     /// Where the waiting numbers from `from` on begin.
     fn first_from(&self, from: usize) -> usize
         ensures bound { result ≤ length self.now.waiting.items }
-        ensures order { (high : ℕ) → Ascends 0 high self.now.waiting.items → Ascends from high (drop result self.now.waiting.items) }
-        ensures all { (high n : ℕ) → Ascends 0 high self.now.waiting.items → from ≤ n → In n self.now.waiting.items → In n (drop result self.now.waiting.items) }
+        ensures order { (high : ℕ) → Ascends 0 high self.now.waiting.items →
+            Ascends from high (drop result self.now.waiting.items) }
+        ensures all { (high n : ℕ) → Ascends 0 high self.now.waiting.items → from ≤ n → In n self.now.waiting.items →
+            In n (drop result self.now.waiting.items) }
     {
         self.waiting.partition_point(|number| *number < from)
     }
 
     /// The least number from `from` on of a message that the pass delivers.
     pub(crate) fn next_due(&self, passing: &Passing, sent: &[Message], from: usize) -> Option<usize>
-        ensures { (events : List Event) → Fits events sent.now self.now.delivered.items self.now.waiting.items → result ≡ due_from passing.now events sent.now from }
+        ensures { (events : List Event) → Fits events sent.now self.now.delivered.items self.now.waiting.items →
+            result ≡ due_from passing.now events sent.now from }
     {
         match self.next_noted(passing, sent, self.first_from(from)) {
             Some(number) => Some(number),
@@ -65,7 +69,8 @@ impl Marks {
     /// The first of the waiting numbers from this place on whose message the pass delivers.
     fn next_noted(&self, passing: &Passing, sent: &[Message], place: usize) -> Option<usize>
         requires { place ≤ length self.now.waiting.items }
-        ensures { result ≡ find (is_due_by passing.now self.now.delivered.items sent.now) (drop place self.now.waiting.items) }
+        ensures { result ≡ find (is_due_by passing.now self.now.delivered.items sent.now)
+            (drop place self.now.waiting.items) }
     {
         for number in &self.waiting[place..] {
             if self.is_due(passing, sent, *number) {
@@ -90,7 +95,8 @@ impl Marks {
     /// Notes all messages sent. Where memory is refused, some of them may be noted.
     pub(crate) fn note(&mut self, sent: &[Message]) -> Result<(), AllocError>
         ensures all { OnOk result (length sent.now ≤ length self.new.delivered.items) }
-        ensures kept { (events : List Event) → Fits events sent.now self.old.delivered.items self.old.waiting.items → Fits events sent.now self.new.delivered.items self.new.waiting.items }
+        ensures kept { (events : List Event) → Fits events sent.now self.old.delivered.items self.old.waiting.items →
+            Fits events sent.now self.new.delivered.items self.new.waiting.items }
     {
         for number in self.delivered.len()..sent.len() {
             self.note_one(sent[number].to)?;
@@ -101,8 +107,10 @@ impl Marks {
     /// Notes one message more, to this addressee.
     fn note_one(&mut self, to: Addr) -> Result<(), AllocError>
         ensures delivered { OnOk result (self.new.delivered.items ≡ self.old.delivered.items ++ false ∷ []) }
-        ensures waiting { OnOk result (self.new.waiting.items ≡ waiting_with to (length self.old.delivered.items) self.old.waiting.items) }
-        ensures err { OnErr result ((self.new.delivered.items ≡ self.old.delivered.items) × (self.new.waiting.items ≡ self.old.waiting.items)) }
+        ensures waiting { OnOk result (self.new.waiting.items ≡ waiting_with to (length self.old.delivered.items)
+            self.old.waiting.items) }
+        ensures err { OnErr result ((self.new.delivered.items ≡ self.old.delivered.items) ×
+            (self.new.waiting.items ≡ self.old.waiting.items)) }
     {
         self.waiting.reserve(1)?;
         let number = self.delivered.len();
@@ -126,7 +134,8 @@ impl Marks {
     /// What was delivered waits no longer.
     pub(crate) fn tidy(&mut self)
         ensures delivered { self.new.delivered.items ≡ self.old.delivered.items }
-        ensures waiting { self.new.waiting.items ≡ filter (λ n. not (marked self.old.delivered.items n)) self.old.waiting.items }
+        ensures waiting { self.new.waiting.items ≡ filter (λ n. not (marked self.old.delivered.items n))
+            self.old.waiting.items }
     {
         let Marks { delivered, waiting } = self;
         waiting.retain(|number| !is_marked(delivered, *number));

@@ -3,7 +3,8 @@ use Rattle.std.proofs.Common.{◌≡◌, Bool, true, false, cond, List, [], ◌�
 use Rattle.rc_types.specs.declared.entries.Entry.{Entry}
 use Rattle.rc_model.specs.Ownership.{Ownership, PartState, is_to_answer, to_answer, answered_in, after_answer}
 
-answered-none : (durable : List Entry) (states : List PartState) → find (is_to_answer durable) states ≡ None → answered_in durable states ≡ states
+answered-none : (durable : List Entry) (states : List PartState) → find (is_to_answer durable) states ≡ None →
+    answered_in durable states ≡ states
 answered-none durable [] e = refl
 answered-none durable (state ∷ states) e = by (is_to_answer durable state) (answered-none durable states) e
   where

@@ -1,5 +1,7 @@
 -- The notes of a log stay those of the log, whatever is done to it.
-use Rattle.std.proofs.Common.{◌≡◌, ℕ, zero, suc, ◌+◌, ◌-◌, ◌<◌, ◌≤◌, Bool, true, false, cond, not, ◌&&◌, nat_eq, nat_lt, List, [], ◌∷◌, ◌++◌, length, take, map, Option, Some, None, Result, Ok, Err, is_err, refl, sym, ap, ◌∙◌, subst, arith}
+use Rattle.std.proofs.Common.{◌≡◌, ℕ, zero, suc, ◌+◌, ◌-◌, ◌<◌, ◌≤◌, Bool, true, false, cond, not, ◌&&◌, nat_eq}
+use Rattle.std.proofs.Common.{nat_lt, List, [], ◌∷◌, ◌++◌, length, take, map, Option, Some, None, Result, Ok, Err}
+use Rattle.std.proofs.Common.{is_err, refl, sym, ap, ◌∙◌, subst, arith}
 use Rattle.std.proofs.lemmas.List.{append-nil, map-append, length-map, get_or_past}
 use Rattle.std.proofs.lemmas.Bool.Decides.{nat_tests}
 use Rattle.std.proofs.lemmas.Bool.{and_parts, ltb-true, ne_eqb}
@@ -14,8 +16,11 @@ use Rattle.rc_model.specs.Tables.{put}
 use Rattle.rc_model.specs.ServerList.{ServerList}
 use Rattle.rc_model.specs.Config.{Config, choose, noted, committed_at, lose, refill}
 use Rattle.rc_model.specs.Segment.{Segment, no_segment, new_segment, is_ready, with_closes_sent}
-use Rattle.rc_model.specs.Log.{Log, LogPlace, head_of, old_head_of, has_old_head, has_segment, with_segment, places_in, places_to, places_of, entries_of, numbers_to, durable_now, is_closing, is_writing}
-use Rattle.rc_model.specs.Heads.{is_full, append_fault, opens_head, opened_first, open_first, appends, next_digest, rolled, begin_roll, with_config, stored, commit_noted, opens_change, refills, loses, shuts, with_shut, may_start, may_write, left_out, starts, closes_old, writes_on}
+use Rattle.rc_model.specs.Log.{Log, LogPlace, head_of, old_head_of, has_old_head, has_segment, with_segment, places_in}
+use Rattle.rc_model.specs.Log.{places_to, places_of, entries_of, numbers_to, durable_now, is_closing, is_writing}
+use Rattle.rc_model.specs.Heads.{is_full, append_fault, opens_head, opened_first, open_first, appends, next_digest}
+use Rattle.rc_model.specs.Heads.{rolled, begin_roll, with_config, stored, commit_noted, opens_change, refills, loses}
+use Rattle.rc_model.specs.Heads.{shuts, with_shut, may_start, may_write, left_out, starts, closes_old, writes_on}
 use Rattle.rc_model.specs.FollowUps.{close_marked}
 use Rattle.rc_model.specs.Versions.{is_dead}
 use Rattle.rc_model.specs.Master.{Master, durable_entries, is_dead_segment}
@@ -34,7 +39,8 @@ pub record SamePlaces (old new : Log) : Type 0 where
   pub opened : (is_writing old.phase ≡ true → 0 < old.head) → is_writing new.phase ≡ true → 0 < new.head
   pub factor : new.factor ≡ old.factor
 
-pub notes-same : (old new : Log) (notes : List Entry) (durable : ℕ) → SamePlaces old new → AreNotes old notes durable → AreNotes new notes durable
+pub notes-same : (old new : Log) (notes : List Entry) (durable : ℕ) → SamePlaces old new → AreNotes old notes durable →
+    AreNotes new notes durable
 notes-same old new notes durable same are = record {
   entries = are.entries ∙ ap (map (λ (place : LogPlace). place.entry)) (sym same.places);
   durable_are = are.durable_are ∙ sym same.durable;
@@ -46,7 +52,8 @@ pub same-log : (log : Log) → SamePlaces log log
 same-log log = record { places = refl; durable = refl; opened = λ opened. opened; factor = refl }
 
 -- a segment with the same entries is put into its place
-pub same-put : (log : Log) (seg : ℕ) (segment : Segment) → segment.entries ≡ (log.segments seg).entries → SamePlaces log (with_segment seg segment log)
+pub same-put : (log : Log) (seg : ℕ) (segment : Segment) → segment.entries ≡ (log.segments seg).entries →
+    SamePlaces log (with_segment seg segment log)
 same-put log seg segment e = record {
   places = places_to-agrees log.segments (put log.segments seg segment) log.head
       (λ k _. put_each (λ j (s : Segment). s.entries ≡ (log.segments j).entries) log.segments seg segment e (λ j. refl) k);
@@ -55,10 +62,13 @@ same-put log seg segment e = record {
   factor = refl;
 }
 
-pub same-stored : (seg : ℕ) (from : ServerId) (epoch len : ℕ) (closed : Bool) (log : Log) → SamePlaces log (stored seg from epoch len closed log)
+pub same-stored : (seg : ℕ) (from : ServerId) (epoch len : ℕ) (closed : Bool) (log : Log) →
+    SamePlaces log (stored seg from epoch len closed log)
 same-stored seg from epoch len closed log =
     either (SamePlaces log) (has_segment log seg) (with_config seg (noted from epoch len closed (log.segments seg).config) log) log
-    (λ _. same-put log seg (record (log.segments seg) { config = noted from epoch len closed (log.segments seg).config }) refl) (λ _. same-log log)
+    (λ _. same-put log seg (record (log.segments seg) {
+      config = noted from epoch len closed (log.segments seg).config;
+    }) refl) (λ _. same-log log)
 
 pub same-committed : (seg epoch : ℕ) (log : Log) → SamePlaces log (commit_noted seg epoch log)
 same-committed seg epoch log =
@@ -71,7 +81,8 @@ same-shut log =
     (λ _. same-put log (log.head - 1) (record (old_head_of log) { shut = true }) refl) (λ _. same-log log)
 
 pub same-starts : (log : Log) → may_start log ≡ true → SamePlaces log (starts log)
-same-starts log may = let first : log.head ≡ 1 = may_start-parts log may in record { places = refl; durable = refl; opened = λ _ _. omega arith; factor = refl }
+same-starts log may = let first : log.head ≡ 1 =
+    may_start-parts log may in record { places = refl; durable = refl; opened = λ _ _. omega arith; factor = refl }
 
 pub same-closes : (log : Log) → SamePlaces log (closes_old log)
 same-closes log = record { places = refl; durable = refl; opened = λ _ writing. true_false (sym writing); factor = refl }
@@ -112,8 +123,11 @@ same-opened log digest ids = record { places = places; durable = refl; opened = 
         let fresh : Segment = new_segment (log.head + 1) digest ids in
         let new : ℕ → Segment = put log.segments (log.head + 1) fresh in
         let below : places_to new log.head ≡ places_to log.segments log.head =
-        places_to-agrees log.segments new log.head (λ k most. ap (λ (s : Segment). s.entries) (put-other log.segments (log.head + 1) fresh k (not-after log.head k most))) in
-        let last : (new (suc log.head)).entries ≡ [] = ap (λ k. (new k).entries) (sym (add-one log.head)) ∙ ap (λ (s : Segment). s.entries) (put-same log.segments (log.head + 1) fresh) in
+        places_to-agrees log.segments new log.head
+        (λ k most. ap (λ (s : Segment). s.entries)
+        (put-other log.segments (log.head + 1) fresh k (not-after log.head k most))) in
+        let last : (new (suc log.head)).entries ≡ [] = ap (λ k. (new k).entries) (sym (add-one log.head)) ∙
+        ap (λ (s : Segment). s.entries) (put-same log.segments (log.head + 1) fresh) in
         ap (places_to new) (add-one log.head)
         ∙ (ap (λ entries. places_to new log.head ++ places_in (suc log.head) 0 entries) last
         ∙ (append-nil (places_to new log.head) ∙ below))
@@ -129,12 +143,15 @@ err_ok {P} {A} {E} e = true_false (ap (λ (r : Result A E). is_err r) e)
 opened-is : (log : Log) (digest : List ℕ) (ids : List ServerId) → IsOpened log (opens_head log digest ids)
 opened-is log digest ids = record { same = same-opened log digest ids; head = refl }
 
-rolled-is : (log new : Log) (dead : List ℕ) (chosen : Option (List ServerId)) (began : Bool) → rolled log dead chosen ≡ (new, Ok began) → IsOpened log new
+rolled-is : (log new : Log) (dead : List ℕ) (chosen : Option (List ServerId)) (began : Bool) →
+    rolled log dead chosen ≡ (new, Ok began) → IsOpened log new
 rolled-is log new dead None began e = err_ok (ap (λ (r : Log × Result Bool Fault). r.1) e)
-rolled-is log new dead (Some ids) began e = subst (IsOpened log) (ap (λ (r : Log × Result Bool Fault). r.0) e) (opened-is log (next_digest log dead) ids)
+rolled-is log new dead (Some ids) began e =
+    subst (IsOpened log) (ap (λ (r : Log × Result Bool Fault). r.0) e) (opened-is log (next_digest log dead) ids)
 
 -- a roll that began
-pub roll-is : (servers : ServerList) (dead : List ℕ) (log new : Log) (began : Bool) → begin_roll servers dead log ≡ (new, Ok began) → IsOpened log new
+pub roll-is : (servers : ServerList) (dead : List ℕ) (log new : Log) (began : Bool) →
+    begin_roll servers dead log ≡ (new, Ok began) → IsOpened log new
 roll-is servers dead log new began =
     either (λ (r : Log × Result Bool Fault). r ≡ (new, Ok began) → IsOpened log new) (nat_lt log.head LAST_SEGMENT)
     (rolled log dead (choose (log.head + 1) log.own log.factor servers)) (log, Err LogFull)
@@ -158,29 +175,35 @@ same-refills : (seg : ℕ) (log : Log) (done : Config × Result (List ServerId) 
 same-refills seg log (config, answer) = (same-put log seg (record (log.segments seg) { config = config }) refl, refl)
 
 same-change : (seg : ℕ) (log : Log) (done : Config × Result Bool Fault) → SameHead log (opens_change seg log done).0
-same-change seg log (config, Ok true) = (same-put log seg (record (log.segments seg) { config = config; commit_sent = false; closes_sent = [] }) refl, refl)
+same-change seg log (config, Ok true) =
+    (same-put log seg (record (log.segments seg) { config = config; commit_sent = false; closes_sent = [] }) refl, refl)
 same-change seg log (config, Ok false) = (same-put log seg (record (log.segments seg) { config = config }) refl, refl)
 same-change seg log (config, Err fault) = (same-put log seg (record (log.segments seg) { config = config }) refl, refl)
 
 lost-same : (servers : ServerList) (seg : ℕ) (log : Log) → SameHead log (loses servers seg log).0
 lost-same servers seg log =
     either (λ (r : Log × Result (List ServerId) Fault). SameHead log r.0) (log.segments seg).shut
-    (refills seg log (refill log.own servers (log.segments seg).config)) (opens_change seg log (lose log.own servers (log.segments seg).config))
-    (λ _. same-refills seg log (refill log.own servers (log.segments seg).config)) (λ _. same-change seg log (lose log.own servers (log.segments seg).config))
+    (refills seg log (refill log.own servers (log.segments seg).config))
+    (opens_change seg log (lose log.own servers (log.segments seg).config))
+    (λ _. same-refills seg log (refill log.own servers (log.segments seg).config))
+    (λ _. same-change seg log (lose log.own servers (log.segments seg).config))
 
-pub loses-same : (servers : ServerList) (seg : ℕ) (log new : Log) (answer : Result (List ServerId) Fault) → loses servers seg log ≡ (new, answer) → SameHead log new
+pub loses-same : (servers : ServerList) (seg : ℕ) (log new : Log) (answer : Result (List ServerId) Fault) →
+    loses servers seg log ≡ (new, answer) → SameHead log new
 loses-same servers seg log new answer e =
     subst (SameHead log) (ap (λ (r : Log × Result (List ServerId) Fault). r.0) e) (lost-same servers seg log)
 
 -- Entries and durable places
 
-entries-appended : (log : Log) (entry : Entry) (client : Bool) → 0 < log.head → entries_of (appends entry client log) ≡ entries_of log ++ entry ∷ []
+entries-appended : (log : Log) (entry : Entry) (client : Bool) → 0 < log.head →
+    entries_of (appends entry client log) ≡ entries_of log ++ entry ∷ []
 entries-appended log entry client some =
     let place : LogPlace = record { seg = log.head; offset = length (log.segments log.head).entries; entry = entry; client = client } in
     ap (map (λ (p : LogPlace). p.entry)) (places-push log.segments log.head entry client some)
     ∙ map-append (λ (p : LogPlace). p.entry) (places_of log) (place ∷ [])
 
-pub notes-appended : (log : Log) (notes : List Entry) (durable : ℕ) (entry : Entry) (client : Bool) → 0 < log.head → AreNotes log notes durable →
+pub notes-appended : (log : Log) (notes : List Entry) (durable : ℕ) (entry : Entry) (client : Bool) → 0 < log.head →
+    AreNotes log notes durable →
     AreNotes (appends entry client log) (notes ++ entry ∷ []) durable
 notes-appended log notes durable entry client some are = record {
   entries = ap (λ (es : List Entry). es ++ entry ∷ []) are.entries ∙ sym (entries-appended log entry client some);
@@ -189,7 +212,8 @@ notes-appended log notes durable entry client some are = record {
   replicas = are.replicas;
 }
 
-pub notes-kept : (log : Log) (notes : List Entry) (durable count : ℕ) → AreNotes log notes durable → AreNotes (record log { durable = count }) notes count
+pub notes-kept : (log : Log) (notes : List Entry) (durable count : ℕ) → AreNotes log notes durable →
+    AreNotes (record log { durable = count }) notes count
 notes-kept log notes durable count are = record { entries = are.entries; durable_are = refl; opened = are.opened; replicas = are.replicas }
 
 -- no more is durable than was noted
@@ -206,7 +230,9 @@ possible-writes log e = by (is_writing log.phase) refl
   where
     by : (b : Bool) → is_writing log.phase ≡ b → is_writing log.phase ≡ true
     by true is = is
-    by false is = let rolling : append_fault log ≡ Some Rolling = ap (λ b. cond (not b) (Some Rolling) (cond (not (is_full log)) None (cond (nat_lt log.head LAST_SEGMENT) (Some Rolling) (Some LogFull)))) is in cc
+    by false is = let rolling : append_fault log ≡ Some Rolling =
+        ap (λ b. cond (not b) (Some Rolling)
+        (cond (not (is_full log)) None (cond (nat_lt log.head LAST_SEGMENT) (Some Rolling) (Some LogFull)))) is in cc
 
 -- a segment that the log doesn't have isn't shut
 pub unknown-open : (kept : LogData) (seg : ℕ) → has_segment (log_of kept) seg ≡ false → (segment_at kept.segments seg).shut ≡ false
@@ -226,6 +252,7 @@ none-unknown true x e = cc
 none-unknown false x e = refl
 
 -- the durable entries, by the notes
-pub durable-same : (log : Log) (notes : List Entry) (durable : ℕ) → AreNotes log notes durable → take durable notes ≡ take log.durable (entries_of log)
+pub durable-same : (log : Log) (notes : List Entry) (durable : ℕ) → AreNotes log notes durable →
+    take durable notes ≡ take log.durable (entries_of log)
 durable-same log notes durable are =
     ap (λ (n : ℕ). take n notes) are.durable_are ∙ ap (take log.durable) are.entries

@@ -8,7 +8,8 @@ abbrev pub bare : List (Entry × Bool) → List Entry
 bare entries = map (λ one. one.0) entries
 
 -- one entry, and then the others
-pub dead-more : (durable : List Entry) (entries : List (Entry × Bool)) (i : ℕ) (x : Entry × Bool) → i < length entries → x ≡ get_or entries i x →
+pub dead-more : (durable : List Entry) (entries : List (Entry × Bool)) (i : ℕ) (x : Entry × Bool) → i < length entries →
+    x ≡ get_or entries i x →
     is_dead durable (bare (drop i entries)) ≡ (is_outdated durable x.0 && is_dead durable (bare (drop (i + 1) entries)))
 dead-more durable entries i x inside read =
     at_drop_more (λ es. is_dead durable (bare es)) entries i x inside
@@ -22,12 +23,14 @@ and-true : (a b : Bool) → true ≡ (a && true) → (a && b) ≡ b
 and-true true b e = refl
 and-true false b e = cc
 
-pub dead-stops : (durable : List Entry) (entries : List (Entry × Bool)) (i : ℕ) (x : Entry × Bool) → i < length entries → x ≡ get_or entries i x →
+pub dead-stops : (durable : List Entry) (entries : List (Entry × Bool)) (i : ℕ) (x : Entry × Bool) →
+    i < length entries → x ≡ get_or entries i x →
     false ≡ is_dead durable (x.0 ∷ []) → is_dead durable (bare (drop i entries)) ≡ false
 dead-stops durable entries i x inside read isn't =
     dead-more durable entries i x inside read ∙ and-false (is_outdated durable x.0) (is_dead durable (bare (drop (i + 1) entries))) isn't
 
-pub dead-goes-on : (durable : List Entry) (entries : List (Entry × Bool)) (i : ℕ) (x : Entry × Bool) → i < length entries → x ≡ get_or entries i x →
+pub dead-goes-on : (durable : List Entry) (entries : List (Entry × Bool)) (i : ℕ) (x : Entry × Bool) →
+    i < length entries → x ≡ get_or entries i x →
     true ≡ is_dead durable (x.0 ∷ []) → is_dead durable (bare (drop i entries)) ≡ is_dead durable (bare (drop (i + 1) entries))
 dead-goes-on durable entries i x inside read is =
     dead-more durable entries i x inside read ∙ and-true (is_outdated durable x.0) (is_dead durable (bare (drop (i + 1) entries))) is

@@ -19,7 +19,8 @@ pub taken-state : {T E : Type 0} (r : Result T E) (inside seen after : Master) (
     OnOk r (after ≡ (master_takes inside from body).0) → OnOk r (after ≡ (master_takes seen from body).0)
 taken-state r inside seen after from body e = subst (λ (m : Master). OnOk r (after ≡ (master_takes m from body).0)) e
 
-pub taken-sends : {T E : Type 0} (r : Result T E) (inside seen : Master) (before after : List Message) (from : Addr) (body : Body) → inside ≡ seen →
+pub taken-sends : {T E : Type 0} (r : Result T E) (inside seen : Master) (before after : List Message) (from : Addr)
+    (body : Body) → inside ≡ seen →
     OnOk r (after ≡ before ++ (master_takes inside from body).1) → OnOk r (after ≡ before ++ (master_takes seen from body).1)
 taken-sends r inside seen before after from body e = subst (λ (m : Master). OnOk r (after ≡ before ++ (master_takes m from body).1)) e
 

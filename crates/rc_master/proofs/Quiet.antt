@@ -1,5 +1,6 @@
 -- A master that follows no rule stays as it is, and so does one that is granted a range.
-use Rattle.std.proofs.Common.{◌≡◌, ◌≢◌, ℕ, zero, suc, ◌<◌, Bool, true, false, cond, List, [], ◌∷◌, ◌++◌, Option, Some, None, Result, Ok, Err, OnOk, OnErr, refl, sym, ap, ◌∙◌, subst, arith}
+use Rattle.std.proofs.Common.{◌≡◌, ◌≢◌, ℕ, zero, suc, ◌<◌, Bool, true, false, cond, List, [], ◌∷◌, ◌++◌, Option, Some}
+use Rattle.std.proofs.Common.{None, Result, Ok, Err, OnOk, OnErr, refl, sym, ap, ◌∙◌, subst, arith}
 use Rattle.rc_types.specs.declared.entries.Entry.{Entry}
 use Rattle.rc_types.specs.declared.faults.Fault.{Fault}
 use Rattle.rc_types.specs.declared.kept.GrantedRange.{GrantedRange}
@@ -8,7 +9,10 @@ use Rattle.rc_model.specs.Log.{Log, is_writing}
 use Rattle.rc_model.specs.Heads.{is_full, begin_roll, may_start, may_close, may_write}
 use Rattle.rc_model.specs.Ownership.{Ownership, grant, owns_term, to_answer, after_replay}
 use Rattle.rc_model.specs.Master.{Master, MasterSetup, new_master, durable_entries, dead_segments, appends_entry}
-use Rattle.rc_model.specs.FollowUps.{when, or_rule, follow_up, follows_start, follows_placed, follows_closing, follows_shut, follows_change, follows_stored, follows_data, follows_replay, first_open, wants_commit, commits, commits_open, close_is_due, rolls_for_replay, replays, answers_part, marks_shut, further, followed, measure, goes_on}
+use Rattle.rc_model.specs.FollowUps.{when, or_rule, follow_up, follows_start, follows_placed, follows_closing}
+use Rattle.rc_model.specs.FollowUps.{follows_shut, follows_change, follows_stored, follows_data, follows_replay}
+use Rattle.rc_model.specs.FollowUps.{first_open, wants_commit, commits, commits_open, close_is_due, rolls_for_replay}
+use Rattle.rc_model.specs.FollowUps.{replays, answers_part, marks_shut, further, followed, measure, goes_on}
 use Rattle.rc_types.specs.declared.ids.ServerId.{ServerId}
 use Rattle.rc_types.specs.declared.ids.Addr.{Addr}
 use Rattle.rc_types.specs.declared.messages.Body.{Body}
@@ -64,13 +68,15 @@ did-or (Some x) b (Some y) d e f = refl
 abbrev with_own : Master → Ownership → Master
 with_own master own = record master { ownership = own }
 
-did-commits : (one other : Master) → other.log ≡ one.log → (open_one : Option ℕ) → did (commits_open one open_one) ≡ did (commits_open other open_one)
+did-commits : (one other : Master) → other.log ≡ one.log → (open_one : Option ℕ) →
+    did (commits_open one open_one) ≡ did (commits_open other open_one)
 did-commits one other same None = refl
 did-commits one other same (Some seg) =
     did-when (wants_commit (one.log.segments seg)) (commits one seg) (commits other seg)
     ∙ ap (λ (log : Log). did (when (wants_commit (log.segments seg)) (commits other seg))) (sym same)
 
-did-rolls : (one other : Master) (answer : Log × Result Bool Fault) → did (rolls_for_replay one answer) ≡ did (rolls_for_replay other answer)
+did-rolls : (one other : Master) (answer : Log × Result Bool Fault) →
+    did (rolls_for_replay one answer) ≡ did (rolls_for_replay other answer)
 did-rolls one other (log, Ok began) = refl
 did-rolls one other (log, Err fault) = refl
 
@@ -83,11 +89,13 @@ did-replays master grants (entry ∷ entries) =
     granted : Master
     granted = with_own master (record master.ownership { grants = grants })
 
-    by : (b : Bool) → did (cond b (rolls_for_replay (with_own master (record master.ownership { grants = grants })) (begin_roll master.known (dead_segments master) master.log))
+    by : (b : Bool) → did (cond b (rolls_for_replay (with_own master (record master.ownership { grants = grants }))
+        (begin_roll master.known (dead_segments master) master.log))
         (Some (appends_entry (with_own master (after_replay (record master.ownership { grants = grants }))) entry false)))
         ≡ did (cond b (rolls_for_replay master (begin_roll master.known (dead_segments master) master.log))
         (Some (appends_entry (record master { ownership = after_replay master.ownership }) entry false)))
-    by true = did-rolls (with_own master (record master.ownership { grants = grants })) master (begin_roll master.known (dead_segments master) master.log)
+    by true = did-rolls (with_own master (record master.ownership { grants = grants })) master
+        (begin_roll master.known (dead_segments master) master.log)
     by false = refl
 
 did-data : (master : Master) (grants : List GrantedRange) →
@@ -120,7 +128,8 @@ none-did : (rule : Option (Master × List Message)) → did rule ≡ false → r
 none-did None e = refl
 none-did (Some done) e = true_false e
 
-quiet-with : (master : Master) (grants : List GrantedRange) → IsQuiet master → IsQuiet (with_own master (record master.ownership { grants = grants }))
+quiet-with : (master : Master) (grants : List GrantedRange) → IsQuiet master →
+    IsQuiet (with_own master (record master.ownership { grants = grants }))
 quiet-with master grants quiet up =
     let both = quiet up in (
       ap (λ (m : Master). with_own m (record m.ownership { grants = grants })) both.0,
@@ -128,7 +137,8 @@ quiet-with master grants quiet up =
     )
 
 -- who is granted a range stays quiet
-pub quiet-granted : (master : Master) (granted : GrantedRange) → IsQuiet master → IsQuiet (record master { ownership = grant granted master.ownership })
+pub quiet-granted : (master : Master) (granted : GrantedRange) → IsQuiet master →
+    IsQuiet (record master { ownership = grant granted master.ownership })
 quiet-granted master granted quiet =
     either (λ (own : Ownership). IsQuiet (record master { ownership = own })) (owns_term master.ownership granted.term)
     master.ownership (record master.ownership { grants = master.ownership.grants ++ granted ∷ [] })
@@ -140,7 +150,8 @@ on_ok-then (Ok x) f p = f p
 on_ok-then (Err e) f p = p
 
 -- what holds of the new value on success, and of the old one after a refusal, holds of it
-pub on_either : {T E V : Type 0} (P : V → Type 0) (r : Result T E) (old new after : V) → OnOk r (new ≡ after) → OnErr r (new ≡ old) → P old → P after → P new
+pub on_either : {T E V : Type 0} (P : V → Type 0) (r : Result T E) (old new after : V) → OnOk r (new ≡ after) →
+    OnErr r (new ≡ old) → P old → P after → P new
 on_either P (Ok x) old new after ok err p q = subst P (sym ok) q
 on_either P (Err e) old new after ok err p q = subst P (sym err) p
 

@@ -1,5 +1,6 @@
 -- Rules over a list, one more at its end.
-use Rattle.std.proofs.Common.{◌≡◌, ◌⊎◌, inl, inr, false, cond, Err, ℕ, ◌+◌, ◌<◌, List, [], ◌∷◌, ◌++◌, length, take, get_or, sym, ap, ◌∙◌, append_assoc}
+use Rattle.std.proofs.Common.{◌≡◌, ◌⊎◌, inl, inr, false, cond, Err, ℕ, ◌+◌, ◌<◌, List, [], ◌∷◌, ◌++◌, length, take}
+use Rattle.std.proofs.Common.{get_or, sym, ap, ◌∙◌, append_assoc}
 use Rattle.std.proofs.lemmas.List.{append-nil, take_more, get_or_default}
 use Rattle.std.proofs.Math.Numerals.{add-one}
 use Rattle.rc_types.specs.declared.ids.ServerId.{ServerId}
@@ -33,13 +34,16 @@ pub lost-step : (start now next : Master) (n : ℕ) (before sent more : List Mes
     next ≡ (replaces_lost now (n + 1)).0 → more ≡ sent ++ (replaces_lost now (n + 1)).1 →
     (next ≡ (replaces_lost_of (numbers_to (n + 1)) start).0) × (more ≡ before ++ (replaces_lost_of (numbers_to (n + 1)) start).1)
 lost-step start now next n before sent more state sends then_ says =
-    let all : replaces_lost_of (numbers_to (n + 1)) start ≡ then_does (replaces_lost_of (numbers_to n) start) (λ after. replaces_lost after (n + 1)) =
+    let all : replaces_lost_of (numbers_to (n + 1)) start ≡ then_does (replaces_lost_of (numbers_to n) start)
+    (λ after. replaces_lost after (n + 1)) =
     ap (λ segs. replaces_lost_of segs start) (numbers-more n) ∙ lost-more (numbers_to n) (n + 1) start in
-    let here : replaces_lost now (n + 1) ≡ replaces_lost (replaces_lost_of (numbers_to n) start).0 (n + 1) = ap (λ m. replaces_lost m (n + 1)) state in (
+    let here : replaces_lost now (n + 1) ≡ replaces_lost (replaces_lost_of (numbers_to n) start).0 (n + 1) =
+    ap (λ m. replaces_lost m (n + 1)) state in (
       then_ ∙ (ap (λ (r : Master × List Message). r.0) here ∙ ap (λ (r : Master × List Message). r.0) (sym all)),
       says ∙ (ap (λ (r : Master × List Message). sent ++ r.1) here
           ∙ (ap (λ s. s ++ (replaces_lost (replaces_lost_of (numbers_to n) start).0 (n + 1)).1) sends
-          ∙ (append_assoc before (replaces_lost_of (numbers_to n) start).1 (replaces_lost (replaces_lost_of (numbers_to n) start).0 (n + 1)).1
+          ∙ (append_assoc before (replaces_lost_of (numbers_to n) start).1
+          (replaces_lost (replaces_lost_of (numbers_to n) start).0 (n + 1)).1
           ∙ ap (λ (r : Master × List Message). before ++ r.1) (sym all)))),
     )
 
@@ -57,15 +61,20 @@ plan-more attempt crashed rows (one ∷ parts) part master =
     ∙ ap (λ (more : List Message). (last.0, more)) (sym (append_assoc first.1 middle.1 last.1))
 
 -- one more part of the loop
-pub plan-step : (attempt : ℕ) (crashed : ServerId) (rows : List PlanRow) (parts : List Part) (i : ℕ) (part : Part) (start now next : Master) (before sent more : List Message) →
+pub plan-step : (attempt : ℕ) (crashed : ServerId) (rows : List PlanRow) (parts : List Part) (i : ℕ) (part : Part)
+    (start now next : Master) (before sent more : List Message) →
     i < length parts → part ≡ get_or parts i part →
-    now ≡ (takes_plan attempt crashed rows (take i parts) start).0 → sent ≡ before ++ (takes_plan attempt crashed rows (take i parts) start).1 →
-    next ≡ (begins_task (task_of attempt crashed rows part) now).0 → more ≡ sent ++ (begins_task (task_of attempt crashed rows part) now).1 →
-    (next ≡ (takes_plan attempt crashed rows (take (i + 1) parts) start).0) × (more ≡ before ++ (takes_plan attempt crashed rows (take (i + 1) parts) start).1)
+    now ≡ (takes_plan attempt crashed rows (take i parts) start).0 →
+    sent ≡ before ++ (takes_plan attempt crashed rows (take i parts) start).1 →
+    next ≡ (begins_task (task_of attempt crashed rows part) now).0 →
+    more ≡ sent ++ (begins_task (task_of attempt crashed rows part) now).1 →
+    (next ≡ (takes_plan attempt crashed rows (take (i + 1) parts) start).0) ×
+    (more ≡ before ++ (takes_plan attempt crashed rows (take (i + 1) parts) start).1)
 plan-step attempt crashed rows parts i part start now next before sent more inside read state sends then_ says =
     let so_far : Master × List Message = takes_plan attempt crashed rows (take i parts) start in
     let rule : Master → Master × List Message = λ m. begins_task (task_of attempt crashed rows part) m in
-    let longer : take (i + 1) parts ≡ take i parts ++ part ∷ [] = take_more parts i part inside ∙ ap (λ p. take i parts ++ p ∷ []) (sym read) in
+    let longer : take (i + 1) parts ≡ take i parts ++ part ∷ [] =
+    take_more parts i part inside ∙ ap (λ p. take i parts ++ p ∷ []) (sym read) in
     let all : takes_plan attempt crashed rows (take (i + 1) parts) start ≡ then_does so_far rule =
     ap (λ ps. takes_plan attempt crashed rows ps start) longer ∙ plan-more attempt crashed rows (take i parts) part start in
     let here : rule now ≡ rule so_far.0 = ap rule state in (
@@ -90,10 +99,15 @@ pub lost-in : (master : Master) (seg : ℕ) (new : Log) (fault : Fault) (same : 
 lost-in master seg new fault same (inl memory) other = absurd (other memory.0)
 lost-in master seg new fault same (inr e) other = e
 
-pub plan-step-at : (attempt : ℕ) (crashed : ServerId) (rows : List PlanRow) (parts : List Part) (i : ℕ) (d : Part) (start now next : Master) (before sent more : List Message) →
+pub plan-step-at : (attempt : ℕ) (crashed : ServerId) (rows : List PlanRow) (parts : List Part) (i : ℕ) (d : Part)
+    (start now next : Master) (before sent more : List Message) →
     i < length parts →
-    now ≡ (takes_plan attempt crashed rows (take i parts) start).0 → sent ≡ before ++ (takes_plan attempt crashed rows (take i parts) start).1 →
-    next ≡ (begins_task (task_of attempt crashed rows (get_or parts i d)) now).0 → more ≡ sent ++ (begins_task (task_of attempt crashed rows (get_or parts i d)) now).1 →
-    (next ≡ (takes_plan attempt crashed rows (take (i + 1) parts) start).0) × (more ≡ before ++ (takes_plan attempt crashed rows (take (i + 1) parts) start).1)
+    now ≡ (takes_plan attempt crashed rows (take i parts) start).0 →
+    sent ≡ before ++ (takes_plan attempt crashed rows (take i parts) start).1 →
+    next ≡ (begins_task (task_of attempt crashed rows (get_or parts i d)) now).0 →
+    more ≡ sent ++ (begins_task (task_of attempt crashed rows (get_or parts i d)) now).1 →
+    (next ≡ (takes_plan attempt crashed rows (take (i + 1) parts) start).0) ×
+    (more ≡ before ++ (takes_plan attempt crashed rows (take (i + 1) parts) start).1)
 plan-step-at attempt crashed rows parts i d start now next before sent more inside state sends then_ says =
-    plan-step attempt crashed rows parts i (get_or parts i d) start now next before sent more inside (get_or_default parts i d (get_or parts i d) inside) state sends then_ says
+    plan-step attempt crashed rows parts i (get_or parts i d) start now next before sent more inside
+    (get_or_default parts i d (get_or parts i d) inside) state sends then_ says

@@ -1,5 +1,6 @@
 -- The rules, repeated until none applies, are the definitions' repetition.
-use Rattle.std.proofs.Common.{◌≡◌, ◌≢◌, ℕ, zero, suc, ◌-◌, ◌<◌, ◌≤◌, Bool, true, false, List, [], ◌++◌, Option, Some, None, Result, IfOk, OnOk, refl, sym, ap, ◌∙◌, subst, arith, append_assoc}
+use Rattle.std.proofs.Common.{◌≡◌, ◌≢◌, ℕ, zero, suc, ◌-◌, ◌<◌, ◌≤◌, Bool, true, false, List, [], ◌++◌, Option, Some}
+use Rattle.std.proofs.Common.{None, Result, IfOk, OnOk, refl, sym, ap, ◌∙◌, subst, arith, append_assoc}
 use Rattle.std.proofs.lemmas.List.{append-nil}
 use Rattle.rc_types.specs.declared.messages.Message.{Message}
 use Rattle.rc_types.specs.declared.faults.Fault.{Fault}
@@ -29,7 +30,8 @@ still-none master (Some done) e = true_false e
 
 factor-marked : (master : Master) → (marks_shut master).log.factor ≡ master.log.factor
 factor-marked master =
-    either (λ (log : Log). log.factor ≡ master.log.factor) (shuts master.log) (with_segment (master.log.head - 1) (record (old_head_of master.log) { shut = true }) master.log) master.log
+    either (λ (log : Log). log.factor ≡ master.log.factor) (shuts master.log)
+    (with_segment (master.log.head - 1) (record (old_head_of master.log) { shut = true }) master.log) master.log
     (λ _. refl) (λ _. refl)
 
 -- what a rule did after the marks
@@ -56,7 +58,8 @@ none-left master None less most = refl
 none-left master (Some done) less most = absurd (omega (arith, less.lower))
 
 -- any number of times that suffices gives the same
-pub same-enough : (n k : ℕ) (master : Master) → master.log.factor ≢ 0 → measure master ≤ n → measure master ≤ k → followed n master ≡ followed k master
+pub same-enough : (n k : ℕ) (master : Master) → master.log.factor ≢ 0 → measure master ≤ n → measure master ≤ k →
+    followed n master ≡ followed k master
 same-enough zero zero master factor a b = refl
 same-enough zero (suc k) master factor a b =
     sym (ap (λ (done : Option (Master × List Message)). further done (marks_shut master) (λ next. followed k next))
@@ -95,14 +98,17 @@ way-on start now before sent done way e =
     let less : LowersMarked now done.0 = subst (AllLowerMarked now) e (lowers-marked now way.factor) in
     let apart : done.0.log.factor ≢ 0 = λ z. way.factor (sym less.factor ∙ z) in
     let step : settled now ≡ ((followed (measure now) done.0).0, done.1 ++ (followed (measure now) done.0).1) =
-    once-more now way.factor ∙ ap (λ (d : Option (Master × List Message)). further d (marks_shut now) (λ next. followed (measure now) next)) e in
+    once-more now way.factor ∙
+    ap (λ (d : Option (Master × List Message)). further d (marks_shut now) (λ next. followed (measure now) next))
+    e in
     let rest : followed (measure now) done.0 ≡ settled done.0 =
     same-enough (measure now) (measure done.0) done.0 apart (omega (arith, less.lower)) (omega arith) in
     let whole : settled now ≡ ((settled done.0).0, done.1 ++ (settled done.0).1) =
     step ∙ ap (λ (after : Master × List Message). (after.0, done.1 ++ after.1)) rest in (
       record {
         state = way.state ∙ ap (λ (after : Master × List Message). after.0) whole;
-        sends = way.sends ∙ (ap (λ (after : Master × List Message). sent ++ after.1) whole ∙ sym (append_assoc sent done.1 (settled done.0).1));
+        sends = way.sends ∙ (ap (λ (after : Master × List Message). sent ++ after.1) whole ∙
+            sym (append_assoc sent done.1 (settled done.0).1));
         factor = apart;
       },
       less.lower,
@@ -113,7 +119,9 @@ pub way-end : (start now : Master) (before sent : List Message) → IsOnTheWay s
     ((settled start).0 ≡ marks_shut now) × (before ++ (settled start).1 ≡ sent)
 way-end start now before sent way e =
     let whole : settled now ≡ (marks_shut now, []) =
-    once-more now way.factor ∙ ap (λ (d : Option (Master × List Message)). further d (marks_shut now) (λ next. followed (measure now) next)) e in (
+    once-more now way.factor ∙
+    ap (λ (d : Option (Master × List Message)). further d (marks_shut now) (λ next. followed (measure now) next))
+    e in (
       way.state ∙ ap (λ (after : Master × List Message). after.0) whole,
       way.sends ∙ (ap (λ (after : Master × List Message). sent ++ after.1) whole ∙ append-nil sent),
     )
@@ -128,21 +136,28 @@ did-none : (done : Option (Master × List Message)) → did done ≡ false → d
 did-none None e = refl
 did-none (Some done) e = true_false e
 
-pub round-on : (start now next : Master) (before sent more : List Message) → IsOnTheWay start now before sent → true ≡ did (follow_up (marks_shut now)) →
-    next ≡ (or_still (marks_shut now) (follow_up (marks_shut now))).0 → more ≡ sent ++ (or_still (marks_shut now) (follow_up (marks_shut now))).1 →
+pub round-on : (start now next : Master) (before sent more : List Message) → IsOnTheWay start now before sent →
+    true ≡ did (follow_up (marks_shut now)) →
+    next ≡ (or_still (marks_shut now) (follow_up (marks_shut now))).0 →
+    more ≡ sent ++ (or_still (marks_shut now) (follow_up (marks_shut now))).1 →
     IsOnTheWay start next before more × (measure next < measure now)
 round-on start now next before sent more way applied state sends =
     let some = did-some (follow_up (marks_shut now)) (sym applied) in
     let done : Master × List Message = some.0 in
-    let on : IsOnTheWay start done.0 before (sent ++ done.1) × (measure done.0 < measure now) = way-on start now before sent done way some.1 in
+    let on : IsOnTheWay start done.0 before (sent ++ done.1) × (measure done.0 < measure now) =
+    way-on start now before sent done way some.1 in
     let to : next ≡ done.0 = state ∙ ap (λ (d : Option (Master × List Message)). (or_still (marks_shut now) d).0) some.1 in
-    let says : more ≡ sent ++ done.1 = sends ∙ ap (λ (d : Option (Master × List Message)). sent ++ (or_still (marks_shut now) d).1) some.1 in (
-      subst (λ (m : Master). IsOnTheWay start m before more) (sym to) (subst (λ (s : List Message). IsOnTheWay start done.0 before s) (sym says) on.0),
+    let says : more ≡ sent ++ done.1 =
+    sends ∙ ap (λ (d : Option (Master × List Message)). sent ++ (or_still (marks_shut now) d).1) some.1 in (
+      subst (λ (m : Master). IsOnTheWay start m before more) (sym to)
+          (subst (λ (s : List Message). IsOnTheWay start done.0 before s) (sym says) on.0),
       subst (λ (m : Master). measure m < measure now) (sym to) on.1,
     )
 
-pub round-end : (start now next : Master) (before sent more : List Message) → IsOnTheWay start now before sent → false ≡ did (follow_up (marks_shut now)) →
-    next ≡ (or_still (marks_shut now) (follow_up (marks_shut now))).0 → more ≡ sent ++ (or_still (marks_shut now) (follow_up (marks_shut now))).1 →
+pub round-end : (start now next : Master) (before sent more : List Message) → IsOnTheWay start now before sent →
+    false ≡ did (follow_up (marks_shut now)) →
+    next ≡ (or_still (marks_shut now) (follow_up (marks_shut now))).0 →
+    more ≡ sent ++ (or_still (marks_shut now) (follow_up (marks_shut now))).1 →
     (next ≡ (settled start).0) × (more ≡ before ++ (settled start).1)
 round-end start now next before sent more way applied state sends =
     let none : follow_up (marks_shut now) ≡ None = did-none (follow_up (marks_shut now)) (sym applied) in
@@ -153,17 +168,22 @@ round-end start now next before sent more way applied state sends =
 
 -- A rule that didn't apply, and then the others
 
-pub or-else-applied : (m next : Master) (one : Option (Master × List Message)) (rest : Master → Option (Master × List Message)) (r : Result Bool Fault) →
-    false ≡ did one → next ≡ (or_still m one).0 → IfOk r (λ applied. applied ≡ did (rest next)) → IfOk r (λ applied. applied ≡ did (or_rule one (rest m)))
+pub or-else-applied : (m next : Master) (one : Option (Master × List Message)) (rest : Master →
+    Option (Master × List Message)) (r : Result Bool Fault) →
+    false ≡ did one → next ≡ (or_still m one).0 → IfOk r (λ applied. applied ≡ did (rest next)) →
+    IfOk r (λ applied. applied ≡ did (or_rule one (rest m)))
 or-else-applied m next None rest r isn't state is = subst (λ (n : Master). IfOk r (λ applied. applied ≡ did (rest n))) state is
 or-else-applied m next (Some done) rest r isn't state is = true_false (sym isn't)
 
-pub or-else-state : (m next after : Master) (one : Option (Master × List Message)) (rest : Master → Option (Master × List Message)) (r : Result Bool Fault) →
-    false ≡ did one → next ≡ (or_still m one).0 → OnOk r (after ≡ (or_still next (rest next)).0) → OnOk r (after ≡ (or_still m (or_rule one (rest m))).0)
+pub or-else-state : (m next after : Master) (one : Option (Master × List Message)) (rest : Master →
+    Option (Master × List Message)) (r : Result Bool Fault) →
+    false ≡ did one → next ≡ (or_still m one).0 → OnOk r (after ≡ (or_still next (rest next)).0) →
+    OnOk r (after ≡ (or_still m (or_rule one (rest m))).0)
 or-else-state m next after None rest r isn't state is = subst (λ (n : Master). OnOk r (after ≡ (or_still n (rest n)).0)) state is
 or-else-state m next after (Some done) rest r isn't state is = true_false (sym isn't)
 
-pub or-else-sends : (m next : Master) (sent mid new : List Message) (one : Option (Master × List Message)) (rest : Master → Option (Master × List Message)) (r : Result Bool Fault) →
+pub or-else-sends : (m next : Master) (sent mid new : List Message) (one : Option (Master × List Message))
+    (rest : Master → Option (Master × List Message)) (r : Result Bool Fault) →
     false ≡ did one → next ≡ (or_still m one).0 → mid ≡ sent ++ (or_still m one).1 →
     OnOk r (new ≡ mid ++ (or_still next (rest next)).1) → OnOk r (new ≡ sent ++ (or_still m (or_rule one (rest m))).1)
 or-else-sends m next sent mid new None rest r isn't state sends is =

@@ -1,4 +1,5 @@
--- What a contract sees of a master: its log as the list of its segments, since a function cannot be the value of a type.
+-- What a contract sees of a master: its log as the list of its segments, since a function cannot be the value of a
+-- type.
 use Rattle.std.specs.Prelude.{Bool, List}
 use Rattle.rc_model.specs.ServerList.{ServerList}
 use Rattle.rc_model.specs.Master.{Master, Task}

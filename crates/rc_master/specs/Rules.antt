@@ -3,7 +3,9 @@ use Rattle.std.specs.Prelude.{Bool, true, false, List, [], Option, Some, None}
 use Rattle.rc_types.specs.declared.messages.Message.{Message}
 use Rattle.rc_model.specs.Heads.{begin_roll}
 use Rattle.rc_model.specs.Master.{Master, dead_segments}
-use Rattle.rc_model.specs.FollowUps.{or_rule, follows_placed, follows_closing, follows_shut, follows_change, follows_stored, rolls_for_replay, follows_data, follows_replay, followed, measure}
+use Rattle.rc_model.specs.FollowUps.{or_rule, follows_placed, follows_closing, follows_shut, follows_change}
+use Rattle.rc_model.specs.FollowUps.{follows_stored, rolls_for_replay, follows_data, follows_replay, followed}
+use Rattle.rc_model.specs.FollowUps.{measure}
 
 -- the rule applied
 abbrev pub did : Option (Master × List Message) → Bool

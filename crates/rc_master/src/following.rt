@@ -3,9 +3,12 @@
 ghost use Rattle.std.specs.Prelude.{◌≡◌, ◌++◌, [], true, IfOk, OnOk, IfErr};
 ghost use Rattle.rc_types.specs.declared.faults.Fault.TheVariants.{OutOfMemory};
 ghost use Rattle.rc_model.specs.Log.{has_segment};
-ghost use Rattle.rc_model.specs.FollowUps.{follows_start, follows_placed, follows_closing, follows_shut, wants_commit, follows_change, follows_stored, follow_up, marks_shut, goes_on};
+ghost use Rattle.rc_model.specs.FollowUps.{follows_start, follows_placed, follows_closing, follows_shut};
+ghost use Rattle.rc_model.specs.FollowUps.{wants_commit, follows_change, follows_stored, follow_up, marks_shut};
+ghost use Rattle.rc_model.specs.FollowUps.{goes_on};
 ghost use Rattle.rc_headroll.specs.LogData.{log_of};
-ghost use Rattle.rc_master.specs.Rules.{did, or_still, from_placed, from_closing, from_shut, from_change, from_stored, settled};
+ghost use Rattle.rc_master.specs.Rules.{did, or_still, from_placed, from_closing, from_shut, from_change};
+ghost use Rattle.rc_master.specs.Rules.{from_stored, settled};
 ghost use Rattle.rc_master.specs.Quiet.{IsQuiet};
 ghost use Rattle.rc_master.specs.View.{state_view, before_step, IsNoted};
 
@@ -18,8 +21,10 @@ impl State {
     fn follow_start(&mut self, sent: &mut Vec<Message>) -> Result<bool, Fault>
         requires noted { IsNoted self.old }
         ensures applied { IfOk result (λ applied. applied ≡ did (follows_start (state_view self.old))) }
-        ensures state { OnOk result (state_view self.new ≡ (or_still (state_view self.old) (follows_start (state_view self.old))).0) }
-        ensures sends { OnOk result (sent.new.items ≡ sent.old.items ++ (or_still (state_view self.old) (follows_start (state_view self.old))).1) }
+        ensures state { OnOk result
+            (state_view self.new ≡ (or_still (state_view self.old) (follows_start (state_view self.old))).0) }
+        ensures sends { OnOk result (sent.new.items ≡ sent.old.items ++
+            (or_still (state_view self.old) (follows_start (state_view self.old))).1) }
         ensures noted { OnOk result (IsNoted self.new) }
         ensures before { before_step self.new ≡ before_step self.old }
         ensures no_memory { IfErr result (λ fault. fault ≡ OutOfMemory) }
@@ -36,7 +41,8 @@ impl State {
     fn follow_placed(&mut self) -> bool
         requires noted { IsNoted self.old }
         ensures applied { result ≡ did (follows_placed (state_view self.old)) }
-        ensures state { state_view self.new ≡ (or_still (state_view self.old) (follows_placed (state_view self.old))).0 }
+        ensures state { state_view
+            self.new ≡ (or_still (state_view self.old) (follows_placed (state_view self.old))).0 }
         ensures silent { (or_still (state_view self.old) (follows_placed (state_view self.old))).1 ≡ [] }
         ensures noted { IsNoted self.new }
         ensures before { before_step self.new ≡ before_step self.old }
@@ -52,8 +58,10 @@ impl State {
     fn follow_closing(&mut self, sent: &mut Vec<Message>) -> Result<bool, Fault>
         requires noted { IsNoted self.old }
         ensures applied { IfOk result (λ applied. applied ≡ did (follows_closing (state_view self.old))) }
-        ensures state { OnOk result (state_view self.new ≡ (or_still (state_view self.old) (follows_closing (state_view self.old))).0) }
-        ensures sends { OnOk result (sent.new.items ≡ sent.old.items ++ (or_still (state_view self.old) (follows_closing (state_view self.old))).1) }
+        ensures state { OnOk result
+            (state_view self.new ≡ (or_still (state_view self.old) (follows_closing (state_view self.old))).0) }
+        ensures sends { OnOk result (sent.new.items ≡ sent.old.items ++
+            (or_still (state_view self.old) (follows_closing (state_view self.old))).1) }
         ensures noted { OnOk result (IsNoted self.new) }
         ensures before { before_step self.new ≡ before_step self.old }
         ensures no_memory { IfErr result (λ fault. fault ≡ OutOfMemory) }
@@ -71,8 +79,10 @@ impl State {
     fn follow_shut(&mut self, sent: &mut Vec<Message>) -> Result<bool, Fault>
         requires noted { IsNoted self.old }
         ensures applied { IfOk result (λ applied. applied ≡ did (follows_shut (state_view self.old))) }
-        ensures state { OnOk result (state_view self.new ≡ (or_still (state_view self.old) (follows_shut (state_view self.old))).0) }
-        ensures sends { OnOk result (sent.new.items ≡ sent.old.items ++ (or_still (state_view self.old) (follows_shut (state_view self.old))).1) }
+        ensures state { OnOk result
+            (state_view self.new ≡ (or_still (state_view self.old) (follows_shut (state_view self.old))).0) }
+        ensures sends { OnOk result (sent.new.items ≡ sent.old.items ++
+            (or_still (state_view self.old) (follows_shut (state_view self.old))).1) }
         ensures noted { OnOk result (IsNoted self.new) }
         ensures before { before_step self.new ≡ before_step self.old }
         ensures no_memory { IfErr result (λ fault. fault ≡ OutOfMemory) }
@@ -90,8 +100,10 @@ impl State {
     fn follow_change(&mut self, sent: &mut Vec<Message>) -> Result<bool, Fault>
         requires noted { IsNoted self.old }
         ensures applied { IfOk result (λ applied. applied ≡ did (follows_change (state_view self.old))) }
-        ensures state { OnOk result (state_view self.new ≡ (or_still (state_view self.old) (follows_change (state_view self.old))).0) }
-        ensures sends { OnOk result (sent.new.items ≡ sent.old.items ++ (or_still (state_view self.old) (follows_change (state_view self.old))).1) }
+        ensures state { OnOk result
+            (state_view self.new ≡ (or_still (state_view self.old) (follows_change (state_view self.old))).0) }
+        ensures sends { OnOk result (sent.new.items ≡ sent.old.items ++
+            (or_still (state_view self.old) (follows_change (state_view self.old))).1) }
         ensures noted { OnOk result (IsNoted self.new) }
         ensures before { before_step self.new ≡ before_step self.old }
         ensures no_memory { IfErr result (λ fault. fault ≡ OutOfMemory) }
@@ -122,8 +134,10 @@ impl State {
     fn follow_stored(&mut self, sent: &mut Vec<Message>) -> Result<bool, Fault>
         requires noted { IsNoted self.old }
         ensures applied { IfOk result (λ applied. applied ≡ did (follows_stored (state_view self.old))) }
-        ensures state { OnOk result (state_view self.new ≡ (or_still (state_view self.old) (follows_stored (state_view self.old))).0) }
-        ensures sends { OnOk result (sent.new.items ≡ sent.old.items ++ (or_still (state_view self.old) (follows_stored (state_view self.old))).1) }
+        ensures state { OnOk result
+            (state_view self.new ≡ (or_still (state_view self.old) (follows_stored (state_view self.old))).0) }
+        ensures sends { OnOk result (sent.new.items ≡ sent.old.items ++
+            (or_still (state_view self.old) (follows_stored (state_view self.old))).1) }
         ensures noted { OnOk result (IsNoted self.new) }
         ensures before { before_step self.new ≡ before_step self.old }
         ensures no_memory { IfErr result (λ fault. fault ≡ OutOfMemory) }
@@ -143,8 +157,11 @@ impl State {
     fn follow_up(&mut self, sent: &mut Vec<Message>) -> Result<bool, Fault>
         requires noted { IsNoted self.old }
         ensures applied { IfOk result (λ applied. applied ≡ did (follow_up (marks_shut (state_view self.old)))) }
-        ensures state { OnOk result (state_view self.new ≡ (or_still (marks_shut (state_view self.old)) (follow_up (marks_shut (state_view self.old)))).0) }
-        ensures sends { OnOk result (sent.new.items ≡ sent.old.items ++ (or_still (marks_shut (state_view self.old)) (follow_up (marks_shut (state_view self.old)))).1) }
+        ensures state { OnOk result
+            (state_view self.new ≡ (or_still (marks_shut (state_view self.old))
+            (follow_up (marks_shut (state_view self.old)))).0) }
+        ensures sends { OnOk result (sent.new.items ≡ sent.old.items ++
+            (or_still (marks_shut (state_view self.old)) (follow_up (marks_shut (state_view self.old)))).1) }
         ensures noted { OnOk result (IsNoted self.new) }
         ensures before { before_step self.new ≡ before_step self.old }
         ensures no_memory { IfErr result (λ fault. fault ≡ OutOfMemory) }
@@ -157,8 +174,10 @@ impl State {
     fn follow_first(&mut self, sent: &mut Vec<Message>) -> Result<bool, Fault>
         requires noted { IsNoted self.old }
         ensures applied { IfOk result (λ applied. applied ≡ did (follow_up (state_view self.old))) }
-        ensures state { OnOk result (state_view self.new ≡ (or_still (state_view self.old) (follow_up (state_view self.old))).0) }
-        ensures sends { OnOk result (sent.new.items ≡ sent.old.items ++ (or_still (state_view self.old) (follow_up (state_view self.old))).1) }
+        ensures state { OnOk result
+            (state_view self.new ≡ (or_still (state_view self.old) (follow_up (state_view self.old))).0) }
+        ensures sends { OnOk result (sent.new.items ≡ sent.old.items ++
+            (or_still (state_view self.old) (follow_up (state_view self.old))).1) }
         ensures noted { OnOk result (IsNoted self.new) }
         ensures before { before_step self.new ≡ before_step self.old }
         ensures no_memory { IfErr result (λ fault. fault ≡ OutOfMemory) }
@@ -173,8 +192,10 @@ impl State {
     fn follow_from_placed(&mut self, sent: &mut Vec<Message>) -> Result<bool, Fault>
         requires noted { IsNoted self.old }
         ensures applied { IfOk result (λ applied. applied ≡ did (from_placed (state_view self.old))) }
-        ensures state { OnOk result (state_view self.new ≡ (or_still (state_view self.old) (from_placed (state_view self.old))).0) }
-        ensures sends { OnOk result (sent.new.items ≡ sent.old.items ++ (or_still (state_view self.old) (from_placed (state_view self.old))).1) }
+        ensures state { OnOk result
+            (state_view self.new ≡ (or_still (state_view self.old) (from_placed (state_view self.old))).0) }
+        ensures sends { OnOk result (sent.new.items ≡ sent.old.items ++
+            (or_still (state_view self.old) (from_placed (state_view self.old))).1) }
         ensures noted { OnOk result (IsNoted self.new) }
         ensures before { before_step self.new ≡ before_step self.old }
         ensures no_memory { IfErr result (λ fault. fault ≡ OutOfMemory) }
@@ -189,8 +210,10 @@ impl State {
     fn follow_from_closing(&mut self, sent: &mut Vec<Message>) -> Result<bool, Fault>
         requires noted { IsNoted self.old }
         ensures applied { IfOk result (λ applied. applied ≡ did (from_closing (state_view self.old))) }
-        ensures state { OnOk result (state_view self.new ≡ (or_still (state_view self.old) (from_closing (state_view self.old))).0) }
-        ensures sends { OnOk result (sent.new.items ≡ sent.old.items ++ (or_still (state_view self.old) (from_closing (state_view self.old))).1) }
+        ensures state { OnOk result
+            (state_view self.new ≡ (or_still (state_view self.old) (from_closing (state_view self.old))).0) }
+        ensures sends { OnOk result (sent.new.items ≡ sent.old.items ++
+            (or_still (state_view self.old) (from_closing (state_view self.old))).1) }
         ensures noted { OnOk result (IsNoted self.new) }
         ensures before { before_step self.new ≡ before_step self.old }
         ensures no_memory { IfErr result (λ fault. fault ≡ OutOfMemory) }
@@ -205,8 +228,10 @@ impl State {
     fn follow_from_shut(&mut self, sent: &mut Vec<Message>) -> Result<bool, Fault>
         requires noted { IsNoted self.old }
         ensures applied { IfOk result (λ applied. applied ≡ did (from_shut (state_view self.old))) }
-        ensures state { OnOk result (state_view self.new ≡ (or_still (state_view self.old) (from_shut (state_view self.old))).0) }
-        ensures sends { OnOk result (sent.new.items ≡ sent.old.items ++ (or_still (state_view self.old) (from_shut (state_view self.old))).1) }
+        ensures state { OnOk result
+            (state_view self.new ≡ (or_still (state_view self.old) (from_shut (state_view self.old))).0) }
+        ensures sends { OnOk result (sent.new.items ≡ sent.old.items ++
+            (or_still (state_view self.old) (from_shut (state_view self.old))).1) }
         ensures noted { OnOk result (IsNoted self.new) }
         ensures before { before_step self.new ≡ before_step self.old }
         ensures no_memory { IfErr result (λ fault. fault ≡ OutOfMemory) }
@@ -221,8 +246,10 @@ impl State {
     fn follow_from_change(&mut self, sent: &mut Vec<Message>) -> Result<bool, Fault>
         requires noted { IsNoted self.old }
         ensures applied { IfOk result (λ applied. applied ≡ did (from_change (state_view self.old))) }
-        ensures state { OnOk result (state_view self.new ≡ (or_still (state_view self.old) (from_change (state_view self.old))).0) }
-        ensures sends { OnOk result (sent.new.items ≡ sent.old.items ++ (or_still (state_view self.old) (from_change (state_view self.old))).1) }
+        ensures state { OnOk result
+            (state_view self.new ≡ (or_still (state_view self.old) (from_change (state_view self.old))).0) }
+        ensures sends { OnOk result (sent.new.items ≡ sent.old.items ++
+            (or_still (state_view self.old) (from_change (state_view self.old))).1) }
         ensures noted { OnOk result (IsNoted self.new) }
         ensures before { before_step self.new ≡ before_step self.old }
         ensures no_memory { IfErr result (λ fault. fault ≡ OutOfMemory) }
@@ -237,8 +264,10 @@ impl State {
     fn follow_from_stored(&mut self, sent: &mut Vec<Message>) -> Result<bool, Fault>
         requires noted { IsNoted self.old }
         ensures applied { IfOk result (λ applied. applied ≡ did (from_stored (state_view self.old))) }
-        ensures state { OnOk result (state_view self.new ≡ (or_still (state_view self.old) (from_stored (state_view self.old))).0) }
-        ensures sends { OnOk result (sent.new.items ≡ sent.old.items ++ (or_still (state_view self.old) (from_stored (state_view self.old))).1) }
+        ensures state { OnOk result
+            (state_view self.new ≡ (or_still (state_view self.old) (from_stored (state_view self.old))).0) }
+        ensures sends { OnOk result (sent.new.items ≡ sent.old.items ++
+            (or_still (state_view self.old) (from_stored (state_view self.old))).1) }
         ensures noted { OnOk result (IsNoted self.new) }
         ensures before { before_step self.new ≡ before_step self.old }
         ensures no_memory { IfErr result (λ fault. fault ≡ OutOfMemory) }

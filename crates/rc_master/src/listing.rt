@@ -36,8 +36,10 @@ impl State {
     ) -> Result<(), Fault>
         requires noted { IsNoted self.old }
         requires first { self.old.earlier ≡ None }
-        ensures state { OnOk result (state_view self.new ≡ (takes_list (state_view self.old) (from_rows version rows.now)).0) }
-        ensures sends { OnOk result (sent.new.items ≡ sent.old.items ++ (takes_list (state_view self.old) (from_rows version rows.now)).1) }
+        ensures state { OnOk result
+            (state_view self.new ≡ (takes_list (state_view self.old) (from_rows version rows.now)).0) }
+        ensures sends { OnOk result (sent.new.items ≡ sent.old.items ++
+            (takes_list (state_view self.old) (from_rows version rows.now)).1) }
         ensures noted { OnOk result (IsNoted self.new) }
         ensures before { before_step self.new ≡ before_step self.old }
         ensures no_memory { IfErr result (λ fault. fault ≡ OutOfMemory) }
@@ -67,8 +69,10 @@ impl State {
     /// Lost members of each segment are replaced, one segment after another.
     fn replace_all_lost(&mut self, sent: &mut Vec<Message>) -> Result<(), Fault>
         requires noted { IsNoted self.old }
-        ensures state { OnOk result (state_view self.new ≡ (replaces_lost_of (numbers_to (log_of self.old.log).head) (state_view self.old)).0) }
-        ensures sends { OnOk result (sent.new.items ≡ sent.old.items ++ (replaces_lost_of (numbers_to (log_of self.old.log).head) (state_view self.old)).1) }
+        ensures state { OnOk result
+            (state_view self.new ≡ (replaces_lost_of (numbers_to (log_of self.old.log).head) (state_view self.old)).0) }
+        ensures sends { OnOk result (sent.new.items ≡ sent.old.items ++
+            (replaces_lost_of (numbers_to (log_of self.old.log).head) (state_view self.old)).1) }
         ensures noted { OnOk result (IsNoted self.new) }
         ensures before { before_step self.new ≡ before_step self.old }
         ensures no_memory { IfErr result (λ fault. fault ≡ OutOfMemory) }

@@ -81,7 +81,8 @@ impl Master {
     pub fn take(&mut self, from: Addr, body: &Body, sent: &mut Vec<Message>) -> Result<(), Fault>
         requires { HasVersions (master_of self.old) }
         ensures state { OnOk result (master_of self.new ≡ (master_takes (master_of self.old) from body.now).0) }
-        ensures sends { OnOk result (sent.new.items ≡ sent.old.items ++ (master_takes (master_of self.old) from body.now).1) }
+        ensures sends { OnOk result (sent.new.items ≡ sent.old.items ++
+            (master_takes (master_of self.old) from body.now).1) }
         ensures err { OnErr result (master_of self.new ≡ master_of self.old) }
         ensures unsent { OnErr result (sent.new.items ≡ sent.old.items) }
         ensures no_memory { IfErr result (λ fault. fault ≡ OutOfMemory) }

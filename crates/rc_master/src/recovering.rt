@@ -21,8 +21,10 @@ impl State {
     ) -> Result<(), Fault>
         requires noted { IsNoted self.old }
         requires kept { self.old.kept ≤ length self.old.tasks.items }
-        ensures state { OnOk result (state_view self.new ≡ (takes_plan attempt crashed rows.now parts.now (state_view self.old)).0) }
-        ensures sends { OnOk result (sent.new.items ≡ sent.old.items ++ (takes_plan attempt crashed rows.now parts.now (state_view self.old)).1) }
+        ensures state { OnOk result
+            (state_view self.new ≡ (takes_plan attempt crashed rows.now parts.now (state_view self.old)).0) }
+        ensures sends { OnOk result (sent.new.items ≡ sent.old.items ++
+            (takes_plan attempt crashed rows.now parts.now (state_view self.old)).1) }
         ensures noted { OnOk result (IsNoted self.new) }
         ensures before { before_step self.new ≡ before_step self.old }
         ensures no_memory { IfErr result (λ fault. fault ≡ OutOfMemory) }
@@ -44,8 +46,10 @@ impl State {
     ) -> Result<(), Fault>
         requires noted { IsNoted self.old }
         requires kept { self.old.kept ≤ length self.old.tasks.items }
-        ensures state { OnOk result (state_view self.new ≡ (begins_task (task_of attempt crashed rows.now part) (state_view self.old)).0) }
-        ensures sends { OnOk result (sent.new.items ≡ sent.old.items ++ (begins_task (task_of attempt crashed rows.now part) (state_view self.old)).1) }
+        ensures state { OnOk result
+            (state_view self.new ≡ (begins_task (task_of attempt crashed rows.now part) (state_view self.old)).0) }
+        ensures sends { OnOk result (sent.new.items ≡ sent.old.items ++
+            (begins_task (task_of attempt crashed rows.now part) (state_view self.old)).1) }
         ensures noted { OnOk result (IsNoted self.new) }
         ensures kept { OnOk result (self.new.kept ≤ length self.new.tasks.items) }
         ensures before { before_step self.new ≡ before_step self.old }

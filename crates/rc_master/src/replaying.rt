@@ -16,8 +16,10 @@ impl State {
     pub(crate) fn follow_from_data(&mut self, sent: &mut Vec<Message>) -> Result<bool, Fault>
         requires noted { IsNoted self.old }
         ensures applied { IfOk result (λ applied. applied ≡ did (from_data (state_view self.old))) }
-        ensures state { OnOk result (state_view self.new ≡ (or_still (state_view self.old) (from_data (state_view self.old))).0) }
-        ensures sends { OnOk result (sent.new.items ≡ sent.old.items ++ (or_still (state_view self.old) (from_data (state_view self.old))).1) }
+        ensures state { OnOk result
+            (state_view self.new ≡ (or_still (state_view self.old) (from_data (state_view self.old))).0) }
+        ensures sends { OnOk result (sent.new.items ≡ sent.old.items ++
+            (or_still (state_view self.old) (from_data (state_view self.old))).1) }
         ensures noted { OnOk result (IsNoted self.new) }
         ensures before { before_step self.new ≡ before_step self.old }
         ensures no_memory { IfErr result (λ fault. fault ≡ OutOfMemory) }
@@ -33,8 +35,10 @@ impl State {
     fn follow_data(&mut self, sent: &mut Vec<Message>) -> Result<bool, Fault>
         requires noted { IsNoted self.old }
         ensures applied { IfOk result (λ applied. applied ≡ did (follows_data (state_view self.old))) }
-        ensures state { OnOk result (state_view self.new ≡ (or_still (state_view self.old) (follows_data (state_view self.old))).0) }
-        ensures sends { OnOk result (sent.new.items ≡ sent.old.items ++ (or_still (state_view self.old) (follows_data (state_view self.old))).1) }
+        ensures state { OnOk result
+            (state_view self.new ≡ (or_still (state_view self.old) (follows_data (state_view self.old))).0) }
+        ensures sends { OnOk result (sent.new.items ≡ sent.old.items ++
+            (or_still (state_view self.old) (follows_data (state_view self.old))).1) }
         ensures noted { OnOk result (IsNoted self.new) }
         ensures before { before_step self.new ≡ before_step self.old }
         ensures no_memory { IfErr result (λ fault. fault ≡ OutOfMemory) }
@@ -57,8 +61,10 @@ impl State {
         requires noted { IsNoted self.old }
         requires writing { is_writing self.old.log.phase ≡ true }
         ensures applied { IfOk result (λ applied. applied ≡ did (full_replays (state_view self.old))) }
-        ensures state { OnOk result (state_view self.new ≡ (or_still (state_view self.old) (full_replays (state_view self.old))).0) }
-        ensures sends { OnOk result (sent.new.items ≡ sent.old.items ++ (or_still (state_view self.old) (full_replays (state_view self.old))).1) }
+        ensures state { OnOk result
+            (state_view self.new ≡ (or_still (state_view self.old) (full_replays (state_view self.old))).0) }
+        ensures sends { OnOk result (sent.new.items ≡ sent.old.items ++
+            (or_still (state_view self.old) (full_replays (state_view self.old))).1) }
         ensures noted { OnOk result (IsNoted self.new) }
         ensures before { before_step self.new ≡ before_step self.old }
         ensures no_memory { IfErr result (λ fault. fault ≡ OutOfMemory) }
@@ -81,8 +87,10 @@ impl State {
     fn follow_replay(&mut self, sent: &mut Vec<Message>) -> Result<bool, Fault>
         requires noted { IsNoted self.old }
         ensures applied { IfOk result (λ applied. applied ≡ did (follows_replay (state_view self.old))) }
-        ensures state { OnOk result (state_view self.new ≡ (or_still (state_view self.old) (follows_replay (state_view self.old))).0) }
-        ensures sends { OnOk result (sent.new.items ≡ sent.old.items ++ (or_still (state_view self.old) (follows_replay (state_view self.old))).1) }
+        ensures state { OnOk result
+            (state_view self.new ≡ (or_still (state_view self.old) (follows_replay (state_view self.old))).0) }
+        ensures sends { OnOk result (sent.new.items ≡ sent.old.items ++
+            (or_still (state_view self.old) (follows_replay (state_view self.old))).1) }
         ensures noted { OnOk result (IsNoted self.new) }
         ensures before { before_step self.new ≡ before_step self.old }
         ensures no_memory { IfErr result (λ fault. fault ≡ OutOfMemory) }

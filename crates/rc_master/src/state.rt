@@ -84,7 +84,8 @@ impl State {
         requires possible { append_fault (log_of self.old.log) ≡ None }
         requires noted { IsNoted self.old }
         ensures state { OnOk result (state_view self.new ≡ (appends_entry (state_view self.old) entry client).0) }
-        ensures sends { OnOk result (sent.new.items ≡ sent.old.items ++ (appends_entry (state_view self.old) entry client).1) }
+        ensures sends { OnOk result (sent.new.items ≡ sent.old.items ++
+            (appends_entry (state_view self.old) entry client).1) }
         ensures noted { OnOk result (IsNoted self.new) }
         ensures before { before_step self.new ≡ before_step self.old }
         ensures no_memory { IfErr result (λ fault. fault ≡ OutOfMemory) }

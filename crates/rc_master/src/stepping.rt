@@ -50,7 +50,8 @@ impl State {
         requires start { IsAtStart self.old }
         requires other { is_quiet_message from body.now ≡ false }
         ensures state { OnOk result (state_view self.new ≡ (master_takes_first (state_view self.old) from body.now).0) }
-        ensures sends { OnOk result (sent.new.items ≡ sent.old.items ++ (master_takes_first (state_view self.old) from body.now).1) }
+        ensures sends { OnOk result (sent.new.items ≡ sent.old.items ++
+            (master_takes_first (state_view self.old) from body.now).1) }
         ensures noted { OnOk result (IsNoted self.new) }
         ensures before { before_step self.new ≡ before_step self.old }
         ensures no_memory { IfErr result (λ fault. fault ≡ OutOfMemory) }
@@ -98,8 +99,10 @@ impl State {
         requires versions { HasVersions (state_view self.old) }
         requires start { IsAtStart self.old }
         requires other { is_quiet_message from body.now ≡ false }
-        ensures state { OnOk result (state_view self.new ≡ (then_does (master_takes_first (state_view self.old) from body.now) goes_on).0) }
-        ensures sends { OnOk result (sent.new.items ≡ sent.old.items ++ (then_does (master_takes_first (state_view self.old) from body.now) goes_on).1) }
+        ensures state { OnOk result
+            (state_view self.new ≡ (then_does (master_takes_first (state_view self.old) from body.now) goes_on).0) }
+        ensures sends { OnOk result (sent.new.items ≡ sent.old.items ++
+            (then_does (master_takes_first (state_view self.old) from body.now) goes_on).1) }
         ensures unsent { OnErr result (sent.new.items ≡ sent.old.items) }
         ensures noted { OnOk result (IsNoted self.new) }
         ensures quiet { OnOk result (IsQuiet (state_view self.new)) }
@@ -124,8 +127,10 @@ impl State {
         requires quiet { IsQuiet (state_view self.old) }
         requires versions { HasVersions (state_view self.old) }
         requires other { is_quiet_message from body.now ≡ false }
-        ensures state { OnOk result (state_view self.new ≡ (then_does (master_takes_first (state_view self.old) from body.now) goes_on).0) }
-        ensures sends { OnOk result (sent.new.items ≡ sent.old.items ++ (then_does (master_takes_first (state_view self.old) from body.now) goes_on).1) }
+        ensures state { OnOk result
+            (state_view self.new ≡ (then_does (master_takes_first (state_view self.old) from body.now) goes_on).0) }
+        ensures sends { OnOk result (sent.new.items ≡ sent.old.items ++
+            (then_does (master_takes_first (state_view self.old) from body.now) goes_on).1) }
         ensures err { OnErr result (state_view self.new ≡ state_view self.old) }
         ensures unsent { OnErr result (sent.new.items ≡ sent.old.items) }
         ensures noted { IsNoted self.new }
@@ -184,7 +189,8 @@ impl State {
 
     /// Takes a message where the master is deposed: clients are refused (F5), and nothing else happens.
     fn take_deposed(&self, body: &Body, sent: &mut Vec<Message>) -> Result<(), Fault>
-        ensures sends { OnOk result (sent.new.items ≡ sent.old.items ++ (deposed_takes (state_view self.now) body.now).1) }
+        ensures sends { OnOk result (sent.new.items ≡ sent.old.items ++
+            (deposed_takes (state_view self.now) body.now).1) }
         ensures state { (deposed_takes (state_view self.now) body.now).0 ≡ state_view self.now }
         ensures unsent { OnErr result (sent.new.items ≡ sent.old.items) }
         ensures no_memory { IfErr result (λ fault. fault ≡ OutOfMemory) }
@@ -209,7 +215,8 @@ impl State {
         requires quiet { IsQuiet (state_view self.old) }
         requires versions { HasVersions (state_view self.old) }
         ensures state { OnOk result (state_view self.new ≡ (master_takes (state_view self.old) from body.now).0) }
-        ensures sends { OnOk result (sent.new.items ≡ sent.old.items ++ (master_takes (state_view self.old) from body.now).1) }
+        ensures sends { OnOk result (sent.new.items ≡ sent.old.items ++
+            (master_takes (state_view self.old) from body.now).1) }
         ensures err { OnErr result (state_view self.new ≡ state_view self.old) }
         ensures unsent { OnErr result (sent.new.items ≡ sent.old.items) }
         ensures noted { IsNoted self.new }
@@ -247,7 +254,8 @@ impl State {
     /// Says again what was not answered, but for what the list rules have just sent.
     fn remind(&self, sent: &mut Vec<Message>) -> Result<(), Fault>
         requires noted { IsNoted self.now }
-        ensures sends { OnOk result (sent.new.items ≡ sent.old.items ++ (reminds (before_of self.now.log) (state_view self.now)).1) }
+        ensures sends { OnOk result (sent.new.items ≡ sent.old.items ++
+            (reminds (before_of self.now.log) (state_view self.now)).1) }
         ensures no_memory { IfErr result (λ fault. fault ≡ OutOfMemory) }
     {
         add_reminders(
@@ -265,7 +273,8 @@ impl State {
         requires noted { IsNoted self.old }
         requires start { IsAtStart self.old }
         ensures state { OnOk result (state_view self.new ≡ (then_does (ticks (state_view self.old)) goes_on).0) }
-        ensures sends { OnOk result (sent.new.items ≡ sent.old.items ++ (then_does (ticks (state_view self.old)) goes_on).1) }
+        ensures sends { OnOk result (sent.new.items ≡ sent.old.items ++
+            (then_does (ticks (state_view self.old)) goes_on).1) }
         ensures unsent { OnErr result (sent.new.items ≡ sent.old.items) }
         ensures noted { OnOk result (IsNoted self.new) }
         ensures quiet { OnOk result (IsQuiet (state_view self.new)) }

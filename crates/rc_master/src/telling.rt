@@ -22,7 +22,8 @@ impl State {
         closed: bool,
     ) -> Result<(), Fault>
         requires noted { IsNoted self.old }
-        ensures state { OnOk result (state_view self.new ≡ with_log (state_view self.old) (stored seg from epoch len closed (log_of self.old.log))) }
+        ensures state { OnOk result (state_view self.new ≡ with_log (state_view self.old)
+            (stored seg from epoch len closed (log_of self.old.log))) }
         ensures noted { OnOk result (IsNoted self.new) }
         ensures before { before_step self.new ≡ before_step self.old }
         ensures no_memory { IfErr result (λ fault. fault ≡ OutOfMemory) }
@@ -34,7 +35,8 @@ impl State {
     /// An epoch of a segment is committed.
     pub(crate) fn take_committed(&mut self, seg: u16, epoch: u16) -> Result<(), Fault>
         requires noted { IsNoted self.old }
-        ensures state { OnOk result (state_view self.new ≡ with_log (state_view self.old) (commit_noted seg epoch (log_of self.old.log))) }
+        ensures state { OnOk result (state_view self.new ≡ with_log (state_view self.old)
+            (commit_noted seg epoch (log_of self.old.log))) }
         ensures noted { OnOk result (IsNoted self.new) }
         ensures before { before_step self.new ≡ before_step self.old }
         ensures no_memory { IfErr result (λ fault. fault ≡ OutOfMemory) }

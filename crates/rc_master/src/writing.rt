@@ -39,7 +39,8 @@ impl State {
         requires noted { IsNoted self.old }
         requires versions { HasVersions (state_view self.old) }
         ensures state { OnOk result (state_view self.new ≡ (writes (state_view self.old) table key value.now).0) }
-        ensures sends { OnOk result (sent.new.items ≡ sent.old.items ++ (writes (state_view self.old) table key value.now).1) }
+        ensures sends { OnOk result (sent.new.items ≡ sent.old.items ++
+            (writes (state_view self.old) table key value.now).1) }
         ensures noted { OnOk result (IsNoted self.new) }
         ensures before { before_step self.new ≡ before_step self.old }
         ensures no_memory { IfErr result (λ fault. fault ≡ OutOfMemory) }
@@ -64,8 +65,10 @@ impl State {
     ) -> Result<(), Fault>
         requires noted { IsNoted self.old }
         requires versions { HasVersions (state_view self.old) }
-        ensures state { OnOk result (state_view self.new ≡ (writes_under (state_view self.old) term table key value.now).0) }
-        ensures sends { OnOk result (sent.new.items ≡ sent.old.items ++ (writes_under (state_view self.old) term table key value.now).1) }
+        ensures state { OnOk result
+            (state_view self.new ≡ (writes_under (state_view self.old) term table key value.now).0) }
+        ensures sends { OnOk result (sent.new.items ≡ sent.old.items ++
+            (writes_under (state_view self.old) term table key value.now).1) }
         ensures noted { OnOk result (IsNoted self.new) }
         ensures before { before_step self.new ≡ before_step self.old }
         ensures no_memory { IfErr result (λ fault. fault ≡ OutOfMemory) }

@@ -1,12 +1,15 @@
 -- The test of which term is the earlier one says what the relation says.
-use Rattle.std.proofs.Common.{◌≡◌, ◌⊎◌, ℕ, zero, suc, Bool, true, ◌&&◌, ◌||◌, nat_eq, List, [], ◌∷◌, slice_get, Some, refl, sym, subst, inl, inr}
+use Rattle.std.proofs.Common.{◌≡◌, ◌⊎◌, ℕ, zero, suc, Bool, true, ◌&&◌, ◌||◌, nat_eq, List, [], ◌∷◌, slice_get, Some}
+use Rattle.std.proofs.Common.{refl, sym, subst, inl, inr}
 use Rattle.std.proofs.lemmas.Bool.{eqb-true, eq-eqb, and_parts, and_from, or_cases, or_left, or_right}
 use Rattle.rc_model.specs.Owners.{Granted, IsBefore, previous, onward, is_before}
 
 -- more grants leave what is before before
-before-more : (grant : Granted) (grants : List Granted) (earlier later : ℕ) → IsBefore grants earlier later → IsBefore (grant ∷ grants) earlier later
+before-more : (grant : Granted) (grants : List Granted) (earlier later : ℕ) → IsBefore grants earlier later →
+    IsBefore (grant ∷ grants) earlier later
 before-more grant grants earlier later (previous k one at) = previous (suc k) one at
-before-more grant grants earlier later (onward _ k one at rest) = onward earlier (suc k) one at (before-more grant grants earlier one.previous rest)
+before-more grant grants earlier later (onward _ k one at rest) =
+    onward earlier (suc k) one at (before-more grant grants earlier one.previous rest)
 
 -- before and before is before
 pub before-through : (grants : List Granted) (a b c : ℕ) → IsBefore grants a b → IsBefore grants b c → IsBefore grants a c
@@ -23,28 +26,36 @@ Way grant grants earlier later =
     IsBefore grants earlier later ⊎ (((later ≡ grant.term) ⊎ IsBefore grants grant.term later) × AtOrBefore grants earlier grant.previous)
 
 -- one more step by another grant than the first
-further : (grant one : Granted) (grants : List Granted) (earlier k : ℕ) → slice_get grants k ≡ Some one → Way grant grants earlier one.previous → Way grant grants earlier one.term
+further : (grant one : Granted) (grants : List Granted) (earlier k : ℕ) → slice_get grants k ≡ Some one →
+    Way grant grants earlier one.previous → Way grant grants earlier one.term
 further grant one grants earlier k at (inl before) = inl (onward earlier k one at before)
-further grant one grants earlier k at (inr (inl same, rest)) = inr (inr (subst (λ x. IsBefore grants x one.term) same (previous k one at)), rest)
+further grant one grants earlier k at (inr (inl same, rest)) =
+    inr (inr (subst (λ x. IsBefore grants x one.term) same (previous k one at)), rest)
 further grant one grants earlier k at (inr (inr before, rest)) = inr (inr (onward grant.term k one at before), rest)
 
 -- one more step by the first grant
-around : (grant : Granted) (grants : List Granted) (earlier : ℕ) → Way grant grants earlier grant.previous → Way grant grants earlier grant.term
+around : (grant : Granted) (grants : List Granted) (earlier : ℕ) → Way grant grants earlier grant.previous →
+    Way grant grants earlier grant.term
 around grant grants earlier (inl before) = inr (inl refl, inr before)
 around grant grants earlier (inr (to, rest)) = inr (inl refl, rest)
 
 -- each way can be cut so that it takes the first grant at most once
-way_of : (grant : Granted) (grants : List Granted) (earlier later : ℕ) → IsBefore (grant ∷ grants) earlier later → Way grant grants earlier later
+way_of : (grant : Granted) (grants : List Granted) (earlier later : ℕ) → IsBefore (grant ∷ grants) earlier later →
+    Way grant grants earlier later
 way_of grant grants earlier later (previous zero one at) =
     let same : grant ≡ one = cc in subst (λ g. Way grant grants g.previous g.term) same (inr (inl refl, inl refl))
 way_of grant grants earlier later (previous (suc k) one at) = inl (previous k one at)
 way_of grant grants earlier later (onward _ zero one at rest) =
     let same : grant ≡ one = cc in
-    subst (λ g. Way grant grants earlier g.term) same (around grant grants earlier (subst (λ g. Way grant grants earlier g.previous) (sym same) (way_of grant grants earlier one.previous rest)))
-way_of grant grants earlier later (onward _ (suc k) one at rest) = further grant one grants earlier k at (way_of grant grants earlier one.previous rest)
+    subst (λ g. Way grant grants earlier g.term) same
+    (around grant grants earlier (subst (λ g. Way grant grants earlier g.previous) (sym same)
+    (way_of grant grants earlier one.previous rest)))
+way_of grant grants earlier later (onward _ (suc k) one at rest) =
+    further grant one grants earlier k at (way_of grant grants earlier one.previous rest)
 
 -- and a way is a way
-before_by : (grant : Granted) (grants : List Granted) (earlier later : ℕ) → Way grant grants earlier later → IsBefore (grant ∷ grants) earlier later
+before_by : (grant : Granted) (grants : List Granted) (earlier later : ℕ) → Way grant grants earlier later →
+    IsBefore (grant ∷ grants) earlier later
 before_by grant grants earlier later (inl before) = before-more grant grants earlier later before
 before_by grant grants earlier later (inr (to, from)) = last to
   where
@@ -54,7 +65,8 @@ before_by grant grants earlier later (inr (to, from)) = last to
 
     last : (later ≡ grant.term) ⊎ IsBefore grants grant.term later → IsBefore (grant ∷ grants) earlier later
     last (inl same) = subst (λ x. IsBefore (grant ∷ grants) earlier x) (sym same) (first from)
-    last (inr before) = before-through (grant ∷ grants) earlier grant.term later (first from) (before-more grant grants grant.term later before)
+    last (inr before) = before-through (grant ∷ grants) earlier grant.term later (first from)
+        (before-more grant grants grant.term later before)
 
 -- the test for "the same term, or an earlier one"
 at_or-finds : (b : Bool) (a c : ℕ) (P : Type 0) → (b ≡ true → P) → (nat_eq a c || b) ≡ true → (a ≡ c) ⊎ P
@@ -70,32 +82,41 @@ at_or-found b a c P found (inr rest) = or_right (nat_eq a c) b (found rest)
 
 -- the test for a way
 way-finds : (whole to from : Bool) (grant : Granted) (grants : List Granted) (earlier later : ℕ) →
-    (whole ≡ true → IsBefore grants earlier later) → (to ≡ true → IsBefore grants grant.term later) → (from ≡ true → IsBefore grants earlier grant.previous) →
+    (whole ≡ true → IsBefore grants earlier later) → (to ≡ true → IsBefore grants grant.term later) →
+    (from ≡ true → IsBefore grants earlier grant.previous) →
     (whole || ((nat_eq later grant.term || to) && (nat_eq earlier grant.previous || from))) ≡ true → Way grant grants earlier later
-way-finds whole to from grant grants earlier later at_whole at_to at_from h = either (or_cases whole ((nat_eq later grant.term || to) && (nat_eq earlier grant.previous || from)) h)
+way-finds whole to from grant grants earlier later at_whole at_to at_from h =
+    either (or_cases whole ((nat_eq later grant.term || to) && (nat_eq earlier grant.previous || from)) h)
   where
-    either : (whole ≡ true) ⊎ (((nat_eq later grant.term || to) && (nat_eq earlier grant.previous || from)) ≡ true) → Way grant grants earlier later
+    either : (whole ≡ true) ⊎ (((nat_eq later grant.term || to) && (nat_eq earlier grant.previous || from)) ≡ true) →
+        Way grant grants earlier later
     either (inl found) = inl (at_whole found)
     either (inr found) =
         let parts = and_parts (nat_eq later grant.term || to) (nat_eq earlier grant.previous || from) found in
-        inr (at_or-finds to later grant.term (IsBefore grants grant.term later) at_to parts.0, at_or-finds from earlier grant.previous (IsBefore grants earlier grant.previous) at_from parts.1)
+        inr (
+          at_or-finds to later grant.term (IsBefore grants grant.term later) at_to parts.0,
+          at_or-finds from earlier grant.previous (IsBefore grants earlier grant.previous) at_from parts.1,
+        )
 
 way-found : (whole to from : Bool) (grant : Granted) (grants : List Granted) (earlier later : ℕ) →
-    (IsBefore grants earlier later → whole ≡ true) → (IsBefore grants grant.term later → to ≡ true) → (IsBefore grants earlier grant.previous → from ≡ true) →
+    (IsBefore grants earlier later → whole ≡ true) → (IsBefore grants grant.term later → to ≡ true) →
+    (IsBefore grants earlier grant.previous → from ≡ true) →
     Way grant grants earlier later → (whole || ((nat_eq later grant.term || to) && (nat_eq earlier grant.previous || from))) ≡ true
 way-found whole to from grant grants earlier later at_whole at_to at_from (inl rest) =
     or_left whole ((nat_eq later grant.term || to) && (nat_eq earlier grant.previous || from)) (at_whole rest)
 way-found whole to from grant grants earlier later at_whole at_to at_from (inr way) =
     or_right whole ((nat_eq later grant.term || to) && (nat_eq earlier grant.previous || from))
     (and_from (nat_eq later grant.term || to) (nat_eq earlier grant.previous || from)
-    (at_or-found to later grant.term (IsBefore grants grant.term later) at_to way.0) (at_or-found from earlier grant.previous (IsBefore grants earlier grant.previous) at_from way.1))
+    (at_or-found to later grant.term (IsBefore grants grant.term later) at_to way.0)
+    (at_or-found from earlier grant.previous (IsBefore grants earlier grant.previous) at_from way.1))
 
 -- what the test finds is before
 pub is_before-finds : (grants : List Granted) (earlier later : ℕ) → is_before grants earlier later ≡ true → IsBefore grants earlier later
 is_before-finds [] earlier later e = cc
 is_before-finds (grant ∷ grants) earlier later e =
     before_by grant grants earlier later
-    (way-finds (is_before grants earlier later) (is_before grants grant.term later) (is_before grants earlier grant.previous) grant grants earlier later
+    (way-finds (is_before grants earlier later) (is_before grants grant.term later)
+    (is_before grants earlier grant.previous) grant grants earlier later
     (is_before-finds grants earlier later) (is_before-finds grants grant.term later) (is_before-finds grants earlier grant.previous) e)
 
 none_before : (earlier later : ℕ) → IsBefore [] earlier later → ⊥
@@ -106,6 +127,7 @@ none_before earlier later (onward _ k one at rest) = cc
 pub is_before-found : (grants : List Granted) (earlier later : ℕ) → IsBefore grants earlier later → is_before grants earlier later ≡ true
 is_before-found [] earlier later before = absurd (none_before earlier later before)
 is_before-found (grant ∷ grants) earlier later before =
-    way-found (is_before grants earlier later) (is_before grants grant.term later) (is_before grants earlier grant.previous) grant grants earlier later
+    way-found (is_before grants earlier later) (is_before grants grant.term later)
+    (is_before grants earlier grant.previous) grant grants earlier later
     (is_before-found grants earlier later) (is_before-found grants grant.term later) (is_before-found grants earlier grant.previous)
     (way_of grant grants earlier later before)

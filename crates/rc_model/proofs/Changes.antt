@@ -1,5 +1,7 @@
 -- How members change, and what a roll opens.
-use Rattle.std.proofs.Common.{◌≡◌, ℕ, zero, suc, ◌+◌, Bool, true, false, not, ◌||◌, nat_eq, nat_lt, List, [], ◌∷◌, ◌++◌, map, filter, Option, Some, None, Result, Ok, Err, slice_get, refl, sym, ap, ◌∙◌, subst}
+use Rattle.std.proofs.Common.{◌≡◌, ℕ, zero, suc, ◌+◌, Bool, true, false, not, ◌||◌, nat_eq, nat_lt, List, [], ◌∷◌}
+use Rattle.std.proofs.Common.{◌++◌, map, filter, Option, Some, None, Result, Ok, Err, slice_get, refl, sym, ap, ◌∙◌}
+use Rattle.std.proofs.Common.{subst}
 use Rattle.std.specs.List.{list_any}
 use Rattle.rc_types.specs.declared.ids.ServerId.{ServerId}
 use Rattle.rc_types.specs.declared.faults.Fault.{Fault}
@@ -7,7 +9,8 @@ use Rattle.rc_types.specs.declared.faults.Fault.TheVariants.{EpochsExhausted, Lo
 use Rattle.rc_types.specs.declared.kept.Member.{Member}
 use Rattle.rc_types.specs.declared.limits.TheConstants.{LAST_SEGMENT, LAST_EPOCH}
 use Rattle.rc_model.specs.ServerList.{ServerList}
-use Rattle.rc_model.specs.Config.{Config, new_member, changed, changes_to, replaced, with_lost, any_lost, substitutes_for, lose, noted, choose}
+use Rattle.rc_model.specs.Config.{Config, new_member, changed, changes_to, replaced, with_lost, any_lost}
+use Rattle.rc_model.specs.Config.{substitutes_for, lose, noted, choose}
 use Rattle.rc_model.specs.Segment.{Segment, new_segment}
 use Rattle.rc_model.specs.Log.{Log, head_of}
 use Rattle.rc_model.specs.Heads.{next_digest, rolled, begin_roll}
@@ -16,7 +19,8 @@ use Rattle.rc_model.proofs.Tests.{either, true_false}
 use Rattle.rc_model.proofs.Tables.{put-same}
 
 -- fresh members have told nothing
-fresh-untold : (members : List Member) (k : ℕ) (member : Member) → slice_get (map (λ (one : Member). new_member one.id) members) k ≡ Some member →
+fresh-untold : (members : List Member) (k : ℕ) (member : Member) →
+    slice_get (map (λ (one : Member). new_member one.id) members) k ≡ Some member →
     (member.told ≡ None) × (member.lost ≡ false)
 fresh-untold [] k member found = cc
 fresh-untold (one ∷ others) zero member found =
@@ -33,7 +37,8 @@ pub record Fresh (old new : Config) : Type 0 where
 abbrev FreshIfChanged : Config → Config × Result Bool Fault → Type 0
 FreshIfChanged old answer = answer.1 ≡ Ok true → Fresh old answer.0
 
-fresh-changed : (old marked : Config) (found : Option (List ServerId)) → marked.epoch ≡ old.epoch → FreshIfChanged old (changes_to marked found)
+fresh-changed : (old marked : Config) (found : Option (List ServerId)) → marked.epoch ≡ old.epoch →
+    FreshIfChanged old (changes_to marked found)
 fresh-changed old marked None same e = cc
 fresh-changed old marked (Some ids) same e =
     either (FreshIfChanged old) (nat_lt marked.epoch LAST_EPOCH) (changed marked ids, Ok true) (marked, Err EpochsExhausted)
@@ -50,7 +55,8 @@ pub lose-fresh : (own : ServerId) (servers : ServerList) (old new : Config) → 
 lose-fresh own servers old new e = subst (FreshIfChanged old) e (fresh-lose own servers old) refl
 
 -- what is told under another epoch isn't noted
-pub noted-other : (from : ServerId) (epoch len : ℕ) (closed : Bool) (config : Config) → nat_eq epoch config.epoch ≡ false → noted from epoch len closed config ≡ config
+pub noted-other : (from : ServerId) (epoch len : ℕ) (closed : Bool) (config : Config) →
+    nat_eq epoch config.epoch ≡ false → noted from epoch len closed config ≡ config
 noted-other from epoch len closed config other = rw other refl
 
 -- Digests
@@ -59,7 +65,8 @@ noted-other from epoch len closed config other = rw other refl
 all-stay : (head : ℕ) (digest : List ℕ) → filter (λ seg. nat_eq seg head || not (list_any (nat_eq seg) [])) digest ≡ digest
 all-stay head [] = refl
 all-stay head (seg ∷ digest) =
-    either (λ segs. segs ≡ seg ∷ digest) (nat_eq seg head || true) (seg ∷ filter (λ s. nat_eq s head || true) digest) (filter (λ s. nat_eq s head || true) digest)
+    either (λ segs. segs ≡ seg ∷ digest) (nat_eq seg head || true) (seg ∷ filter (λ s. nat_eq s head || true) digest)
+    (filter (λ s. nat_eq s head || true) digest)
     (λ _. ap (λ rest. seg ∷ rest) (all-stay head digest)) (λ isn't. true_false (sym (or_true (nat_eq seg head)) ∙ isn't))
   where
     or_true : (b : Bool) → b || true ≡ true
@@ -77,7 +84,8 @@ kept-rolled old (Some ids) began e =
 
 kept-begun : (old : Log) (servers : ServerList) → DigestKept old (begin_roll servers [] old)
 kept-begun old servers =
-    either (DigestKept old) (nat_lt old.head LAST_SEGMENT) (rolled old [] (choose (old.head + 1) old.own old.factor servers)) (old, Err LogFull)
+    either (DigestKept old) (nat_lt old.head LAST_SEGMENT)
+    (rolled old [] (choose (old.head + 1) old.own old.factor servers)) (old, Err LogFull)
     (λ _. kept-rolled old (choose (old.head + 1) old.own old.factor servers)) (λ _ began e. cc)
 
 -- a master that frees nothing keeps the whole digest

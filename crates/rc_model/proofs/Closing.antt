@@ -1,5 +1,6 @@
 -- A whole step makes the phase Closing only where the new head is placed on all its members.
-use Rattle.std.proofs.Common.{◌≡◌, ◌⊎◌, inl, inr, ℕ, zero, suc, ◌+◌, ◌-◌, Bool, true, false, cond, not, ◌&&◌, nat_eq, nat_lt, List, [], ◌∷◌, Option, Some, None, Result, Ok, Err, refl, sym, ap, ◌∙◌, subst}
+use Rattle.std.proofs.Common.{◌≡◌, ◌⊎◌, inl, inr, ℕ, zero, suc, ◌+◌, ◌-◌, Bool, true, false, cond, not, ◌&&◌, nat_eq}
+use Rattle.std.proofs.Common.{nat_lt, List, [], ◌∷◌, Option, Some, None, Result, Ok, Err, refl, sym, ap, ◌∙◌, subst}
 use Rattle.std.proofs.lemmas.Bool.{and_parts}
 use Rattle.rc_types.specs.declared.ids.ServerId.{ServerId}
 use Rattle.rc_types.specs.declared.ids.Addr.{Addr}
@@ -13,22 +14,29 @@ use Rattle.rc_types.specs.declared.kept.Phase.{Phase}
 use Rattle.rc_types.specs.declared.kept.Phase.TheVariants.{Opening, Closing, Writing}
 use Rattle.rc_types.specs.declared.messages.Message.{Message}
 use Rattle.rc_types.specs.declared.messages.Body.{Body}
-use Rattle.rc_types.specs.declared.messages.Body.TheVariants.{Write, Read, Stored, CommitOk, Refused, Plan, Data, Own, List as ServersOf, Enlist}
+use Rattle.rc_types.specs.declared.messages.Body.TheVariants.{Write, Read, Stored, CommitOk, Refused, Plan, Data, Own}
+use Rattle.rc_types.specs.declared.messages.Body.TheVariants.{List as ServersOf, Enlist}
 use Rattle.rc_types.specs.declared.limits.TheConstants.{LAST_SEGMENT}
 use Rattle.rc_model.specs.Tables.{put}
 use Rattle.rc_model.specs.ServerList.{ServerList, from_rows, newer_than, is_up}
 use Rattle.rc_model.specs.Messages.{to_coordinator}
 use Rattle.rc_model.specs.Config.{Config, all_placed, choose, lose, refill, noted, committed_at}
 use Rattle.rc_model.specs.Segment.{Segment, with_closes_sent}
-use Rattle.rc_model.specs.Log.{Log, head_of, with_segment, old_head_of, has_old_head, has_segment, numbers_to, is_opening, is_closing, is_writing, durable_now}
-use Rattle.rc_model.specs.Heads.{rolled, begin_roll, is_full, may_start, may_close, may_write, left_out, writes_on, with_config, opens_change, refills, loses, open_first, opened_first, shuts}
+use Rattle.rc_model.specs.Log.{Log, head_of, with_segment, old_head_of, has_old_head, has_segment, numbers_to}
+use Rattle.rc_model.specs.Log.{is_opening, is_closing, is_writing, durable_now}
+use Rattle.rc_model.specs.Heads.{rolled, begin_roll, is_full, may_start, may_close, may_write, left_out, writes_on}
+use Rattle.rc_model.specs.Heads.{with_config, opens_change, refills, loses, open_first, opened_first, shuts}
 use Rattle.rc_model.specs.Ownership.{after_replay, to_answer, term_of, knows_term}
 use Rattle.rc_model.specs.Master.{Master, Task, with_log, durable_entries, dead_segments, appends_entry}
 use Rattle.rc_model.specs.Writing.{is_too_long, refused, written, writes, writes_if_owned, rolls_for_write, reads_if_owned}
-use Rattle.rc_model.specs.ListRules.{places_segment, replaces_lost, replaces_lost_of, opens_first, tries_first, obeys_list, takes_list, then_does}
-use Rattle.rc_model.specs.FollowUps.{follow_up, close_is_due, first_open, wants_commit, commits, commits_open, rolls_for_replay, replays, follows_data, answers_part, marks_shut, further, followed, measure, goes_on}
+use Rattle.rc_model.specs.ListRules.{places_segment, replaces_lost, replaces_lost_of, opens_first, tries_first}
+use Rattle.rc_model.specs.ListRules.{obeys_list, takes_list, then_does}
+use Rattle.rc_model.specs.FollowUps.{follow_up, close_is_due, first_open, wants_commit, commits, commits_open}
+use Rattle.rc_model.specs.FollowUps.{rolls_for_replay, replays, follows_data, answers_part, marks_shut, further}
+use Rattle.rc_model.specs.FollowUps.{followed, measure, goes_on}
 use Rattle.rc_model.specs.MasterTick.{ticks, reminds}
-use Rattle.rc_model.specs.MasterStep.{begins_task, task_of, takes_plan, says_deposed, master_takes_first, deposed_takes, master_takes, master_ticks}
+use Rattle.rc_model.specs.MasterStep.{begins_task, task_of, takes_plan, says_deposed, master_takes_first}
+use Rattle.rc_model.specs.MasterStep.{deposed_takes, master_takes, master_ticks}
 use Rattle.rc_model.proofs.Tests.{either, true_false}
 use Rattle.rc_model.proofs.Tables.{put_each}
 use Rattle.rc_model.proofs.Rules.{AllDone, done-or, done-when}
@@ -62,16 +70,19 @@ placed-change : (master : Master) (open_one : Option ℕ) → HeadPlaced master 
 placed-change master None placed = tt
 placed-change master (Some seg) placed =
     done-when PlacedDone (wants_commit (master.log.segments seg)) (commits master seg)
-    (λ _ is. ap all_placed (same_configs-put master.log.segments seg (record (master.log.segments seg) { commit_sent = true }) refl master.log.head) ∙ placed is)
+    (λ _ is. ap all_placed (same_configs-put master.log.segments seg
+    (record (master.log.segments seg) { commit_sent = true }) refl master.log.head) ∙ placed is)
 
-placed-roll : (master : Master) (chosen : Option (List ServerId)) → AllDone PlacedDone (rolls_for_replay master (rolled master.log (dead_segments master) chosen))
+placed-roll : (master : Master) (chosen : Option (List ServerId)) →
+    AllDone PlacedDone (rolls_for_replay master (rolled master.log (dead_segments master) chosen))
 placed-roll master None = tt
 placed-roll master (Some ids) = λ is. true_false (sym is)
 
 placed-full : (master : Master) → AllDone PlacedDone (rolls_for_replay master (begin_roll master.known (dead_segments master) master.log))
 placed-full master =
     either (λ answer. AllDone PlacedDone (rolls_for_replay master answer)) (nat_lt master.log.head LAST_SEGMENT)
-    (rolled master.log (dead_segments master) (choose (master.log.head + 1) master.log.own master.log.factor master.known)) (master.log, Err LogFull)
+    (rolled master.log (dead_segments master) (choose (master.log.head + 1) master.log.own master.log.factor
+    master.known)) (master.log, Err LogFull)
     (λ _. placed-roll master (choose (master.log.head + 1) master.log.own master.log.factor master.known)) (λ _. tt)
 
 placed-replay : (master : Master) (replay : List Entry) → is_writing master.log.phase ≡ true → AllDone PlacedDone (replays master replay)
@@ -98,7 +109,8 @@ placed-rules master placed =
     (and_parts (has_old_head master.log) (all_placed (head_of master.log).config)
     (and_parts (is_opening master.log.phase) (has_old_head master.log && all_placed (head_of master.log).config) may).1).1))
     (done-or PlacedDone _ _ (done-when PlacedDone (close_is_due master.log) (_, _) (λ _ is.
-    ap all_placed (same_configs-put master.log.segments (master.log.head - 1) (with_closes_sent (old_head_of master.log)) refl master.log.head) ∙ placed is))
+    ap all_placed (same_configs-put master.log.segments (master.log.head - 1)
+    (with_closes_sent (old_head_of master.log)) refl master.log.head) ∙ placed is))
     (done-or PlacedDone _ _ (done-when PlacedDone (may_write master.log) (_, _) (λ _ is.
     let after : (writes_on master.log).phase ≡ Writing = freed-phase (left_out master.log) (record master.log { phase = Writing }) in
     true_false (sym is ∙ ap is_closing after)))
@@ -108,8 +120,10 @@ placed-rules master placed =
 
 placed-marked : (master : Master) → HeadPlaced master → HeadPlaced (marks_shut master)
 placed-marked master placed =
-    either (λ log. HeadPlaced (with_log master log)) (shuts master.log) (with_segment (master.log.head - 1) (record (old_head_of master.log) { shut = true }) master.log) master.log
-    (λ _ is. ap all_placed (same_configs-put master.log.segments (master.log.head - 1) (record (old_head_of master.log) { shut = true }) refl master.log.head) ∙ placed is)
+    either (λ log. HeadPlaced (with_log master log)) (shuts master.log)
+    (with_segment (master.log.head - 1) (record (old_head_of master.log) { shut = true }) master.log) master.log
+    (λ _ is. ap all_placed (same_configs-put master.log.segments (master.log.head - 1)
+    (record (old_head_of master.log) { shut = true }) refl master.log.head) ∙ placed is)
     (λ _. placed)
 
 -- so do all of them
@@ -118,7 +132,8 @@ placed-followed zero master placed = placed-marked master placed
 placed-followed (suc times) master placed =
     by (follow_up (marks_shut master)) (placed-rules (marks_shut master) (placed-marked master placed)) (placed-followed times)
   where
-    by : (done : Option (Master × List Message)) → AllDone PlacedDone done → ((next : Master) → HeadPlaced next → HeadPlaced (followed times next).0) →
+    by : (done : Option (Master × List Message)) → AllDone PlacedDone done →
+        ((next : Master) → HeadPlaced next → HeadPlaced (followed times next).0) →
         HeadPlaced (further done (marks_shut master) (λ next. followed times next)).0
     by None kept rec = placed-marked master placed
     by (Some done) kept rec = rec done.0 kept
@@ -137,16 +152,19 @@ PhaseKept old new = (new ≡ old) ⊎ (new ≡ Opening)
 abbrev LogKept : Master → Master × List Message → Type 0
 LogKept master after = PhaseKept master.log.phase after.0.log.phase
 
-kept-chosen : (master : Master) (chosen : Option (List ServerId)) → LogKept master (rolls_for_write master (rolled master.log (dead_segments master) chosen))
+kept-chosen : (master : Master) (chosen : Option (List ServerId)) →
+    LogKept master (rolls_for_write master (rolled master.log (dead_segments master) chosen))
 kept-chosen master None = inl refl
 kept-chosen master (Some ids) = inr refl
 
-kept-write : (master : Master) (owned : Option ℕ) (table key : ℕ) (value : Option (List ℕ)) → LogKept master (writes_if_owned master owned table key value)
+kept-write : (master : Master) (owned : Option ℕ) (table key : ℕ) (value : Option (List ℕ)) →
+    LogKept master (writes_if_owned master owned table key value)
 kept-write master None table key value = inl refl
 kept-write master (Some term) table key value =
     let chosen : Option (List ServerId) = choose (master.log.head + 1) master.log.own master.log.factor master.known in
     either (LogKept master) (not (is_writing master.log.phase)) (refused master Rolling)
-    (cond (is_full master.log) (rolls_for_write master (begin_roll master.known (dead_segments master) master.log)) (appends_entry master (written master term table key value) true))
+    (cond (is_full master.log) (rolls_for_write master (begin_roll master.known (dead_segments master) master.log))
+    (appends_entry master (written master term table key value) true))
     (λ _. inl refl)
     (λ _. either (LogKept master) (is_full master.log) (rolls_for_write master (begin_roll master.known (dead_segments master) master.log))
     (appends_entry master (written master term table key value) true)
@@ -156,7 +174,8 @@ kept-write master (Some term) table key value =
 
 kept-writes : (master : Master) (table key : ℕ) (value : Option (List ℕ)) → LogKept master (writes master table key value)
 kept-writes master table key value =
-    either (LogKept master) (is_too_long value) (refused master ValueTooLong) (writes_if_owned master (term_of master.ownership table key) table key value)
+    either (LogKept master) (is_too_long value) (refused master ValueTooLong)
+    (writes_if_owned master (term_of master.ownership table key) table key value)
     (λ _. inl refl) (λ _. kept-write master (term_of master.ownership table key) table key value)
 
 kept-reads : (master : Master) (owned : Option ℕ) (table key : ℕ) → LogKept master (reads_if_owned master owned table key)
@@ -172,10 +191,12 @@ same-change seg log (config, Err fault) = refl
 same-loses : (servers : ServerList) (seg : ℕ) (log : Log) → (loses servers seg log).0.phase ≡ log.phase
 same-loses servers seg log =
     either (λ (after : Log × Result (List ServerId) Fault). after.0.phase ≡ log.phase) (log.segments seg).shut
-    (refills seg log (refill log.own servers (log.segments seg).config)) (opens_change seg log (lose log.own servers (log.segments seg).config))
+    (refills seg log (refill log.own servers (log.segments seg).config))
+    (opens_change seg log (lose log.own servers (log.segments seg).config))
     (λ _. refl) (λ _. same-change seg log (lose log.own servers (log.segments seg).config))
 
-same-places : (seg : ℕ) (master : Master) (answer : Log × Result (List ServerId) Fault) → (places_segment seg master answer).0.log.phase ≡ answer.0.phase
+same-places : (seg : ℕ) (master : Master) (answer : Log × Result (List ServerId) Fault) →
+    (places_segment seg master answer).0.log.phase ≡ answer.0.phase
 same-places seg master (log, Ok ids) = refl
 same-places seg master (log, Err fault) = refl
 
@@ -195,7 +216,8 @@ kept-opened master (Some ids) = inr refl
 
 kept-tries : (master : Master) → LogKept master (tries_first master)
 kept-tries master =
-    either (LogKept master) (nat_eq master.log.head 0 && is_up master.known master.log.own) (opens_first master (open_first master.known master.log)) (master, [])
+    either (LogKept master) (nat_eq master.log.head 0 && is_up master.known master.log.own)
+    (opens_first master (open_first master.known master.log)) (master, [])
     (λ _. kept-opened master (choose 1 master.log.own master.log.factor master.known)) (λ _. inl refl)
 
 kept-obeys : (master : Master) → LogKept master (obeys_list master)
@@ -210,12 +232,15 @@ kept-list master servers =
 
 same-begins : (task : Task) (master : Master) → (begins_task task master).0.log ≡ master.log
 same-begins task master =
-    either (λ (after : Master × List Message). after.0.log ≡ master.log) (knows_term master.ownership task.part.term) (master, []) (_, _) (λ _. refl) (λ _. refl)
+    either (λ (after : Master × List Message). after.0.log ≡ master.log) (knows_term master.ownership task.part.term)
+    (master, []) (_, _) (λ _. refl) (λ _. refl)
 
-same-plan : (attempt : ℕ) (crashed : ServerId) (rows : List PlanRow) (parts : List Part) (master : Master) → (takes_plan attempt crashed rows parts master).0.log ≡ master.log
+same-plan : (attempt : ℕ) (crashed : ServerId) (rows : List PlanRow) (parts : List Part) (master : Master) →
+    (takes_plan attempt crashed rows parts master).0.log ≡ master.log
 same-plan attempt crashed rows [] master = refl
 same-plan attempt crashed rows (part ∷ parts) master =
-    same-plan attempt crashed rows parts (begins_task (task_of attempt crashed rows part) master).0 ∙ same-begins (task_of attempt crashed rows part) master
+    same-plan attempt crashed rows parts (begins_task (task_of attempt crashed rows part) master).0 ∙
+    same-begins (task_of attempt crashed rows part) master
 
 -- no input makes the phase Closing
 pub kept-input : (master : Master) (from : Addr) (body : Body) → LogKept master (master_takes_first master from body)
@@ -229,15 +254,18 @@ kept-input master from (CommitOk seg epoch) =
     either (λ (log : Log). PhaseKept master.log.phase log.phase) (has_segment master.log seg)
     (with_config seg (committed_at epoch (master.log.segments seg).config) master.log) master.log (λ _. inl refl) (λ _. inl refl)
 kept-input master Coordinator (Refused reason) =
-    either (λ (after : Master). PhaseKept master.log.phase after.log.phase) (says_deposed reason) (record master { deposed = true }) master (λ _. inl refl) (λ _. inl refl)
-kept-input master from (Plan attempt crashed head rows parts) = inl (ap (λ (log : Log). log.phase) (same-plan attempt crashed rows parts master))
+    either (λ (after : Master). PhaseKept master.log.phase after.log.phase) (says_deposed reason)
+    (record master { deposed = true }) master (λ _. inl refl) (λ _. inl refl)
+kept-input master from (Plan attempt crashed head rows parts) =
+    inl (ap (λ (log : Log). log.phase) (same-plan attempt crashed rows parts master))
 kept-input master (Server from) (Data attempt seg term entries) = inl refl
 kept-input master from (Own table lo hi term previous attempt) = inl refl
 kept-input master from _ = inl refl
 
 kept-ticks : (master : Master) → LogKept master (ticks master)
 kept-ticks master =
-    either (LogKept master) (is_up master.known master.log.own) (then_does (obeys_list master) (reminds master.log)) (master, to_coordinator master.log.own Enlist ∷ [])
+    either (LogKept master) (is_up master.known master.log.own) (then_does (obeys_list master) (reminds master.log))
+    (master, to_coordinator master.log.own Enlist ∷ [])
     (λ _. kept-obeys master) (λ _. inl refl)
 
 -- Whole steps
@@ -253,9 +281,11 @@ same-deposed master (Read table key) = refl
 same-deposed master _ = refl
 
 -- a message makes the phase Closing only where the head is placed
-pub takes-placed : (master : Master) (from : Addr) (body : Body) → is_closing master.log.phase ≡ false → HeadPlaced (master_takes master from body).0
+pub takes-placed : (master : Master) (from : Addr) (body : Body) → is_closing master.log.phase ≡ false →
+    HeadPlaced (master_takes master from body).0
 takes-placed master from body isn't =
-    either (λ (after : Master × List Message). HeadPlaced after.0) master.deposed (deposed_takes master body) (then_does (master_takes_first master from body) goes_on)
+    either (λ (after : Master × List Message). HeadPlaced after.0) master.deposed (deposed_takes master body)
+    (then_does (master_takes_first master from body) goes_on)
     (λ _. placed-after master (deposed_takes master body).0 isn't (inl (ap (λ (m : Master). m.log.phase) (same-deposed master body))))
     (λ _. placed-goes_on (master_takes_first master from body).0
     (placed-after master (master_takes_first master from body).0 isn't (kept-input master from body)))

@@ -1,5 +1,6 @@
 -- How many of a list pass a test, and of the numbers to one.
-use Rattle.std.proofs.Common.{◌≡◌, ℕ, zero, suc, ◌≤◌, ◌<◌, Bool, true, false, cond, List, [], ◌∷◌, ◌++◌, length, filter, find, Some, refl, sym, ap, ◌∙◌, arith}
+use Rattle.std.proofs.Common.{◌≡◌, ℕ, zero, suc, ◌≤◌, ◌<◌, Bool, true, false, cond, List, [], ◌∷◌, ◌++◌, length}
+use Rattle.std.proofs.Common.{filter, find, Some, refl, sym, ap, ◌∙◌, arith}
 use Rattle.std.proofs.lemmas.List.Elements.{filter-append}
 use Rattle.rc_model.specs.Log.{numbers_to}
 use Rattle.rc_model.proofs.Tests.{true_false}
@@ -53,7 +54,8 @@ pub find-passes : {X : Type 0} (test : X → Bool) (xs : List X) (found : X) →
 find-passes test [] found e = cc
 find-passes test (x ∷ xs) found e = by (test x) refl (find-passes test xs found) e
   where
-    by : (b : Bool) → test x ≡ b → (find test xs ≡ Some found → test found ≡ true) → cond b (Some x) (find test xs) ≡ Some found → test found ≡ true
+    by : (b : Bool) → test x ≡ b → (find test xs ≡ Some found → test found ≡ true) →
+        cond b (Some x) (find test xs) ≡ Some found → test found ≡ true
     by true is rec e = let same : x ≡ found = cc in ap test (sym same) ∙ is
     by false isn't rec e = rec e
 

@@ -1,5 +1,7 @@
 -- What the digest of the next head leaves out, and when a segment is dead.
-use Rattle.std.proofs.Common.{◌≡◌, ℕ, zero, suc, ◌+◌, ◌<◌, Bool, true, false, cond, not, ◌&&◌, ◌||◌, nat_eq, nat_lt, List, [], ◌∷◌, ◌++◌, map, filter, Option, Some, None, Result, Ok, Err, slice_get, refl, sym, ap, ◌∙◌, subst}
+use Rattle.std.proofs.Common.{◌≡◌, ℕ, zero, suc, ◌+◌, ◌<◌, Bool, true, false, cond, not, ◌&&◌, ◌||◌, nat_eq, nat_lt}
+use Rattle.std.proofs.Common.{List, [], ◌∷◌, ◌++◌, map, filter, Option, Some, None, Result, Ok, Err, slice_get, refl}
+use Rattle.std.proofs.Common.{sym, ap, ◌∙◌, subst}
 use Rattle.std.specs.List.{list_any, list_all}
 use Rattle.std.proofs.lemmas.Bool.{and_parts, eqb-true, ltb-true}
 use Rattle.rc_types.specs.declared.ids.ServerId.{ServerId}
@@ -20,7 +22,8 @@ use Rattle.rc_model.proofs.Tables.{put-same}
 -- Tests over lists
 
 -- what all pass, each passes
-pub all-get : {X : Type 0} (test : X → Bool) (xs : List X) (k : ℕ) (x : X) → list_all test xs ≡ true → slice_get xs k ≡ Some x → test x ≡ true
+pub all-get : {X : Type 0} (test : X → Bool) (xs : List X) (k : ℕ) (x : X) → list_all test xs ≡ true →
+    slice_get xs k ≡ Some x → test x ≡ true
 all-get test [] k x all found = cc
 all-get test (y ∷ ys) zero x all found =
     let same : y ≡ x = cc in ap test (sym same) ∙ (and_parts (test y) (list_all test ys) all).0
@@ -91,7 +94,8 @@ joined-left : (n : ℕ) (ns ms : List ℕ) → list_any (nat_eq n) ns ≡ true �
 joined-left n [] ms there = cc
 joined-left n (k ∷ ks) ms there = by (nat_eq n k) refl there (joined-left n ks ms)
   where
-    by : (b : Bool) → nat_eq n k ≡ b → b || list_any (nat_eq n) ks ≡ true → (list_any (nat_eq n) ks ≡ true → list_any (nat_eq n) (ks ++ ms) ≡ true) →
+    by : (b : Bool) → nat_eq n k ≡ b → b || list_any (nat_eq n) ks ≡ true →
+        (list_any (nat_eq n) ks ≡ true → list_any (nat_eq n) (ks ++ ms) ≡ true) →
         nat_eq n k || list_any (nat_eq n) (ks ++ ms) ≡ true
     by true same there rec = or_left (nat_eq n k) (list_any (nat_eq n) (ks ++ ms)) same
     by false other there rec = or_right (nat_eq n k) (list_any (nat_eq n) (ks ++ ms)) (rec there)
@@ -99,17 +103,21 @@ joined-left n (k ∷ ks) ms there = by (nat_eq n k) refl there (joined-left n ks
 -- Digests
 
 -- what the next digest leaves out is in the list of the dead, and isn't the head
-left-dead : (log : Log) (dead : List ℕ) (seg : ℕ) → list_any (nat_eq seg) (head_of log).digest ≡ true → list_any (nat_eq seg) (next_digest log dead) ≡ false →
+left-dead : (log : Log) (dead : List ℕ) (seg : ℕ) → list_any (nat_eq seg) (head_of log).digest ≡ true →
+    list_any (nat_eq seg) (next_digest log dead) ≡ false →
     (list_any (nat_eq seg) dead ≡ true) × (nat_eq seg log.head ≡ false)
 left-dead log dead seg there gone = by (nat_eq seg log.head || not (list_any (nat_eq seg) dead)) refl
   where
-    by : (b : Bool) → nat_eq seg log.head || not (list_any (nat_eq seg) dead) ≡ b → (list_any (nat_eq seg) dead ≡ true) × (nat_eq seg log.head ≡ false)
+    by : (b : Bool) → nat_eq seg log.head || not (list_any (nat_eq seg) dead) ≡ b →
+        (list_any (nat_eq seg) dead ≡ true) × (nat_eq seg log.head ≡ false)
     by true stays =
         let still : list_any (nat_eq seg) (filter (λ s. nat_eq s log.head || not (list_any (nat_eq s) dead)) (head_of log).digest) ≡ true =
         kept (λ s. nat_eq s log.head || not (list_any (nat_eq s) dead)) seg (head_of log).digest there stays in
-        true_false (sym (joined-left seg (filter (λ s. nat_eq s log.head || not (list_any (nat_eq s) dead)) (head_of log).digest) ((log.head + 1) ∷ []) still) ∙ gone)
+        true_false (sym (joined-left seg (filter (λ s. nat_eq s log.head || not (list_any (nat_eq s) dead))
+        (head_of log).digest) ((log.head + 1) ∷ []) still) ∙ gone)
     by false goes =
-        let parts : (nat_eq seg log.head ≡ false) × (not (list_any (nat_eq seg) dead) ≡ false) = or_parts (nat_eq seg log.head) (not (list_any (nat_eq seg) dead)) goes in
+        let parts : (nat_eq seg log.head ≡ false) × (not (list_any (nat_eq seg) dead) ≡ false) =
+        or_parts (nat_eq seg log.head) (not (list_any (nat_eq seg) dead)) goes in
         (not_false (list_any (nat_eq seg) dead) parts.1, parts.0)
 
 abbrev LeavesDead : Log → List ℕ → ℕ → Log × Result Bool Fault → Type 0
@@ -125,31 +133,36 @@ leaves-rolled old dead seg (Some ids) began e there gone =
 
 leaves-begun : (old : Log) (servers : ServerList) (dead : List ℕ) (seg : ℕ) → LeavesDead old dead seg (begin_roll servers dead old)
 leaves-begun old servers dead seg =
-    either (LeavesDead old dead seg) (nat_lt old.head LAST_SEGMENT) (rolled old dead (choose (old.head + 1) old.own old.factor servers)) (old, Err LogFull)
+    either (LeavesDead old dead seg) (nat_lt old.head LAST_SEGMENT)
+    (rolled old dead (choose (old.head + 1) old.own old.factor servers)) (old, Err LogFull)
     (λ _. leaves-rolled old dead seg (choose (old.head + 1) old.own old.factor servers)) (λ _ began e there gone. cc)
 
 -- a number in the list of the dead segments is that of a dead one
 listed-dead : (master : Master) (seg : ℕ) → list_any (nat_eq seg) (dead_segments master) ≡ true → is_dead_segment master seg ≡ true
 listed-dead master seg there = by master.free there
   where
-    by : (b : Bool) → list_any (nat_eq seg) (cond b (filter (is_dead_segment master) (head_of master.log).digest) []) ≡ true → is_dead_segment master seg ≡ true
+    by : (b : Bool) → list_any (nat_eq seg) (cond b (filter (is_dead_segment master) (head_of master.log).digest) []) ≡
+        true → is_dead_segment master seg ≡ true
     by true there = passed (is_dead_segment master) seg (head_of master.log).digest there
     by false there = cc
 
 -- a roll leaves out dead segments alone
-pub rolls-leave : (master : Master) (log : Log) (began : Bool) (seg : ℕ) → begin_roll master.known (dead_segments master) master.log ≡ (log, Ok began) →
+pub rolls-leave : (master : Master) (log : Log) (began : Bool) (seg : ℕ) →
+    begin_roll master.known (dead_segments master) master.log ≡ (log, Ok began) →
     list_any (nat_eq seg) (head_of master.log).digest ≡ true → list_any (nat_eq seg) (head_of log).digest ≡ false →
     (is_dead_segment master seg ≡ true) × (nat_eq seg master.log.head ≡ false)
 rolls-leave master log began seg e there gone =
     let dead : (list_any (nat_eq seg) (dead_segments master) ≡ true) × (nat_eq seg master.log.head ≡ false) =
-    subst (LeavesDead master.log (dead_segments master) seg) e (leaves-begun master.log master.known (dead_segments master) seg) began refl there gone in
+    subst (LeavesDead master.log (dead_segments master) seg) e
+    (leaves-begun master.log master.known (dead_segments master) seg) began refl there gone in
     (listed-dead master seg dead.0, dead.1)
 
 -- Dead segments
 
 -- an outdated entry has a durable one above it
 above : (durable : List Entry) (entry : Entry) → is_outdated durable entry ≡ true →
-    (j : ℕ) × (other : Entry) × (slice_get durable j ≡ Some other) × (is_of entry.term entry.table entry.key other ≡ true) × (entry.version < other.version)
+    (j : ℕ) × (other : Entry) × (slice_get durable j ≡ Some other) ×
+    (is_of entry.term entry.table entry.key other ≡ true) × (entry.version < other.version)
 above durable entry is =
     let one : Passes (λ (other : Entry). is_of entry.term entry.table entry.key other && nat_lt entry.version other.version) durable =
     any-get (λ (other : Entry). is_of entry.term entry.table entry.key other && nat_lt entry.version other.version) durable is in
@@ -163,8 +176,10 @@ pub dead-outdated : (master : Master) (seg k : ℕ) (entry : Entry) → is_dead_
     ((master.log.segments seg).shut ≡ true) × ((j : ℕ) × (other : Entry) × (slice_get (durable_entries master) j ≡ Some other)
     × (is_of entry.term entry.table entry.key other ≡ true) × (entry.version < other.version))
 dead-outdated master seg k entry dead found =
-    let parts : ((master.log.segments seg).shut ≡ true) × (is_dead (durable_entries master) (map (λ one. one.0) (master.log.segments seg).entries) ≡ true) =
-    and_parts (master.log.segments seg).shut (is_dead (durable_entries master) (map (λ one. one.0) (master.log.segments seg).entries)) dead in (
+    let parts : ((master.log.segments seg).shut ≡ true) ×
+    (is_dead (durable_entries master) (map (λ one. one.0) (master.log.segments seg).entries) ≡ true) =
+    and_parts (master.log.segments seg).shut
+    (is_dead (durable_entries master) (map (λ one. one.0) (master.log.segments seg).entries)) dead in (
       parts.0,
       above (durable_entries master) entry
           (all-get (is_outdated (durable_entries master)) (map (λ one. one.0) (master.log.segments seg).entries) k entry parts.1 found),

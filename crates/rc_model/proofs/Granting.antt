@@ -12,7 +12,8 @@ use Rattle.rc_model.specs.Pick.{is_below, greater_pair}
 use Rattle.rc_model.specs.Attempts.{Attempt}
 use Rattle.rc_model.specs.Messages.{from_coordinator}
 use Rattle.rc_model.specs.Coordinator.{Coordinator, refuses_server, attempt_at, commits_pair}
-use Rattle.rc_model.specs.Deciding.{is_current, grant_to, part_if_current, part_in, part_of_sender, grants_if_given, grants_or_repeats, takes_recovered}
+use Rattle.rc_model.specs.Deciding.{is_current, grant_to, part_if_current, part_in, part_of_sender, grants_if_given}
+use Rattle.rc_model.specs.Deciding.{grants_or_repeats, takes_recovered}
 use Rattle.rc_model.proofs.Tests.{either}
 use Rattle.rc_model.proofs.Tables.{put_id_each, put_id-same}
 
@@ -30,22 +31,26 @@ greater-right : (a b : Pair) → is_below (greater_pair a b) b ≡ false
 greater-right a b = either (λ p. is_below p b ≡ false) (is_below a b) b a (λ _. below-itself b) (λ e. e)
 
 -- a least pair never falls
-pub least-rises : (c : Coordinator) (id other : ServerId) (pair : Pair) → is_below ((commits_pair c id pair).0.least other) (c.least other) ≡ false
+pub least-rises : (c : Coordinator) (id other : ServerId) (pair : Pair) →
+    is_below ((commits_pair c id pair).0.least other) (c.least other) ≡ false
 least-rises c id other pair =
     either (λ (after : Coordinator × List Message). is_below (after.0.least other) (c.least other) ≡ false) (is_up c.servers id)
     (record c { least = put_id c.least id (greater_pair (c.least id) pair) }, from_coordinator id (CommitOk pair.seg pair.epoch) ∷ [])
     (c, refuses_server id Deposed ∷ [])
-    (λ _. put_id_each (λ one least. is_below least (c.least one) ≡ false) c.least id (greater_pair (c.least id) pair) (greater-left (c.least id) pair)
+    (λ _. put_id_each (λ one least. is_below least (c.least one) ≡ false) c.least id (greater_pair (c.least id) pair)
+    (greater-left (c.least id) pair)
     (λ one. below-itself (c.least one)) other)
     (λ _. below-itself (c.least other))
 
 -- and is at least what is committed
-pub least-covers : (c : Coordinator) (id : ServerId) (pair : Pair) → is_up c.servers id ≡ true → is_below ((commits_pair c id pair).0.least id) pair ≡ false
+pub least-covers : (c : Coordinator) (id : ServerId) (pair : Pair) → is_up c.servers id ≡ true →
+    is_below ((commits_pair c id pair).0.least id) pair ≡ false
 least-covers c id pair is =
     rw is (ap (λ least. is_below least pair) (put_id-same c.least id (greater_pair (c.least id) pair)) ∙ greater-right (c.least id) pair)
 
 -- who isn't up is refused
-pub commit-refused : (c : Coordinator) (id : ServerId) (pair : Pair) → is_up c.servers id ≡ false → commits_pair c id pair ≡ (c, refuses_server id Deposed ∷ [])
+pub commit-refused : (c : Coordinator) (id : ServerId) (pair : Pair) → is_up c.servers id ≡ false →
+    commits_pair c id pair ≡ (c, refuses_server id Deposed ∷ [])
 commit-refused c id pair isn't = rw isn't refl
 
 pub recovered-refused : (c : Coordinator) (id : ServerId) (number term : ℕ) → is_up c.servers id ≡ false →

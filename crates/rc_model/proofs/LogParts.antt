@@ -36,7 +36,8 @@ length-places_in seg offset [] = refl
 length-places_in seg offset (one ∷ others) = ap suc (length-places_in seg (offset + 1) others)
 
 -- the places up to a segment are by the entries up to it
-pub places_to-agrees : (old new : ℕ → Segment) (n : ℕ) → ((k : ℕ) → k ≤ n → (new k).entries ≡ (old k).entries) → places_to new n ≡ places_to old n
+pub places_to-agrees : (old new : ℕ → Segment) (n : ℕ) → ((k : ℕ) → k ≤ n → (new k).entries ≡ (old k).entries) →
+    places_to new n ≡ places_to old n
 places_to-agrees old new zero same = refl
 places_to-agrees old new (suc n) same =
     ap (λ front. front ++ places_in (suc n) 0 (new (suc n)).entries) (places_to-agrees old new n (λ k below. same k (omega arith)))
@@ -57,9 +58,11 @@ total-places segments (suc n) =
     let front : total (map segments (numbers_to n)) ≡ length (places_to segments n) = total-places segments n in
     let joined : total (map segments (numbers_to n ++ suc n ∷ [])) ≡ total (map segments (numbers_to n) ++ segments (suc n) ∷ []) =
     ap total (map-append segments (numbers_to n) (suc n ∷ [])) in
-    let parted : total (map segments (numbers_to n) ++ segments (suc n) ∷ []) ≡ total (map segments (numbers_to n)) + (length (segments (suc n)).entries + 0) =
+    let parted : total (map segments (numbers_to n) ++ segments (suc n) ∷ []) ≡ total
+    (map segments (numbers_to n)) + (length (segments (suc n)).entries + 0) =
     total-append (map segments (numbers_to n)) (segments (suc n) ∷ []) in
-    let last : length (places_in (suc n) 0 (segments (suc n)).entries) ≡ length (segments (suc n)).entries = length-places_in (suc n) 0 (segments (suc n)).entries in
+    let last : length (places_in (suc n) 0 (segments (suc n)).entries) ≡ length (segments (suc n)).entries =
+    length-places_in (suc n) 0 (segments (suc n)).entries in
     let whole : length (places_to segments n ++ places_in (suc n) 0 (segments (suc n)).entries)
     ≡ length (places_to segments n) + length (places_in (suc n) 0 (segments (suc n)).entries) =
     length-append (places_to segments n) (places_in (suc n) 0 (segments (suc n)).entries) in
@@ -71,7 +74,8 @@ durable-within [] = omega arith
 durable-within (segment ∷ segments) =
     let rest : durable_among segments ≤ total segments = durable-within segments in
     let least : durable_in segment ≤ length segment.entries = min-right (durable_len segment.config) (length segment.entries) in
-    either (λ n. n ≤ length segment.entries + total segments) segment.shut (length segment.entries + durable_among segments) (durable_in segment)
+    either (λ n. n ≤ length segment.entries + total segments) segment.shut
+    (length segment.entries + durable_among segments) (durable_in segment)
     (λ _. omega arith) (λ _. omega arith)
   where
     min-right : (a b : ℕ) → min a b ≤ b

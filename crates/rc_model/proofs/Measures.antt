@@ -1,5 +1,7 @@
 -- Each follow-up lowers the measure, and none applies afterwards.
-use Rattle.std.proofs.Common.{◌≡◌, ◌≢◌, ℕ, zero, suc, ◌+◌, ◌-◌, ◌≤◌, ◌<◌, Bool, true, false, cond, not, ◌&&◌, ◌||◌, nat_eq, nat_lt, List, [], ◌∷◌, ◌++◌, length, map, filter, find, take, Option, Some, None, option_map, Err, refl, sym, ap, ◌∙◌, subst, arith}
+use Rattle.std.proofs.Common.{◌≡◌, ◌≢◌, ℕ, zero, suc, ◌+◌, ◌-◌, ◌≤◌, ◌<◌, Bool, true, false, cond, not, ◌&&◌, ◌||◌}
+use Rattle.std.proofs.Common.{nat_eq, nat_lt, List, [], ◌∷◌, ◌++◌, length, map, filter, find, take, Option, Some, None}
+use Rattle.std.proofs.Common.{option_map, Err, refl, sym, ap, ◌∙◌, subst, arith}
 use Rattle.std.proofs.lemmas.List.{length-append, length-take-le, append-nil}
 use Rattle.std.proofs.lemmas.List.Elements.{filter-append}
 use Rattle.std.proofs.lemmas.Bool.{and_parts, ltb-true, ne_eqb}
@@ -22,16 +24,24 @@ use Rattle.rc_model.specs.Ids.{same_id, has_id}
 use Rattle.rc_model.specs.Tables.{put}
 use Rattle.rc_model.specs.Config.{Config, new_config, all_placed, choose, candidates}
 use Rattle.rc_model.specs.Segment.{Segment, new_segment, with_entry, is_ready, has_unclosed, with_closes_sent}
-use Rattle.rc_model.specs.Log.{Log, head_of, with_segment, old_head_of, has_old_head, places_to, places_in, places_of, numbers_to, durable_now, is_opening, is_closing, is_writing}
-use Rattle.rc_model.specs.Heads.{opens_head, next_digest, rolled, begin_roll, is_full, appends, shuts, with_shut, may_start, may_close, may_write, left_out, starts, closes_old, writes_on}
+use Rattle.rc_model.specs.Log.{Log, head_of, with_segment, old_head_of, has_old_head, places_to, places_in, places_of}
+use Rattle.rc_model.specs.Log.{numbers_to, durable_now, is_opening, is_closing, is_writing}
+use Rattle.rc_model.specs.Heads.{opens_head, next_digest, rolled, begin_roll, is_full, appends, shuts, with_shut}
+use Rattle.rc_model.specs.Heads.{may_start, may_close, may_write, left_out, starts, closes_old, writes_on}
 use Rattle.rc_model.specs.Ownership.{PartState, without_first, after_replay, is_to_answer, is_complete, answered_in}
 use Rattle.rc_model.specs.Master.{Master, ids_of, with_log, durable_entries, dead_segments, appends_entry}
-use Rattle.rc_model.specs.FollowUps.{when, follow_up, follows_start, follows_placed, close_is_due, close_marked, follows_closing, follows_shut, first_open, wants_commit, commits, commits_open, follows_change, follows_stored, rolls_for_replay, replays, follows_data, answers_part, follows_replay, or_rule, marks_shut, further, followed, rank, one_if, closes_unsent, commits_unsent, parts_unanswered, measure, goes_on}
+use Rattle.rc_model.specs.FollowUps.{when, follow_up, follows_start, follows_placed, close_is_due, close_marked}
+use Rattle.rc_model.specs.FollowUps.{follows_closing, follows_shut, first_open, wants_commit, commits, commits_open}
+use Rattle.rc_model.specs.FollowUps.{follows_change, follows_stored, rolls_for_replay, replays, follows_data}
+use Rattle.rc_model.specs.FollowUps.{answers_part, follows_replay, or_rule, marks_shut, further, followed, rank}
+use Rattle.rc_model.specs.FollowUps.{one_if, closes_unsent, commits_unsent, parts_unanswered, measure, goes_on}
 use Rattle.rc_model.proofs.Ids.{same_id-refl}
 use Rattle.rc_model.proofs.Tests.{either, true_false}
 use Rattle.rc_model.proofs.Tables.{put_each, put-same, put-other}
 use Rattle.rc_model.proofs.Counting.{Narrower, filter-lower, filter-agrees}
-use Rattle.rc_model.proofs.LogParts.{AllSameParts, same_parts-put, length-places_in, places_to-agrees, total, total-places, durable-within, marked, with_freed-marked, MarkedAlone, marked-alone}
+use Rattle.rc_model.proofs.LogParts.{AllSameParts, same_parts-put, length-places_in, places_to-agrees, total}
+use Rattle.rc_model.proofs.LogParts.{total-places, durable-within, marked, with_freed-marked, MarkedAlone}
+use Rattle.rc_model.proofs.LogParts.{marked-alone}
 
 -- the later master has a lower measure, and as many replicas of each segment
 pub record Lowers (old new : Master) : Type 0 where
@@ -43,7 +53,8 @@ abbrev pub AllLower : Master → Option (Master × List Message) → Type 0
 AllLower old None = Unit {0}
 AllLower old (Some done) = Lowers old done.0
 
-lower-or : (old : Master) (one other : Option (Master × List Message)) → AllLower old one → AllLower old other → AllLower old (or_rule one other)
+lower-or : (old : Master) (one other : Option (Master × List Message)) → AllLower old one → AllLower old other →
+    AllLower old (or_rule one other)
 lower-or old (Some done) other p q = p
 lower-or old None other p q = q
 
@@ -151,39 +162,57 @@ lowers-closing master due =
     let old : ℕ → Segment = master.log.segments in
     let told : Segment = with_closes_sent (old_head_of master.log) in
     let new : ℕ → Segment = put old (master.log.head - 1) told in
-    let parts : (is_closing master.log.phase ≡ true) × (has_old_head master.log && ((old_head_of master.log).config.committed && has_unclosed (old_head_of master.log)) ≡ true) =
-    and_parts (is_closing master.log.phase) (has_old_head master.log && ((old_head_of master.log).config.committed && has_unclosed (old_head_of master.log))) due in
-    let tests : (has_old_head master.log ≡ true) × ((old_head_of master.log).config.committed && has_unclosed (old_head_of master.log) ≡ true) =
+    let parts : (is_closing master.log.phase ≡ true) ×
+    (has_old_head master.log && ((old_head_of master.log).config.committed && has_unclosed (old_head_of master.log))
+    ≡ true) =
+    and_parts (is_closing master.log.phase)
+    (has_old_head master.log &&
+    ((old_head_of master.log).config.committed && has_unclosed (old_head_of master.log))) due in
+    let tests : (has_old_head master.log ≡ true) ×
+    ((old_head_of master.log).config.committed && has_unclosed (old_head_of master.log) ≡ true) =
     and_parts (has_old_head master.log) ((old_head_of master.log).config.committed && has_unclosed (old_head_of master.log)) parts.1 in
-    let unsent_yet : has_unclosed (old_head_of master.log) ≡ true = (and_parts (old_head_of master.log).config.committed (has_unclosed (old_head_of master.log)) tests.1).1 in
-    let same : AllSameParts old new = same_parts-put old (master.log.head - 1) told (record { entries = refl; config = refl; commit_sent = refl }) in
-    let places : length (places_to new master.log.head) ≡ length (places_to old master.log.head) = places-same old new master.log.head same in
-    let commits : length (filter (unsent new) (numbers_to master.log.head)) ≡ length (filter (unsent old) (numbers_to master.log.head)) = commits-same old new master.log.head same in
+    let unsent_yet : has_unclosed (old_head_of master.log) ≡ true =
+    (and_parts (old_head_of master.log).config.committed (has_unclosed (old_head_of master.log)) tests.1).1 in
+    let same : AllSameParts old new =
+    same_parts-put old (master.log.head - 1) told (record { entries = refl; config = refl; commit_sent = refl }) in
+    let places : length (places_to new master.log.head) ≡ length (places_to old master.log.head) =
+    places-same old new master.log.head same in
+    let commits : length (filter (unsent new) (numbers_to master.log.head)) ≡ length
+    (filter (unsent old) (numbers_to master.log.head)) = commits-same old new master.log.head same in
     let before : rank master.log master.log.phase ≡ 2 = rank-closing master.log master.log.phase parts.0 in
     let after : rank (close_marked master.log) master.log.phase ≡ 2 = rank-closing (close_marked master.log) master.log.phase parts.0 in
     let one : unclosed master.log.head (old (master.log.head - 1)) ≡ 1 =
     ap (λ b. one_if (b && has_unclosed (old_head_of master.log))) tests.0 ∙ ap one_if unsent_yet in
     let none : unclosed master.log.head (new (master.log.head - 1)) ≡ 0 =
-    ap (λ s. unclosed master.log.head s) (put-same old (master.log.head - 1) told) ∙ (ap (λ b. one_if (b && has_unclosed told)) tests.0 ∙ ap one_if (closes-none (old_head_of master.log))) in
+    ap (λ s. unclosed master.log.head s) (put-same old (master.log.head - 1) told) ∙
+    (ap (λ b. one_if (b && has_unclosed told)) tests.0 ∙ ap one_if (closes-none (old_head_of master.log))) in
     record { lower = omega arith; factor = refl }
 
 lowers-shut : (master : Master) → may_write master.log ≡ true → Lowers master (with_log master (writes_on master.log))
 lowers-shut master may =
-    subst (λ log. Lowers master (with_log master log)) (sym (with_freed-marked (left_out master.log) (record master.log { phase = Writing })))
+    subst (λ log. Lowers master (with_log master log))
+    (sym (with_freed-marked (left_out master.log) (record master.log { phase = Writing })))
     (lower (left_out master.log))
   where
-    lower : (segs : List ℕ) → Lowers master (with_log master (record master.log { phase = Writing; segments = marked segs master.log.segments }))
+    lower : (segs : List ℕ) →
+        Lowers master (with_log master
+        (record master.log { phase = Writing; segments = marked segs master.log.segments }))
     lower segs =
         let old : ℕ → Segment = master.log.segments in
         let new : ℕ → Segment = marked segs master.log.segments in
         let alone : (k : ℕ) → MarkedAlone (old k) (new k) = marked-alone segs master.log.segments in
         let same : AllSameParts old new = λ k. (alone k).parts in
-        let places : length (places_to new master.log.head) ≡ length (places_to old master.log.head) = places-same old new master.log.head same in
-        let commits : length (filter (unsent new) (numbers_to master.log.head)) ≡ length (filter (unsent old) (numbers_to master.log.head)) = commits-same old new master.log.head same in
+        let places : length (places_to new master.log.head) ≡ length (places_to old master.log.head) =
+        places-same old new master.log.head same in
+        let commits : length (filter (unsent new) (numbers_to master.log.head)) ≡ length
+        (filter (unsent old) (numbers_to master.log.head)) = commits-same old new master.log.head same in
         let closes : unclosed master.log.head (new (master.log.head - 1)) ≡ unclosed master.log.head (old (master.log.head - 1)) =
-        closes-same master.log.head (old (master.log.head - 1)) (new (master.log.head - 1)) (same (master.log.head - 1)).config (alone (master.log.head - 1)).closes_sent in
+        closes-same master.log.head (old (master.log.head - 1)) (new (master.log.head - 1))
+        (same (master.log.head - 1)).config (alone (master.log.head - 1)).closes_sent in
         let before : rank master.log master.log.phase ≡ 2 =
-        rank-closing master.log master.log.phase (and_parts (is_closing master.log.phase) (has_old_head master.log && ((old_head_of master.log).shut && is_ready (head_of master.log))) may).0 in
+        rank-closing master.log master.log.phase
+        (and_parts (is_closing master.log.phase) (has_old_head master.log &&
+        ((old_head_of master.log).shut && is_ready (head_of master.log))) may).0 in
         record { lower = omega arith; factor = refl }
 
 and_false : (b : Bool) → b && false ≡ false
@@ -196,8 +225,10 @@ lowers-commit master seg found wants =
     let old : ℕ → Segment = master.log.segments in
     let told : Segment = record (master.log.segments seg) { commit_sent = true } in
     let new : ℕ → Segment = put old seg told in
-    let entries : (k : ℕ) → (new k).entries ≡ (old k).entries = put_each (λ k (s : Segment). s.entries ≡ (old k).entries) old seg told refl (λ k. refl) in
-    let config : (k : ℕ) → (new k).config ≡ (old k).config = put_each (λ k (s : Segment). s.config ≡ (old k).config) old seg told refl (λ k. refl) in
+    let entries : (k : ℕ) → (new k).entries ≡ (old k).entries =
+    put_each (λ k (s : Segment). s.entries ≡ (old k).entries) old seg told refl (λ k. refl) in
+    let config : (k : ℕ) → (new k).config ≡ (old k).config =
+    put_each (λ k (s : Segment). s.config ≡ (old k).config) old seg told refl (λ k. refl) in
     let closes_sent : (new (master.log.head - 1)).closes_sent ≡ (old (master.log.head - 1)).closes_sent =
     put_each (λ k (s : Segment). s.closes_sent ≡ (old k).closes_sent) old seg told refl (λ k. refl) (master.log.head - 1) in
     let narrower : Narrower (unsent old) (unsent new) =
@@ -208,8 +239,10 @@ lowers-commit master seg found wants =
     let not_sent : not (old seg).commit_sent ≡ true = (and_parts (all_placed (old seg).config) (not (old seg).commit_sent) parts.1).1 in
     let was : unsent old seg ≡ true = ap (λ b. b && not (old seg).commit_sent) parts.0 ∙ not_sent in
     let isn't : unsent new seg ≡ false =
-    ap (λ (s : Segment). not s.config.committed && not s.commit_sent) (put-same old seg told) ∙ and_false (not (old seg).config.committed) in
-    let commits_lower : length (filter (unsent new) (numbers_to master.log.head)) < length (filter (unsent old) (numbers_to master.log.head)) =
+    ap (λ (s : Segment). not s.config.committed && not s.commit_sent) (put-same old seg told) ∙
+    and_false (not (old seg).config.committed) in
+    let commits_lower : length (filter (unsent new) (numbers_to master.log.head)) < length
+    (filter (unsent old) (numbers_to master.log.head)) =
     filter-lower (λ k. not (old k).shut) (unsent old) (unsent new) (numbers_to master.log.head) seg narrower was isn't found in
     let places : length (places_to new master.log.head) ≡ length (places_to old master.log.head) =
     ap length (places_to-agrees old new master.log.head (λ k _. entries k)) in
@@ -247,20 +280,27 @@ fresh-unplaced seg (id ∷ ids) some = refl
 
 -- the commits that a fresh head leaves unsent are those before
 fresh-commits : (old : ℕ → Segment) (head : ℕ) (digest : List ℕ) (ids : List ServerId) →
-    length (filter (unsent (put old (head + 1) (new_segment (head + 1) digest ids))) (numbers_to (head + 1))) ≡ length (filter (unsent old) (numbers_to head))
+    length (filter (unsent (put old (head + 1) (new_segment (head + 1) digest ids))) (numbers_to (head + 1))) ≡ length
+    (filter (unsent old) (numbers_to head))
 fresh-commits old head digest ids =
     let fresh : Segment = new_segment (head + 1) digest ids in
     let new : ℕ → Segment = put old (head + 1) fresh in
     let numbers : numbers_to (head + 1) ≡ numbers_to head ++ suc head ∷ [] = ap numbers_to (add-one head) in
-    let last : unsent new (suc head) ≡ false = ap (λ k. unsent new k) (sym (add-one head)) ∙ ap (λ (s : Segment). not s.config.committed && not s.commit_sent) (put-same old (head + 1) fresh) in
+    let last : unsent new (suc head) ≡ false = ap (λ k. unsent new k) (sym (add-one head)) ∙
+    ap (λ (s : Segment). not s.config.committed && not s.commit_sent) (put-same old (head + 1) fresh) in
     let below : filter (unsent new) (numbers_to head) ≡ filter (unsent old) (numbers_to head) =
     filter-agrees (unsent new) (unsent old) head
-    (λ k _ most. ap (λ (s : Segment). not s.config.committed && not s.commit_sent) (put-other old (head + 1) fresh k (apart head k most))) in
-    let parted : filter (unsent new) (numbers_to head ++ suc head ∷ []) ≡ filter (unsent new) (numbers_to head) ++ cond (unsent new (suc head)) (suc head ∷ []) [] =
+    (λ k _ most. ap (λ (s : Segment). not s.config.committed && not s.commit_sent)
+    (put-other old (head + 1) fresh k (apart head k most))) in
+    let parted : filter (unsent new) (numbers_to head ++ suc head ∷ []) ≡ filter (unsent new) (numbers_to head) ++
+    cond (unsent new (suc head)) (suc head ∷ []) [] =
     filter-append (unsent new) (numbers_to head) (suc head ∷ []) in
-    let gone : filter (unsent new) (numbers_to head) ++ cond (unsent new (suc head)) (suc head ∷ []) [] ≡ filter (unsent new) (numbers_to head) ++ [] =
+    let gone : filter (unsent new) (numbers_to head) ++ cond (unsent new (suc head)) (suc head ∷ []) [] ≡ filter
+    (unsent new) (numbers_to head) ++ [] =
     ap (λ b. filter (unsent new) (numbers_to head) ++ cond b (suc head ∷ []) []) last in
-    ap (λ ns. length (filter (unsent new) ns)) numbers ∙ (ap length parted ∙ (ap length gone ∙ (ap length (append-nil (filter (unsent new) (numbers_to head))) ∙ ap length below)))
+    ap (λ ns. length (filter (unsent new) ns)) numbers ∙
+    (ap length parted ∙ (ap length gone ∙ (ap length (append-nil (filter (unsent new) (numbers_to head))) ∙
+    ap length below)))
 
 -- and the places are those before
 fresh-places : (old : ℕ → Segment) (head : ℕ) (digest : List ℕ) (ids : List ServerId) →
@@ -270,7 +310,8 @@ fresh-places old head digest ids =
     let new : ℕ → Segment = put old (head + 1) fresh in
     let below : places_to new head ≡ places_to old head =
     places_to-agrees old new head (λ k most. ap (λ (s : Segment). s.entries) (put-other old (head + 1) fresh k (apart head k most))) in
-    let last : (new (suc head)).entries ≡ [] = ap (λ k. (new k).entries) (sym (add-one head)) ∙ ap (λ (s : Segment). s.entries) (put-same old (head + 1) fresh) in
+    let last : (new (suc head)).entries ≡ [] = ap (λ k. (new k).entries) (sym (add-one head)) ∙
+    ap (λ (s : Segment). s.entries) (put-same old (head + 1) fresh) in
     ap (λ n. length (places_to new n)) (add-one head)
     ∙ (ap (λ entries. length (places_to new head ++ places_in (suc head) 0 entries)) last
     ∙ (ap length (append-nil (places_to new head)) ∙ ap length below))
@@ -291,16 +332,19 @@ lowers-opened master digest ids some writes =
     record { lower = omega arith; factor = refl }
 
 lowers-chosen : (master : Master) (chosen : Option (List ServerId)) → is_writing master.log.phase ≡ true →
-    ((ids : List ServerId) → chosen ≡ Some ids → 0 < length ids) → AllLower master (rolls_for_replay master (rolled master.log (dead_segments master) chosen))
+    ((ids : List ServerId) → chosen ≡ Some ids → 0 < length ids) →
+    AllLower master (rolls_for_replay master (rolled master.log (dead_segments master) chosen))
 lowers-chosen master None writes some = tt
 lowers-chosen master (Some ids) writes some =
     lowers-opened master (next_digest master.log (dead_segments master)) ids (some ids refl) writes
 
 -- as many members are chosen as a segment has replicas
-choose-length : (seg : ℕ) (own : ServerId) (factor : ℕ) (servers : ServerList) (ids : List ServerId) → choose seg own factor servers ≡ Some ids → length ids ≡ factor
+choose-length : (seg : ℕ) (own : ServerId) (factor : ℕ) (servers : ServerList) (ids : List ServerId) →
+    choose seg own factor servers ≡ Some ids → length ids ≡ factor
 choose-length seg own factor servers ids e = by (nat_lt (length (candidates seg own servers)) factor) refl e
   where
-    by : (b : Bool) → nat_lt (length (candidates seg own servers)) factor ≡ b → cond b None (Some (take factor (candidates seg own servers))) ≡ Some ids → length ids ≡ factor
+    by : (b : Bool) → nat_lt (length (candidates seg own servers)) factor ≡ b →
+        cond b None (Some (take factor (candidates seg own servers))) ≡ Some ids → length ids ≡ factor
     by true few e = cc
     by false enough e =
         let same : take factor (candidates seg own servers) ≡ ids = cc in
@@ -314,7 +358,8 @@ lowers-roll master factor writes =
     (rolled master.log (dead_segments master) (choose (master.log.head + 1) master.log.own master.log.factor master.known))
     (master.log, Err LogFull)
     (λ _. lowers-chosen master (choose (master.log.head + 1) master.log.own master.log.factor master.known) writes
-    (λ ids e. let n : length ids ≡ master.log.factor = choose-length (master.log.head + 1) master.log.own master.log.factor master.known ids e in omega arith))
+    (λ ids e. let n : length ids ≡ master.log.factor = choose-length (master.log.head + 1) master.log.own
+    master.log.factor master.known ids e in omega arith))
     (λ _. tt)
 
 -- an entry more at the end of the head
@@ -324,19 +369,26 @@ one-more old zero segment more = omega arith
 one-more old (suc n) segment more =
     let new : ℕ → Segment = put old (suc n) segment in
     let below : places_to new n ≡ places_to old n =
-    places_to-agrees old new n (λ k most. ap (λ (s : Segment). s.entries) (put-other old (suc n) segment k (ne_eqb (suc n) k (λ same. omega arith)))) in
+    places_to-agrees old new n
+    (λ k most. ap (λ (s : Segment). s.entries)
+    (put-other old (suc n) segment k (ne_eqb (suc n) k (λ same. omega arith)))) in
     let here : new (suc n) ≡ segment = put-same old (suc n) segment in
-    let after : length (places_to new n ++ places_in (suc n) 0 (new (suc n)).entries) ≡ length (places_to new n) + length (places_in (suc n) 0 (new (suc n)).entries) =
+    let after : length (places_to new n ++ places_in (suc n) 0 (new (suc n)).entries) ≡ length
+    (places_to new n) + length (places_in (suc n) 0 (new (suc n)).entries) =
     length-append (places_to new n) (places_in (suc n) 0 (new (suc n)).entries) in
-    let before : length (places_to old n ++ places_in (suc n) 0 (old (suc n)).entries) ≡ length (places_to old n) + length (places_in (suc n) 0 (old (suc n)).entries) =
+    let before : length (places_to old n ++ places_in (suc n) 0 (old (suc n)).entries) ≡ length
+    (places_to old n) + length (places_in (suc n) 0 (old (suc n)).entries) =
     length-append (places_to old n) (places_in (suc n) 0 (old (suc n)).entries) in
-    let m : length (places_in (suc n) 0 (new (suc n)).entries) ≡ length (new (suc n)).entries = length-places_in (suc n) 0 (new (suc n)).entries in
-    let l : length (places_in (suc n) 0 (old (suc n)).entries) ≡ length (old (suc n)).entries = length-places_in (suc n) 0 (old (suc n)).entries in
+    let m : length (places_in (suc n) 0 (new (suc n)).entries) ≡ length (new (suc n)).entries =
+    length-places_in (suc n) 0 (new (suc n)).entries in
+    let l : length (places_in (suc n) 0 (old (suc n)).entries) ≡ length (old (suc n)).entries =
+    length-places_in (suc n) 0 (old (suc n)).entries in
     let same : length (new (suc n)).entries ≡ length segment.entries = ap (λ (s : Segment). length s.entries) here in
     let fronts : length (places_to new n) ≡ length (places_to old n) = ap length below in
     omega arith
 
-lowers-append : (master : Master) (entry : Entry) (entries : List Entry) → master.ownership.replay ≡ entry ∷ entries → is_writing master.log.phase ≡ true →
+lowers-append : (master : Master) (entry : Entry) (entries : List Entry) → master.ownership.replay ≡ entry ∷ entries →
+    is_writing master.log.phase ≡ true →
     Lowers master (appends_entry (record master { ownership = after_replay master.ownership }) entry false).0
 lowers-append master entry entries waits writes =
     let old : ℕ → Segment = master.log.segments in
@@ -345,8 +397,10 @@ lowers-append master entry entries waits writes =
     let log : Log = appends entry false master.log in
     let before : rank master.log master.log.phase ≡ 1 = rank-writing master.log master.log.phase writes in
     let after : rank log master.log.phase ≡ 1 = rank-writing log master.log.phase writes in
-    let config : (k : ℕ) → (new k).config ≡ (old k).config = put_each (λ k (s : Segment). s.config ≡ (old k).config) old master.log.head grown refl (λ k. refl) in
-    let commit_sent : (k : ℕ) → (new k).commit_sent ≡ (old k).commit_sent = put_each (λ k (s : Segment). s.commit_sent ≡ (old k).commit_sent) old master.log.head grown refl (λ k. refl) in
+    let config : (k : ℕ) → (new k).config ≡ (old k).config =
+    put_each (λ k (s : Segment). s.config ≡ (old k).config) old master.log.head grown refl (λ k. refl) in
+    let commit_sent : (k : ℕ) → (new k).commit_sent ≡ (old k).commit_sent =
+    put_each (λ k (s : Segment). s.commit_sent ≡ (old k).commit_sent) old master.log.head grown refl (λ k. refl) in
     let closes_sent : (new (master.log.head - 1)).closes_sent ≡ (old (master.log.head - 1)).closes_sent =
     put_each (λ k (s : Segment). s.closes_sent ≡ (old k).closes_sent) old master.log.head grown refl (λ k. refl) (master.log.head - 1) in
     let commits : length (filter (unsent new) (numbers_to master.log.head)) ≡ length (filter (unsent old) (numbers_to master.log.head)) =
@@ -355,13 +409,16 @@ lowers-append master entry entries waits writes =
     ∙ ap (λ b. not (old k).config.committed && not b) (commit_sent k))) in
     let closes : unclosed master.log.head (new (master.log.head - 1)) ≡ unclosed master.log.head (old (master.log.head - 1)) =
     closes-same master.log.head (old (master.log.head - 1)) (new (master.log.head - 1)) (config (master.log.head - 1)) closes_sent in
-    let more : length grown.entries ≡ length (old master.log.head).entries + 1 = length-append (old master.log.head).entries ((entry, false) ∷ []) in
-    let places : length (places_to new master.log.head) ≤ length (places_to old master.log.head) + 1 = one-more old master.log.head grown (omega arith) in
+    let more : length grown.entries ≡ length (old master.log.head).entries + 1 =
+    length-append (old master.log.head).entries ((entry, false) ∷ []) in
+    let places : length (places_to new master.log.head) ≤ length (places_to old master.log.head) + 1 =
+    one-more old master.log.head grown (omega arith) in
     let all : length master.ownership.replay ≡ length entries + 1 = ap length waits ∙ omega arith in
     let rest : length (after_replay master.ownership).replay ≡ length entries = ap (λ replay. length (without_first replay)) waits in
     record { lower = omega arith; factor = refl }
 
-lowers-replay : (master : Master) (replay : List Entry) → master.ownership.replay ≡ replay → master.log.factor ≢ 0 → is_writing master.log.phase ≡ true →
+lowers-replay : (master : Master) (replay : List Entry) → master.ownership.replay ≡ replay → master.log.factor ≢ 0 →
+    is_writing master.log.phase ≡ true →
     AllLower master (replays master replay)
 lowers-replay master [] waits factor writes = tt
 lowers-replay master (entry ∷ entries) waits factor writes =
@@ -384,18 +441,21 @@ answered-lower durable (one ∷ others) state e = by (is_to_answer durable one) 
         (find (is_to_answer durable) others ≡ Some state → parts_unanswered (answered_in durable others) < parts_unanswered others) →
         cond b (Some one) (find (is_to_answer durable) others) ≡ Some state →
         parts_unanswered (cond b (record one { answered = true } ∷ others) (one ∷ answered_in durable others))
-        < length (cond (not a) (one ∷ filter (λ (s : PartState). not s.answered) others) (filter (λ (s : PartState). not s.answered) others))
+        < length (cond (not a) (one ∷ filter (λ (s : PartState). not s.answered) others)
+        (filter (λ (s : PartState). not s.answered) others))
     by true is true told rec e = true_false (sym (and_parts (is_complete durable one) (not one.answered) is).1 ∙ ap not told)
     by true is false told rec e = omega arith
     by false isn't true told rec e =
         let rest : parts_unanswered (answered_in durable others) < parts_unanswered others = rec e in
         let here : parts_unanswered (one ∷ answered_in durable others) ≡ parts_unanswered (answered_in durable others) =
-        ap (λ b. length (cond (not b) (one ∷ filter (λ (s : PartState). not s.answered) (answered_in durable others)) (filter (λ (s : PartState). not s.answered) (answered_in durable others)))) told in
+        ap (λ b. length (cond (not b) (one ∷ filter (λ (s : PartState). not s.answered) (answered_in durable others))
+        (filter (λ (s : PartState). not s.answered) (answered_in durable others)))) told in
         omega arith
     by false isn't false told rec e =
         let rest : parts_unanswered (answered_in durable others) < parts_unanswered others = rec e in
         let here : parts_unanswered (one ∷ answered_in durable others) ≡ parts_unanswered (answered_in durable others) + 1 =
-        ap (λ b. length (cond (not b) (one ∷ filter (λ (s : PartState). not s.answered) (answered_in durable others)) (filter (λ (s : PartState). not s.answered) (answered_in durable others)))) told
+        ap (λ b. length (cond (not b) (one ∷ filter (λ (s : PartState). not s.answered) (answered_in durable others))
+        (filter (λ (s : PartState). not s.answered) (answered_in durable others)))) told
         ∙ omega arith in
         omega arith
 
@@ -411,7 +471,11 @@ lowers-answer master (Some state) found =
 pub lowers : (master : Master) → master.log.factor ≢ 0 → AllLower master (follow_up master)
 lowers master factor =
     let start : AllLower master (follows_start master) =
-    lower-when master (may_start master.log) (with_log master (starts master.log), to_coordinator master.log.own Ready ∷ []) (lowers-start master) in
+    lower-when master (may_start master.log) (
+      with_log master (starts master.log),
+      to_coordinator master.log.own
+          Ready ∷ [],
+    ) (lowers-start master) in
     let placed : AllLower master (follows_placed master) =
     lower-when master (may_close master.log) (with_log master (closes_old master.log), []) (lowers-placed master) in
     let closing : AllLower master (follows_closing master) =
@@ -437,11 +501,15 @@ measure-shut_marked master =
     let old : ℕ → Segment = master.log.segments in
     let shut : Segment = record (old_head_of master.log) { shut = true } in
     let new : ℕ → Segment = put old (master.log.head - 1) shut in
-    let same : AllSameParts old new = same_parts-put old (master.log.head - 1) shut (record { entries = refl; config = refl; commit_sent = refl }) in
+    let same : AllSameParts old new =
+    same_parts-put old (master.log.head - 1) shut (record { entries = refl; config = refl; commit_sent = refl }) in
     let closes_sent : (new (master.log.head - 1)).closes_sent ≡ (old (master.log.head - 1)).closes_sent =
-    put_each (λ k (s : Segment). s.closes_sent ≡ (old k).closes_sent) old (master.log.head - 1) shut refl (λ k. refl) (master.log.head - 1) in
-    let places : length (places_to new master.log.head) ≡ length (places_to old master.log.head) = places-same old new master.log.head same in
-    let commits : length (filter (unsent new) (numbers_to master.log.head)) ≡ length (filter (unsent old) (numbers_to master.log.head)) = commits-same old new master.log.head same in
+    put_each (λ k (s : Segment). s.closes_sent ≡ (old k).closes_sent) old (master.log.head - 1) shut refl (λ k. refl)
+    (master.log.head - 1) in
+    let places : length (places_to new master.log.head) ≡ length (places_to old master.log.head) =
+    places-same old new master.log.head same in
+    let commits : length (filter (unsent new) (numbers_to master.log.head)) ≡ length
+    (filter (unsent old) (numbers_to master.log.head)) = commits-same old new master.log.head same in
     let closes : unclosed master.log.head (new (master.log.head - 1)) ≡ unclosed master.log.head (old (master.log.head - 1)) =
     closes-same master.log.head (old (master.log.head - 1)) (new (master.log.head - 1)) (same (master.log.head - 1)).config closes_sent in
     let ranks : rank (shut_marked master.log) master.log.phase ≡ rank master.log master.log.phase =
@@ -469,7 +537,8 @@ shut_marked-twice log = ap (λ (segments : ℕ → Segment). record log { segmen
 
     at : (k : ℕ) → (shut_marked (shut_marked log)).segments k ≡ (shut_marked log).segments k
     at k =
-        again (nat_eq (log.head - 1) k) (record (old_head_of log) { shut = true }) (record (old_head_of (shut_marked log)) { shut = true }) (log.segments k)
+        again (nat_eq (log.head - 1) k) (record (old_head_of log) { shut = true })
+        (record (old_head_of (shut_marked log)) { shut = true }) (log.segments k)
         (ap (λ (s : Segment). record s { shut = true }) (put-same log.segments (log.head - 1) (record (old_head_of log) { shut = true })))
 
 pub with_shut-twice : (log : Log) → with_shut (with_shut log) ≡ with_shut log
@@ -483,11 +552,13 @@ with_shut-twice log =
 
 -- a master whose measure is this at the most is settled by so many rules
 pub settles : (times : ℕ) (master : Master) → master.log.factor ≢ 0 → measure master ≤ times → follow_up (followed times master).0 ≡ None
-settles zero master factor most = by (follow_up (marks_shut master)) (lowers (marks_shut master) (λ e. factor (sym (factor-marks_shut master) ∙ e)))
+settles zero master factor most =
+    by (follow_up (marks_shut master)) (lowers (marks_shut master) (λ e. factor (sym (factor-marks_shut master) ∙ e)))
   where
     by : (done : Option (Master × List Message)) → AllLower (marks_shut master) done → done ≡ None
     by None less = refl
-    by (Some done) less = let same : measure (marks_shut master) ≡ measure master = measure-marks_shut master in absurd (omega (arith, less.lower))
+    by (Some done) less = let same : measure (marks_shut master) ≡ measure master =
+        measure-marks_shut master in absurd (omega (arith, less.lower))
 settles (suc times) master factor most =
     by (follow_up (marks_shut master)) refl (lowers (marks_shut master) (λ e. factor (sym (factor-marks_shut master) ∙ e))) (settles times)
   where
@@ -506,7 +577,8 @@ ends-marked (suc times) master = by (follow_up (marks_shut master)) (ends-marked
   where
     by : (done : Option (Master × List Message)) →
         ((next : Master) → marks_shut (followed times next).0 ≡ (followed times next).0) →
-        marks_shut (further done (marks_shut master) (λ next. followed times next)).0 ≡ (further done (marks_shut master) (λ next. followed times next)).0
+        marks_shut (further done (marks_shut master) (λ next. followed times next)).0 ≡
+        (further done (marks_shut master) (λ next. followed times next)).0
     by None rec = ap (with_log master) (with_shut-twice master.log)
     by (Some done) rec = rec done.0
 
@@ -521,4 +593,5 @@ goes_on-settles master factor up =
 
 pub goes_on-marked : (master : Master) → master.deposed ≡ false → marks_shut (goes_on master).0 ≡ (goes_on master).0
 goes_on-marked master up =
-    subst (λ (after : Master × List Message). marks_shut after.0 ≡ after.0) (sym (goes_on-up master up)) (ends-marked (measure master) master)
+    subst (λ (after : Master × List Message). marks_shut after.0 ≡ after.0) (sym (goes_on-up master up))
+    (ends-marked (measure master) master)

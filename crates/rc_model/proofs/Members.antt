@@ -1,5 +1,6 @@
 -- Membership in lists, over plain variables.
-use Rattle.std.proofs.Common.{◌≡◌, ◌⊎◌, ℕ, zero, suc, ◌<◌, Bool, true, false, cond, max, List, [], ◌∷◌, ◌++◌, nat_eq, nat_lt, Option, Some, None, slice_get, refl, sym, ap, ◌∙◌, subst, inl, inr, arith}
+use Rattle.std.proofs.Common.{◌≡◌, ◌⊎◌, ℕ, zero, suc, ◌<◌, Bool, true, false, cond, max, List, [], ◌∷◌, ◌++◌, nat_eq}
+use Rattle.std.proofs.Common.{nat_lt, Option, Some, None, slice_get, refl, sym, ap, ◌∙◌, subst, inl, inr, arith}
 use Rattle.std.specs.Option.{option_to_list}
 use Rattle.std.proofs.lemmas.Bool.{eqb-true, eq-eqb, ltb-true, lt-ltb}
 use Rattle.rc_types.specs.declared.rows.PlanRow.{PlanRow}
@@ -53,7 +54,8 @@ pub In-from_option : {X : Type 0} (x : X) (found : Option X) → found ≡ Some 
 In-from_option x found e = subst (λ f. In x (option_to_list f)) (sym e) (inl refl)
 
 -- a member of what is gathered, with a piece that counts where the test says so
-pub In-gathered : {X : Type 0} (x : X) (b : Bool) (piece rest : List X) → In x (cond b (piece ++ rest) rest) → ((b ≡ true) × In x piece) ⊎ In x rest
+pub In-gathered : {X : Type 0} (x : X) (b : Bool) (piece rest : List X) → In x (cond b (piece ++ rest) rest) →
+    ((b ≡ true) × In x piece) ⊎ In x rest
 In-gathered x false piece rest at = inr at
 In-gathered x true piece rest at = by (In-append x piece rest at)
   where
@@ -97,7 +99,8 @@ pub held-reaches : (rows : List PlanRow) (row : PlanRow) (s o : ℕ) → In row 
 held-reaches [] row s o at seg below = absurd at
 held-reaches (first ∷ rows) row s o (inl e) seg below =
     let len : row.len ≡ first.len = ap (λ (r : PlanRow). r.len) e in let same : first.seg ≡ s = sym (ap (λ (r : PlanRow). r.seg) e) ∙ seg in
-    either (λ n. o < n) (nat_eq first.seg s) (max first.len (reach rows s)) (reach rows s) (λ _. omega (arith, below, len)) (λ no. let is : nat_eq first.seg s ≡ true = eq-eqb first.seg s same in cc)
+    either (λ n. o < n) (nat_eq first.seg s) (max first.len (reach rows s)) (reach rows s)
+    (λ _. omega (arith, below, len)) (λ no. let is : nat_eq first.seg s ≡ true = eq-eqb first.seg s same in cc)
 held-reaches (first ∷ rows) row s o (inr rest) seg below =
     let later : o < reach rows s = held-reaches rows row s o rest seg below in
     either (λ n. o < n) (nat_eq first.seg s) (max first.len (reach rows s)) (reach rows s) (λ _. omega (arith, later)) (λ _. later)
@@ -112,14 +115,16 @@ held-from_reach [] s o below = absurd (none below)
     none h = omega (arith, h)
 held-from_reach (first ∷ rows) s o below = by (nat_eq first.seg s) refl (held-from_reach rows s o) below
   where
-    which : nat_eq first.seg s ≡ true → (o < reach rows s → IsHeld rows s o) → (o < first.len) ⊎ (o < reach rows s) → IsHeld (first ∷ rows) s o
+    which : nat_eq first.seg s ≡ true → (o < reach rows s → IsHeld rows s o) → (o < first.len) ⊎ (o < reach rows s) →
+        IsHeld (first ∷ rows) s o
     which same later (inl here) = record { row = first; among = inl refl; seg = eqb-true first.seg s same; below = here }
     which same later (inr there) = held-more first rows s o (later there)
 
     of_max : (a b : ℕ) → o < max a b → (o < a) ⊎ (o < b)
     of_max a b h = grind arith
 
-    by : (b : Bool) → nat_eq first.seg s ≡ b → (o < reach rows s → IsHeld rows s o) → o < cond b (max first.len (reach rows s)) (reach rows s) → IsHeld (first ∷ rows) s o
+    by : (b : Bool) → nat_eq first.seg s ≡ b → (o < reach rows s → IsHeld rows s o) →
+        o < cond b (max first.len (reach rows s)) (reach rows s) → IsHeld (first ∷ rows) s o
     by true same later h = which same later (of_max first.len (reach rows s) h)
     by false same later h = held-more first rows s o (later h)
 

@@ -1,5 +1,6 @@
 -- How writes are numbered and appended.
-use Rattle.std.proofs.Common.{◌≡◌, ℕ, zero, suc, ◌+◌, ◌<◌, ◌≤◌, Bool, true, false, cond, not, max, List, [], ◌∷◌, ◌++◌, length, Option, Some, slice_get, sym, ap, ◌∙◌, arith}
+use Rattle.std.proofs.Common.{◌≡◌, ℕ, zero, suc, ◌+◌, ◌<◌, ◌≤◌, Bool, true, false, cond, not, max, List, [], ◌∷◌, ◌++◌}
+use Rattle.std.proofs.Common.{length, Option, Some, slice_get, sym, ap, ◌∙◌, arith}
 use Rattle.std.proofs.lemmas.Bool.{ne_eqb}
 use Rattle.std.proofs.lemmas.List.{append_assoc}
 use Rattle.rc_types.specs.declared.entries.Entry.{Entry}
@@ -28,14 +29,17 @@ greatest-above term table key (one ∷ others) zero entry found is =
     rw here (omega arith)
 greatest-above term table key (one ∷ others) (suc k) entry found is =
     let rest : entry.version ≤ greatest_version term table key others = greatest-above term table key others k entry found is in
-    either (λ n. entry.version ≤ n) (is_of term table key one) (max one.version (greatest_version term table key others)) (greatest_version term table key others)
+    either (λ n. entry.version ≤ n) (is_of term table key one)
+    (max one.version (greatest_version term table key others)) (greatest_version term table key others)
     (λ _. omega arith) (λ _. rest)
 
 -- a write is numbered above all of its term and key
 pub written-above : (master : Master) (term table key : ℕ) (value : Option (List ℕ)) (k : ℕ) (entry : Entry) →
-    slice_get (entries_of master.log) k ≡ Some entry → is_of term table key entry ≡ true → entry.version < (written master term table key value).version
+    slice_get (entries_of master.log) k ≡ Some entry → is_of term table key entry ≡ true →
+    entry.version < (written master term table key value).version
 written-above master term table key value k entry found is =
-    let most : entry.version ≤ greatest_version term table key (entries_of master.log) = greatest-above term table key (entries_of master.log) k entry found is in
+    let most : entry.version ≤ greatest_version term table key (entries_of master.log) =
+    greatest-above term table key (entries_of master.log) k entry found is in
     omega arith
 
 -- the place of one more entry
@@ -61,13 +65,16 @@ places-push segments (suc n) entry client some =
     let new : ℕ → Segment = put segments (suc n) grown in
     let place : ℕ → LogPlace = λ o. record { seg = suc n; offset = o; entry = entry; client = client } in
     let below : places_to new n ≡ places_to segments n =
-    places_to-agrees segments new n (λ k most. ap (λ (s : Segment). s.entries) (put-other segments (suc n) grown k (ne_eqb (suc n) k (λ same. omega arith)))) in
+    places_to-agrees segments new n
+    (λ k most. ap (λ (s : Segment). s.entries)
+    (put-other segments (suc n) grown k (ne_eqb (suc n) k (λ same. omega arith)))) in
     let sum : 0 + length (segments (suc n)).entries ≡ length (segments (suc n)).entries = omega arith in
     ap (λ front. front ++ places_in (suc n) 0 (new (suc n)).entries) below
     ∙ (ap (λ (s : Segment). places_to segments n ++ places_in (suc n) 0 s.entries) (put-same segments (suc n) grown)
     ∙ (ap (λ end. places_to segments n ++ end) (places_in-push (suc n) 0 (segments (suc n)).entries entry client)
     ∙ (ap (λ (o : ℕ). places_to segments n ++ (places_in (suc n) 0 (segments (suc n)).entries ++ place o ∷ [])) sum
-    ∙ sym (append_assoc (places_to segments n) (places_in (suc n) 0 (segments (suc n)).entries) (place (length (segments (suc n)).entries) ∷ [])))))
+    ∙ sym (append_assoc (places_to segments n) (places_in (suc n) 0 (segments (suc n)).entries)
+    (place (length (segments (suc n)).entries) ∷ [])))))
 
 -- a write that is refused nothing is appended
 pub writes-appended : (master : Master) (term table key : ℕ) (value : Option (List ℕ)) → is_too_long value ≡ false →

@@ -1,5 +1,6 @@
 -- Where the phase changes, what a roll opens, and how members change.
-use Rattle.std.proofs.Common.{◌≡◌, ◌⊎◌, inl, inr, ℕ, ◌+◌, Bool, true, false, ◌&&◌, ◌||◌, nat_eq, nat_lt, List, [], ◌∷◌, Option, Some, None, Err, refl, sym, ap, ◌∙◌}
+use Rattle.std.proofs.Common.{◌≡◌, ◌⊎◌, inl, inr, ℕ, ◌+◌, Bool, true, false, ◌&&◌, ◌||◌, nat_eq, nat_lt, List, [], ◌∷◌}
+use Rattle.std.proofs.Common.{Option, Some, None, Err, refl, sym, ap, ◌∙◌}
 use Rattle.std.proofs.lemmas.Bool.{and_parts}
 use Rattle.rc_types.specs.declared.ids.ServerId.{ServerId}
 use Rattle.rc_types.specs.declared.entries.Entry.{Entry}
@@ -13,7 +14,9 @@ use Rattle.rc_model.specs.Log.{Log, head_of, old_head_of, has_old_head, is_openi
 use Rattle.rc_model.specs.Heads.{rolled, begin_roll, is_full, may_start, may_close, may_write, left_out, with_freed, writes_on}
 use Rattle.rc_model.specs.Ownership.{after_replay, to_answer}
 use Rattle.rc_model.specs.Master.{Master, durable_entries, dead_segments, appends_entry}
-use Rattle.rc_model.specs.FollowUps.{follow_up, follows_start, follows_placed, close_is_due, follows_closing, follows_shut, first_open, wants_commit, commits, commits_open, rolls_for_replay, replays, follows_data, answers_part}
+use Rattle.rc_model.specs.FollowUps.{follow_up, follows_start, follows_placed, close_is_due, follows_closing}
+use Rattle.rc_model.specs.FollowUps.{follows_shut, first_open, wants_commit, commits, commits_open, rolls_for_replay}
+use Rattle.rc_model.specs.FollowUps.{replays, follows_data, answers_part}
 use Rattle.rc_model.proofs.Tests.{either, true_false}
 use Rattle.rc_model.proofs.LogParts.{with_freed-marked}
 use Rattle.rc_model.proofs.Rules.{AllDone, done-or, done-when}
@@ -30,20 +33,25 @@ keeps-change master None = tt
 keeps-change master (Some seg) =
     done-when (KeepsPhaseDone master) (wants_commit (master.log.segments seg)) (commits master seg) (λ _. record { phase = inl refl })
 
-keeps-roll : (master : Master) (chosen : Option (List ServerId)) → AllDone (KeepsPhaseDone master) (rolls_for_replay master (rolled master.log (dead_segments master) chosen))
+keeps-roll : (master : Master) (chosen : Option (List ServerId)) →
+    AllDone (KeepsPhaseDone master) (rolls_for_replay master (rolled master.log (dead_segments master) chosen))
 keeps-roll master None = tt
 keeps-roll master (Some ids) = record { phase = inr refl }
 
-keeps-full : (master : Master) → AllDone (KeepsPhaseDone master) (rolls_for_replay master (begin_roll master.known (dead_segments master) master.log))
+keeps-full : (master : Master) →
+    AllDone (KeepsPhaseDone master)
+    (rolls_for_replay master (begin_roll master.known (dead_segments master) master.log))
 keeps-full master =
     either (λ answer. AllDone (KeepsPhaseDone master) (rolls_for_replay master answer)) (nat_lt master.log.head LAST_SEGMENT)
-    (rolled master.log (dead_segments master) (choose (master.log.head + 1) master.log.own master.log.factor master.known)) (master.log, Err LogFull)
+    (rolled master.log (dead_segments master) (choose (master.log.head + 1) master.log.own master.log.factor
+    master.known)) (master.log, Err LogFull)
     (λ _. keeps-roll master (choose (master.log.head + 1) master.log.own master.log.factor master.known)) (λ _. tt)
 
 keeps-replay : (master : Master) (replay : List Entry) → AllDone (KeepsPhaseDone master) (replays master replay)
 keeps-replay master [] = tt
 keeps-replay master (entry ∷ entries) =
-    either (AllDone (KeepsPhaseDone master)) (is_full master.log) (rolls_for_replay master (begin_roll master.known (dead_segments master) master.log))
+    either (AllDone (KeepsPhaseDone master)) (is_full master.log)
+    (rolls_for_replay master (begin_roll master.known (dead_segments master) master.log))
     (Some (appends_entry (record master { ownership = after_replay master.ownership }) entry false))
     (λ _. keeps-full master) (λ _. record { phase = inl refl })
 
@@ -59,13 +67,15 @@ keeps-answer master (Some term) = record { phase = inl refl }
 -- all rules, given what the first four do, and what follows where the phase stays or a roll opens
 by_rules : (P : Master × List Message → Type 0) (master : Master) →
     ((done : Master × List Message) → KeepsPhaseDone master done → P done) →
-    AllDone P (follows_start master) → AllDone P (follows_placed master) → AllDone P (follows_closing master) → AllDone P (follows_shut master) →
+    AllDone P (follows_start master) → AllDone P (follows_placed master) → AllDone P (follows_closing master) →
+    AllDone P (follows_shut master) →
     AllDone P (follow_up master)
 by_rules P master keeps start placed closing shut =
     done-or P _ _ start (done-or P _ _ placed (done-or P _ _ closing (done-or P _ _ shut
     (done-or P _ _ (weaker _ (keeps-change master (first_open master.log)))
     (done-or P _ _ (done-when P _ (_, _) (λ _. keeps _ (record { phase = inl refl })))
-    (done-or P _ _ (weaker _ (keeps-data master)) (weaker _ (keeps-answer master (to_answer (durable_entries master) master.ownership)))))))))
+    (done-or P _ _ (weaker _ (keeps-data master))
+    (weaker _ (keeps-answer master (to_answer (durable_entries master) master.ownership)))))))))
   where
     weaker : (done : Option (Master × List Message)) → AllDone (KeepsPhaseDone master) done → AllDone P done
     weaker None p = tt
@@ -77,7 +87,8 @@ freed-phase segs log = ap (λ (after : Log). after.phase) (with_freed-marked seg
 
 -- the phase becomes Closing only where the head is placed
 abbrev pub ClosesPlaced : Master → Master × List Message → Type 0
-ClosesPlaced master done = is_closing master.log.phase ≡ false → is_closing done.0.log.phase ≡ true → all_placed (head_of done.0.log).config ≡ true
+ClosesPlaced master done = is_closing master.log.phase ≡ false → is_closing done.0.log.phase ≡ true →
+    all_placed (head_of done.0.log).config ≡ true
 
 pub closes-placed : (master : Master) → AllDone (ClosesPlaced master) (follow_up master)
 closes-placed master =
@@ -115,7 +126,8 @@ writes-shut master =
     keeps : (done : Master × List Message) → KeepsPhaseDone master done → WritesShut master done
     keeps done kept isn't is = by kept.phase
       where
-        by : (done.0.log.phase ≡ master.log.phase) ⊎ (done.0.log.phase ≡ Opening) → (all_placed (head_of master.log).config ≡ true) × ((head_of master.log).config.committed ≡ true)
+        by : (done.0.log.phase ≡ master.log.phase) ⊎ (done.0.log.phase ≡ Opening) →
+            (all_placed (head_of master.log).config ≡ true) × ((head_of master.log).config.committed ≡ true)
             × (nat_eq master.log.head 1 || (old_head_of master.log).shut ≡ true)
         by (inl same) = true_false (sym is ∙ (ap is_writing same ∙ isn't))
         by (inr opened) = true_false (sym is ∙ ap is_writing opened)
@@ -140,7 +152,8 @@ writes-shut master =
         let tests : ((old_head_of master.log).shut ≡ true) × (is_ready (head_of master.log) ≡ true) =
         and_parts (old_head_of master.log).shut (is_ready (head_of master.log))
         (and_parts (has_old_head master.log) ((old_head_of master.log).shut && is_ready (head_of master.log))
-        (and_parts (is_closing master.log.phase) (has_old_head master.log && ((old_head_of master.log).shut && is_ready (head_of master.log))) may).1).1 in
+        (and_parts (is_closing master.log.phase) (has_old_head master.log &&
+        ((old_head_of master.log).shut && is_ready (head_of master.log))) may).1).1 in
         let ready : ((head_of master.log).config.committed ≡ true) × (all_placed (head_of master.log).config ≡ true) =
         and_parts (head_of master.log).config.committed (all_placed (head_of master.log).config) tests.1 in
         (ready.1, ready.0, or_true (nat_eq master.log.head 1) (old_head_of master.log).shut tests.0)

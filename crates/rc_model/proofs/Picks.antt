@@ -24,7 +24,8 @@ taken_same min replies head (seg ∷ segs) (row ∷ rows) (other ∷ others) p q
     cc
 
 -- at most one plan is pickable
-pub pickable_same : (min : Pair) (replies : List (ServerId × List Row)) (one other : Plan) → IsPickable min replies one → IsPickable min replies other → one ≡ other
+pub pickable_same : (min : Pair) (replies : List (ServerId × List Row)) (one other : Plan) →
+    IsPickable min replies one → IsPickable min replies other → one ≡ other
 pickable_same min replies one other p q =
     let heads : Some p.head ≡ Some q.head = sym p.head_is ∙ q.head_is in
     let head : p.head ≡ q.head = cc in

@@ -1,5 +1,6 @@
 -- How a world goes on.
-use Rattle.std.proofs.Common.{◌≡◌, ℕ, ◌≤◌, Bool, true, false, cond, nat_eq, List, [], ◌∷◌, ◌++◌, Option, Some, None, refl, sym, ap, ◌∙◌, arith}
+use Rattle.std.proofs.Common.{◌≡◌, ℕ, ◌≤◌, Bool, true, false, cond, nat_eq, List, [], ◌∷◌, ◌++◌, Option, Some, None}
+use Rattle.std.proofs.Common.{refl, sym, ap, ◌∙◌, arith}
 use Rattle.std.proofs.lemmas.Bool.{eqb-true}
 use Rattle.std.proofs.lemmas.List.{append-nil}
 use Rattle.rc_types.specs.declared.events.Event.{Event}
@@ -9,13 +10,17 @@ use Rattle.rc_model.specs.Backup.{backup_takes}
 use Rattle.rc_model.specs.Master.{Master}
 use Rattle.rc_model.specs.MasterStep.{master_takes}
 use Rattle.rc_model.specs.Coordinator.{Coordinator}
-use Rattle.rc_model.specs.Nodes.{Work, Ask, Take, Tick, Stop, Start, Suspect, Decide, Create, Split, HostNode, host_step, coordinator_step, is_for_backup, with_backup, with_master, server_takes, server_of, takes_if_running, ticks_if_running}
-use Rattle.rc_model.specs.World.{World, NodeName, TheOutside, TheCoordinator, TheHost, Job, same_node, step, is_possible, is_possible_job, node_done, job_done, replay_from, work_of}
+use Rattle.rc_model.specs.Nodes.{Work, Ask, Take, Tick, Stop, Start, Suspect, Decide, Create, Split, HostNode}
+use Rattle.rc_model.specs.Nodes.{host_step, coordinator_step, is_for_backup, with_backup, with_master, server_takes}
+use Rattle.rc_model.specs.Nodes.{server_of, takes_if_running, ticks_if_running}
+use Rattle.rc_model.specs.World.{World, NodeName, TheOutside, TheCoordinator, TheHost, Job, same_node, step}
+use Rattle.rc_model.specs.World.{is_possible, is_possible_job, node_done, job_done, replay_from, work_of}
 use Rattle.rc_model.specs.Works.{work_if_for, work_in, works_of, host_after, coordinator_after}
 use Rattle.rc_model.proofs.Tests.{either, true_false}
 
 -- one more event at the end is one more step
-pub replay_from-push : (world : World) (events : List Event) (event : Event) → replay_from world (events ++ event ∷ []) ≡ step (replay_from world events) event
+pub replay_from-push : (world : World) (events : List Event) (event : Event) →
+    replay_from world (events ++ event ∷ []) ≡ step (replay_from world events) event
 replay_from-push world [] event = refl
 replay_from-push world (first ∷ events) event = replay_from-push (step world first) events event
 
@@ -23,12 +28,14 @@ replay_from-push world (first ∷ events) event = replay_from-push (step world f
 pub step-impossible : (world : World) (event : Event) → is_possible world event ≡ false → step world event ≡ world
 step-impossible world event not_possible = ap (λ b. cond b (job_done world event (work_of world.sent event)) world) not_possible
 
-noted_node : (world : World) (event : Event) (node : NodeName) (work : Work) → (node_done world event node work).events ≡ world.events ++ event ∷ []
+noted_node : (world : World) (event : Event) (node : NodeName) (work : Work) →
+    (node_done world event node work).events ≡ world.events ++ event ∷ []
 noted_node world event TheOutside work = refl
 noted_node world event TheCoordinator work = refl
 noted_node world event (TheHost index) work = refl
 
-noted_job : (world : World) (event : Event) (job : Option Job) → is_possible_job world job ≡ true → (job_done world event job).events ≡ world.events ++ event ∷ []
+noted_job : (world : World) (event : Event) (job : Option Job) → is_possible_job world job ≡ true →
+    (job_done world event job).events ≡ world.events ++ event ∷ []
 noted_job world event None possible = true_false (sym possible)
 noted_job world event (Some job) possible = noted_node world event job.node job.work
 
@@ -92,7 +99,8 @@ pub host_step-own : (world : World) (event : Event) (index : ℕ) →
     (step world event).hosts index ≡ host_after (world.hosts index) (work_in (TheHost index) world event)
 host_step-own world event index = host_if world event index (work_of world.sent event) (is_possible world event)
 
-host_after-append : (host : HostNode) (works others : List Work) → host_after host (works ++ others) ≡ host_after (host_after host works) others
+host_after-append : (host : HostNode) (works others : List Work) →
+    host_after host (works ++ others) ≡ host_after (host_after host works) others
 host_after-append host [] others = refl
 host_after-append host (work ∷ works) others = host_after-append (host_step host work).0 works others
 
@@ -103,10 +111,12 @@ hosts-follow world [] index = refl
 hosts-follow world (event ∷ events) index =
     hosts-follow (step world event) events index
     ∙ (ap (λ host. host_after host (works_of (TheHost index) (step world event) events)) (host_step-own world event index)
-    ∙ sym (host_after-append (world.hosts index) (work_in (TheHost index) world event) (works_of (TheHost index) (step world event) events)))
+    ∙ sym (host_after-append (world.hosts index) (work_in (TheHost index) world event)
+    (works_of (TheHost index) (step world event) events)))
 
 coordinator_of_node : (world : World) (event : Event) (node : NodeName) (work : Work) →
-    (node_done world event node work).coordinator ≡ coordinator_after world.coordinator (cond (same_node node TheCoordinator) (work ∷ []) [])
+    (node_done world event node work).coordinator ≡ coordinator_after world.coordinator
+    (cond (same_node node TheCoordinator) (work ∷ []) [])
 coordinator_of_node world event TheOutside work = refl
 coordinator_of_node world event TheCoordinator work = refl
 coordinator_of_node world event (TheHost other) work = refl
@@ -138,20 +148,25 @@ coordinator-follows world [] = refl
 coordinator-follows world (event ∷ events) =
     coordinator-follows (step world event) events
     ∙ (ap (λ c. coordinator_after c (works_of TheCoordinator (step world event) events)) (coordinator_step-own world event)
-    ∙ sym (coordinator_after-append world.coordinator (work_in TheCoordinator world event) (works_of TheCoordinator (step world event) events)))
+    ∙ sym (coordinator_after-append world.coordinator (work_in TheCoordinator world event)
+    (works_of TheCoordinator (step world event) events)))
 
 -- Generations
 
-server_takes-generation : (host : HostNode) (master : Master) (message : Message) → (server_takes host master message).0.generation ≡ host.generation
+server_takes-generation : (host : HostNode) (master : Master) (message : Message) →
+    (server_takes host master message).0.generation ≡ host.generation
 server_takes-generation host master message =
     either (λ after. after.0.generation ≡ host.generation) (is_for_backup message.body)
-    (with_backup host (backup_takes host.backup message.from message.body)) (with_master host (master_takes master message.from message.body))
+    (with_backup host (backup_takes host.backup message.from message.body))
+    (with_master host (master_takes master message.from message.body))
     (λ _. refl) (λ _. refl)
 
-takes-generation : (host : HostNode) (running : Option Master) (message : Message) → (takes_if_running host running message).0.generation ≡ host.generation
+takes-generation : (host : HostNode) (running : Option Master) (message : Message) →
+    (takes_if_running host running message).0.generation ≡ host.generation
 takes-generation host None message = refl
 takes-generation host (Some master) message =
-    either (λ after. after.0.generation ≡ host.generation) (is_server (server_of host) message.to) (server_takes host master message) (host, [])
+    either (λ after. after.0.generation ≡ host.generation) (is_server (server_of host) message.to)
+    (server_takes host master message) (host, [])
     (λ _. server_takes-generation host master message) (λ _. refl)
 
 ticks-generation : (host : HostNode) (running : Option Master) → (ticks_if_running host running).0.generation ≡ host.generation
@@ -160,8 +175,10 @@ ticks-generation host (Some master) = refl
 
 -- a host's work never lowers its generation
 pub generation-step : (host : HostNode) (work : Work) → host.generation ≤ (host_step host work).0.generation
-generation-step host (Take message) = let e : (takes_if_running host host.master message).0.generation ≡ host.generation = takes-generation host host.master message in omega arith
-generation-step host (Tick addr) = let e : (ticks_if_running host host.master).0.generation ≡ host.generation = ticks-generation host host.master in omega arith
+generation-step host (Take message) = let e : (takes_if_running host host.master message).0.generation ≡ host.generation
+    = takes-generation host host.master message in omega arith
+generation-step host (Tick addr) = let e : (ticks_if_running host host.master).0.generation ≡ host.generation =
+    ticks-generation host host.master in omega arith
 generation-step host (Stop id) = omega arith
 generation-step host (Start kept) = omega arith
 generation-step host (Ask to body) = omega arith
@@ -174,13 +191,16 @@ generation-after : (host : HostNode) (works : List Work) → host.generation ≤
 generation-after host [] = omega arith
 generation-after host (work ∷ works) =
     let first : host.generation ≤ (host_step host work).0.generation = generation-step host work in
-    let rest : (host_step host work).0.generation ≤ (host_after (host_step host work).0 works).generation = generation-after (host_step host work).0 works in
+    let rest : (host_step host work).0.generation ≤ (host_after (host_step host work).0 works).generation =
+    generation-after (host_step host work).0 works in
     omega arith
 
 -- nor does an event
-pub generations-step : (world : World) (event : Event) (index : ℕ) → (world.hosts index).generation ≤ ((step world event).hosts index).generation
+pub generations-step : (world : World) (event : Event) (index : ℕ) →
+    (world.hosts index).generation ≤ ((step world event).hosts index).generation
 generations-step world event index =
-    let own : ((step world event).hosts index).generation ≡ (host_after (world.hosts index) (work_in (TheHost index) world event)).generation =
+    let own : ((step world event).hosts index).generation ≡ (host_after (world.hosts index)
+    (work_in (TheHost index) world event)).generation =
     ap (λ (host : HostNode). host.generation) (host_step-own world event index) in
     let after : (world.hosts index).generation ≤ (host_after (world.hosts index) (work_in (TheHost index) world event)).generation =
     generation-after (world.hosts index) (work_in (TheHost index) world event) in

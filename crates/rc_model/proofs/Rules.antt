@@ -9,10 +9,12 @@ abbrev pub AllDone : (Master × List Message → Type 0) → Option (Master × L
 AllDone P None = Unit {0}
 AllDone P (Some done) = P done
 
-pub done-or : (P : Master × List Message → Type 0) (one other : Option (Master × List Message)) → AllDone P one → AllDone P other → AllDone P (or_rule one other)
+pub done-or : (P : Master × List Message → Type 0) (one other : Option (Master × List Message)) → AllDone P one →
+    AllDone P other → AllDone P (or_rule one other)
 done-or P (Some done) other p q = p
 done-or P None other p q = q
 
-pub done-when : (P : Master × List Message → Type 0) (b : Bool) (done : Master × List Message) → (b ≡ true → P done) → AllDone P (when b done)
+pub done-when : (P : Master × List Message → Type 0) (b : Bool) (done : Master × List Message) → (b ≡ true → P done) →
+    AllDone P (when b done)
 done-when P true done p = p refl
 done-when P false done p = tt

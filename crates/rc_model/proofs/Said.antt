@@ -14,7 +14,8 @@ use Rattle.rc_model.specs.Ids.{same_id, is_server}
 use Rattle.rc_model.specs.Made.{entry_at, made}
 use Rattle.rc_model.specs.Recovered.{Ack, ack_in, acknowledged, all_acknowledged, Accepted, plan_in, accepted}
 use Rattle.rc_model.specs.Headline.{In, HasMade, WasAcknowledged, HasAcknowledged, WasAccepted}
-use Rattle.rc_model.proofs.Members.{In-append, In-left, In-right, In-option, In-from_option, In-gathered, In-gathered_rest, In-gathered_piece}
+use Rattle.rc_model.proofs.Members.{In-append, In-left, In-right, In-option, In-from_option, In-gathered}
+use Rattle.rc_model.proofs.Members.{In-gathered_rest, In-gathered_piece}
 
 -- Who sends
 
@@ -23,7 +24,8 @@ same_id-true a b e =
     let parts = and_parts _ _ e in
     let index : a.index ≡ b.index = eqb-true a.index b.index parts.0 in
     let generation : a.generation ≡ b.generation = eqb-true a.generation b.generation parts.1 in
-    let whole : ◌≡◌ {A = ServerId} (record { index = a.index; generation = a.generation }) (record { index = b.index; generation = b.generation }) = cc in whole
+    let whole : ◌≡◌ {A = ServerId} (record { index = a.index; generation = a.generation })
+    (record { index = b.index; generation = b.generation }) = cc in whole
 
 pub same_id-refl : (a : ServerId) → same_id a a ≡ true
 same_id-refl a = and_from _ _ (eq-eqb a.index a.index refl) (eq-eqb a.generation a.generation refl)
@@ -41,20 +43,30 @@ is_server-from m from e = subst (λ a. is_server m a ≡ true) (sym e) (same_id-
 made-says : (sent : List Message) (m : ServerId) (s o : ℕ) (entry : Entry) → In entry (made sent m s o) → HasMade sent m s o entry
 made-says [] m s o entry at = absurd at
 made-says (first ∷ sent) m s o entry at =
-    by (made-says sent m s o entry) (In-gathered entry (is_server m first.from) (option_to_list (entry_at first.body s o)) (made sent m s o) at)
+    by (made-says sent m s o entry)
+    (In-gathered entry (is_server m first.from) (option_to_list (entry_at first.body s o)) (made sent m s o) at)
   where
-    by : (In entry (made sent m s o) → HasMade sent m s o entry) → ((is_server m first.from ≡ true) × In entry (option_to_list (entry_at first.body s o))) ⊎ In entry (made sent m s o) → HasMade (first ∷ sent) m s o entry
-    by later (inl here) = record { message = first; among = inl refl; from = is_server-true m first.from here.0; holds = In-option entry (entry_at first.body s o) here.1 }
+    by : (In entry (made sent m s o) → HasMade sent m s o entry) →
+        ((is_server m first.from ≡ true) × In entry (option_to_list (entry_at first.body s o))) ⊎
+        In entry (made sent m s o) → HasMade (first ∷ sent) m s o entry
+    by later (inl here) = record {
+      message = first;
+      among = inl refl;
+      from = is_server-true m first.from here.0;
+      holds = In-option entry (entry_at first.body s o) here.1;
+    }
     by later (inr there) = let p = later there in record { message = p.message; among = inr p.among; from = p.from; holds = p.holds }
 
-made-said : (sent : List Message) (m : ServerId) (s o : ℕ) (entry : Entry) (message : Message) → In message sent → message.from ≡ Server m → entry_at message.body s o ≡ Some entry → In entry (made sent m s o)
+made-said : (sent : List Message) (m : ServerId) (s o : ℕ) (entry : Entry) (message : Message) → In message sent →
+    message.from ≡ Server m → entry_at message.body s o ≡ Some entry → In entry (made sent m s o)
 made-said [] m s o entry message at from holds = absurd at
 made-said (first ∷ sent) m s o entry message (inl e) from holds =
     In-gathered_piece entry (is_server m first.from) (option_to_list (entry_at first.body s o)) (made sent m s o)
     (is_server-from m first.from (sym (ap (λ (x : Message). x.from) e) ∙ from))
     (In-from_option entry (entry_at first.body s o) (sym (ap (λ (x : Message). entry_at x.body s o) e) ∙ holds))
 made-said (first ∷ sent) m s o entry message (inr rest) from holds =
-    In-gathered_rest entry (is_server m first.from) (option_to_list (entry_at first.body s o)) (made sent m s o) (made-said sent m s o entry message rest from holds)
+    In-gathered_rest entry (is_server m first.from) (option_to_list (entry_at first.body s o)) (made sent m s o)
+    (made-said sent m s o entry message rest from holds)
 
 pub HasMade-from : (sent : List Message) (m : ServerId) (s o : ℕ) (entry : Entry) → In entry (made sent m s o) → HasMade sent m s o entry
 HasMade-from = made-says
@@ -80,15 +92,24 @@ HasAcknowledged-from [] m ack at = absurd at
 HasAcknowledged-from (first ∷ sent) m ack at =
     by (HasAcknowledged-from sent m ack) (In-gathered ack (is_server m first.from) (ack_in first.body) (acknowledged sent m) at)
   where
-    by : (In ack (acknowledged sent m) → HasAcknowledged sent m ack) → ((is_server m first.from ≡ true) × In ack (ack_in first.body)) ⊎ In ack (acknowledged sent m) → HasAcknowledged (first ∷ sent) m ack
-    by later (inl here) = record { message = first; among = inl refl; from = is_server-true m first.from here.0; says = ack_in-says ack first.body here.1 }
+    by : (In ack (acknowledged sent m) → HasAcknowledged sent m ack) →
+        ((is_server m first.from ≡ true) × In ack (ack_in first.body)) ⊎ In ack (acknowledged sent m) →
+        HasAcknowledged (first ∷ sent) m ack
+    by later (inl here) = record {
+      message = first;
+      among = inl refl;
+      from = is_server-true m first.from here.0;
+      says = ack_in-says ack first.body here.1;
+    }
     by later (inr there) = let p = later there in record { message = p.message; among = inr p.among; from = p.from; says = p.says }
 
-ack-said : (sent : List Message) (m : ServerId) (ack : Ack) (message : Message) → In message sent → message.from ≡ Server m → message.body ≡ says_ack ack → In ack (acknowledged sent m)
+ack-said : (sent : List Message) (m : ServerId) (ack : Ack) (message : Message) → In message sent →
+    message.from ≡ Server m → message.body ≡ says_ack ack → In ack (acknowledged sent m)
 ack-said [] m ack message at from says = absurd at
 ack-said (first ∷ sent) m ack message (inl e) from says =
     In-gathered_piece ack (is_server m first.from) (ack_in first.body) (acknowledged sent m)
-    (is_server-from m first.from (sym (ap (λ (x : Message). x.from) e) ∙ from)) (ack_in-said ack first.body (sym (ap (λ (x : Message). x.body) e) ∙ says))
+    (is_server-from m first.from (sym (ap (λ (x : Message). x.from) e) ∙ from))
+    (ack_in-said ack first.body (sym (ap (λ (x : Message). x.body) e) ∙ says))
 ack-said (first ∷ sent) m ack message (inr rest) from says =
     In-gathered_rest ack (is_server m first.from) (ack_in first.body) (acknowledged sent m) (ack-said sent m ack message rest from says)
 
@@ -97,16 +118,21 @@ HasAcknowledged-in sent m ack p = ack-said sent m ack p.message p.among p.from p
 
 pub WasAcknowledged-from : (sent : List Message) (ack : Ack) → In ack (all_acknowledged sent) → WasAcknowledged sent ack
 WasAcknowledged-from [] ack at = absurd at
-WasAcknowledged-from (first ∷ sent) ack at = by (WasAcknowledged-from sent ack) (In-append ack (ack_in first.body) (all_acknowledged sent) at)
+WasAcknowledged-from (first ∷ sent) ack at =
+    by (WasAcknowledged-from sent ack) (In-append ack (ack_in first.body) (all_acknowledged sent) at)
   where
-    by : (In ack (all_acknowledged sent) → WasAcknowledged sent ack) → In ack (ack_in first.body) ⊎ In ack (all_acknowledged sent) → WasAcknowledged (first ∷ sent) ack
+    by : (In ack (all_acknowledged sent) → WasAcknowledged sent ack) →
+        In ack (ack_in first.body) ⊎ In ack (all_acknowledged sent) → WasAcknowledged (first ∷ sent) ack
     by later (inl here) = record { message = first; among = inl refl; says = ack_in-says ack first.body here }
     by later (inr there) = let p = later there in record { message = p.message; among = inr p.among; says = p.says }
 
-any-said : (sent : List Message) (ack : Ack) (message : Message) → In message sent → message.body ≡ says_ack ack → In ack (all_acknowledged sent)
+any-said : (sent : List Message) (ack : Ack) (message : Message) → In message sent → message.body ≡ says_ack ack →
+    In ack (all_acknowledged sent)
 any-said [] ack message at says = absurd at
-any-said (first ∷ sent) ack message (inl e) says = In-left ack (ack_in first.body) (all_acknowledged sent) (ack_in-said ack first.body (sym (ap (λ (x : Message). x.body) e) ∙ says))
-any-said (first ∷ sent) ack message (inr rest) says = In-right ack (ack_in first.body) (all_acknowledged sent) (any-said sent ack message rest says)
+any-said (first ∷ sent) ack message (inl e) says = In-left ack (ack_in first.body) (all_acknowledged sent)
+    (ack_in-said ack first.body (sym (ap (λ (x : Message). x.body) e) ∙ says))
+any-said (first ∷ sent) ack message (inr rest) says =
+    In-right ack (ack_in first.body) (all_acknowledged sent) (any-said sent ack message rest says)
 
 pub WasAcknowledged-in : (sent : List Message) (ack : Ack) → WasAcknowledged sent ack → In ack (all_acknowledged sent)
 WasAcknowledged-in sent ack p = any-said sent ack p.message p.among p.says
@@ -128,15 +154,26 @@ pub WasAccepted-from : (sent : List Message) (plan : Accepted) → In plan (acce
 WasAccepted-from [] plan at = absurd at
 WasAccepted-from (first ∷ sent) plan at = by (WasAccepted-from sent plan) (In-append plan (plan_in first.body) (accepted sent) at)
   where
-    by : (In plan (accepted sent) → WasAccepted sent plan) → In plan (plan_in first.body) ⊎ In plan (accepted sent) → WasAccepted (first ∷ sent) plan
-    by later (inl here) = let p = plan_in-says plan first.body here in record { message = first; among = inl refl; head = p.head; parts = p.parts; says = p.is }
-    by later (inr there) = let p = later there in record { message = p.message; among = inr p.among; head = p.head; parts = p.parts; says = p.says }
+    by : (In plan (accepted sent) → WasAccepted sent plan) → In plan (plan_in first.body) ⊎ In plan (accepted sent) →
+        WasAccepted (first ∷ sent) plan
+    by later (inl here) = let p = plan_in-says plan first.body here in
+        record { message = first; among = inl refl; head = p.head; parts = p.parts; says = p.is }
+    by later (inr there) = let p = later there in record {
+      message = p.message;
+      among = inr p.among;
+      head = p.head;
+      parts = p.parts;
+      says = p.says;
+    }
 
-plan-said : (sent : List Message) (plan : Accepted) (message : Message) (head : ℕ) (parts : List Part) → In message sent → message.body ≡ Plan plan.attempt plan.master head plan.rows parts → In plan (accepted sent)
+plan-said : (sent : List Message) (plan : Accepted) (message : Message) (head : ℕ) (parts : List Part) →
+    In message sent → message.body ≡ Plan plan.attempt plan.master head plan.rows parts → In plan (accepted sent)
 plan-said [] plan message head parts at says = absurd at
 plan-said (first ∷ sent) plan message head parts (inl e) says =
-    In-left plan (plan_in first.body) (accepted sent) (subst (λ b. In plan (plan_in b)) (sym (sym (ap (λ (x : Message). x.body) e) ∙ says)) (inl refl))
-plan-said (first ∷ sent) plan message head parts (inr rest) says = In-right plan (plan_in first.body) (accepted sent) (plan-said sent plan message head parts rest says)
+    In-left plan (plan_in first.body) (accepted sent)
+    (subst (λ b. In plan (plan_in b)) (sym (sym (ap (λ (x : Message). x.body) e) ∙ says)) (inl refl))
+plan-said (first ∷ sent) plan message head parts (inr rest) says =
+    In-right plan (plan_in first.body) (accepted sent) (plan-said sent plan message head parts rest says)
 
 pub WasAccepted-in : (sent : List Message) (plan : Accepted) → WasAccepted sent plan → In plan (accepted sent)
 WasAccepted-in sent plan p = plan-said sent plan p.message p.head p.parts p.among p.says

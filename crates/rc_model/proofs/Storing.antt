@@ -1,5 +1,6 @@
 -- Replicas and backups.
-use Rattle.std.proofs.Common.{◌≡◌, ℕ, ◌-◌, Bool, true, false, cond, not, nat_eq, nat_lt, nat_le, ◌&&◌, ◌||◌, List, [], ◌∷◌, ◌++◌, length, drop, filter, Option, Some, None, refl, sym, ap, ◌∙◌, subst}
+use Rattle.std.proofs.Common.{◌≡◌, ℕ, ◌-◌, Bool, true, false, cond, not, nat_eq, nat_lt, nat_le, ◌&&◌, ◌||◌, List, []}
+use Rattle.std.proofs.Common.{◌∷◌, ◌++◌, length, drop, filter, Option, Some, None, refl, sym, ap, ◌∙◌, subst}
 use Rattle.std.specs.List.{list_any}
 use Rattle.std.proofs.lemmas.Bool.{and_parts, eqb-true, eq-eqb}
 use Rattle.std.proofs.lemmas.List.{append-nil}
@@ -10,7 +11,8 @@ use Rattle.rc_types.specs.declared.entries.Entry.{Entry}
 use Rattle.rc_types.specs.declared.messages.Body.{Body}
 use Rattle.rc_types.specs.declared.messages.Body.TheVariants.{Place, Append, Close, Free, Gather, Fetch}
 use Rattle.rc_model.specs.Replica.{Replica, grown, placed, placed_open, appended, closes, closed_at}
-use Rattle.rc_model.specs.Backup.{Backup, Held, with_held, put_replica, without_replica, insert_number, is_freed, replica_of, replica_after, is_refused, keeps, stores, frees, backup_takes, stays}
+use Rattle.rc_model.specs.Backup.{Backup, Held, with_held, put_replica, without_replica, insert_number, is_freed}
+use Rattle.rc_model.specs.Backup.{replica_of, replica_after, is_refused, keeps, stores, frees, backup_takes, stays}
 use Rattle.rc_model.specs.BackupClaims.{closing_length, is_closed_replica, is_storing}
 use Rattle.rc_model.proofs.Tests.{either, true_false}
 use Rattle.rc_model.proofs.Tables.{put_id_each, put_id-same}
@@ -38,11 +40,13 @@ appended-grows old offset sent =
 
 closed_at-grows : (old : Replica) (len : ℕ) → GrowsTo old (closed_at old len)
 closed_at-grows old len =
-    either (GrowsTo old) (closes old len) (record old { closed = true }) old (λ _. grows_same old (record old { closed = true }) refl) (λ _. grows_same old old refl)
+    either (GrowsTo old) (closes old len) (record old { closed = true }) old
+    (λ _. grows_same old (record old { closed = true }) refl) (λ _. grows_same old old refl)
 
 -- what a message makes of a replica has this property, where each way of changing it gives it
 pub of_each_way : (P : Replica → Type 0) (old new : Replica) (body : Body) → replica_after (Some old) body ≡ Some new →
-    ((seg epoch : ℕ) (digest : List ℕ) (sent : List Entry) (closed : Bool) → body ≡ Place seg epoch digest sent closed → P (placed old epoch sent closed)) →
+    ((seg epoch : ℕ) (digest : List ℕ) (sent : List Entry) (closed : Bool) → body ≡ Place seg epoch digest sent closed →
+    P (placed old epoch sent closed)) →
     ((seg offset : ℕ) (sent : List Entry) → body ≡ Append seg offset sent → P (appended old offset sent)) →
     ((seg len : ℕ) → body ≡ Close seg len → P (closed_at old len)) → P new
 of_each_way P old new (Place seg epoch digest sent closed) e place append close =
@@ -63,16 +67,19 @@ replicas-grow old new body e =
 abbrev pub StaysClosed : Replica → Replica → Type 0
 StaysClosed old new = (new.closed ≡ true) × (new.entries ≡ old.entries) × (new.digest ≡ old.digest)
 
-placed-stays : (old : Replica) (epoch : ℕ) (sent : List Entry) (closed : Bool) → old.closed ≡ true → StaysClosed old (placed old epoch sent closed)
+placed-stays : (old : Replica) (epoch : ℕ) (sent : List Entry) (closed : Bool) → old.closed ≡ true →
+    StaysClosed old (placed old epoch sent closed)
 placed-stays old epoch sent closed is =
-    either (StaysClosed old) (nat_lt epoch old.epoch) old (cond old.closed (record old { epoch = epoch }) (placed_open old epoch sent closed))
+    either (StaysClosed old) (nat_lt epoch old.epoch) old
+    (cond old.closed (record old { epoch = epoch }) (placed_open old epoch sent closed))
     (λ _. (is, refl, refl))
     (λ _. either (StaysClosed old) old.closed (record old { epoch = epoch }) (placed_open old epoch sent closed)
     (λ _. (is, refl, refl)) (λ isn't. true_false (sym is ∙ isn't)))
 
 appended-stays : (old : Replica) (offset : ℕ) (sent : List Entry) → old.closed ≡ true → StaysClosed old (appended old offset sent)
 appended-stays old offset sent is =
-    either (StaysClosed old) (not old.closed && nat_le offset (length old.entries)) (record old { entries = grown old.entries offset sent }) old
+    either (StaysClosed old) (not old.closed && nat_le offset (length old.entries))
+    (record old { entries = grown old.entries offset sent }) old
     (λ both. true_false (sym (and_parts (not old.closed) (nat_le offset (length old.entries)) both).0 ∙ ap not is)) (λ _. (is, refl, refl))
 
 closed_at-stays : (old : Replica) (len : ℕ) → old.closed ≡ true → StaysClosed old (closed_at old len)
@@ -100,10 +107,12 @@ placed-whole old seg epoch digest sent closed isn't =
     either (ClosedWhole (Place seg epoch digest sent closed)) (nat_lt epoch old.epoch) old
     (cond old.closed (record old { epoch = epoch }) (placed_open old epoch sent closed))
     (λ _ is. true_false (sym is ∙ isn't))
-    (λ _. either (ClosedWhole (Place seg epoch digest sent closed)) old.closed (record old { epoch = epoch }) (placed_open old epoch sent closed)
+    (λ _. either (ClosedWhole (Place seg epoch digest sent closed)) old.closed (record old { epoch = epoch })
+    (placed_open old epoch sent closed)
     (λ is _. true_false (sym is ∙ isn't)) (λ _. placed_open-whole old seg epoch digest sent closed))
 
-appended-whole : (old : Replica) (seg offset : ℕ) (sent : List Entry) → old.closed ≡ false → ClosedWhole (Append seg offset sent) (appended old offset sent)
+appended-whole : (old : Replica) (seg offset : ℕ) (sent : List Entry) → old.closed ≡ false →
+    ClosedWhole (Append seg offset sent) (appended old offset sent)
 appended-whole old seg offset sent isn't =
     either (ClosedWhole (Append seg offset sent)) (not old.closed && nat_le offset (length old.entries))
     (record old { entries = grown old.entries offset sent }) old (λ _ is. true_false (sym is ∙ isn't)) (λ _ is. true_false (sym is ∙ isn't))
@@ -126,13 +135,15 @@ closes-whole None new (Place seg epoch digest sent false) isn't e is =
 closes-whole None new _ isn't e is = cc
 closes-whole (Some old) new body isn't e is =
     of_each_way (ClosedWhole body) old new body e
-    (λ seg epoch digest sent closed b. subst (λ x. ClosedWhole x (placed old epoch sent closed)) (sym b) (placed-whole old seg epoch digest sent closed isn't))
+    (λ seg epoch digest sent closed b. subst (λ x. ClosedWhole x (placed old epoch sent closed)) (sym b)
+    (placed-whole old seg epoch digest sent closed isn't))
     (λ seg offset sent b. subst (λ x. ClosedWhole x (appended old offset sent)) (sym b) (appended-whole old seg offset sent isn't))
     (λ seg len b. subst (λ x. ClosedWhole x (closed_at old len)) (sym b) (closed_at-whole old seg len isn't)) is
 
 -- A backup
 
-refused-nothing : (backup : Backup) (master : ServerId) (seg : ℕ) (body : Body) → (backup.held master).fenced ≡ true → stores backup master seg body ≡ (backup, [])
+refused-nothing : (backup : Backup) (master : ServerId) (seg : ℕ) (body : Body) → (backup.held master).fenced ≡ true →
+    stores backup master seg body ≡ (backup, [])
 refused-nothing backup master seg body fenced =
     either (λ after. after ≡ (backup, [])) (is_refused seg (backup.held master)) (backup, [])
     (keeps backup master seg (replica_after (replica_of seg (backup.held master).replicas) body))
@@ -147,7 +158,8 @@ frees-nothing backup master seg fenced = rw fenced refl
 -- a fenced master stores nothing and frees nothing
 pub fenced-nothing : (backup : Backup) (master : ServerId) (body : Body) → (backup.held master).fenced ≡ true → is_storing body ≡ true →
     backup_takes backup (Server master) body ≡ (backup, [])
-fenced-nothing backup master (Place seg epoch digest entries closed) fenced is = refused-nothing backup master seg (Place seg epoch digest entries closed) fenced
+fenced-nothing backup master (Place seg epoch digest entries closed) fenced is =
+    refused-nothing backup master seg (Place seg epoch digest entries closed) fenced
 fenced-nothing backup master (Append seg offset entries) fenced is = refused-nothing backup master seg (Append seg offset entries) fenced
 fenced-nothing backup master (Close seg len) fenced is = refused-nothing backup master seg (Close seg len) fenced
 fenced-nothing backup master (Free seg) fenced is = ap (λ b. (b, [])) (frees-nothing backup master seg fenced)
@@ -163,7 +175,8 @@ AllFencedStay old new = (master : ServerId) → FencedStays (old.held master) (n
 fenced_stay-same : (backup : Backup) → AllFencedStay backup backup
 fenced_stay-same backup master fenced = (fenced, refl)
 
-fenced_stay-held : (backup : Backup) (master : ServerId) (held : Held) → FencedStays (backup.held master) held → AllFencedStay backup (with_held master held backup)
+fenced_stay-held : (backup : Backup) (master : ServerId) (held : Held) → FencedStays (backup.held master) held →
+    AllFencedStay backup (with_held master held backup)
 fenced_stay-held backup master held new =
     put_id_each (λ other one. FencedStays (backup.held other) one) backup.held master held new (λ _ fenced. (fenced, refl))
 
@@ -202,7 +215,8 @@ fenced_stay-frees backup master seg =
 
 -- whatever a backup takes, a fenced master's replicas stay
 pub fenced-stay : (backup : Backup) (from : Addr) (body : Body) → AllFencedStay backup (backup_takes backup from body).0
-fenced-stay backup (Server master) (Place seg epoch digest entries closed) = fenced_stay-stores backup master seg (Place seg epoch digest entries closed)
+fenced-stay backup (Server master) (Place seg epoch digest entries closed) =
+    fenced_stay-stores backup master seg (Place seg epoch digest entries closed)
 fenced-stay backup (Server master) (Append seg offset entries) = fenced_stay-stores backup master seg (Append seg offset entries)
 fenced-stay backup (Server master) (Close seg len) = fenced_stay-stores backup master seg (Close seg len)
 fenced-stay backup (Server master) (Free seg) = fenced_stay-frees backup master seg
@@ -214,9 +228,12 @@ fenced-stay backup _ _ = fenced_stay-same backup
 -- a Gather fences
 pub gather-fences : (backup : Backup) (from : Addr) (attempt : ℕ) (master : ServerId) →
     ((backup_takes backup from (Gather attempt master)).0.held master).fenced ≡ true
-gather-fences backup Coordinator attempt master = ap (λ (held : Held). held.fenced) (put_id-same backup.held master (record (backup.held master) { fenced = true }))
-gather-fences backup Outside attempt master = ap (λ (held : Held). held.fenced) (put_id-same backup.held master (record (backup.held master) { fenced = true }))
-gather-fences backup (Server from) attempt master = ap (λ (held : Held). held.fenced) (put_id-same backup.held master (record (backup.held master) { fenced = true }))
+gather-fences backup Coordinator attempt master =
+    ap (λ (held : Held). held.fenced) (put_id-same backup.held master (record (backup.held master) { fenced = true }))
+gather-fences backup Outside attempt master =
+    ap (λ (held : Held). held.fenced) (put_id-same backup.held master (record (backup.held master) { fenced = true }))
+gather-fences backup (Server from) attempt master =
+    ap (λ (held : Held). held.fenced) (put_id-same backup.held master (record (backup.held master) { fenced = true }))
 
 -- Freed segments
 
@@ -251,11 +268,14 @@ freed-marked backup master seg isn't =
       freed = insert_number seg (backup.held master).freed;
     } in
     let stands : (frees backup master seg).held master ≡ after =
-    ap (λ b. (cond b backup (with_held master after backup)).held master) isn't ∙ put_id-same backup.held master after in
-    (ap (is_freed seg) stands ∙ inserted seg (backup.held master).freed, ap (λ (held : Held). replica_of seg held.replicas) stands ∙ taken_out seg (backup.held master).replicas)
+    ap (λ b. (cond b backup (with_held master after backup)).held master) isn't ∙ put_id-same backup.held master after in (
+      ap (is_freed seg) stands ∙ inserted seg (backup.held master).freed,
+      ap (λ (held : Held). replica_of seg held.replicas) stands ∙ taken_out seg (backup.held master).replicas,
+    )
 
 -- nothing of a marked one is stored
-pub freed-nothing : (backup : Backup) (master : ServerId) (seg : ℕ) (body : Body) → is_freed seg (backup.held master) ≡ true → stores backup master seg body ≡ (backup, [])
+pub freed-nothing : (backup : Backup) (master : ServerId) (seg : ℕ) (body : Body) →
+    is_freed seg (backup.held master) ≡ true → stores backup master seg body ≡ (backup, [])
 freed-nothing backup master seg body freed =
     either (λ after. after ≡ (backup, [])) (is_refused seg (backup.held master)) (backup, [])
     (keeps backup master seg (replica_after (replica_of seg (backup.held master).replicas) body))

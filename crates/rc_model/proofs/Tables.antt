@@ -18,7 +18,8 @@ pub put-same : {V : Type 0} (table : ℕ → V) (key : ℕ) (value : V) → put 
 put-same table key value = ap (λ b. cond b value (table key)) (eq-eqb key key refl)
 
 -- and the old one at each other number
-pub put-other : {V : Type 0} (table : ℕ → V) (key : ℕ) (value : V) (other : ℕ) → nat_eq key other ≡ false → put table key value other ≡ table other
+pub put-other : {V : Type 0} (table : ℕ → V) (key : ℕ) (value : V) (other : ℕ) → nat_eq key other ≡ false →
+    put table key value other ≡ table other
 put-other table key value other e = ap (λ b. cond b value (table other)) e
 
 -- the same for a table of ids
@@ -32,5 +33,6 @@ pub put_id-same : {V : Type 0} (table : ServerId → V) (key : ServerId) (value 
 put_id-same table key value = ap (λ b. cond b value (table key)) (same_id-refl key)
 
 -- and the old one at each other id
-pub put_id-other : {V : Type 0} (table : ServerId → V) (key : ServerId) (value : V) (other : ServerId) → same_id key other ≡ false → put_id table key value other ≡ table other
+pub put_id-other : {V : Type 0} (table : ServerId → V) (key : ServerId) (value : V) (other : ServerId) →
+    same_id key other ≡ false → put_id table key value other ≡ table other
 put_id-other table key value other e = ap (λ b. cond b value (table other)) e

@@ -1,5 +1,6 @@
 -- Attempts to recover a crashed master: the answers that are gathered for one, and what is decided on them.
-use Rattle.std.specs.Prelude.{ℕ, ◌+◌, ◌%◌, Bool, true, false, if◌then◌else◌, List, [], ◌∷◌, ◌++◌, length, Option, Some, None, slice_get}
+use Rattle.std.specs.Prelude.{ℕ, ◌+◌, ◌%◌, Bool, true, false, if◌then◌else◌, List, [], ◌∷◌, ◌++◌, length, Option}
+use Rattle.std.specs.Prelude.{Some, None, slice_get}
 use Rattle.rc_types.specs.declared.ids.ServerId.{ServerId}
 use Rattle.rc_types.specs.declared.rows.Row.{Row}
 use Rattle.rc_types.specs.declared.rows.Plan.{Plan}
@@ -43,7 +44,13 @@ is_gathering attempt = is_undecided attempt.decided
 
 -- the part of a tablet, under a fresh term
 abbrev pub part_of : Tablet → ℕ → Part
-part_of tablet term = record { table = tablet.table; lo = tablet.lo; hi = tablet.hi; previous = tablet.term; term = term }
+part_of tablet term = record {
+  table = tablet.table;
+  lo = tablet.lo;
+  hi = tablet.hi;
+  previous = tablet.term;
+  term = term;
+}
 
 -- a part for this id, before others
 abbrev pub given_to : Option ServerId → Part → List GivenPart → List GivenPart

@@ -1,5 +1,6 @@
 -- A backup: what it keeps of each master's log, the masters that it has fenced, and the segments that were freed.
-use Rattle.std.specs.Prelude.{ℕ, Bool, true, false, not, nat_eq, nat_lt, nat_le, ◌&&◌, ◌||◌, if◌then◌else◌, List, [], ◌∷◌, ◌++◌, length, take, filter, Option, Some, None}
+use Rattle.std.specs.Prelude.{ℕ, Bool, true, false, not, nat_eq, nat_lt, nat_le, ◌&&◌, ◌||◌, if◌then◌else◌, List, []}
+use Rattle.std.specs.Prelude.{◌∷◌, ◌++◌, length, take, filter, Option, Some, None}
 use Rattle.std.specs.List.{list_any}
 use Rattle.rc_types.specs.declared.ids.ServerId.{ServerId}
 use Rattle.rc_types.specs.declared.ids.Addr.{Addr}
@@ -9,7 +10,8 @@ use Rattle.rc_types.specs.declared.rows.Row.{Row}
 use Rattle.rc_types.specs.declared.rows.Part.{Part}
 use Rattle.rc_types.specs.declared.messages.Message.{Message}
 use Rattle.rc_types.specs.declared.messages.Body.{Body}
-use Rattle.rc_types.specs.declared.messages.Body.TheVariants.{Place, Append, Close, Free, Gather, Fetch, Stored, Replicas, Data}
+use Rattle.rc_types.specs.declared.messages.Body.TheVariants.{Place, Append, Close, Free, Gather, Fetch, Stored}
+use Rattle.rc_types.specs.declared.messages.Body.TheVariants.{Replicas, Data}
 use Rattle.rc_model.specs.Ids.{same_id, insert_id_once}
 use Rattle.rc_model.specs.Tables.{put_id}
 use Rattle.rc_model.specs.Messages.{between, to_coordinator}
@@ -81,7 +83,8 @@ is_refused seg held = held.fenced || is_freed seg held
 abbrev pub keeps : Backup → ServerId → ℕ → Option Replica → Backup × List Message
 keeps backup master seg None = (backup, [])
 keeps backup master seg (Some replica) = (
-  with_held master (record (backup.held master) { replicas = put_replica seg replica (backup.held master).replicas }) backup,
+  with_held master (record (backup.held master) { replicas = put_replica seg replica (backup.held master).replicas })
+      backup,
   between backup.own master (stored_of seg replica) ∷ [],
 )
 
@@ -96,7 +99,8 @@ abbrev pub insert_number : ℕ → List ℕ → List ℕ
 insert_number n [] = n ∷ []
 insert_number n (m ∷ ms) = if nat_lt n m then n ∷ m ∷ ms else (if nat_eq n m then m ∷ ms else m ∷ insert_number n ms)
 
--- a Free: the replica goes, and the segment is marked, so that no late Place opens it anew; a fenced master's does nothing
+-- a Free: the replica goes, and the segment is marked, so that no late Place opens it anew; a fenced master's does
+-- nothing
 abbrev pub frees : Backup → ServerId → ℕ → Backup
 frees backup master seg =
     if (backup.held master).fenced then backup
@@ -109,7 +113,13 @@ frees backup master seg =
 -- Answering
 
 abbrev pub row_of_replica : ℕ × Replica → Row
-row_of_replica one = record { seg = one.0; epoch = one.1.epoch; closed = one.1.closed; len = length one.1.entries; digest = one.1.digest }
+row_of_replica one = record {
+  seg = one.0;
+  epoch = one.1.epoch;
+  closed = one.1.closed;
+  len = length one.1.entries;
+  digest = one.1.digest;
+}
 
 -- a row for each replica
 abbrev pub rows_of_replicas : List (ℕ × Replica) → List Row
@@ -126,27 +136,34 @@ fences backup attempt master = (
 -- the entry has the part's previous term and lies in its range
 abbrev pub is_in_part : Part → Entry → Bool
 is_in_part part entry =
-    nat_eq entry.term part.previous && (nat_eq entry.table part.table && (nat_le part.lo entry.key && nat_le entry.key part.hi))
+    nat_eq entry.term part.previous &&
+    (nat_eq entry.table part.table && (nat_le part.lo entry.key && nat_le entry.key part.hi))
 
 -- the part's entries among the first so many of a replica, where it has as many
 abbrev pub data_of : ℕ → ℕ → ℕ → Part → Option Replica → List Body
 data_of attempt seg len part None = []
 data_of attempt seg len part (Some replica) =
-    if nat_le len (length replica.entries) then Data attempt seg part.term (filter (is_in_part part) (take len replica.entries)) ∷ [] else []
+    if nat_le len (length replica.entries) then Data attempt seg part.term
+    (filter (is_in_part part) (take len replica.entries)) ∷ [] else []
 
 -- the answer to whom asks for a part of a fenced master's segment
 abbrev pub answers_fetch : Backup → ServerId → ServerId → List Body → List Message
 answers_fetch backup asker master [] = []
-answers_fetch backup asker master (body ∷ bodies) = if (backup.held master).fenced then between backup.own asker body ∷ [] else []
+answers_fetch backup asker master (body ∷ bodies) =
+    if (backup.held master).fenced then between backup.own asker body ∷ [] else []
 
 -- a backup's step on a message
 abbrev pub backup_takes : Backup → Addr → Body → Backup × List Message
-backup_takes backup (Server master) (Place seg epoch digest entries closed) = stores backup master seg (Place seg epoch digest entries closed)
+backup_takes backup (Server master) (Place seg epoch digest entries closed) =
+    stores backup master seg (Place seg epoch digest entries closed)
 backup_takes backup (Server master) (Append seg offset entries) = stores backup master seg (Append seg offset entries)
 backup_takes backup (Server master) (Close seg len) = stores backup master seg (Close seg len)
 backup_takes backup (Server master) (Free seg) = (frees backup master seg, [])
-backup_takes backup (Server asker) (Fetch attempt master seg len part) =
-    (backup, answers_fetch backup asker master (data_of attempt seg len part (replica_of seg (backup.held master).replicas)))
+backup_takes backup (Server asker) (Fetch attempt master seg len part) = (
+  backup,
+  answers_fetch backup asker master
+      (data_of attempt seg len part (replica_of seg (backup.held master).replicas)),
+)
 backup_takes backup from (Gather attempt master) = fences backup attempt master
 backup_takes backup _ _ = (backup, [])
 

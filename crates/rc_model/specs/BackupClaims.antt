@@ -7,7 +7,8 @@ use Rattle.rc_types.specs.declared.entries.Entry.{Entry}
 use Rattle.rc_types.specs.declared.messages.Body.{Body}
 use Rattle.rc_types.specs.declared.messages.Body.TheVariants.{Place, Append, Close, Free, Gather}
 use Rattle.rc_model.specs.Replica.{Replica}
-use Rattle.rc_model.specs.Backup.{Backup, replica_of, replica_after, is_freed, stores, frees, backup_takes, is_kept, restart}
+use Rattle.rc_model.specs.Backup.{Backup, replica_of, replica_after, is_freed, stores, frees, backup_takes, is_kept}
+use Rattle.rc_model.specs.Backup.{restart}
 
 -- One replica
 
@@ -18,7 +19,8 @@ ReplicasOnlyGrow = (replica after : Replica) (body : Body) → replica_after (So
 
 -- a closed one stays closed, with the same entries and digest
 abbrev pub ClosedStaysTheSame : Type 0
-ClosedStaysTheSame = (replica after : Replica) (body : Body) → replica.closed ≡ true → replica_after (Some replica) body ≡ Some after →
+ClosedStaysTheSame = (replica after : Replica) (body : Body) → replica.closed ≡ true →
+    replica_after (Some replica) body ≡ Some after →
     (after.closed ≡ true) × (after.entries ≡ replica.entries) × (after.digest ≡ replica.digest)
 
 -- the length at which a message closes
@@ -50,11 +52,13 @@ is_storing _ = false
 -- no message of a fenced master that stores or frees changes anything, or is answered
 abbrev pub FencedStoresNothing : Type 0
 FencedStoresNothing = (backup : Backup) (master : ServerId) (body : Body) →
-    (backup.held master).fenced ≡ true → is_storing body ≡ true → backup_takes backup (Server master) body ≡ (backup, [])
+    (backup.held master).fenced ≡ true → is_storing body ≡ true →
+    backup_takes backup (Server master) body ≡ (backup, [])
 
 -- whoever sends whatever, a fenced master stays fenced, and its replicas stay as they are
 abbrev pub FencedReplicasStay : Type 0
-FencedReplicasStay = (backup : Backup) (from : Addr) (body : Body) (master : ServerId) → (backup.held master).fenced ≡ true →
+FencedReplicasStay = (backup : Backup) (from : Addr) (body : Body) (master : ServerId) →
+    (backup.held master).fenced ≡ true →
     (((backup_takes backup from body).0.held master).fenced ≡ true)
     × (((backup_takes backup from body).0.held master).replicas ≡ (backup.held master).replicas)
 
@@ -68,7 +72,8 @@ GatherFences = (backup : Backup) (from : Addr) (attempt : ℕ) (master : ServerI
 -- unless its master is fenced, a freed segment is marked, and its replica is gone
 abbrev pub FreedIsMarked : Type 0
 FreedIsMarked = (backup : Backup) (master : ServerId) (seg : ℕ) → (backup.held master).fenced ≡ false →
-    (is_freed seg ((frees backup master seg).held master) ≡ true) × (replica_of seg ((frees backup master seg).held master).replicas ≡ None)
+    (is_freed seg ((frees backup master seg).held master) ≡ true) ×
+    (replica_of seg ((frees backup master seg).held master).replicas ≡ None)
 
 -- and nothing of a marked one is stored or answered
 abbrev pub FreedStoresNothing : Type 0
@@ -79,14 +84,17 @@ FreedStoresNothing = (backup : Backup) (master : ServerId) (seg : ℕ) (body : B
 
 -- a closed replica stays as it is, and an open one that is named
 abbrev pub RestartKeeps : Type 0
-RestartKeeps = (own : ServerId) (kept : List (ServerId × ℕ)) (backup : Backup) (master : ServerId) (seg : ℕ) (replica : Replica) →
+RestartKeeps = (own : ServerId) (kept : List (ServerId × ℕ)) (backup : Backup) (master : ServerId) (seg : ℕ)
+    (replica : Replica) →
     replica_of seg (backup.held master).replicas ≡ Some replica → replica.closed || is_kept kept master seg ≡ true →
     replica_of seg ((restart own kept backup).held master).replicas ≡ Some replica
 
 -- there are no others
 abbrev pub RestartKeepsNoOther : Type 0
-RestartKeepsNoOther = (own : ServerId) (kept : List (ServerId × ℕ)) (backup : Backup) (master : ServerId) (seg : ℕ) (replica : Replica) →
-    replica_of seg ((restart own kept backup).held master).replicas ≡ Some replica → replica.closed || is_kept kept master seg ≡ true
+RestartKeepsNoOther = (own : ServerId) (kept : List (ServerId × ℕ)) (backup : Backup) (master : ServerId) (seg : ℕ)
+    (replica : Replica) →
+    replica_of seg ((restart own kept backup).held master).replicas ≡ Some replica →
+    replica.closed || is_kept kept master seg ≡ true
 
 -- nobody is fenced, and nothing is marked freed
 abbrev pub RestartFencesNobody : Type 0

@@ -1,5 +1,6 @@
 -- A breach of the headline in a list of messages: the first one, by clause. Nothing here knows of nodes.
-use Rattle.std.specs.Prelude.{ℕ, ◌+◌, Bool, true, false, not, nat_eq, nat_lt, ◌&&◌, ◌||◌, if◌then◌else◌, List, [], ◌∷◌, Option, Some, None, zero, suc}
+use Rattle.std.specs.Prelude.{ℕ, ◌+◌, Bool, true, false, not, nat_eq, nat_lt, ◌&&◌, ◌||◌, if◌then◌else◌, List, []}
+use Rattle.std.specs.Prelude.{◌∷◌, Option, Some, None, zero, suc}
 use Rattle.rc_types.specs.declared.entries.Entry.{Entry}
 use Rattle.rc_types.specs.declared.rows.PlanRow.{PlanRow}
 use Rattle.rc_types.specs.declared.messages.Message.{Message}
@@ -27,7 +28,8 @@ same_value _ _ = false
 -- the entries are the same, their values too
 abbrev pub same_entry : Entry → Entry → Bool
 same_entry a b =
-    nat_eq a.term b.term && (nat_eq a.table b.table && (nat_eq a.key b.key && (nat_eq a.version b.version && same_value a.value b.value)))
+    nat_eq a.term b.term && (nat_eq a.table b.table &&
+    (nat_eq a.key b.key && (nat_eq a.version b.version && same_value a.value b.value)))
 
 -- Nothing acknowledged is missing
 
@@ -74,7 +76,8 @@ is_missing sent plan ack =
 abbrev pub first_missing : List Message → Accepted → List Ack → Option Breach
 first_missing sent plan [] = None
 first_missing sent plan (ack ∷ acks) =
-    if is_missing sent plan ack then Some (Missing plan.attempt plan.master ack.seg ack.offset) else first_missing sent plan acks
+    if is_missing sent plan ack then Some (Missing plan.attempt plan.master ack.seg ack.offset)
+    else first_missing sent plan acks
 
 -- Nothing recovered is invented
 
@@ -103,7 +106,8 @@ or_else None other = other
 -- the first such place of these segments, in their order
 abbrev pub first_invented : List Message → Accepted → List ℕ → Option Breach
 first_invented sent plan [] = None
-first_invented sent plan (s ∷ segs) = or_else (first_invented_from sent plan s 0 (reach plan.rows s)) (first_invented sent plan segs)
+first_invented sent plan (s ∷ segs) =
+    or_else (first_invented_from sent plan s 0 (reach plan.rows s)) (first_invented sent plan segs)
 
 abbrev pub segments_of : List PlanRow → List ℕ
 segments_of [] = []
@@ -121,24 +125,29 @@ falls sent later earlier =
 abbrev pub first_fall : List Message → Ack → List Ack → Option Breach
 first_fall sent later [] = None
 first_fall sent later (earlier ∷ acks) =
-    if falls sent later earlier then Some (Version later.table later.key earlier.term earlier.version later.term later.version)
+    if falls sent later earlier then Some (Version later.table later.key earlier.term earlier.version later.term
+    later.version)
     else first_fall sent later acks
 
 -- Over all plans, and over all acknowledgements, in order
 
 abbrev pub missing_of : List Message → List Accepted → Option Breach
 missing_of sent [] = None
-missing_of sent (plan ∷ plans) = or_else (first_missing sent plan (acknowledged sent plan.master)) (missing_of sent plans)
+missing_of sent (plan ∷ plans) =
+    or_else (first_missing sent plan (acknowledged sent plan.master)) (missing_of sent plans)
 
 abbrev pub invented_of : List Message → List Accepted → Option Breach
 invented_of sent [] = None
-invented_of sent (plan ∷ plans) = or_else (first_invented sent plan (ascending (segments_of plan.rows))) (invented_of sent plans)
+invented_of sent (plan ∷ plans) =
+    or_else (first_invented sent plan (ascending (segments_of plan.rows))) (invented_of sent plans)
 
 abbrev pub falls_of : List Message → List Ack → Option Breach
 falls_of sent [] = None
 falls_of sent (later ∷ acks) = or_else (first_fall sent later (all_acknowledged sent)) (falls_of sent acks)
 
--- the first breach: a missing write of any plan comes before an invented place of any, and that before a falling version
+-- the first breach: a missing write of any plan comes before an invented place of any, and that before a falling
+-- version
 abbrev pub breach : List Message → Option Breach
 breach sent =
-    or_else (missing_of sent (accepted sent)) (or_else (invented_of sent (accepted sent)) (falls_of sent (all_acknowledged sent)))
+    or_else (missing_of sent (accepted sent))
+    (or_else (invented_of sent (accepted sent)) (falls_of sent (all_acknowledged sent)))

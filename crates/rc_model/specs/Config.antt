@@ -1,5 +1,8 @@
--- The members of a segment under an epoch, and what they have told: which backups take part in it, and how that changes.
-use Rattle.std.specs.Prelude.{ℕ, ◌+◌, ◌-◌, ◌%◌, Bool, true, false, not, nat_eq, nat_lt, ◌&&◌, ◌||◌, if◌then◌else◌, List, [], ◌∷◌, ◌++◌, length, take, drop, min, max, map, filter, find, Option, Some, None, option_map, is_some, Result, Ok, Err}
+-- The members of a segment under an epoch, and what they have told: which backups take part in it, and how that
+-- changes.
+use Rattle.std.specs.Prelude.{ℕ, ◌+◌, ◌-◌, ◌%◌, Bool, true, false, not, nat_eq, nat_lt, ◌&&◌, ◌||◌, if◌then◌else◌}
+use Rattle.std.specs.Prelude.{List, [], ◌∷◌, ◌++◌, length, take, drop, min, max, map, filter, find, Option, Some}
+use Rattle.std.specs.Prelude.{None, option_map, is_some, Result, Ok, Err}
 use Rattle.std.specs.List.{list_all, list_any}
 use Rattle.rc_types.specs.declared.ids.ServerId.{ServerId}
 use Rattle.rc_types.specs.declared.kept.Member.{Member}
@@ -67,7 +70,8 @@ notes from epoch config = nat_eq epoch config.epoch && list_any (is_heard from) 
 
 abbrev pub noted : ServerId → ℕ → ℕ → Bool → Config → Config
 noted from epoch len closed config =
-    if nat_eq epoch config.epoch then record config { members = map (told_if_heard from len closed) config.members } else config
+    if nat_eq epoch config.epoch then record config { members = map (told_if_heard from len closed) config.members }
+    else config
 
 -- a commit of the current epoch is noted
 abbrev pub committed_at : ℕ → Config → Config
@@ -136,11 +140,13 @@ and_then (Some id) others = option_map (λ ids. id ∷ ids) (others id)
 abbrev pub substitutes : List ServerId → List ServerId → List Member → Option (List ServerId)
 substitutes ids taken [] = Some []
 substitutes ids taken (member ∷ members) =
-    if member.lost then and_then (first_free ids taken) (λ id. substitutes ids (id ∷ taken) members) else substitutes ids taken members
+    if member.lost then and_then (first_free ids taken) (λ id. substitutes ids (id ∷ taken) members)
+    else substitutes ids taken members
 
 -- the substitutes for the lost members of a segment
 abbrev pub substitutes_for : ServerId → ServerList → Config → Option (List ServerId)
-substitutes_for own servers config = substitutes (candidates config.seg own servers) (staying config.members) config.members
+substitutes_for own servers config =
+    substitutes (candidates config.seg own servers) (staying config.members) config.members
 
 -- each lost member gives its position to the next of these
 abbrev pub replaced : List Member → List ServerId → List Member
@@ -161,7 +167,8 @@ changed config ids = record config {
 -- the change begins, where all lost members can be replaced and an epoch is left
 abbrev pub changes_to : Config → Option (List ServerId) → Config × Result Bool Fault
 changes_to config None = (config, Err NoBackups)
-changes_to config (Some ids) = if nat_lt config.epoch LAST_EPOCH then (changed config ids, Ok true) else (config, Err EpochsExhausted)
+changes_to config (Some ids) =
+    if nat_lt config.epoch LAST_EPOCH then (changed config ids, Ok true) else (config, Err EpochsExhausted)
 
 -- members that the list shows crashed are lost; where a member is lost a change begins
 abbrev pub lose : ServerId → ServerList → Config → Config × Result Bool Fault
@@ -177,4 +184,5 @@ refills_with config (Some ids) = (record config { members = replaced config.memb
 
 -- members that the list shows crashed are lost, and the lost ones are replaced; the answer is who is new
 abbrev pub refill : ServerId → ServerList → Config → Config × Result (List ServerId) Fault
-refill own servers config = let marked = with_lost servers config in refills_with marked (substitutes_for own servers marked)
+refill own servers config =
+    let marked = with_lost servers config in refills_with marked (substitutes_for own servers marked)

@@ -1,6 +1,7 @@
--- The coordinator: the server list, the tablets, the least pairs and the recoveries. Here is its state, and how a server
--- comes and goes.
-use Rattle.std.specs.Prelude.{ℕ, ◌+◌, ◌-◌, Bool, true, false, nat_eq, nat_lt, ◌&&◌, if◌then◌else◌, List, [], ◌∷◌, ◌++◌, length, find, Option, Some, None, slice_get, slice_set}
+-- The coordinator: the server list, the tablets, the least pairs and the recoveries. Here is its state, and how a
+-- server comes and goes.
+use Rattle.std.specs.Prelude.{ℕ, ◌+◌, ◌-◌, Bool, true, false, nat_eq, nat_lt, ◌&&◌, if◌then◌else◌, List, [], ◌∷◌}
+use Rattle.std.specs.Prelude.{◌++◌, length, find, Option, Some, None, slice_get, slice_set}
 use Rattle.rc_types.specs.declared.ids.ServerId.{ServerId}
 use Rattle.rc_types.specs.declared.ids.Pair.{Pair}
 use Rattle.rc_types.specs.declared.rows.Tablet.{Tablet}
@@ -25,7 +26,8 @@ pub record Coordinator : Type 0 where
   pub tablets : List Tablet
   -- the least pair of each master
   pub least : ServerId → Pair
-  -- all attempts so far, where that of number k stands at place k - 1; of each master the number of its current one, or 0
+  -- all attempts so far, where that of number k stands at place k - 1; of each master the number of its current one,
+  -- or 0
   pub attempts : List Attempt
   pub current : ServerId → ℕ
   -- all grants so far
@@ -61,7 +63,10 @@ spreads_list servers = to_each (up servers) (list_body servers)
 -- an attempt for a master has a fresh number, replaces the earlier one, and asks every id that is up
 abbrev pub begins_attempt : Coordinator → ServerId → Coordinator × List Message
 begins_attempt c master = (
-  record c { attempts = c.attempts ++ new_attempt master ∷ []; current = put_id c.current master (length c.attempts + 1) },
+  record c {
+    attempts = c.attempts ++ new_attempt master ∷ [];
+    current = put_id c.current master (length c.attempts + 1);
+  },
   to_each (up c.servers) (Gather (length c.attempts + 1) master),
 )
 
@@ -71,7 +76,8 @@ has_tablets c master = nat_lt 0 (length (tablets_of master c.tablets))
 
 -- an attempt begins for a master that has crashed and still has tablets
 abbrev pub begins_if_needed : Coordinator → ServerId → Coordinator × List Message
-begins_if_needed c master = if has_crashed c.servers master && has_tablets c master then begins_attempt c master else (c, [])
+begins_if_needed c master =
+    if has_crashed c.servers master && has_tablets c master then begins_attempt c master else (c, [])
 
 -- the list is spread, and then the attempt begins, if one does
 abbrev pub spreads_then_begins : Coordinator → ServerId → Coordinator × List Message
@@ -106,7 +112,8 @@ enlists c id =
 -- a Ready is noted where the sender is up
 abbrev pub notes_ready : Coordinator → ServerId → Coordinator × List Message
 notes_ready c id =
-    if is_up c.servers id then (record c { ready = put_id c.ready id true }, []) else (c, refuses_server id Deposed ∷ [])
+    if is_up c.servers id then (record c { ready = put_id c.ready id true }, [])
+    else (c, refuses_server id Deposed ∷ [])
 
 -- Going
 
@@ -114,7 +121,8 @@ notes_ready c id =
 abbrev pub with_crashed : Coordinator → ServerId → Coordinator
 with_crashed c id = record c { servers = crashed id c.servers; tablets = marked_crashed id c.tablets }
 
--- a suspicion: an id that is up has crashed from now on, and all are told; then an attempt begins where it still has tablets
+-- a suspicion: an id that is up has crashed from now on, and all are told; then an attempt begins where it still has
+-- tablets
 abbrev pub suspects : Coordinator → ServerId → Coordinator × List Message
 suspects c id = if is_up c.servers id then spreads_then_begins (with_crashed c id) id else begins_if_needed c id
 
@@ -124,5 +132,8 @@ suspects c id = if is_up c.servers id then spreads_then_begins (with_crashed c i
 abbrev pub commits_pair : Coordinator → ServerId → Pair → Coordinator × List Message
 commits_pair c id pair =
     if is_up c.servers id
-    then (record c { least = put_id c.least id (greater_pair (c.least id) pair) }, from_coordinator id (CommitOk pair.seg pair.epoch) ∷ [])
+    then (
+      record c { least = put_id c.least id (greater_pair (c.least id) pair) },
+      from_coordinator id (CommitOk pair.seg pair.epoch) ∷ [],
+    )
     else (c, refuses_server id Deposed ∷ [])

@@ -29,6 +29,7 @@ CrashedAreGrantedNothing = (c : Coordinator) (id : ServerId) (number term : ℕ)
 
 -- in an attempt that isn't current no term is granted that wasn't granted to the sender before
 abbrev pub StaleAttemptsGrantNothing : Type 0
-StaleAttemptsGrantNothing = (c : Coordinator) (id : ServerId) (number term : ℕ) (attempt : Attempt) → is_up c.servers id ≡ true →
+StaleAttemptsGrantNothing =
+    (c : Coordinator) (id : ServerId) (number term : ℕ) (attempt : Attempt) → is_up c.servers id ≡ true →
     grant_to c id term ≡ None → attempt_at c number ≡ Some attempt → is_current c number attempt ≡ false →
     takes_recovered c id number term ≡ (c, refuses_server id StaleAttempt ∷ [])

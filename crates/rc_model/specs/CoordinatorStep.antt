@@ -1,5 +1,6 @@
 -- The coordinator's step: new tables, splits, its timer, and what each input does.
-use Rattle.std.specs.Prelude.{ℕ, ◌+◌, Bool, not, nat_eq, nat_le, ◌&&◌, if◌then◌else◌, List, [], ◌∷◌, ◌++◌, length, filter, Option, Some, None}
+use Rattle.std.specs.Prelude.{ℕ, ◌+◌, Bool, not, nat_eq, nat_le, ◌&&◌, if◌then◌else◌, List, [], ◌∷◌, ◌++◌, length}
+use Rattle.std.specs.Prelude.{filter, Option, Some, None}
 use Rattle.std.specs.List.{list_any}
 use Rattle.rc_types.specs.declared.ids.ServerId.{ServerId}
 use Rattle.rc_types.specs.declared.ids.Addr.{Addr}
@@ -8,11 +9,13 @@ use Rattle.rc_types.specs.declared.rows.Part.{Part}
 use Rattle.rc_types.specs.declared.rows.Tablet.{Tablet}
 use Rattle.rc_types.specs.declared.kept.Grant.{Grant}
 use Rattle.rc_types.specs.declared.faults.Fault.{Fault}
-use Rattle.rc_types.specs.declared.faults.Fault.TheVariants.{NotReady, TableExists, TooManyTablets, NoTable, BadSplit, Recovering}
+use Rattle.rc_types.specs.declared.faults.Fault.TheVariants.{NotReady, TableExists, TooManyTablets, NoTable}
+use Rattle.rc_types.specs.declared.faults.Fault.TheVariants.{BadSplit, Recovering}
 use Rattle.rc_types.specs.declared.limits.TheConstants.{MAX_TABLETS, LAST_KEY}
 use Rattle.rc_types.specs.declared.messages.Message.{Message}
 use Rattle.rc_types.specs.declared.messages.Body.{Body}
-use Rattle.rc_types.specs.declared.messages.Body.TheVariants.{Enlist, Ready, Commit, Replicas, Recovered, Gather, SplitOk}
+use Rattle.rc_types.specs.declared.messages.Body.TheVariants.{Enlist, Ready, Commit, Replicas, Recovered, Gather}
+use Rattle.rc_types.specs.declared.messages.Body.TheVariants.{SplitOk}
 use Rattle.rc_model.specs.Messages.{from_coordinator, to_each, coordinator_refuses, coordinator_tells}
 use Rattle.rc_model.specs.ServerList.{is_up, up}
 use Rattle.rc_model.specs.Tablets.{tablet_of, has_table, with_table, split_at}
@@ -25,7 +28,13 @@ use Rattle.rc_model.specs.Deciding.{is_current, keeps_answer, own_body, takes_re
 -- the grant of a new table
 abbrev pub first_grant : ℕ → ServerId → ℕ → Grant
 first_grant table owner term =
-    record { range = record { table = table; lo = 0; hi = LAST_KEY }; term = term; previous = 0; attempt = 0; owner = owner }
+    record {
+      range = record { table = table; lo = 0; hi = LAST_KEY };
+      term = term;
+      previous = 0;
+      attempt = 0;
+      owner = owner;
+    }
 
 -- the table goes to its owner under a fresh term
 abbrev pub creates_table : Coordinator → ℕ → ServerId → Coordinator × List Message
@@ -57,7 +66,8 @@ split_fault tablets at (Some tablet) =
 
 abbrev pub splits_unless : Coordinator → ℕ → ℕ → Option Fault → Coordinator × List Message
 splits_unless c table at (Some fault) = (c, coordinator_refuses fault ∷ [])
-splits_unless c table at None = (record c { tablets = split_at table at c.tablets }, coordinator_tells (SplitOk table at) ∷ [])
+splits_unless c table at None =
+    (record c { tablets = split_at table at c.tablets }, coordinator_tells (SplitOk table at) ∷ [])
 
 -- a split of the tablet that holds the key
 abbrev pub splits : Coordinator → ℕ → ℕ → Coordinator × List Message
@@ -84,7 +94,8 @@ asks_again c number attempt (Some decision) =
 abbrev pub asks_again_of : Coordinator → ℕ → List Attempt → List Message
 asks_again_of c number [] = []
 asks_again_of c number (attempt ∷ attempts) =
-    (if is_current c number attempt then asks_again c number attempt attempt.decided else []) ++ asks_again_of c (number + 1) attempts
+    (if is_current c number attempt then asks_again c number attempt attempt.decided else []) ++
+    asks_again_of c (number + 1) attempts
 
 -- the list goes out again, and then what each current attempt waits for
 abbrev pub coordinator_ticks : Coordinator → List Message

@@ -1,5 +1,6 @@
 -- What the coordinator does for recoveries: answers, the decision, and the grants.
-use Rattle.std.specs.Prelude.{ℕ, ◌+◌, ◌-◌, Bool, not, nat_eq, ◌&&◌, if◌then◌else◌, List, [], ◌∷◌, ◌++◌, length, filter, find, Option, Some, None, Result, Ok, Err}
+use Rattle.std.specs.Prelude.{ℕ, ◌+◌, ◌-◌, Bool, not, nat_eq, ◌&&◌, if◌then◌else◌, List, [], ◌∷◌, ◌++◌, length}
+use Rattle.std.specs.Prelude.{filter, find, Option, Some, None, Result, Ok, Err}
 use Rattle.rc_types.specs.declared.ids.ServerId.{ServerId}
 use Rattle.rc_types.specs.declared.rows.Row.{Row}
 use Rattle.rc_types.specs.declared.rows.Plan.{Plan}
@@ -53,7 +54,8 @@ decision_of c number master plan ids =
 -- the decision is kept, its terms are used up, and the plan goes out
 abbrev pub decides_on : Coordinator → ℕ → Attempt → Decision → List ServerId → Coordinator × List Message
 decides_on c number attempt decision ids = (
-  record (with_attempt c number (record attempt { decided = Some decision })) { last_term = c.last_term + length decision.parts },
+  record (with_attempt c number (record attempt { decided = Some decision }))
+      { last_term = c.last_term + length decision.parts },
   plan_messages number attempt.master decision ids,
 )
 
@@ -101,7 +103,8 @@ part_in id term (Some decision) = find (λ part. nat_eq part.term term) (parts_o
 
 abbrev pub part_if_current : Coordinator → ServerId → ℕ → ℕ → Option Attempt → Option Part
 part_if_current c id number term None = None
-part_if_current c id number term (Some attempt) = if is_current c number attempt then part_in id term attempt.decided else None
+part_if_current c id number term (Some attempt) =
+    if is_current c number attempt then part_in id term attempt.decided else None
 
 -- the part of this term that the id has in this attempt, where that is its master's current one
 abbrev pub part_of_sender : Coordinator → ServerId → ℕ → ℕ → Option Part
@@ -112,7 +115,10 @@ abbrev pub grants_part : Coordinator → ServerId → ℕ → Part → Coordinat
 grants_part c id number part =
     if has_range (range_of part) c.tablets
     then (
-      record c { tablets = assigned (range_of part) id part.term c.tablets; grants = c.grants ++ grant_of number id part ∷ [] },
+      record c {
+        tablets = assigned (range_of part) id part.term c.tablets;
+        grants = c.grants ++ grant_of number id part ∷ [];
+      },
       from_coordinator id (own_body (grant_of number id part)) ∷ [],
     )
     else (c, refuses_server id NoTable ∷ [])
@@ -129,4 +135,5 @@ grants_or_repeats c id number term None = grants_if_given c id number (part_of_s
 -- a Recovered of a term
 abbrev pub takes_recovered : Coordinator → ServerId → ℕ → ℕ → Coordinator × List Message
 takes_recovered c id number term =
-    if is_up c.servers id then grants_or_repeats c id number term (grant_to c id term) else (c, refuses_server id Deposed ∷ [])
+    if is_up c.servers id then grants_or_repeats c id number term (grant_to c id term)
+    else (c, refuses_server id Deposed ∷ [])

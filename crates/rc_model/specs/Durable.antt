@@ -13,8 +13,8 @@ abbrev pub all_shut_to : (ℕ → Segment) → ℕ → Bool
 all_shut_to segments zero = true
 all_shut_to segments (suc s) = (segments (suc s)).shut && all_shut_to segments s
 
--- the segment's epoch is committed, none of its members is known lost, each has told a length above the offset under it,
--- and each earlier segment is shut
+-- the segment's epoch is committed, none of its members is known lost, each has told a length above the offset under
+-- it, and each earlier segment is shut
 abbrev pub is_stored_on_all : Log → ℕ → ℕ → Bool
 is_stored_on_all log s o =
     has_segment log s && (nat_lt o (durable_len (log.segments s).config) && all_shut_to log.segments (s - 1))

@@ -1,5 +1,7 @@
 -- The rules that a master follows up each input with: the first that applies is made, and the search begins anew.
-use Rattle.std.specs.Prelude.{ℕ, ◌+◌, ◌*◌, ◌-◌, Bool, true, false, not, nat_eq, nat_lt, ◌&&◌, if◌then◌else◌, List, [], ◌∷◌, ◌++◌, length, drop, take, find, filter, Option, Some, None, zero, suc, Result, Ok, Err}
+use Rattle.std.specs.Prelude.{ℕ, ◌+◌, ◌*◌, ◌-◌, Bool, true, false, not, nat_eq, nat_lt, ◌&&◌, if◌then◌else◌, List}
+use Rattle.std.specs.Prelude.{[], ◌∷◌, ◌++◌, length, drop, take, find, filter, Option, Some, None, zero, suc, Result}
+use Rattle.std.specs.Prelude.{Ok, Err}
 use Rattle.rc_types.specs.declared.ids.ServerId.{ServerId}
 use Rattle.rc_types.specs.declared.entries.Entry.{Entry}
 use Rattle.rc_types.specs.declared.faults.Fault.{Fault}
@@ -10,10 +12,13 @@ use Rattle.rc_types.specs.declared.messages.Body.TheVariants.{WriteOk, Close, Co
 use Rattle.rc_model.specs.Messages.{to_coordinator, to_outside}
 use Rattle.rc_model.specs.Config.{all_placed}
 use Rattle.rc_model.specs.Segment.{Segment, is_unclosed, has_unclosed, with_closes_sent}
-use Rattle.rc_model.specs.Log.{Log, LogPlace, places_of, head_of, old_head_of, has_old_head, with_segment, numbers_to, is_closing, is_writing, durable_now}
-use Rattle.rc_model.specs.Heads.{is_full, begin_roll, with_shut, may_start, may_close, may_write, left_out, starts, closes_old, writes_on}
+use Rattle.rc_model.specs.Log.{Log, LogPlace, places_of, head_of, old_head_of, has_old_head, with_segment}
+use Rattle.rc_model.specs.Log.{numbers_to, is_closing, is_writing, durable_now}
+use Rattle.rc_model.specs.Heads.{is_full, begin_roll, with_shut, may_start, may_close, may_write, left_out, starts}
+use Rattle.rc_model.specs.Heads.{closes_old, writes_on}
 use Rattle.rc_model.specs.Ownership.{after_replay, to_answer, after_answer, PartState}
-use Rattle.rc_model.specs.Master.{Master, Task, with_log, durable_entries, to_ids, ids_of, to_unlost, places_head, appends_entry, dead_segments}
+use Rattle.rc_model.specs.Master.{Master, Task, with_log, durable_entries, to_ids, ids_of, to_unlost, places_head}
+use Rattle.rc_model.specs.Master.{appends_entry, dead_segments}
 
 -- the rule applies, and does this
 abbrev pub when : Bool → Master × List Message → Option (Master × List Message)
@@ -23,7 +28,8 @@ when true done = Some done
 -- Starting, closing the old head, writing in the new one
 
 abbrev pub follows_start : Master → Option (Master × List Message)
-follows_start master = when (may_start master.log) (with_log master (starts master.log), to_coordinator master.log.own Ready ∷ [])
+follows_start master = when (may_start master.log)
+    (with_log master (starts master.log), to_coordinator master.log.own Ready ∷ [])
 
 abbrev pub follows_placed : Master → Option (Master × List Message)
 follows_placed master = when (may_close master.log) (with_log master (closes_old master.log), [])
@@ -51,7 +57,10 @@ frees_segments log (seg ∷ segs) = to_unlost log seg (Free seg) ++ frees_segmen
 
 abbrev pub follows_shut : Master → Option (Master × List Message)
 follows_shut master =
-    when (may_write master.log) (with_log master (writes_on master.log), frees_segments master.log (left_out master.log))
+    when (may_write master.log) (
+      with_log master (writes_on master.log),
+      frees_segments master.log (left_out master.log),
+    )
 
 -- Commits
 
@@ -84,7 +93,8 @@ abbrev pub write_oks : ServerId → List LogPlace → List Message
 write_oks own [] = []
 write_oks own (place ∷ places) =
     if place.client
-    then to_outside own (WriteOk place.seg place.offset place.entry.term place.entry.table place.entry.key place.entry.version)
+    then to_outside own
+    (WriteOk place.seg place.offset place.entry.term place.entry.table place.entry.key place.entry.version)
     ∷ write_oks own places
     else write_oks own places
 
@@ -176,7 +186,8 @@ closes_unsent log = one_if (has_old_head log && has_unclosed (old_head_of log))
 
 abbrev pub commits_unsent : Log → ℕ
 commits_unsent log =
-    length (filter (λ seg. not (log.segments seg).config.committed && not (log.segments seg).commit_sent) (numbers_to log.head))
+    length (filter (λ seg. not (log.segments seg).config.committed && not (log.segments seg).commit_sent)
+    (numbers_to log.head))
 
 abbrev pub parts_unanswered : List PartState → ℕ
 parts_unanswered states = length (filter (λ state. not state.answered) states)
@@ -184,7 +195,8 @@ parts_unanswered states = length (filter (λ state. not state.answered) states)
 -- each rule lowers this
 abbrev pub measure : Master → ℕ
 measure master =
-    2 * rank master.log master.log.phase + 2 * length master.ownership.replay + (length (places_of master.log) - master.log.durable)
+    2 * rank master.log master.log.phase + 2 * length master.ownership.replay +
+    (length (places_of master.log) - master.log.durable)
     + closes_unsent master.log + commits_unsent master.log + parts_unanswered master.ownership.parts
 
 -- the rules, until none applies; a deposed master follows none

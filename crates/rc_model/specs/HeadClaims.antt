@@ -1,5 +1,6 @@
 -- What a master's heads, writes and members should obey.
-use Rattle.std.specs.Prelude.{◌≡◌, ℕ, ◌+◌, ◌<◌, Bool, true, false, ◌||◌, nat_eq, List, [], ◌∷◌, ◌++◌, length, map, Option, Some, None, Ok, slice_get}
+use Rattle.std.specs.Prelude.{◌≡◌, ℕ, ◌+◌, ◌<◌, Bool, true, false, ◌||◌, nat_eq, List, [], ◌∷◌, ◌++◌, length, map}
+use Rattle.std.specs.Prelude.{Option, Some, None, Ok, slice_get}
 use Rattle.std.specs.List.{list_any}
 use Rattle.rc_types.specs.declared.ids.ServerId.{ServerId}
 use Rattle.rc_types.specs.declared.entries.Entry.{Entry}
@@ -28,7 +29,8 @@ ClosesOnlyWherePlaced = (master next : Master) (messages : List Message) → fol
 -- and so does a whole step, by a message or by the timer
 abbrev pub StepsCloseOnlyWherePlaced : Type 0
 StepsCloseOnlyWherePlaced = (master : Master) (from : Addr) (body : Body) → is_closing master.log.phase ≡ false →
-    is_closing (master_takes master from body).0.log.phase ≡ true → all_placed (head_of (master_takes master from body).0.log).config ≡ true
+    is_closing (master_takes master from body).0.log.phase ≡ true →
+    all_placed (head_of (master_takes master from body).0.log).config ≡ true
 
 abbrev pub TicksCloseOnlyWherePlaced : Type 0
 TicksCloseOnlyWherePlaced = (master : Master) → is_closing master.log.phase ≡ false →
@@ -59,7 +61,8 @@ RollsLeaveOutOnlyDead = (master : Master) (log : Log) (began : Bool) (seg : ℕ)
 abbrev pub DeadIsOutdated : Type 0
 DeadIsOutdated = (master : Master) (seg k : ℕ) (entry : Entry) → is_dead_segment master seg ≡ true →
     slice_get (map (λ one. one.0) (master.log.segments seg).entries) k ≡ Some entry →
-    ((master.log.segments seg).shut ≡ true) × ((j : ℕ) × (other : Entry) × (slice_get (durable_entries master) j ≡ Some other)
+    ((master.log.segments seg).shut ≡ true) ×
+    ((j : ℕ) × (other : Entry) × (slice_get (durable_entries master) j ≡ Some other)
     × (is_of entry.term entry.table entry.key other ≡ true) × (entry.version < other.version))
 
 -- Writes
@@ -73,7 +76,8 @@ WritesAreNumberedAbove = (master : Master) (term table key : ℕ) (value : Optio
 -- what a write appends is what was asked, at the log's end, under the term of its range
 abbrev pub WritesAppendTheAsked : Type 0
 WritesAppendTheAsked = (master : Master) (term table key : ℕ) (value : Option (List ℕ)) → 0 < master.log.head →
-    is_too_long value ≡ false → term_of master.ownership table key ≡ Some term → is_writing master.log.phase ≡ true → is_full master.log ≡ false →
+    is_too_long value ≡ false → term_of master.ownership table key ≡ Some term → is_writing master.log.phase ≡ true →
+    is_full master.log ≡ false →
     (version : ℕ) × (places_of (writes master table key value).0.log ≡ places_of master.log ++ record {
       seg = master.log.head;
       offset = length (head_of master.log).entries;
@@ -85,13 +89,15 @@ WritesAppendTheAsked = (master : Master) (term table key : ℕ) (value : Option 
 
 -- a change of members takes a fresh epoch, which isn't committed
 abbrev pub ChangesTakeAFreshEpoch : Type 0
-ChangesTakeAFreshEpoch = (own : ServerId) (servers : ServerList) (old new : Config) → lose own servers old ≡ (new, Ok true) →
+ChangesTakeAFreshEpoch = (own : ServerId) (servers : ServerList) (old new : Config) →
+    lose own servers old ≡ (new, Ok true) →
     (new.epoch ≡ old.epoch + 1) × (new.committed ≡ false)
 
 -- under it nobody has told anything
 abbrev pub NothingIsToldUnderIt : Type 0
 NothingIsToldUnderIt = (own : ServerId) (servers : ServerList) (old new : Config) (k : ℕ) (member : Member) →
-    lose own servers old ≡ (new, Ok true) → slice_get new.members k ≡ Some member → (member.told ≡ None) × (member.lost ≡ false)
+    lose own servers old ≡ (new, Ok true) → slice_get new.members k ≡ Some member →
+    (member.told ≡ None) × (member.lost ≡ false)
 
 -- what is told under another epoch isn't noted
 abbrev pub OtherEpochsAreNotNoted : Type 0

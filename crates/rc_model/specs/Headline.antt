@@ -97,12 +97,14 @@ RisesOver sent later earlier = earlier.table ≡ later.table → earlier.key ≡
 -- nothing acknowledged is missing
 abbrev pub NothingIsMissing : List Message → Type 0
 NothingIsMissing sent =
-    (plan : Accepted) → WasAccepted sent plan → (ack : Ack) → HasAcknowledged sent plan.master ack → IsThere sent plan ack
+    (plan : Accepted) → WasAccepted sent plan → (ack : Ack) → HasAcknowledged sent plan.master ack →
+    IsThere sent plan ack
 
 -- nor was any of it dropped because a greater version is there
 abbrev pub NothingIsDropped : List Message → Type 0
 NothingIsDropped sent =
-    (plan : Accepted) → WasAccepted sent plan → (ack : Ack) → HasAcknowledged sent plan.master ack → IsThereItself sent plan ack
+    (plan : Accepted) → WasAccepted sent plan → (ack : Ack) → HasAcknowledged sent plan.master ack →
+    IsThereItself sent plan ack
 
 -- nothing recovered is invented
 abbrev pub NothingIsInvented : List Message → Type 0
@@ -112,7 +114,8 @@ NothingIsInvented sent =
 -- versions rise over owners
 abbrev pub VersionsRise : List Message → Type 0
 VersionsRise sent =
-    (later : Ack) → WasAcknowledged sent later → (earlier : Ack) → WasAcknowledged sent earlier → RisesOver sent later earlier
+    (later : Ack) → WasAcknowledged sent later → (earlier : Ack) → WasAcknowledged sent earlier →
+    RisesOver sent later earlier
 
 pub record Headline (sent : List Message) : Type 0 where
   pub there : NothingIsMissing sent
@@ -131,4 +134,5 @@ NothingDroppedIsNothingMissing = (sent : List Message) → NothingIsDropped sent
 -- The test of which term is the earlier one ends with what the relation says, for every list of grants
 abbrev pub TheTestSaysWhatIsBefore : Type 0
 TheTestSaysWhatIsBefore =
-    (grants : List Granted) (earlier later : ℕ) → IsTrue (is_before grants earlier later) ↔ IsBefore grants earlier later
+    (grants : List Granted) (earlier later : ℕ) →
+    IsTrue (is_before grants earlier later) ↔ IsBefore grants earlier later

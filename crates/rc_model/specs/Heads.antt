@@ -1,6 +1,7 @@
--- How a log goes on: heads are opened and rolled, entries appended, what members tell is noted, and lost ones are replaced. It
--- says who is to be sent what, and sends nothing.
-use Rattle.std.specs.Prelude.{ℕ, ◌+◌, ◌-◌, Bool, true, false, not, nat_eq, nat_lt, nat_le, ◌&&◌, ◌||◌, if◌then◌else◌, List, [], ◌∷◌, ◌++◌, length, map, filter, Option, Some, None, Result, Ok, Err}
+-- How a log goes on: heads are opened and rolled, entries appended, what members tell is noted, and lost ones are
+-- replaced. It says who is to be sent what, and sends nothing.
+use Rattle.std.specs.Prelude.{ℕ, ◌+◌, ◌-◌, Bool, true, false, not, nat_eq, nat_lt, nat_le, ◌&&◌, ◌||◌, if◌then◌else◌}
+use Rattle.std.specs.Prelude.{List, [], ◌∷◌, ◌++◌, length, map, filter, Option, Some, None, Result, Ok, Err}
 use Rattle.std.specs.List.{list_any}
 use Rattle.rc_types.specs.declared.ids.ServerId.{ServerId}
 use Rattle.rc_types.specs.declared.entries.Entry.{Entry}
@@ -12,7 +13,8 @@ use Rattle.rc_model.specs.Tables.{put}
 use Rattle.rc_model.specs.ServerList.{ServerList}
 use Rattle.rc_model.specs.Config.{Config, choose, notes, noted, committed_at, all_placed, lose, refill}
 use Rattle.rc_model.specs.Segment.{new_segment, with_entry, under_new_epoch, is_ready, is_all_closed}
-use Rattle.rc_model.specs.Log.{Log, head_of, with_segment, has_segment, has_old_head, old_head_of, is_opening, is_closing, is_writing}
+use Rattle.rc_model.specs.Log.{Log, head_of, with_segment, has_segment, has_old_head, old_head_of, is_opening}
+use Rattle.rc_model.specs.Log.{is_closing, is_writing}
 
 -- Opening a head, and appending to it
 
@@ -45,7 +47,8 @@ append_fault log =
     if not (is_writing log.phase) then Some Rolling
     else (if not (is_full log) then None else (if nat_lt log.head LAST_SEGMENT then Some Rolling else Some LogFull))
 
--- the digest of the next head: that of the head without the dead segments, and with the new one; the head itself is never dead
+-- the digest of the next head: that of the head without the dead segments, and with the new one; the head itself is
+-- never dead
 abbrev pub next_digest : Log → List ℕ → List ℕ
 next_digest log dead =
     filter (λ seg. nat_eq seg log.head || not (list_any (nat_eq seg) dead)) (head_of log).digest ++ (log.head + 1) ∷ []
@@ -57,7 +60,8 @@ rolled log dead (Some ids) = (opens_head log (next_digest log dead) ids, Ok true
 -- a roll begins: the next segment is opened, unless this is the last one or no members can be chosen
 abbrev pub begin_roll : ServerList → List ℕ → Log → Log × Result Bool Fault
 begin_roll servers dead log =
-    if nat_lt log.head LAST_SEGMENT then rolled log dead (choose (log.head + 1) log.own log.factor servers) else (log, Err LogFull)
+    if nat_lt log.head LAST_SEGMENT then rolled log dead (choose (log.head + 1) log.own log.factor servers)
+    else (log, Err LogFull)
 
 -- What members tell
 

@@ -31,7 +31,8 @@ is_server id _ = false
 abbrev pub insert_id_once : ServerId → List ServerId → List ServerId
 insert_id_once id [] = id ∷ []
 insert_id_once id (other ∷ ids) =
-    if id_before id other then id ∷ other ∷ ids else (if same_id id other then other ∷ ids else other ∷ insert_id_once id ids)
+    if id_before id other then id ∷ other ∷ ids
+    else (if same_id id other then other ∷ ids else other ∷ insert_id_once id ids)
 
 -- the id stands in the list
 abbrev pub has_id : ServerId → List ServerId → Bool

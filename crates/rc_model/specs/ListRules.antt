@@ -14,13 +14,15 @@ then_does (master, messages) rule = let after = rule master in (after.0, message
 
 -- a segment goes whole to those who are to be sent it, closed where it is shut; a refused change sends nothing
 abbrev pub places_segment : ℕ → Master → Log × Result (List ServerId) Fault → Master × List Message
-places_segment seg master (log, Ok ids) = (with_log master log, to_ids log.own ids (place_of log seg (log.segments seg).shut))
+places_segment seg master (log, Ok ids) =
+    (with_log master log, to_ids log.own ids (place_of log seg (log.segments seg).shut))
 places_segment seg master (log, Err fault) = (with_log master log, [])
 
 -- lost members of a segment are replaced, if it wasn't freed
 abbrev pub replaces_lost : Master → ℕ → Master × List Message
 replaces_lost master seg =
-    if (master.log.segments seg).freed then (master, []) else places_segment seg master (loses master.known seg master.log)
+    if (master.log.segments seg).freed then (master, [])
+    else places_segment seg master (loses master.known seg master.log)
 
 -- of these segments, one after another
 abbrev pub replaces_lost_of : List ℕ → Master → Master × List Message
@@ -34,7 +36,8 @@ opens_first master (log, Err fault) = (master, [])
 -- where no head was ever opened, this id is up and there are enough others, the first head is opened
 abbrev pub tries_first : Master → Master × List Message
 tries_first master =
-    if nat_eq master.log.head 0 && is_up master.known master.log.own then opens_first master (open_first master.known master.log)
+    if nat_eq master.log.head 0 && is_up master.known master.log.own
+    then opens_first master (open_first master.known master.log)
     else (master, [])
 
 -- the list rules: over the segments, ascending, and then the first head

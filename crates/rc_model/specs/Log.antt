@@ -1,5 +1,6 @@
 -- A master's log: its segments, of which the newest is the head, its places, and how much of it is durable.
-use Rattle.std.specs.Prelude.{ℕ, ◌+◌, ◌-◌, Bool, true, false, nat_lt, nat_le, ◌&&◌, if◌then◌else◌, List, [], ◌∷◌, ◌++◌, length, map, zero, suc}
+use Rattle.std.specs.Prelude.{ℕ, ◌+◌, ◌-◌, Bool, true, false, nat_lt, nat_le, ◌&&◌, if◌then◌else◌, List, [], ◌∷◌}
+use Rattle.std.specs.Prelude.{◌++◌, length, map, zero, suc}
 use Rattle.rc_types.specs.declared.ids.ServerId.{ServerId}
 use Rattle.rc_types.specs.declared.entries.Entry.{Entry}
 use Rattle.rc_types.specs.declared.kept.Phase.{Phase}
@@ -86,7 +87,8 @@ places_of log = places_to log.segments log.head
 abbrev pub entries_of : Log → List Entry
 entries_of log = map (λ place. place.entry) (places_of log)
 
--- How much of it is durable at this moment: each shut segment, up to the first that isn't, and of that what all members have.
+-- How much of it is durable at this moment: each shut segment, up to the first that isn't, and of that what all
+-- members have.
 
 abbrev pub durable_among : List Segment → ℕ
 durable_among [] = 0

@@ -22,7 +22,8 @@ pub record Task : Type 0 where
   pub rows : List PlanRow
   pub part : Part
 
--- what a host's masters are made with: replicas of each segment, entries a segment takes, whether dead segments are freed
+-- what a host's masters are made with: replicas of each segment, entries a segment takes, whether dead segments are
+-- freed
 pub record MasterSetup : Type 0 where
   pub factor : ℕ
   pub size : ℕ
@@ -76,7 +77,8 @@ to_unlost log seg body = to_ids log.own (ids_of (not_lost (log.segments seg).con
 -- a segment whole, under its epoch
 abbrev pub place_of : Log → ℕ → Bool → Body
 place_of log seg closed =
-    Place seg (log.segments seg).config.epoch (log.segments seg).digest (map (λ one. one.0) (log.segments seg).entries) closed
+    Place seg (log.segments seg).config.epoch (log.segments seg).digest
+    (map (λ one. one.0) (log.segments seg).entries) closed
 
 -- a new head goes to its members
 abbrev pub places_head : Log → List Message
@@ -94,7 +96,8 @@ appends_entry master entry client = (
 -- the segment is shut, and each of its entries has a durable entry of its key under its term with a greater version
 abbrev pub is_dead_segment : Master → ℕ → Bool
 is_dead_segment master seg =
-    (master.log.segments seg).shut && is_dead (durable_entries master) (map (λ one. one.0) (master.log.segments seg).entries)
+    (master.log.segments seg).shut && is_dead (durable_entries master)
+    (map (λ one. one.0) (master.log.segments seg).entries)
 
 -- the dead segments of the head's digest, where the master frees any
 abbrev pub dead_segments : Master → List ℕ

@@ -13,7 +13,8 @@ FollowUpsLower = (master next : Master) (messages : List Message) → master.log
 
 -- afterwards none applies, and what is shut is marked
 abbrev pub NoneAppliesAfterwards : Type 0
-NoneAppliesAfterwards = (master : Master) → master.log.factor ≢ 0 → master.deposed ≡ false → follow_up (goes_on master).0 ≡ None
+NoneAppliesAfterwards = (master : Master) → master.log.factor ≢ 0 → master.deposed ≡ false →
+    follow_up (goes_on master).0 ≡ None
 
 abbrev pub ShutIsMarked : Type 0
 ShutIsMarked = (master : Master) → master.deposed ≡ false → marks_shut (goes_on master).0 ≡ (goes_on master).0

@@ -10,7 +10,8 @@ use Rattle.rc_types.specs.declared.faults.Code.TheVariants as code
 use Rattle.rc_types.specs.declared.faults.Fault.TheVariants.{Deposed}
 use Rattle.rc_types.specs.declared.messages.Message.{Message}
 use Rattle.rc_types.specs.declared.messages.Body.{Body}
-use Rattle.rc_types.specs.declared.messages.Body.TheVariants.{Write, Read, Stored, CommitOk, Refused, Plan, Data, Own, List as ServersOf}
+use Rattle.rc_types.specs.declared.messages.Body.TheVariants.{Write, Read, Stored, CommitOk, Refused, Plan, Data}
+use Rattle.rc_types.specs.declared.messages.Body.TheVariants.{Own, List as ServersOf}
 use Rattle.rc_model.specs.ServerList.{from_rows}
 use Rattle.rc_model.specs.Heads.{stored, commit_noted}
 use Rattle.rc_model.specs.Ownership.{knows_term, begin_part, put_data, grant}
@@ -39,7 +40,8 @@ task_of attempt master rows part = record { attempt = attempt; master = master; 
 abbrev pub takes_plan : ℕ → ServerId → List PlanRow → List Part → Master → Master × List Message
 takes_plan attempt crashed rows [] master = (master, [])
 takes_plan attempt crashed rows (part ∷ parts) master =
-    then_does (begins_task (task_of attempt crashed rows part) master) (λ after. takes_plan attempt crashed rows parts after)
+    then_does (begins_task (task_of attempt crashed rows part) master)
+    (λ after. takes_plan attempt crashed rows parts after)
 
 -- the refusal says that the coordinator holds the sender for dead
 abbrev pub says_deposed : Code → Bool
@@ -51,14 +53,21 @@ abbrev pub master_takes_first : Master → Addr → Body → Master × List Mess
 master_takes_first master from (Write table key value) = writes master table key value
 master_takes_first master from (Read table key) = reads master table key
 master_takes_first master from (ServersOf version rows) = takes_list master (from_rows version rows)
-master_takes_first master (Server from) (Stored seg epoch len closed) = (with_log master (stored seg from epoch len closed master.log), [])
+master_takes_first master (Server from) (Stored seg epoch len closed) =
+    (with_log master (stored seg from epoch len closed master.log), [])
 master_takes_first master from (CommitOk seg epoch) = (with_log master (commit_noted seg epoch master.log), [])
-master_takes_first master Coordinator (Refused reason) = (if says_deposed reason then record master { deposed = true } else master, [])
+master_takes_first master Coordinator (Refused reason) =
+    (if says_deposed reason then record master { deposed = true } else master, [])
 master_takes_first master from (Plan attempt crashed head rows parts) = takes_plan attempt crashed rows parts master
 master_takes_first master (Server from) (Data attempt seg term entries) =
     (record master { ownership = put_data term seg from entries master.ownership }, [])
-master_takes_first master from (Own table lo hi term previous attempt) =
-    (record master { ownership = grant (record { range = record { table = table; lo = lo; hi = hi }; term = term }) master.ownership }, [])
+master_takes_first master from (Own table lo hi term previous attempt) = (
+  record master {
+    ownership = grant (record { range = record { table = table; lo = lo; hi = hi }; term = term })
+        master.ownership;
+  },
+  [],
+)
 master_takes_first master from _ = (master, [])
 
 -- a deposed master refuses clients, and does nothing else

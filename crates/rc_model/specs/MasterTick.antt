@@ -1,5 +1,6 @@
 -- A master's timer: it enlists anew, or says again what was not answered.
-use Rattle.std.specs.Prelude.{ℕ, ◌+◌, Bool, true, false, not, nat_eq, nat_lt, ◌&&◌, if◌then◌else◌, List, [], ◌∷◌, ◌++◌, length, drop, map, filter, Option, Some, None, is_some}
+use Rattle.std.specs.Prelude.{ℕ, ◌+◌, Bool, true, false, not, nat_eq, nat_lt, ◌&&◌, if◌then◌else◌, List, [], ◌∷◌}
+use Rattle.std.specs.Prelude.{◌++◌, length, drop, map, filter, Option, Some, None, is_some}
 use Rattle.rc_types.specs.declared.ids.ServerId.{ServerId}
 use Rattle.rc_types.specs.declared.rows.PlanRow.{PlanRow}
 use Rattle.rc_types.specs.declared.kept.Member.{Member}
@@ -18,7 +19,8 @@ use Rattle.rc_model.specs.Master.{Master, Task, durable_entries, ids_of, place_o
 use Rattle.rc_model.specs.ListRules.{obeys_list, then_does}
 use Rattle.rc_model.specs.FollowUps.{attempt_of}
 
--- the id was a member of the segment under its present epoch before the list rules: they have sent it nothing in this tick
+-- the id was a member of the segment under its present epoch before the list rules: they have sent it nothing in this
+-- tick
 abbrev pub stood : Log → Log → ℕ → ServerId → Bool
 stood before log seg id =
     has_segment before seg
@@ -57,19 +59,22 @@ reminds_members log seg (member ∷ members) = reminds_member log seg member ++ 
 abbrev pub reminds_open : Log → Log → List ℕ → List Message
 reminds_open before log [] = []
 reminds_open before log (seg ∷ segs) =
-    (if (log.segments seg).shut then [] else reminds_members log seg (to_remind before log seg)) ++ reminds_open before log segs
+    (if (log.segments seg).shut then [] else reminds_members log seg (to_remind before log seg)) ++
+    reminds_open before log segs
 
 -- the members of a shut segment that have told nothing, lost or not, get it again, closed
 abbrev pub reminds_shut_members : Log → ℕ → List Member → List Message
 reminds_shut_members log seg members =
-    map (λ member. between log.own member.id (place_of log seg true)) (filter (λ member. not (is_some member.told)) members)
+    map (λ member. between log.own member.id (place_of log seg true))
+    (filter (λ member. not (is_some member.told)) members)
 
 -- the shut segments among these, save those that were freed
 abbrev pub reminds_shut : Log → Log → List ℕ → List Message
 reminds_shut before log [] = []
 reminds_shut before log (seg ∷ segs) =
-    (if (log.segments seg).shut && not (log.segments seg).freed then reminds_shut_members log seg (standing before log seg) else [])
-    ++ reminds_shut before log segs
+    (if (log.segments seg).shut && not (log.segments seg).freed
+    then reminds_shut_members log seg (standing before log seg)
+    else []) ++ reminds_shut before log segs
 
 -- a Commit was sent and not answered, and the segment is placed on all under its epoch
 abbrev pub awaits_commit : Segment → Bool
@@ -90,11 +95,13 @@ fetch_of own task row = between own row.holder (Fetch task.attempt task.master r
 abbrev pub fetches_again : Master → List Task → List Message
 fetches_again master [] = []
 fetches_again master (task ∷ tasks) =
-    map (fetch_of master.log.own task) (filter (has_not_come master.ownership task) task.rows) ++ fetches_again master tasks
+    map (fetch_of master.log.own task) (filter (has_not_come master.ownership task) task.rows) ++
+    fetches_again master tasks
 
 -- a complete part that isn't granted yet
 abbrev pub awaits_grant : Master → PartState → Bool
-awaits_grant master state = is_complete (durable_entries master) state && not (owns_term master.ownership state.part.term)
+awaits_grant master state =
+    is_complete (durable_entries master) state && not (owns_term master.ownership state.part.term)
 
 abbrev pub recovered_again : Master → List Message
 recovered_again master =
@@ -103,13 +110,16 @@ recovered_again master =
 
 abbrev pub ready_again : Master → List Message
 ready_again master =
-    if is_writing master.log.phase && nat_eq (length master.ownership.grants) 0 then to_coordinator master.log.own Ready ∷ [] else []
+    if is_writing master.log.phase && nat_eq (length master.ownership.grants) 0
+    then to_coordinator master.log.own Ready ∷ []
+    else []
 
 -- all that was not answered, but for what the list rules have just sent
 abbrev pub reminds : Log → Master → Master × List Message
 reminds before master = (
   master,
-  reminds_open before master.log (numbers_to master.log.head) ++ reminds_shut before master.log (numbers_to master.log.head)
+  reminds_open before master.log (numbers_to master.log.head) ++
+      reminds_shut before master.log (numbers_to master.log.head)
       ++ commits_again master.log ++ fetches_again master master.tasks ++ recovered_again master ++ ready_again master,
 )
 

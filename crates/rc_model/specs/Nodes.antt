@@ -1,6 +1,7 @@
--- The nodes: the outside, the coordinator, and each host with its backup and, where it runs, its master. What a node can be
--- given and what it then does depend on its own state and on that work alone.
-use Rattle.std.specs.Prelude.{ℕ, ◌+◌, Bool, true, false, nat_lt, ◌&&◌, if◌then◌else◌, List, [], ◌∷◌, Option, Some, None, slice_get}
+-- The nodes: the outside, the coordinator, and each host with its backup and, where it runs, its master. What a node
+-- can be given and what it then does depend on its own state and on that work alone.
+use Rattle.std.specs.Prelude.{ℕ, ◌+◌, Bool, true, false, nat_lt, ◌&&◌, if◌then◌else◌, List, [], ◌∷◌, Option, Some}
+use Rattle.std.specs.Prelude.{None, slice_get}
 use Rattle.rc_types.specs.declared.ids.ServerId.{ServerId}
 use Rattle.rc_types.specs.declared.ids.Addr.{Addr}
 use Rattle.rc_types.specs.declared.ids.Addr.TheVariants.{Server, Outside}
@@ -8,7 +9,8 @@ use Rattle.rc_types.specs.declared.events.Setup.{Setup}
 use Rattle.rc_types.specs.declared.limits.TheConstants.{MAX_HOSTS}
 use Rattle.rc_types.specs.declared.messages.Message.{Message}
 use Rattle.rc_types.specs.declared.messages.Body.{Body}
-use Rattle.rc_types.specs.declared.messages.Body.TheVariants.{Write, Read, Place, Append, Close, Gather, Fetch, Free, Enlist}
+use Rattle.rc_types.specs.declared.messages.Body.TheVariants.{Write, Read, Place, Append, Close, Gather, Fetch, Free}
+use Rattle.rc_types.specs.declared.messages.Body.TheVariants.{Enlist}
 use Rattle.rc_model.specs.Ids.{is_server}
 use Rattle.rc_model.specs.Messages.{to_coordinator}
 use Rattle.rc_model.specs.Backup.{Backup, new_backup, backup_takes, restart}
@@ -151,7 +153,11 @@ ticks_if_running host (Some master) = with_master host (master_ticks master)
 -- a start gives the next generation, a new master, and the backup restarted; the server enlists
 abbrev pub starts_host : HostNode → ServerId → List (ServerId × ℕ) → HostNode × List Message
 starts_host host own kept = (
-  record host { generation = own.generation; backup = restart own kept host.backup; master = Some (new_master own host.setup) },
+  record host {
+    generation = own.generation;
+    backup = restart own kept host.backup;
+    master = Some (new_master own host.setup);
+  },
   to_coordinator own Enlist ∷ [],
 )
 

@@ -1,5 +1,6 @@
 -- Who was granted what, and which of two ownerships of a point is the earlier one, by the messages sent alone.
-use Rattle.std.specs.Prelude.{◌≡◌, ℕ, nat_eq, nat_le, ◌&&◌, ◌||◌, Bool, false, List, [], ◌∷◌, ◌++◌, filter, Some, slice_get}
+use Rattle.std.specs.Prelude.{◌≡◌, ℕ, nat_eq, nat_le, ◌&&◌, ◌||◌, Bool, false, List, [], ◌∷◌, ◌++◌, filter, Some}
+use Rattle.std.specs.Prelude.{slice_get}
 use Rattle.rc_types.specs.declared.ids.Addr.{Addr}
 use Rattle.rc_types.specs.declared.messages.Message.{Message}
 use Rattle.rc_types.specs.declared.messages.Body.{Body}

@@ -1,5 +1,6 @@
 -- What a master owns, and the parts of crashed masters' logs that it replays.
-use Rattle.std.specs.Prelude.{ℕ, Bool, true, false, not, nat_eq, nat_lt, nat_le, ◌&&◌, ◌||◌, if◌then◌else◌, List, [], ◌∷◌, ◌++◌, length, map, filter, find, Option, Some, None, option_map, is_some}
+use Rattle.std.specs.Prelude.{ℕ, Bool, true, false, not, nat_eq, nat_lt, nat_le, ◌&&◌, ◌||◌, if◌then◌else◌, List, []}
+use Rattle.std.specs.Prelude.{◌∷◌, ◌++◌, length, map, filter, find, Option, Some, None, option_map, is_some}
 use Rattle.std.specs.List.{list_any, list_all}
 use Rattle.rc_types.specs.declared.ids.ServerId.{ServerId}
 use Rattle.rc_types.specs.declared.entries.Entry.{Entry}
@@ -14,7 +15,8 @@ pub record PartRow : Type 0 where
   pub holder : ServerId
   pub came : Option (List Entry)
 
--- a part: its rows, ascending by segment, until all have come; from then on how many entries it has; and whether its end was told
+-- a part: its rows, ascending by segment, until all have come; from then on how many entries it has; and whether its
+-- end was told
 pub record PartState : Type 0 where
   pub part : Part
   pub rows : List PartRow
@@ -75,7 +77,8 @@ abbrev pub new_part : Part → List (ℕ × ServerId) → PartState
 new_part part rows = record { part = part; rows = rows_in_order (map awaited_row rows); size = 0; answered = false }
 
 abbrev pub begin_part : Part → List (ℕ × ServerId) → Ownership → Ownership
-begin_part part rows own = if knows_term own part.term then own else record own { parts = own.parts ++ new_part part rows ∷ [] }
+begin_part part rows own =
+    if knows_term own part.term then own else record own { parts = own.parts ++ new_part part rows ∷ [] }
 
 -- the row of this segment is awaited from this holder
 abbrev pub is_awaited : ℕ → ServerId → PartRow → Bool
@@ -113,7 +116,8 @@ under_term term entry = record entry { term = term }
 
 -- a part whose rows have all come waits for none any more
 abbrev pub joined : PartState → PartState
-joined state = if all_came state.rows then record state { rows = []; size = length (entries_that_came state.rows) } else state
+joined state = if all_came state.rows then record state { rows = []; size = length (entries_that_came state.rows) }
+    else state
 
 -- what joins the replay then
 abbrev pub joining : PartState → List Entry
@@ -133,7 +137,8 @@ data_in term seg from entries (state ∷ states) =
 abbrev pub replay_in : ℕ → ℕ → ServerId → List Entry → List PartState → List Entry
 replay_in term seg from entries [] = []
 replay_in term seg from entries (state ∷ states) =
-    if awaits term seg from state then joining (part_with_row seg from entries state) else replay_in term seg from entries states
+    if awaits term seg from state then joining (part_with_row seg from entries state)
+    else replay_in term seg from entries states
 
 abbrev pub put_data : ℕ → ℕ → ServerId → List Entry → Ownership → Ownership
 put_data term seg from entries own = record own {

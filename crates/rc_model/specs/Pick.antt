@@ -1,5 +1,6 @@
 -- The choice of the log: which rows of the backups' answers a recovery takes.
-use Rattle.std.specs.Prelude.{◌≡◌, ℕ, Bool, not, nat_eq, nat_lt, ◌&&◌, ◌||◌, if◌then◌else◌, List, [], ◌∷◌, ◌++◌, filter, Option, Some, None, Result, Ok, Err}
+use Rattle.std.specs.Prelude.{◌≡◌, ℕ, Bool, not, nat_eq, nat_lt, ◌&&◌, ◌||◌, if◌then◌else◌, List, [], ◌∷◌, ◌++◌}
+use Rattle.std.specs.Prelude.{filter, Option, Some, None, Result, Ok, Err}
 use Rattle.rc_types.specs.declared.ids.ServerId.{ServerId}
 use Rattle.rc_types.specs.declared.ids.Pair.{Pair}
 use Rattle.rc_types.specs.declared.rows.Row.{Row}
@@ -44,7 +45,9 @@ is_valid_of min seg held = nat_eq held.row.seg seg && is_valid min held.row
 -- by greater epoch, then greater length, then least holder
 abbrev pub longer_first : HeldRow → HeldRow → Bool
 longer_first a b =
-    nat_lt b.row.epoch a.row.epoch || (nat_eq a.row.epoch b.row.epoch && (nat_lt b.row.len a.row.len || (nat_eq a.row.len b.row.len && id_before a.holder b.holder)))
+    nat_lt b.row.epoch a.row.epoch ||
+    (nat_eq a.row.epoch b.row.epoch &&
+    (nat_lt b.row.len a.row.len || (nat_eq a.row.len b.row.len && id_before a.holder b.holder)))
 
 -- a greater segment, and in one segment as above
 abbrev pub head_first : HeldRow → HeldRow → Bool
@@ -97,7 +100,8 @@ row_then seg (Some held) (Err fault) = Err fault
 -- a row for each of these segments, or the first one that has none
 abbrev pub taken_rows : Pair → List (ServerId × List Row) → HeldRow → List ℕ → Result (List PlanRow) Fault
 taken_rows min replies head [] = Ok []
-taken_rows min replies head (seg ∷ segs) = row_then seg (taken_row min replies head seg) (taken_rows min replies head segs)
+taken_rows min replies head (seg ∷ segs) =
+    row_then seg (taken_row min replies head seg) (taken_rows min replies head segs)
 
 abbrev pub plan_of : ℕ → Result (List PlanRow) Fault → Result Plan Fault
 plan_of head (Ok rows) = Ok (record { head = head; rows = rows })
@@ -117,7 +121,9 @@ pick min replies = pick_by min replies (head_row min replies)
 -- each segment has the row that is taken of it, and the rows stand in the order of the segments
 abbrev pub AreTaken : Pair → List (ServerId × List Row) → HeldRow → List ℕ → List PlanRow → Type 0
 AreTaken min replies head [] [] = Unit {0}
-AreTaken min replies head (seg ∷ segs) (row ∷ rows) = ((held : HeldRow) × (taken_row min replies head seg ≡ Some held) × (row ≡ plan_row held)) × AreTaken min replies head segs rows
+AreTaken min replies head (seg ∷ segs) (row ∷ rows) =
+    ((held : HeldRow) × (taken_row min replies head seg ≡ Some held) × (row ≡ plan_row held)) ×
+    AreTaken min replies head segs rows
 AreTaken min replies head [] (row ∷ rows) = ⊥
 AreTaken min replies head (seg ∷ segs) [] = ⊥
 

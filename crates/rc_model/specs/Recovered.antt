@@ -1,5 +1,6 @@
 -- What was acknowledged, which recoveries were accepted, and what they recover, by the messages sent alone.
-use Rattle.std.specs.Prelude.{◌≡◌, ℕ, nat_eq, nat_lt, if◌then◌else◌, Bool, List, [], ◌∷◌, ◌++◌, max, Some, slice_get, IsTrue}
+use Rattle.std.specs.Prelude.{◌≡◌, ℕ, nat_eq, nat_lt, if◌then◌else◌, Bool, List, [], ◌∷◌, ◌++◌, max, Some, slice_get}
+use Rattle.std.specs.Prelude.{IsTrue}
 use Rattle.rc_types.specs.declared.ids.ServerId.{ServerId}
 use Rattle.rc_types.specs.declared.ids.Pair.{Pair}
 use Rattle.rc_types.specs.declared.entries.Entry.{Entry}
@@ -38,7 +39,8 @@ all_acknowledged (message ∷ sent) = ack_in message.body ++ all_acknowledged se
 
 -- the master has acknowledged a write at this place
 abbrev pub IsAcknowledged : List Message → ServerId → ℕ → ℕ → Type 0
-IsAcknowledged sent m s o = (k : ℕ) × (ack : Ack) × (slice_get (acknowledged sent m) k ≡ Some ack) × (ack.seg ≡ s) × (ack.offset ≡ o)
+IsAcknowledged sent m s o =
+    (k : ℕ) × (ack : Ack) × (slice_get (acknowledged sent m) k ≡ Some ack) × (ack.seg ≡ s) × (ack.offset ≡ o)
 
 -- an accepted recovery: the attempt, the master, and where its log is
 pub record Accepted : Type 0 where

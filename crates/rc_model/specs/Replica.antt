@@ -1,6 +1,7 @@
 -- A replica: what one backup keeps of one segment. Its entries only grow, and it closes only where it
 -- has exactly the stated number of them.
-use Rattle.std.specs.Prelude.{ℕ, ◌-◌, Bool, true, not, nat_eq, nat_lt, nat_le, ◌&&◌, if◌then◌else◌, List, ◌++◌, length, drop}
+use Rattle.std.specs.Prelude.{ℕ, ◌-◌, Bool, true, not, nat_eq, nat_lt, nat_le, ◌&&◌, if◌then◌else◌, List, ◌++◌}
+use Rattle.std.specs.Prelude.{length, drop}
 use Rattle.rc_types.specs.declared.entries.Entry.{Entry}
 
 pub record Replica : Type 0 where

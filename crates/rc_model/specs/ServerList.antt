@@ -41,16 +41,21 @@ up servers = ids_in_order (up_rows servers.rows)
 -- the generation is above all known of its index
 abbrev pub is_newest : ServerId → List (ServerId × Bool) → Bool
 is_newest id [] = true
-is_newest id (row ∷ rows) = (if nat_eq row.0.index id.index then nat_lt row.0.generation id.generation else true) && is_newest id rows
+is_newest id (row ∷ rows) =
+    (if nat_eq row.0.index id.index then nat_lt row.0.generation id.generation else true) && is_newest id rows
 
 -- every id of the index is marked crashed
 abbrev pub index_crashed : ℕ → List (ServerId × Bool) → List (ServerId × Bool)
 index_crashed index [] = []
-index_crashed index (row ∷ rows) = (row.0, (if nat_eq row.0.index index then false else row.1)) ∷ index_crashed index rows
+index_crashed index (row ∷ rows) =
+    (row.0, (if nat_eq row.0.index index then false else row.1)) ∷ index_crashed index rows
 
 -- a new id is up, and older generations of its index have crashed
 abbrev pub enlisted : ServerId → ServerList → ServerList
-enlisted id servers = record { version = servers.version + 1; rows = index_crashed id.index servers.rows ++ (id, true) ∷ [] }
+enlisted id servers = record {
+  version = servers.version + 1;
+  rows = index_crashed id.index servers.rows ++ (id, true) ∷ [];
+}
 
 -- the id is marked crashed
 abbrev pub id_crashed : ServerId → List (ServerId × Bool) → List (ServerId × Bool)
@@ -59,12 +64,16 @@ id_crashed id (row ∷ rows) = (row.0, (if same_id id row.0 then false else row.
 
 -- an id that is up crashes; of another nothing changes
 abbrev pub crashed : ServerId → ServerList → ServerList
-crashed id servers = if is_up servers id then record { version = servers.version + 1; rows = id_crashed id servers.rows } else servers
+crashed id servers = if is_up servers id then record {
+  version = servers.version + 1;
+  rows = id_crashed id servers.rows;
+} else servers
 
 -- of rows with one id the first counts
 abbrev pub first_rows : List (ServerId × Bool) → List (ServerId × Bool) → List (ServerId × Bool)
 first_rows before [] = before
-first_rows before (row ∷ rows) = if knows before row.0 then first_rows before rows else first_rows (before ++ row ∷ []) rows
+first_rows before (row ∷ rows) =
+    if knows before row.0 then first_rows before rows else first_rows (before ++ row ∷ []) rows
 
 -- the list of a List message
 abbrev pub from_rows : ℕ → List (ServerId × Bool) → ServerList

@@ -1,6 +1,7 @@
 -- The tablets: a list in order of (table, lo), of ranges that do not overlap. A table that is there
 -- is covered from key 0 to the last one.
-use Rattle.std.specs.Prelude.{ℕ, ◌+◌, ◌-◌, Bool, true, false, not, nat_eq, nat_lt, nat_le, ◌&&◌, ◌||◌, if◌then◌else◌, List, [], ◌∷◌, Option, Some, None}
+use Rattle.std.specs.Prelude.{ℕ, ◌+◌, ◌-◌, Bool, true, false, not, nat_eq, nat_lt, nat_le, ◌&&◌, ◌||◌, if◌then◌else◌}
+use Rattle.std.specs.Prelude.{List, [], ◌∷◌, Option, Some, None}
 use Rattle.rc_types.specs.declared.ids.ServerId.{ServerId}
 use Rattle.rc_types.specs.declared.rows.Tablet.{Tablet}
 use Rattle.rc_types.specs.declared.rows.KeyRange.{KeyRange}
@@ -24,16 +25,19 @@ has_table (tablet ∷ tablets) table = nat_eq tablet.table table || has_table ta
 -- the tablets of one owner, in order
 abbrev pub tablets_of : ServerId → List Tablet → List Tablet
 tablets_of owner [] = []
-tablets_of owner (tablet ∷ tablets) = if same_id owner tablet.owner then tablet ∷ tablets_of owner tablets else tablets_of owner tablets
+tablets_of owner (tablet ∷ tablets) =
+    if same_id owner tablet.owner then tablet ∷ tablets_of owner tablets else tablets_of owner tablets
 
 -- the new tablet is put before the first that lies behind it
 abbrev pub insert_tablet : Tablet → List Tablet → List Tablet
 insert_tablet new [] = new ∷ []
-insert_tablet new (tablet ∷ tablets) = if nat_lt new.table tablet.table then new ∷ tablet ∷ tablets else tablet ∷ insert_tablet new tablets
+insert_tablet new (tablet ∷ tablets) =
+    if nat_lt new.table tablet.table then new ∷ tablet ∷ tablets else tablet ∷ insert_tablet new tablets
 
 -- the whole of a table
 abbrev pub whole_table : ℕ → ServerId → ℕ → Tablet
-whole_table table owner term = record { table = table; lo = 0; hi = LAST_KEY; owner = owner; term = term; crashed = false }
+whole_table table owner term =
+    record { table = table; lo = 0; hi = LAST_KEY; owner = owner; term = term; crashed = false }
 
 -- the tablets with a new table, all of it one tablet
 abbrev pub with_table : ℕ → ServerId → ℕ → List Tablet → List Tablet
@@ -51,12 +55,16 @@ marked_crashed owner (tablet ∷ tablets) = mark_if_owned owner tablet ∷ marke
 -- how many of an owner's tablets are not marked yet
 abbrev pub count_to_mark : ServerId → List Tablet → ℕ
 count_to_mark owner [] = 0
-count_to_mark owner (tablet ∷ tablets) = if same_id owner tablet.owner && not tablet.crashed then count_to_mark owner tablets + 1 else count_to_mark owner tablets
+count_to_mark owner (tablet ∷ tablets) =
+    if same_id owner tablet.owner && not tablet.crashed then count_to_mark owner tablets + 1
+    else count_to_mark owner tablets
 
 -- the tablet that holds the point becomes two, of which the second begins at the point
 abbrev pub split_at : ℕ → ℕ → List Tablet → List Tablet
 split_at table at [] = []
-split_at table at (tablet ∷ tablets) = if holds tablet table at then record tablet { hi = at - 1 } ∷ record tablet { lo = at } ∷ tablets else tablet ∷ split_at table at tablets
+split_at table at (tablet ∷ tablets) =
+    if holds tablet table at then record tablet { hi = at - 1 } ∷ record tablet { lo = at } ∷ tablets
+    else tablet ∷ split_at table at tablets
 
 -- the tablet has exactly this range
 abbrev pub is_range : KeyRange → Tablet → Bool
@@ -70,4 +78,6 @@ has_range range (tablet ∷ tablets) = is_range range tablet || has_range range 
 -- the tablet of this range gets a new owner and term, and its mark goes
 abbrev pub assigned : KeyRange → ServerId → ℕ → List Tablet → List Tablet
 assigned range owner term [] = []
-assigned range owner term (tablet ∷ tablets) = if is_range range tablet then record tablet { owner = owner; term = term; crashed = false } ∷ tablets else tablet ∷ assigned range owner term tablets
+assigned range owner term (tablet ∷ tablets) =
+    if is_range range tablet then record tablet { owner = owner; term = term; crashed = false } ∷ tablets
+    else tablet ∷ assigned range owner term tablets

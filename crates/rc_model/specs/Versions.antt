@@ -11,7 +11,8 @@ is_of term table key entry = nat_eq entry.term term && (nat_eq entry.table table
 abbrev pub greatest_version : ℕ → ℕ → ℕ → List Entry → ℕ
 greatest_version term table key [] = 0
 greatest_version term table key (entry ∷ entries) =
-    if is_of term table key entry then max entry.version (greatest_version term table key entries) else greatest_version term table key entries
+    if is_of term table key entry then max entry.version (greatest_version term table key entries)
+    else greatest_version term table key entries
 
 -- the version rule: one more than the greatest so far
 abbrev pub next_version : ℕ → ℕ → ℕ → List Entry → ℕ
@@ -25,11 +26,15 @@ pub record Found : Type 0 where
 -- the entry is found, unless what was found has as great a version
 abbrev pub or_greater : ℕ → ℕ → ℕ → Found → Entry → Found
 or_greater term table key found entry =
-    if is_of term table key entry && nat_lt found.version entry.version then record { version = entry.version; value = entry.value } else found
+    if is_of term table key entry && nat_lt found.version entry.version then record {
+      version = entry.version;
+      value = entry.value;
+    } else found
 
 abbrev pub read_from : ℕ → ℕ → ℕ → Found → List Entry → Found
 read_from term table key found [] = found
-read_from term table key found (entry ∷ entries) = read_from term table key (or_greater term table key found entry) entries
+read_from term table key found (entry ∷ entries) =
+    read_from term table key (or_greater term table key found entry) entries
 
 -- the greatest version of a key under a term with its value, of equal versions the first in place
 abbrev pub read_of : ℕ → ℕ → ℕ → List Entry → Found
@@ -37,7 +42,8 @@ read_of term table key entries = read_from term table key (record { version = 0;
 
 -- among these entries is a greater version of this one's key under its term
 abbrev pub is_outdated : List Entry → Entry → Bool
-is_outdated entries entry = list_any (λ other. is_of entry.term entry.table entry.key other && nat_lt entry.version other.version) entries
+is_outdated entries entry =
+    list_any (λ other. is_of entry.term entry.table entry.key other && nat_lt entry.version other.version) entries
 
 -- a segment with these entries is dead: each has a greater version among the durable entries
 abbrev pub is_dead : List Entry → List Entry → Bool

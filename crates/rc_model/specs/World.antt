@@ -1,5 +1,6 @@
 -- The world: all nodes, and all messages ever sent. An event is one input, taken by one node.
-use Rattle.std.specs.Prelude.{ℕ, Bool, true, false, nat_eq, if◌then◌else◌, List, [], ◌∷◌, ◌++◌, Option, Some, None, slice_get}
+use Rattle.std.specs.Prelude.{ℕ, Bool, true, false, nat_eq, if◌then◌else◌, List, [], ◌∷◌, ◌++◌, Option, Some, None}
+use Rattle.std.specs.Prelude.{slice_get}
 use Rattle.rc_types.specs.declared.ids.ServerId.{ServerId}
 use Rattle.rc_types.specs.declared.ids.Addr.{Addr}
 use Rattle.rc_types.specs.declared.ids.Addr.TheVariants.{Server, Coordinator as AtCoordinator, Outside}
@@ -10,7 +11,9 @@ use Rattle.rc_types.specs.declared.messages.Message.{Message}
 use Rattle.rc_model.specs.Tables.{put, put_id}
 use Rattle.rc_model.specs.Master.{Master, new_master}
 use Rattle.rc_model.specs.Coordinator.{Coordinator, new_coordinator}
-use Rattle.rc_model.specs.Nodes.{Work, Ask, Take, Tick, Stop, Start, Suspect, Decide, Create, Split, HostNode, new_host, master_setup, outside_can, outside_sends, coordinator_can, coordinator_step, host_can, host_step}
+use Rattle.rc_model.specs.Nodes.{Work, Ask, Take, Tick, Stop, Start, Suspect, Decide, Create, Split, HostNode}
+use Rattle.rc_model.specs.Nodes.{new_host, master_setup, outside_can, outside_sends, coordinator_can}
+use Rattle.rc_model.specs.Nodes.{coordinator_step, host_can, host_step}
 
 pub record World : Type 0 where
   pub setup : Setup

@@ -3,7 +3,8 @@ use Rattle.std.specs.Prelude.{◌≡◌, ℕ, ◌≤◌, true, false, if◌then�
 use Rattle.rc_types.specs.declared.events.Setup.{Setup}
 use Rattle.rc_types.specs.declared.events.Event.{Event}
 use Rattle.rc_types.specs.declared.messages.Message.{Message}
-use Rattle.rc_model.specs.World.{World, NodeName, TheCoordinator, TheHost, same_node, is_possible, step, replay_from, replay}
+use Rattle.rc_model.specs.World.{World, NodeName, TheCoordinator, TheHost, same_node, is_possible, step, replay_from}
+use Rattle.rc_model.specs.World.{replay}
 use Rattle.rc_model.specs.Works.{works_of, host_after, coordinator_after}
 
 -- the world after one more event is one step further

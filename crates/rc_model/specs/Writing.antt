@@ -1,5 +1,6 @@
 -- A client's write and read at a master, with their refusals in order.
-use Rattle.std.specs.Prelude.{ℕ, Bool, true, false, not, nat_lt, if◌then◌else◌, List, [], ◌∷◌, ◌++◌, length, Option, Some, None, Result, Ok, Err}
+use Rattle.std.specs.Prelude.{ℕ, Bool, true, false, not, nat_lt, if◌then◌else◌, List, [], ◌∷◌, ◌++◌, length, Option}
+use Rattle.std.specs.Prelude.{Some, None, Result, Ok, Err}
 use Rattle.rc_types.specs.declared.entries.Entry.{Entry}
 use Rattle.rc_types.specs.declared.faults.Fault.{Fault}
 use Rattle.rc_types.specs.declared.faults.Fault.TheVariants.{NotOwner, Rolling, ValueTooLong}
@@ -55,11 +56,13 @@ writes master table key value =
     else writes_if_owned master (term_of master.ownership table key) table key value
 
 abbrev pub read_answer : Master → ℕ → ℕ → Found → Master × List Message
-read_answer master table key found = (master, to_outside master.log.own (ReadOk table key found.version found.value) ∷ [])
+read_answer master table key found =
+    (master, to_outside master.log.own (ReadOk table key found.version found.value) ∷ [])
 
 abbrev pub reads_if_owned : Master → Option ℕ → ℕ → ℕ → Master × List Message
 reads_if_owned master None table key = refused master NotOwner
-reads_if_owned master (Some term) table key = read_answer master table key (read_of term table key (durable_entries master))
+reads_if_owned master (Some term) table key =
+    read_answer master table key (read_of term table key (durable_entries master))
 
 -- a read: the greatest durable version under the term of its range
 abbrev pub reads : Master → ℕ → ℕ → Master × List Message

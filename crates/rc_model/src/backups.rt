@@ -1,6 +1,9 @@
 //! What backups keep.
 
-ghost use Rattle.rc_model.specs.BackupClaims.{ReplicasOnlyGrow, ClosedStaysTheSame, ClosesAtTheStatedLength, FencedStoresNothing, FencedReplicasStay, GatherFences, FreedIsMarked, FreedStoresNothing, RestartKeeps, RestartKeepsNoOther, RestartFencesNobody};
+ghost use Rattle.rc_model.specs.BackupClaims.{ReplicasOnlyGrow, ClosedStaysTheSame, ClosesAtTheStatedLength};
+ghost use Rattle.rc_model.specs.BackupClaims.{FencedStoresNothing, FencedReplicasStay, GatherFences, FreedIsMarked};
+ghost use Rattle.rc_model.specs.BackupClaims.{FreedStoresNothing, RestartKeeps, RestartKeepsNoOther};
+ghost use Rattle.rc_model.specs.BackupClaims.{RestartFencesNobody};
 
 /// A replica's entries only grow; a closed one stays closed with the same entries; and one closes
 /// only where it has exactly the stated length.

@@ -1,6 +1,7 @@
 //! What the coordinator commits and grants.
 
-ghost use Rattle.rc_model.specs.CoordinatorClaims.{LeastPairsNeverFall, CommitsAreCovered, CrashedCommitNothing, CrashedAreGrantedNothing, StaleAttemptsGrantNothing};
+ghost use Rattle.rc_model.specs.CoordinatorClaims.{LeastPairsNeverFall, CommitsAreCovered, CrashedCommitNothing};
+ghost use Rattle.rc_model.specs.CoordinatorClaims.{CrashedAreGrantedNothing, StaleAttemptsGrantNothing};
 
 /// A least pair never falls, and covers each commit that is answered; who isn't up commits nothing.
 pub fn commits_rise()

@@ -1,6 +1,10 @@
 //! How a master goes on.
 
-ghost use Rattle.rc_model.specs.HeadClaims.{ClosesOnlyWherePlaced, StepsCloseOnlyWherePlaced, TicksCloseOnlyWherePlaced, WritesOnlyWhereShut, RollsKeepTheDigest, RollsLeaveOutOnlyDead, DeadIsOutdated, WritesAreNumberedAbove, WritesAppendTheAsked, ChangesTakeAFreshEpoch, NothingIsToldUnderIt, OtherEpochsAreNotNoted};
+ghost use Rattle.rc_model.specs.HeadClaims.{ClosesOnlyWherePlaced, StepsCloseOnlyWherePlaced};
+ghost use Rattle.rc_model.specs.HeadClaims.{TicksCloseOnlyWherePlaced, WritesOnlyWhereShut, RollsKeepTheDigest};
+ghost use Rattle.rc_model.specs.HeadClaims.{RollsLeaveOutOnlyDead, DeadIsOutdated, WritesAreNumberedAbove};
+ghost use Rattle.rc_model.specs.HeadClaims.{WritesAppendTheAsked, ChangesTakeAFreshEpoch, NothingIsToldUnderIt};
+ghost use Rattle.rc_model.specs.HeadClaims.{OtherEpochsAreNotNoted};
 ghost use Rattle.rc_model.specs.MasterClaims.{FollowUpsLower, NoneAppliesAfterwards, ShutIsMarked};
 
 /// Each follow-up that a master makes lowers its measure.

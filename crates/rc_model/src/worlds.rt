@@ -1,6 +1,8 @@
 //! How a world goes on, and that an event is for one node.
 
-ghost use Rattle.rc_model.specs.WorldClaims.{OneMoreEventIsAStep, ImpossibleChangesNothing, PossibleIsNoted, SentOnlyGrows, GenerationsNeverFall, SameNodesAreEqual, EachNodeIsTheSame, HostsFollowTheirWorks, CoordinatorFollowsItsWorks};
+ghost use Rattle.rc_model.specs.WorldClaims.{OneMoreEventIsAStep, ImpossibleChangesNothing, PossibleIsNoted};
+ghost use Rattle.rc_model.specs.WorldClaims.{SentOnlyGrows, GenerationsNeverFall, SameNodesAreEqual};
+ghost use Rattle.rc_model.specs.WorldClaims.{EachNodeIsTheSame, HostsFollowTheirWorks, CoordinatorFollowsItsWorks};
 
 /// A world goes on by steps: one more event is one more step, an event is noted exactly where it is
 /// possible, one that isn't changes nothing, what was sent stays sent, and generations never fall.

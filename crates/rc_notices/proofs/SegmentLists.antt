@@ -1,5 +1,6 @@
 -- Lists of messages that go through the segments.
-use Rattle.std.proofs.Common.{◌≡◌, ℕ, ◌+◌, suc, List, [], ◌∷◌, ◌++◌, map, filter, Bool, cond, true, false, ap, sym, ◌∙◌, add-one, append_assoc, refl}
+use Rattle.std.proofs.Common.{◌≡◌, ℕ, ◌+◌, suc, List, [], ◌∷◌, ◌++◌, map, filter, Bool, cond, true, false, ap, sym}
+use Rattle.std.proofs.Common.{◌∙◌, add-one, append_assoc, refl}
 use Rattle.std.proofs.lemmas.List.{append-nil}
 use Rattle.rc_types.specs.declared.messages.Message.{Message}
 use Rattle.rc_types.specs.declared.messages.Body.TheVariants.{Commit}

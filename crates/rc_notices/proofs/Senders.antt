@@ -8,7 +8,8 @@ use Rattle.rc_model.specs.Log.{Log, entries_of, numbers_to}
 use Rattle.rc_model.specs.Ownership.{Ownership, PartState, is_complete, owns_term}
 use Rattle.rc_model.specs.Master.{Master, Task}
 use Rattle.rc_model.specs.FollowUps.{attempt_of}
-use Rattle.rc_model.specs.MasterTick.{fetch_of, has_not_come, reminds_open, reminds_shut, commits_again, fetches_again, recovered_again, ready_again, reminds}
+use Rattle.rc_model.specs.MasterTick.{fetch_of, has_not_come, reminds_open, reminds_shut, commits_again, fetches_again}
+use Rattle.rc_model.specs.MasterTick.{recovered_again, ready_again, reminds}
 use Rattle.rc_ownership.specs.Parts.{awaiting_grant}
 use Rattle.rc_notices.specs.Reminders.{recovered_of}
 use Rattle.rc_notices.specs.Sender.{sender}

@@ -2,7 +2,8 @@
 
 ghost use Rattle.std.specs.Prelude.{◌≡◌, ◌++◌, [], true, map, filter, take, OnOk, OnErr};
 ghost use Rattle.rc_model.specs.Log.{has_segment, entries_of};
-ghost use Rattle.rc_model.specs.MasterTick.{fetch_of, has_not_come, commits_again, fetches_again, recovered_again, ready_again};
+ghost use Rattle.rc_model.specs.MasterTick.{fetch_of, has_not_come, commits_again, fetches_again, recovered_again};
+ghost use Rattle.rc_model.specs.MasterTick.{ready_again};
 ghost use Rattle.rc_headroll.specs.LogData.{log_of};
 ghost use Rattle.rc_ownership.specs.Owner.{durable_of};
 ghost use Rattle.rc_notices.specs.Beginnings.{IsBeginning};

@@ -23,7 +23,8 @@ fn add_closes_of(
     sent: &mut Vec<Message>,
 ) -> Result<(), AllocError>
     ensures ok { OnOk result (sent.new.items ≡ sent.old.items ++ to_ids own
-        (ids_of (filter (is_unclosed segment.now) segment.now.config.members)) (Close seg (length segment.now.entries))) }
+        (ids_of (filter (is_unclosed segment.now) segment.now.config.members))
+        (Close seg (length segment.now.entries))) }
     ensures begun { OnErr result (IsBeginning sent.old.items sent.new.items) }
 {
     let len = segment.len();

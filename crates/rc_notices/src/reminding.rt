@@ -2,7 +2,8 @@
 
 ghost use Rattle.std.specs.Prelude.{◌≡◌, ◌++◌, ◌&&◌, not, true, OnOk, OnErr};
 ghost use Rattle.rc_model.specs.Log.{has_segment, numbers_to};
-ghost use Rattle.rc_model.specs.MasterTick.{stood, standing, to_remind, reminds_members, reminds_open, reminds_shut_members, reminds_shut};
+ghost use Rattle.rc_model.specs.MasterTick.{stood, standing, to_remind, reminds_members, reminds_open};
+ghost use Rattle.rc_model.specs.MasterTick.{reminds_shut_members, reminds_shut};
 ghost use Rattle.rc_headroll.specs.LogData.{log_of, before_of};
 ghost use Rattle.rc_notices.specs.Beginnings.{IsBeginning};
 ghost use Rattle.rc_notices.specs.Reminders.{reminds_if_open, reminds_if_shut};

@@ -11,7 +11,7 @@ use Rattle.rc_model.specs.Messages.{between}
 use Rattle.rc_model.specs.Versions.{is_of, greatest_version}
 use Rattle.rc_model.specs.Master.{to_ids}
 use Rattle.rc_model.proofs.Members.{either}
-use Rattle.rc_facts.proofs.Lists.{map-append}
+use Rattle.rc_step_laws.proofs.Lists.{map-append}
 use Rattle.rc_numbers.specs.Numbers.{VersionsUpTo, body_within, MessagesWithin}
 
 -- what stands at a place of a list, each of whose elements has this
@@ -25,26 +25,31 @@ All-one P x p = All-cons P x [] p (All-nil P)
 
 -- versions up to n are up to what is more
 pub versions-more : (n m : ℕ) → n ≤ m → (entries : List Entry) → VersionsUpTo n entries → VersionsUpTo m entries
-versions-more n m more entries all = All-weaker (λ (entry : Entry). entry.version ≤ n) (λ (entry : Entry). entry.version ≤ m) (λ entry p. omega (arith, p, more)) entries all
+versions-more n m more entries all = All-weaker (λ (entry : Entry). entry.version ≤ n)
+    (λ (entry : Entry). entry.version ≤ m) (λ entry p. omega (arith, p, more)) entries all
 
 -- the greatest version of a key is one of the entries'
 pub greatest-within : (n term table key : ℕ) (entries : List Entry) → VersionsUpTo n entries → greatest_version term table key entries ≤ n
 greatest-within n term table key [] all = omega arith
 greatest-within n term table key (entry ∷ entries) all =
     let first : entry.version ≤ n = All-head (λ (one : Entry). one.version ≤ n) entry entries all in
-    let rest : greatest_version term table key entries ≤ n = greatest-within n term table key entries (All-tail (λ (one : Entry). one.version ≤ n) entry entries all) in
-    either (λ version. version ≤ n) (is_of term table key entry) (max entry.version (greatest_version term table key entries)) (greatest_version term table key entries)
+    let rest : greatest_version term table key entries ≤ n =
+    greatest-within n term table key entries (All-tail (λ (one : Entry). one.version ≤ n) entry entries all) in
+    either (λ version. version ≤ n) (is_of term table key entry)
+    (max entry.version (greatest_version term table key entries)) (greatest_version term table key entries)
     (λ e. omega (arith, first, rest)) (λ e. rest)
 
 -- one more entry
-pub versions-push : (n : ℕ) (entries : List (Entry × Bool)) (entry : Entry) (client : Bool) → VersionsUpTo n (map (λ one. one.0) entries) → entry.version ≤ n
+pub versions-push : (n : ℕ) (entries : List (Entry × Bool)) (entry : Entry) (client : Bool) →
+    VersionsUpTo n (map (λ one. one.0) entries) → entry.version ≤ n
     → VersionsUpTo n (map (λ one. one.0) (entries ++ (entry, client) ∷ []))
 versions-push n entries entry client all less =
     subst (VersionsUpTo n) (sym (map-append (λ (one : Entry × Bool). one.0) entries ((entry, client) ∷ [])))
     (All-push (λ (one : Entry). one.version ≤ n) (map (λ (one : Entry × Bool). one.0) entries) entry all less)
 
 -- without the first entries
-pub versions-drop : (n k : ℕ) (entries : List (Entry × Bool)) → VersionsUpTo n (map (λ one. one.0) entries) → VersionsUpTo n (map (λ one. one.0) (drop k entries))
+pub versions-drop : (n k : ℕ) (entries : List (Entry × Bool)) → VersionsUpTo n (map (λ one. one.0) entries) →
+    VersionsUpTo n (map (λ one. one.0) (drop k entries))
 versions-drop n zero entries all = all
 versions-drop n (suc k) [] all = all
 versions-drop n (suc k) (one ∷ entries) all =
@@ -60,7 +65,8 @@ body-more n m more _ p = tt
 
 pub messages-more : (n m : ℕ) → n ≤ m → (messages : List Message) → MessagesWithin n messages → MessagesWithin m messages
 messages-more n m more messages all =
-    All-weaker (λ (message : Message). body_within n message.body) (λ (message : Message). body_within m message.body) (λ message p. body-more n m more message.body p) messages all
+    All-weaker (λ (message : Message). body_within n message.body) (λ (message : Message). body_within m message.body)
+    (λ message p. body-more n m more message.body p) messages all
 
 pub none-within : (n : ℕ) → MessagesWithin n []
 none-within n = All-nil (λ (message : Message). body_within n message.body)
@@ -68,9 +74,11 @@ none-within n = All-nil (λ (message : Message). body_within n message.body)
 pub one-within : (n : ℕ) (message : Message) → body_within n message.body → MessagesWithin n (message ∷ [])
 one-within n message p = All-one (λ (one : Message). body_within n one.body) message p
 
-pub both-within : (n : ℕ) (first second : List Message) → MessagesWithin n first → MessagesWithin n second → MessagesWithin n (first ++ second)
+pub both-within : (n : ℕ) (first second : List Message) → MessagesWithin n first → MessagesWithin n second →
+    MessagesWithin n (first ++ second)
 both-within n first second p q = All-append (λ (message : Message). body_within n message.body) first second p q
 
 -- the same body to each of these
 pub ids-within : (n : ℕ) (own : ServerId) (ids : List ServerId) (body : Body) → body_within n body → MessagesWithin n (to_ids own ids body)
-ids-within n own ids body p = All-map (λ (message : Message). body_within n message.body) (λ (id : ServerId). between own id body) ids (λ k d less. p)
+ids-within n own ids body p = All-map (λ (message : Message). body_within n message.body)
+    (λ (id : ServerId). between own id body) ids (λ k d less. p)

@@ -14,7 +14,8 @@ length-marked owner [] = refl
 length-marked owner (tablet ∷ tablets) = omega (arith, length-marked owner tablets)
 
 -- nor does a new owner
-pub length-assigned : (range : KeyRange) (owner : ServerId) (term : ℕ) (tablets : List Tablet) → length (assigned range owner term tablets) ≡ length tablets
+pub length-assigned : (range : KeyRange) (owner : ServerId) (term : ℕ) (tablets : List Tablet) →
+    length (assigned range owner term tablets) ≡ length tablets
 length-assigned range owner term [] = refl
 length-assigned range owner term (tablet ∷ tablets) =
     either (λ (after : List Tablet). length after ≡ length (tablet ∷ tablets)) (is_range range tablet)
@@ -26,7 +27,8 @@ length-assigned range owner term (tablet ∷ tablets) =
 pub length-inserted : (new : Tablet) (tablets : List Tablet) → length (insert_tablet new tablets) ≡ length tablets + 1
 length-inserted new [] = refl
 length-inserted new (tablet ∷ tablets) =
-    either (λ (after : List Tablet). length after ≡ length (tablet ∷ tablets) + 1) _ (new ∷ tablet ∷ tablets) (tablet ∷ insert_tablet new tablets)
+    either (λ (after : List Tablet). length after ≡ length (tablet ∷ tablets) + 1) _ (new ∷ tablet ∷ tablets)
+    (tablet ∷ insert_tablet new tablets)
     (λ e. omega arith)
     (λ e. omega (arith, length-inserted new tablets))
 
@@ -43,17 +45,24 @@ length-split table at (tablet ∷ tablets) =
 pub length-owned : (owner : ServerId) (tablets : List Tablet) → length (tablets_of owner tablets) ≤ length tablets
 length-owned owner [] = omega arith
 length-owned owner (tablet ∷ tablets) =
-    either (λ (owned : List Tablet). length owned ≤ length (tablet ∷ tablets)) (same_id owner tablet.owner) (tablet ∷ tablets_of owner tablets) (tablets_of owner tablets)
+    either (λ (owned : List Tablet). length owned ≤ length (tablet ∷ tablets)) (same_id owner tablet.owner)
+    (tablet ∷ tablets_of owner tablets) (tablets_of owner tablets)
     (λ e. omega (arith, length-owned owner tablets))
     (λ e. omega (arith, length-owned owner tablets))
 
-length-given : (tablet : Tablet) (term : ℕ) (found : Option ServerId) (others : List GivenPart) (n : ℕ) → length others ≤ n → length (given_to found (part_of tablet term) others) ≤ n + 1
+length-given : (tablet : Tablet) (term : ℕ) (found : Option ServerId) (others : List GivenPart) (n : ℕ) →
+    length others ≤ n → length (given_to found (part_of tablet term) others) ≤ n + 1
 length-given tablet term None others n h = omega arith
 length-given tablet term (Some id) others n h = omega arith
 
 -- at most one part of each tablet is given
-pub length-parts : (ids : List ServerId) (place term : ℕ) (tablets : List Tablet) → length (gives_parts ids place term tablets) ≤ length tablets
+pub length-parts : (ids : List ServerId) (place term : ℕ) (tablets : List Tablet) →
+    length (gives_parts ids place term tablets) ≤ length tablets
 length-parts ids place term [] = omega arith
 length-parts ids place term (tablet ∷ tablets) =
     let rest : length (gives_parts ids (place + 1) (term + 1) tablets) ≤ length tablets = length-parts ids (place + 1) (term + 1) tablets in
-    omega (arith, length-given tablet term (slice_get ids (place % length ids)) (gives_parts ids (place + 1) (term + 1) tablets) (length tablets) rest)
+    omega (
+      arith,
+      length-given tablet term (slice_get ids (place % length ids))
+          (gives_parts ids (place + 1) (term + 1) tablets) (length tablets) rest,
+    )

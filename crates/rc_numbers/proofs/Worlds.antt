@@ -16,10 +16,15 @@ use Rattle.rc_model.specs.Messages.{to_coordinator}
 use Rattle.rc_model.specs.Backup.{Backup, backup_takes}
 use Rattle.rc_model.specs.Master.{Master, MasterSetup, new_master}
 use Rattle.rc_model.specs.MasterStep.{master_takes, master_ticks}
-use Rattle.rc_model.specs.Nodes.{Work, Ask, Take, Tick, Stop, Start, HostNode, new_host, master_setup, is_for_clients, outside_can, outside_sends, coordinator_step, server_of, host_step, is_for_backup, with_backup, with_master, server_takes, takes_if_running, ticks_if_running, starts_host, next_server}
-use Rattle.rc_model.specs.World.{World, opening, NodeName, TheOutside, TheCoordinator, TheHost, Job, delivery, work_of, node_can, is_possible_job, is_possible, node_done, job_done, step, replay_from, replay}
+use Rattle.rc_model.specs.Nodes.{Work, Ask, Take, Tick, Stop, Start, HostNode, new_host, master_setup, is_for_clients}
+use Rattle.rc_model.specs.Nodes.{outside_can, outside_sends, coordinator_step, server_of, host_step, is_for_backup}
+use Rattle.rc_model.specs.Nodes.{with_backup, with_master, server_takes, takes_if_running, ticks_if_running}
+use Rattle.rc_model.specs.Nodes.{starts_host, next_server}
+use Rattle.rc_model.specs.World.{World, opening, NodeName, TheOutside, TheCoordinator, TheHost, Job, delivery, work_of}
+use Rattle.rc_model.specs.World.{node_can, is_possible_job, is_possible, node_done, job_done, step, replay_from}
+use Rattle.rc_model.specs.World.{replay}
 use Rattle.rc_model.proofs.Members.{either}
-use Rattle.rc_facts.proofs.Lists.{put_each}
+use Rattle.rc_step_laws.proofs.Lists.{put_each}
 use Rattle.rc_numbers.specs.Numbers.{body_within, MessagesWithin, MasterWithin, HostWithin, WorldWithin}
 use Rattle.rc_numbers.specs.Claims.{NumbersGrowSlowly}
 use Rattle.rc_numbers.proofs.Entries.{All-get, body-more, messages-more, none-within, one-within, both-within}
@@ -52,46 +57,64 @@ pub record HostDone (n : ℕ) (after : HostNode × List Message) : Type 0 where
 still : (n : ℕ) (host : HostNode) → HostWithin n host → HostDone n (host, [])
 still n host h = record { host = h; messages = none-within n }
 
-backup-host : (n : ℕ) (host : HostNode) (after : Backup × List Message) → HostWithin n host → BackupDone n after → HostDone n (with_backup host after)
-backup-host n host (backup, messages) h p = record { host = record { generation = h.generation; backup = p.backup; master = h.master }; messages = p.messages }
+backup-host : (n : ℕ) (host : HostNode) (after : Backup × List Message) → HostWithin n host → BackupDone n after →
+    HostDone n (with_backup host after)
+backup-host n host (backup, messages) h p =
+    record { host = record { generation = h.generation; backup = p.backup; master = h.master }; messages = p.messages }
 
 some-same : {X : Type 0} (a b : X) → Some a ≡ Some b → a ≡ b
 some-same a b e = cc
 
-master-host : (n : ℕ) (host : HostNode) (after : Master × List Message) → HostWithin n host → Done n after → HostDone n (with_master host after)
+master-host : (n : ℕ) (host : HostNode) (after : Master × List Message) → HostWithin n host → Done n after →
+    HostDone n (with_master host after)
 master-host n host (master, messages) h p = record {
-  host = record { generation = h.generation; backup = h.backup; master = λ other e. subst (MasterWithin n) (some-same master other e) p.master };
+  host = record {
+    generation = h.generation;
+    backup = h.backup;
+    master = λ other e.
+        subst (MasterWithin n) (some-same master other e) p.master;
+  };
   messages = p.messages;
 }
 
-server-host : (n : ℕ) (host : HostNode) (master : Master) (message : Message) → HostWithin n host → MasterWithin n master → body_within n message.body → HostDone (n + 1) (server_takes host master message)
+server-host : (n : ℕ) (host : HostNode) (master : Master) (message : Message) → HostWithin n host →
+    MasterWithin n master → body_within n message.body → HostDone (n + 1) (server_takes host master message)
 server-host n host master message h good p =
     let now : HostWithin (n + 1) host = host-more n (n + 1) (omega arith) host h in
     let more : body_within (n + 1) message.body = body-more n (n + 1) (omega arith) message.body p in
-    either (HostDone (n + 1)) (is_for_backup message.body) (with_backup host (backup_takes host.backup message.from message.body)) (with_master host (master_takes master message.from message.body))
-    (λ e. backup-host (n + 1) host (backup_takes host.backup message.from message.body) now (backup-done (n + 1) host.backup message.from message.body now.backup more))
-    (λ e. master-host (n + 1) host (master_takes master message.from message.body) now (takes-done n master message.from message.body good more))
+    either (HostDone (n + 1)) (is_for_backup message.body)
+    (with_backup host (backup_takes host.backup message.from message.body))
+    (with_master host (master_takes master message.from message.body))
+    (λ e. backup-host (n + 1) host (backup_takes host.backup message.from message.body) now
+    (backup-done (n + 1) host.backup message.from message.body now.backup more))
+    (λ e. master-host (n + 1) host (master_takes master message.from message.body) now
+    (takes-done n master message.from message.body good more))
 
-takes-host : (n : ℕ) (host : HostNode) (found : Option Master) (message : Message) → HostWithin n host → host.master ≡ found → body_within n message.body → HostDone (n + 1) (takes_if_running host found message)
+takes-host : (n : ℕ) (host : HostNode) (found : Option Master) (message : Message) → HostWithin n host →
+    host.master ≡ found → body_within n message.body → HostDone (n + 1) (takes_if_running host found message)
 takes-host n host None message h e p = still (n + 1) host (host-more n (n + 1) (omega arith) host h)
 takes-host n host (Some master) message h e p =
     either (HostDone (n + 1)) (is_server (server_of host) message.to) (server_takes host master message) (host, [])
     (λ f. server-host n host master message h (h.master master e) p) (λ f. still (n + 1) host (host-more n (n + 1) (omega arith) host h))
 
-ticks-host : (n : ℕ) (host : HostNode) (found : Option Master) → HostWithin n host → host.master ≡ found → HostDone (n + 1) (ticks_if_running host found)
+ticks-host : (n : ℕ) (host : HostNode) (found : Option Master) → HostWithin n host → host.master ≡ found →
+    HostDone (n + 1) (ticks_if_running host found)
 ticks-host n host None h e = still (n + 1) host (host-more n (n + 1) (omega arith) host h)
 ticks-host n host (Some master) h e =
-    master-host (n + 1) host (master_ticks master) (host-more n (n + 1) (omega arith) host h) (tick-done (n + 1) master (master-more n (n + 1) (omega arith) master (h.master master e)))
+    master-host (n + 1) host (master_ticks master) (host-more n (n + 1) (omega arith) host h)
+    (tick-done (n + 1) master (master-more n (n + 1) (omega arith) master (h.master master e)))
 
 new-master : (n : ℕ) (own : ServerId) (setup : MasterSetup) → MasterWithin n (new_master own setup)
 new-master n own setup = record { log = λ seg. All-nil _; ownership = record { replay = All-nil _; parts = All-nil _ } }
 
-starts-within : (n : ℕ) (host : HostNode) (kept : List (ServerId × ℕ)) → HostWithin n host → HostDone (n + 1) (starts_host host (next_server host) kept)
+starts-within : (n : ℕ) (host : HostNode) (kept : List (ServerId × ℕ)) → HostWithin n host →
+    HostDone (n + 1) (starts_host host (next_server host) kept)
 starts-within n host kept h = record {
   host = record {
     generation = omega (arith, h.generation);
     backup = restart-within (n + 1) (next_server host) kept host.backup (backup-more n (n + 1) (omega arith) host.backup h.backup);
-    master = λ other e. subst (MasterWithin (n + 1)) (some-same (new_master (next_server host) host.setup) other e) (new-master (n + 1) (next_server host) host.setup);
+    master = λ other e. subst (MasterWithin (n + 1)) (some-same (new_master (next_server host) host.setup) other e)
+        (new-master (n + 1) (next_server host) host.setup);
   };
   messages = one-within (n + 1) (to_coordinator (next_server host) Enlist) tt;
 }
@@ -109,7 +132,8 @@ host-within n host (Take message) h p = takes-host n host host.master message h 
 host-within n host (Tick addr) h p = ticks-host n host host.master h refl
 host-within n host (Stop id) h p =
     let now : HostWithin (n + 1) host = host-more n (n + 1) (omega arith) host h in
-    still (n + 1) (record host { master = None }) (record { generation = now.generation; backup = now.backup; master = λ master e. none-some e })
+    still (n + 1) (record host { master = None })
+    (record { generation = now.generation; backup = now.backup; master = λ master e. none-some e })
 host-within n host (Start kept) h p = starts-within n host kept h
 host-within n host work h p = still (n + 1) host (host-more n (n + 1) (omega arith) host h)
 
@@ -122,27 +146,40 @@ client-within n (Data attempt seg term entries) e = cc
 client-within n body e = tt
 
 outside-within : (n : ℕ) (work : Work) → outside_can work ≡ true → MessagesWithin n (outside_sends work)
-outside-within n (Ask to body) can = one-within n (record { from = Outside; to = Server to; body = body }) (client-within n body (and_parts (is_for_clients body) (nat_lt to.index MAX_HOSTS) can).0)
+outside-within n (Ask to body) can = one-within n (record { from = Outside; to = Server to; body = body })
+    (client-within n body (and_parts (is_for_clients body) (nat_lt to.index MAX_HOSTS) can).0)
 outside-within n work can = none-within n
 
 -- A world
 
 -- a node's new state, and what it has sent
-node-within : (n : ℕ) (world : World) (one : Event) (node : NodeName) (work : Work) → WorldWithin n world → node_can world node work ≡ true → WorkWithin n work → WorldWithin (n + 1) (node_done world one node work)
+node-within : (n : ℕ) (world : World) (one : Event) (node : NodeName) (work : Work) → WorldWithin n world →
+    node_can world node work ≡ true → WorkWithin n work → WorldWithin (n + 1) (node_done world one node work)
 node-within n world one TheOutside work h can p =
     let now : WorldWithin (n + 1) world = world-more n (n + 1) (omega arith) world h in
-    record { coordinator = now.coordinator; messages = both-within (n + 1) world.sent (outside_sends work) now.messages (outside-within (n + 1) work can); hosts = now.hosts }
+    record {
+      coordinator = now.coordinator;
+      messages = both-within (n + 1) world.sent (outside_sends work) now.messages
+          (outside-within (n + 1) work can);
+      hosts = now.hosts;
+    }
 node-within n world one TheCoordinator work h can p =
     let now : WorldWithin (n + 1) world = world-more n (n + 1) (omega arith) world h in
     let after : After n (coordinator_step world.coordinator work) = coordinator-within world.coordinator work n h.coordinator in
-    record { coordinator = after.numbers; messages = both-within (n + 1) world.sent (coordinator_step world.coordinator work).1 now.messages after.messages; hosts = now.hosts }
+    record {
+      coordinator = after.numbers;
+      messages = both-within (n + 1) world.sent
+          (coordinator_step world.coordinator work).1 now.messages after.messages;
+      hosts = now.hosts;
+    }
 node-within n world one (TheHost index) work h can p =
     let now : WorldWithin (n + 1) world = world-more n (n + 1) (omega arith) world h in
     let after : HostDone (n + 1) (host_step (world.hosts index) work) = host-within n (world.hosts index) work (h.hosts index) p in
     record {
       coordinator = now.coordinator;
       messages = both-within (n + 1) world.sent (host_step (world.hosts index) work).1 now.messages after.messages;
-      hosts = put_each (λ i (host : HostNode). HostWithin (n + 1) host) world.hosts index (host_step (world.hosts index) work).0 after.host now.hosts;
+      hosts = put_each (λ i (host : HostNode). HostWithin (n + 1) host) world.hosts index
+          (host_step (world.hosts index) work).0 after.host now.hosts;
     }
 
 -- a message that is delivered was sent
@@ -150,7 +187,8 @@ abbrev JobWithin : ℕ → Option Job → Type 0
 JobWithin n None = Unit {0}
 JobWithin n (Some job) = WorkWithin n job.work
 
-delivery-within : (n : ℕ) (sent : List Message) (number : ℕ) (found : Option Message) → slice_get sent number ≡ found → MessagesWithin n sent → JobWithin n (delivery found)
+delivery-within : (n : ℕ) (sent : List Message) (number : ℕ) (found : Option Message) → slice_get sent number ≡ found →
+    MessagesWithin n sent → JobWithin n (delivery found)
 delivery-within n sent number None e all = tt
 delivery-within n sent number (Some message) e all = All-get (λ (one : Message). body_within n one.body) sent number message all e
 
@@ -165,7 +203,8 @@ work-within n sent (event.Decide id) all = tt
 work-within n sent (event.Create table owner) all = tt
 work-within n sent (event.Split table at) all = tt
 
-job-within : (n : ℕ) (world : World) (one : Event) (found : Option Job) → WorldWithin n world → is_possible_job world found ≡ true → JobWithin n found → WorldWithin (n + 1) (job_done world one found)
+job-within : (n : ℕ) (world : World) (one : Event) (found : Option Job) → WorldWithin n world →
+    is_possible_job world found ≡ true → JobWithin n found → WorldWithin (n + 1) (job_done world one found)
 job-within n world one None h can p = world-more n (n + 1) (omega arith) world h
 job-within n world one (Some job) h can p = node-within n world one job.node job.work h can p
 
@@ -175,18 +214,26 @@ step-within n world one h =
     (λ can. job-within n world one (work_of world.sent one) h can (work-within n world.sent one h.messages))
     (λ _. world-more n (n + 1) (omega arith) world h)
 
-within-from : (n : ℕ) (world : World) (events : List Event) → WorldWithin n world → WorldWithin (n + length events) (replay_from world events)
+within-from : (n : ℕ) (world : World) (events : List Event) → WorldWithin n world →
+    WorldWithin (n + length events) (replay_from world events)
 within-from n world [] h = world-more n (n + 0) (omega arith) world h
 within-from n world (one ∷ events) h =
-    world-more ((n + 1) + length events) (n + length (one ∷ events)) (omega arith) (replay_from (step world one) events) (within-from (n + 1) (step world one) events (step-within n world one h))
+    world-more ((n + 1) + length events) (n + length (one ∷ events)) (omega arith) (replay_from (step world one) events)
+    (within-from (n + 1) (step world one) events (step-within n world one h))
 
 pub new-host : (index : ℕ) (setup : MasterSetup) → HostWithin 0 (new_host index setup)
 new-host index setup = record { generation = omega arith; backup = λ master. All-nil _; master = λ master e. none-some e }
 
 within-opening : (setup : Setup) → WorldWithin 0 (opening setup)
-within-opening setup = record { coordinator = new-within; messages = none-within 0; hosts = λ index. new-host index (master_setup setup index) }
+within-opening setup = record {
+  coordinator = new-within;
+  messages = none-within 0;
+  hosts = λ index.
+      new-host index (master_setup setup index);
+}
 
 -- all numbers of a world are within the number of its events
 pub within-replay : NumbersGrowSlowly
 within-replay setup events =
-    world-more (0 + length events) (length events) (omega arith) (replay setup events) (within-from 0 (opening setup) events (within-opening setup))
+    world-more (0 + length events) (length events) (omega arith) (replay setup events)
+    (within-from 0 (opening setup) events (within-opening setup))

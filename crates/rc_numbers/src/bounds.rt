@@ -1,6 +1,7 @@
 //! The numbers of every world, of every setup and every list of events.
 
-ghost use Rattle.rc_numbers.specs.Claims.{NumbersGrowSlowly, CoordinatorHasRoom, GenerationsHaveRoom, VersionsHaveRoom, NextVersionsHaveRoom};
+ghost use Rattle.rc_numbers.specs.Claims.{NumbersGrowSlowly, CoordinatorHasRoom, GenerationsHaveRoom};
+ghost use Rattle.rc_numbers.specs.Claims.{VersionsHaveRoom, NextVersionsHaveRoom};
 
 /// After so many events no number is greater than they allow: the version of the server list, the number
 /// of attempts, each generation and each version of an entry in a log, a replica or a message are at most

@@ -1,5 +1,6 @@
 -- The table of record highs after one more.
-use Rattle.std.proofs.Common.{◌≡◌, ℕ, ◌<◌, Bool, true, false, cond, List, [], ◌∷◌, Option, Some, None, Vec, sym, ap, subst, ◌∙◌, refl, arith}
+use Rattle.std.proofs.Common.{◌≡◌, ℕ, ◌<◌, Bool, true, false, cond, List, [], ◌∷◌, Option, Some, None, Vec, sym, ap}
+use Rattle.std.proofs.Common.{subst, ◌∙◌, refl, arith}
 use Rattle.std.proofs.lemmas.Bool.Decides.{nat_tests}
 use Rattle.std.specs.Option.{option_map_or, IsSome}
 use Rattle.indexmap.specs.IndexMap.{get, Updates, UpdatesBy}
@@ -18,7 +19,8 @@ first_high place version above = grind (arith, nat_tests)
 
 -- a first high makes a list of its own
 pub added-new : {A : Type 0} (old same new : HighTable A) (slot : Slot) (list : Vec (ℕ × ℕ) A) (place version : ℕ) →
-    same ≡ old → get same_slot old slot ≡ None → Updates same_slot same new slot (Some list) → list.items ≡ (place, version) ∷ [] → 0 < version →
+    same ≡ old → get same_slot old slot ≡ None → Updates same_slot same new slot (Some list) →
+    list.items ≡ (place, version) ∷ [] → 0 < version →
     (other : Slot) → highs_in new other ≡ cond (same_slot slot other) (with_high place version (highs_in old other)) (highs_in old other)
 added-new {A} old same new slot list place version e none updates is above other =
     let items_or : Option (Vec (ℕ × ℕ) A) → List (ℕ × ℕ) = λ found. option_map_or (λ l. l.items) found [] in
@@ -30,13 +32,16 @@ added-new {A} old same new slot list place version e none updates is above other
     at_slot = is ∙ first_high place version above ∙ ap (λ found. with_high place version (option_map_or (λ l. l.items) found [])) (sym none)
 
     by : (same : Bool) → same_slot slot other ≡ same →
-        option_map_or (λ l. l.items) (cond same (Some list) (get same_slot old other)) [] ≡ cond same (with_high place version (highs_in old other)) (highs_in old other)
+        option_map_or (λ l. l.items) (cond same (Some list) (get same_slot old other)) [] ≡ cond same
+        (with_high place version (highs_in old other)) (highs_in old other)
     by true same = subst (λ o. list.items ≡ with_high place version (highs_in old o)) (same_slot-true slot other same) at_slot
     by false same = refl
 
 -- a list written back with the same elements changes nothing
 pub written-same : {A : Type 0} (old new : HighTable A) (slot : Slot) (before after : Vec (ℕ × ℕ) A) →
-    get same_slot old slot ≡ Some before → (IsSome (get same_slot old slot) → UpdatesBy same_slot (same_slot slot) old new (Some after)) → after.items ≡ before.items →
+    get same_slot old slot ≡ Some before →
+    (IsSome (get same_slot old slot) → UpdatesBy same_slot (same_slot slot) old new (Some after)) →
+    after.items ≡ before.items →
     (other : Slot) → highs_in new other ≡ highs_in old other
 written-same {A} old new slot before after found updates is other =
     let items_or : Option (Vec (ℕ × ℕ) A) → List (ℕ × ℕ) = λ found. option_map_or (λ l. l.items) found [] in

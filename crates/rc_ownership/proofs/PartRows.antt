@@ -1,12 +1,15 @@
 -- The rows of a part once one more has come, and what is counted of them.
-use Rattle.std.proofs.Common.{◌≡◌, ℕ, ◌+◌, ◌-◌, ◌<◌, Bool, true, false, cond, not, ◌||◌, ◌&&◌, nat_eq, nat_lt, is_some, Option, Some, None, position, map, List, [], ◌∷◌, ◌++◌, length, length-append, filter, suc, sym, ap, subst, ◌∙◌, refl, arith, true≢false}
+use Rattle.std.proofs.Common.{◌≡◌, ℕ, ◌+◌, ◌-◌, ◌<◌, Bool, true, false, cond, not, ◌||◌, ◌&&◌, nat_eq, nat_lt, is_some}
+use Rattle.std.proofs.Common.{Option, Some, None, position, map, List, [], ◌∷◌, ◌++◌, length, length-append, filter}
+use Rattle.std.proofs.Common.{suc, sym, ap, subst, ◌∙◌, refl, arith, true≢false}
 use Rattle.std.proofs.lemmas.Bool.Decides.{nat_tests}
 use Rattle.std.specs.Prelude.{slice_index_or, slice_set}
 use Rattle.std.specs.List.{list_any, position_or_len}
 use Rattle.rc_types.specs.declared.ids.ServerId.{ServerId}
 use Rattle.rc_types.specs.declared.rows.Part.{Part}
 use Rattle.rc_types.specs.declared.entries.Entry.{Entry}
-use Rattle.rc_model.specs.Ownership.{PartRow, PartState, part_with_row, is_awaited, awaited_row, with_row, insert_row, rows_in_order, all_came, came_entries, entries_that_came}
+use Rattle.rc_model.specs.Ownership.{PartRow, PartState, part_with_row, is_awaited, awaited_row, with_row, insert_row}
+use Rattle.rc_model.specs.Ownership.{rows_in_order, all_came, came_entries, entries_that_came}
 use Rattle.rc_ownership.specs.Parts.{count_missing, size_of, AreCounted}
 
 -- Places
@@ -15,7 +18,8 @@ any-found : (p : PartRow → Bool) (rows : List PartRow) → nat_lt (position_or
 any-found p [] = grind (arith, nat_tests)
 any-found p (row ∷ rows) = by (p row) (position_or_len p rows) (any-found p rows)
   where
-    by : (b : Bool) (n : ℕ) → nat_lt n (length rows) ≡ list_any p rows → nat_lt (cond (not b) (1 + n) 0) (length (row ∷ rows)) ≡ (b || list_any p rows)
+    by : (b : Bool) (n : ℕ) → nat_lt n (length rows) ≡ list_any p rows →
+        nat_lt (cond (not b) (1 + n) 0) (length (row ∷ rows)) ≡ (b || list_any p rows)
     by true n later = grind (arith, nat_tests)
     by false n later = shift n (length rows) ∙ later
       where
@@ -30,48 +34,59 @@ some_if false n = refl
 pub found-any : (p : PartRow → Bool) (rows : List PartRow) → is_some (position p rows) ≡ list_any p rows
 found-any p rows = some_if (nat_lt (position_or_len p rows) (length rows)) (position_or_len p rows) ∙ any-found p rows
 
-pub any-place : (p : PartRow → Bool) (rows : List PartRow) (found : Option ℕ) (place : ℕ) → found ≡ position p rows → found ≡ Some place → list_any p rows ≡ true
+pub any-place : (p : PartRow → Bool) (rows : List PartRow) (found : Option ℕ) (place : ℕ) → found ≡ position p rows →
+    found ≡ Some place → list_any p rows ≡ true
 any-place p rows found place searched is = sym (found-any p rows) ∙ ap is_some (sym searched ∙ is)
 
-pub any-none : (p : PartRow → Bool) (rows : List PartRow) (found : Option ℕ) → found ≡ position p rows → found ≡ None → list_any p rows ≡ false
+pub any-none : (p : PartRow → Bool) (rows : List PartRow) (found : Option ℕ) → found ≡ position p rows → found ≡ None →
+    list_any p rows ≡ false
 any-none p rows found searched is = sym (found-any p rows) ∙ ap is_some (sym searched ∙ is)
 
 place_is : (b : Bool) (n place : ℕ) → cond b (Some n) None ≡ Some place → place ≡ n
 place_is true n place h = cc
 place_is false n place h = absurd (cc)
 
-pub place-first : (p : PartRow → Bool) (rows : List PartRow) (found : Option ℕ) (place : ℕ) → found ≡ position p rows → found ≡ Some place → place ≡ position_or_len p rows
-place-first p rows found place searched is = place_is (nat_lt (position_or_len p rows) (length rows)) (position_or_len p rows) place (sym searched ∙ is)
+pub place-first : (p : PartRow → Bool) (rows : List PartRow) (found : Option ℕ) (place : ℕ) → found ≡ position p rows →
+    found ≡ Some place → place ≡ position_or_len p rows
+place-first p rows found place searched is =
+    place_is (nat_lt (position_or_len p rows) (length rows)) (position_or_len p rows) place (sym searched ∙ is)
 
 -- One more row has come
 
 -- what was written at the place is what the row was, filled
-pub with_row-at : (seg : ℕ) (from : ServerId) (entries : List Entry) (rows : List PartRow) (row : PartRow) → list_any (is_awaited seg from) rows ≡ true →
+pub with_row-at : (seg : ℕ) (from : ServerId) (entries : List Entry) (rows : List PartRow) (row : PartRow) →
+    list_any (is_awaited seg from) rows ≡ true →
     row ≡ slice_index_or rows (position_or_len (is_awaited seg from) rows) row →
     slice_set rows (position_or_len (is_awaited seg from) rows) (record row { came = Some entries }) ≡ with_row seg from entries rows
 with_row-at seg from entries [] row some is = absurd (true≢false (sym some))
 with_row-at seg from entries (first ∷ rows) row some is =
     by (is_awaited seg from first) (position_or_len (is_awaited seg from) rows) some is (with_row-at seg from entries rows row)
   where
-    by : (b : Bool) (n : ℕ) → (b || list_any (is_awaited seg from) rows) ≡ true → row ≡ slice_index_or (first ∷ rows) (cond (not b) (1 + n) 0) row →
-        (list_any (is_awaited seg from) rows ≡ true → row ≡ slice_index_or rows n row → slice_set rows n (record row { came = Some entries }) ≡ with_row seg from entries rows) →
-        slice_set (first ∷ rows) (cond (not b) (1 + n) 0) (record row { came = Some entries }) ≡ cond b (record first { came = Some entries } ∷ rows) (first ∷ with_row seg from entries rows)
+    by : (b : Bool) (n : ℕ) → (b || list_any (is_awaited seg from) rows) ≡ true →
+        row ≡ slice_index_or (first ∷ rows) (cond (not b) (1 + n) 0) row →
+        (list_any (is_awaited seg from) rows ≡ true → row ≡ slice_index_or rows n row →
+        slice_set rows n (record row { came = Some entries }) ≡ with_row seg from entries rows) →
+        slice_set (first ∷ rows) (cond (not b) (1 + n) 0) (record row { came = Some entries }) ≡ cond b
+        (record first { came = Some entries } ∷ rows) (first ∷ with_row seg from entries rows)
     by true n some is later = ap (λ r. let filled : PartRow = record r { came = Some entries } in filled ∷ rows) is
     by false n some is later =
         let e : 1 + n ≡ suc n = omega arith in
         ap (λ place. slice_set (first ∷ rows) place (record row { came = Some entries })) e
         ∙ ap (λ tail. first ∷ tail) (later some (is ∙ ap (λ place. slice_index_or (first ∷ rows) place row) e))
 
-pub with_row-none : (seg : ℕ) (from : ServerId) (entries : List Entry) (rows : List PartRow) → list_any (is_awaited seg from) rows ≡ false → with_row seg from entries rows ≡ rows
+pub with_row-none : (seg : ℕ) (from : ServerId) (entries : List Entry) (rows : List PartRow) →
+    list_any (is_awaited seg from) rows ≡ false → with_row seg from entries rows ≡ rows
 with_row-none seg from entries [] none = refl
 with_row-none seg from entries (row ∷ rows) none = by (is_awaited seg from row) none (with_row-none seg from entries rows)
   where
-    by : (b : Bool) → (b || list_any (is_awaited seg from) rows) ≡ false → (list_any (is_awaited seg from) rows ≡ false → with_row seg from entries rows ≡ rows) →
+    by : (b : Bool) → (b || list_any (is_awaited seg from) rows) ≡ false →
+        (list_any (is_awaited seg from) rows ≡ false → with_row seg from entries rows ≡ rows) →
         cond b (record row { came = Some entries } ∷ rows) (row ∷ with_row seg from entries rows) ≡ row ∷ rows
     by true none later = absurd (true≢false none)
     by false none later = ap (λ tail. row ∷ tail) (later none)
 
-pub length-with_row : (seg : ℕ) (from : ServerId) (entries : List Entry) (rows : List PartRow) → length (with_row seg from entries rows) ≡ length rows
+pub length-with_row : (seg : ℕ) (from : ServerId) (entries : List Entry) (rows : List PartRow) →
+    length (with_row seg from entries rows) ≡ length rows
 length-with_row seg from entries [] = refl
 length-with_row seg from entries (row ∷ rows) = by (is_awaited seg from row) (length-with_row seg from entries rows)
   where
@@ -94,51 +109,73 @@ awaited-none : (seg : ℕ) (from : ServerId) (row : PartRow) → is_awaited seg 
 awaited-none seg from row h = not_some row.came (and_last (nat_eq row.seg seg) _ (not (is_some row.came)) h)
 
 -- one row fewer is missing
-pub missing-with_row : (seg : ℕ) (from : ServerId) (entries : List Entry) (rows : List PartRow) → list_any (is_awaited seg from) rows ≡ true →
+pub missing-with_row : (seg : ℕ) (from : ServerId) (entries : List Entry) (rows : List PartRow) →
+    list_any (is_awaited seg from) rows ≡ true →
     count_missing rows ≡ count_missing (with_row seg from entries rows) + 1
 missing-with_row seg from entries [] some = absurd (true≢false (sym some))
-missing-with_row seg from entries (row ∷ rows) some = by (is_awaited seg from row) (awaited-none seg from row) some (missing-with_row seg from entries rows)
+missing-with_row seg from entries (row ∷ rows) some =
+    by (is_awaited seg from row) (awaited-none seg from row) some (missing-with_row seg from entries rows)
   where
     counted : (b : Bool) (n : ℕ) → length (filter (λ one. not (is_some one.came)) rows) ≡ n →
         length (cond b (row ∷ filter (λ one. not (is_some one.came)) rows) (filter (λ one. not (is_some one.came)) rows)) ≡ cond b (n + 1) n
     counted true n h = omega (arith, h)
     counted false n h = h
 
-    kept : (b : Bool) (more : List PartRow) → length (cond b (row ∷ filter (λ one. not (is_some one.came)) more) (filter (λ one. not (is_some one.came)) more)) + 1
+    kept : (b : Bool) (more : List PartRow) →
+        length (cond b (row ∷ filter (λ one. not (is_some one.came)) more)
+        (filter (λ one. not (is_some one.came)) more)) + 1
         ≡ cond b (count_missing more + 1 + 1) (count_missing more + 1)
     kept true more = omega arith
     kept false more = refl
 
     by : (b : Bool) → (b ≡ true → row.came ≡ None) → (b || list_any (is_awaited seg from) rows) ≡ true →
         (list_any (is_awaited seg from) rows ≡ true → count_missing rows ≡ count_missing (with_row seg from entries rows) + 1) →
-        count_missing (row ∷ rows) ≡ count_missing (cond b (record row { came = Some entries } ∷ rows) (row ∷ with_row seg from entries rows)) + 1
+        count_missing (row ∷ rows) ≡ count_missing
+        (cond b (record row { came = Some entries } ∷ rows) (row ∷ with_row seg from entries rows)) + 1
     by true none some later =
-        ap (λ came. length (cond (not (is_some came)) (row ∷ filter (λ one. not (is_some one.came)) rows) (filter (λ one. not (is_some one.came)) rows))) (none refl) ∙ omega arith
+        ap (λ came. length (cond (not (is_some came)) (row ∷ filter (λ one. not (is_some one.came)) rows)
+        (filter (λ one. not (is_some one.came)) rows))) (none refl) ∙ omega arith
     by false none some later =
-        counted (not (is_some row.came)) (count_missing (with_row seg from entries rows) + 1) (later some) ∙ sym (kept (not (is_some row.came)) (with_row seg from entries rows))
+        counted (not (is_some row.came)) (count_missing (with_row seg from entries rows) + 1) (later some) ∙
+        sym (kept (not (is_some row.came)) (with_row seg from entries rows))
 
 -- its entries are added
-pub entries-with_row : (seg : ℕ) (from : ServerId) (entries : List Entry) (rows : List PartRow) → list_any (is_awaited seg from) rows ≡ true →
+pub entries-with_row : (seg : ℕ) (from : ServerId) (entries : List Entry) (rows : List PartRow) →
+    list_any (is_awaited seg from) rows ≡ true →
     length (entries_that_came (with_row seg from entries rows)) ≡ length (entries_that_came rows) + length entries
 entries-with_row seg from entries [] some = absurd (true≢false (sym some))
-entries-with_row seg from entries (row ∷ rows) some = by (is_awaited seg from row) (awaited-none seg from row) some (entries-with_row seg from entries rows)
+entries-with_row seg from entries (row ∷ rows) some =
+    by (is_awaited seg from row) (awaited-none seg from row) some (entries-with_row seg from entries rows)
   where
     by : (b : Bool) → (b ≡ true → row.came ≡ None) → (b || list_any (is_awaited seg from) rows) ≡ true →
-        (list_any (is_awaited seg from) rows ≡ true → length (entries_that_came (with_row seg from entries rows)) ≡ length (entries_that_came rows) + length entries) →
+        (list_any (is_awaited seg from) rows ≡ true →
+        length (entries_that_came (with_row seg from entries rows)) ≡ length (entries_that_came rows) + length
+        entries) →
         length (entries_that_came (cond b (record row { came = Some entries } ∷ rows) (row ∷ with_row seg from entries rows)))
         ≡ length (came_entries row.came ++ entries_that_came rows) + length entries
     by true none some later =
-        let nothing : length (came_entries row.came ++ entries_that_came rows) ≡ length (entries_that_came rows) = ap (λ came. length (came_entries came ++ entries_that_came rows)) (none refl) in
+        let nothing : length (came_entries row.came ++ entries_that_came rows) ≡ length (entries_that_came rows) =
+        ap (λ came. length (came_entries came ++ entries_that_came rows)) (none refl) in
         omega (arith, nothing, length-append entries (entries_that_came rows))
     by false none some later =
-        omega (arith, later some, length-append (came_entries row.came) (entries_that_came rows), length-append (came_entries row.came) (entries_that_came (with_row seg from entries rows)))
+        omega (
+          arith,
+          later some,
+          length-append (came_entries row.came) (entries_that_came rows),
+          length-append (came_entries row.came) (entries_that_came (with_row seg from entries rows)),
+        )
 
 -- the counts beside the rows, with one more row
-pub counted-with_row : (seg : ℕ) (from : ServerId) (entries : List Entry) (rows : List PartRow) (missing count : ℕ) → list_any (is_awaited seg from) rows ≡ true →
+pub counted-with_row : (seg : ℕ) (from : ServerId) (entries : List Entry) (rows : List PartRow) (missing count : ℕ) →
+    list_any (is_awaited seg from) rows ≡ true →
     AreCounted rows missing count → AreCounted (with_row seg from entries rows) (missing - 1) (count + length entries)
 counted-with_row seg from entries rows missing count some counts = record {
   missing_are = omega (arith, counts.missing_are, missing-with_row seg from entries rows some);
-  entries_are = λ more. omega (arith, counts.entries_are (omega (arith, length-with_row seg from entries rows)), entries-with_row seg from entries rows some);
+  entries_are = λ more. omega (
+    arith,
+    counts.entries_are (omega (arith, length-with_row seg from entries rows)),
+    entries-with_row seg from entries rows some,
+  );
 }
 
 -- a part that waits has no size yet
@@ -156,7 +193,8 @@ all_came-missing [] = grind (arith, nat_tests)
 all_came-missing (row ∷ rows) = by (is_some row.came) (all_came-missing rows)
   where
     by : (b : Bool) → nat_eq (count_missing rows) 0 ≡ all_came rows →
-        nat_eq (length (cond (not b) (row ∷ filter (λ one. not (is_some one.came)) rows) (filter (λ one. not (is_some one.came)) rows))) 0 ≡ (b && all_came rows)
+        nat_eq (length (cond (not b) (row ∷ filter (λ one. not (is_some one.came)) rows)
+        (filter (λ one. not (is_some one.came)) rows))) 0 ≡ (b && all_came rows)
     by true later = later
     by false later = grind (arith, nat_tests)
 
@@ -183,13 +221,15 @@ none-missing : (rows : List PartRow) → NoneCame rows → length rows ≡ count
 none-missing [] h = refl
 none-missing (row ∷ rows) h =
     ap suc (none-missing rows h.1)
-    ∙ ap (λ came. length (cond (not (is_some came)) (row ∷ filter (λ one. not (is_some one.came)) rows) (filter (λ one. not (is_some one.came)) rows))) (sym h.0)
+    ∙ ap (λ came. length (cond (not (is_some came)) (row ∷ filter (λ one. not (is_some one.came)) rows)
+    (filter (λ one. not (is_some one.came)) rows))) (sym h.0)
 
 none-entries : (rows : List PartRow) → NoneCame rows → 0 ≡ length (entries_that_came rows)
 none-entries [] h = refl
 none-entries (row ∷ rows) h = none-entries rows h.1 ∙ ap (λ came. length (came_entries came ++ entries_that_came rows)) (sym h.0)
 
-pub counted-new : (rows : List PartRow) (given : List (ℕ × ServerId)) → rows ≡ rows_in_order (map awaited_row given) → AreCounted rows (length rows) 0
+pub counted-new : (rows : List PartRow) (given : List (ℕ × ServerId)) → rows ≡ rows_in_order (map awaited_row given) →
+    AreCounted rows (length rows) 0
 counted-new rows given is =
     let none : NoneCame rows = subst NoneCame (sym is) (order-none given) in
     record { missing_are = none-missing rows none; entries_are = λ more. none-entries rows none }
@@ -199,26 +239,38 @@ size_of-none [] = refl
 size_of-none (row ∷ rows) = refl
 
 -- what a row holds once it was filled at the place that was found
-pub put_at : (seg : ℕ) (from : ServerId) (entries came : List Entry) (rows : List PartRow) (found : Option ℕ) (place : ℕ) (row new : PartRow) →
-    found ≡ position (is_awaited seg from) rows → found ≡ Some place → row ≡ slice_index_or rows place row → new ≡ record row { came = Some came } → came ≡ entries →
+pub put_at : (seg : ℕ) (from : ServerId) (entries came : List Entry) (rows : List PartRow) (found : Option ℕ)
+    (place : ℕ) (row new : PartRow) →
+    found ≡ position (is_awaited seg from) rows → found ≡ Some place → row ≡ slice_index_or rows place row →
+    new ≡ record row { came = Some came } → came ≡ entries →
     slice_set rows place new ≡ with_row seg from entries rows
 put_at seg from entries came rows found place row new searched is read put same =
     let first = place-first (is_awaited seg from) rows found place searched is in
     ap (λ r. slice_set rows place r) (put ∙ ap (λ es. let filled : PartRow = record row { came = Some es } in filled) same)
     ∙ ap (λ at. slice_set rows at (record row { came = Some entries })) first
-    ∙ with_row-at seg from entries rows row (any-place (is_awaited seg from) rows found place searched is) (read ∙ ap (λ at. slice_index_or rows at row) first)
+    ∙ with_row-at seg from entries rows row (any-place (is_awaited seg from) rows found place searched is)
+    (read ∙ ap (λ at. slice_index_or rows at row) first)
 
 -- the part then
-pub part_put : (seg : ℕ) (from : ServerId) (entries : List Entry) (part : Part) (rows after : List PartRow) (count more : ℕ) (answered : Bool) (now : PartState) →
-    record { part = part; rows = rows; size = size_of rows count; answered = answered } ≡ now → after ≡ with_row seg from entries rows → list_any (is_awaited seg from) rows ≡ true →
+pub part_put : (seg : ℕ) (from : ServerId) (entries : List Entry) (part : Part) (rows after : List PartRow)
+    (count more : ℕ) (answered : Bool) (now : PartState) →
+    record { part = part; rows = rows; size = size_of rows count; answered = answered } ≡ now →
+    after ≡ with_row seg from entries rows → list_any (is_awaited seg from) rows ≡ true →
     record { part = part; rows = after; size = size_of after more; answered = answered } ≡ part_with_row seg from entries now
 part_put seg from entries part rows after count more answered now is put some =
     let there : 0 < length rows = some-length (is_awaited seg from) rows some in
     let still : 0 < length (with_row seg from entries rows) = omega (arith, length-with_row seg from entries rows) in
     ap (λ r. let state : PartState = record { part = part; rows = r; size = size_of r more; answered = answered } in state) put
-    ∙ ap (λ n. let state : PartState = record { part = part; rows = with_row seg from entries rows; size = n; answered = answered } in state)
+    ∙ ap (λ n. let state : PartState = record {
+      part = part;
+      rows = with_row seg from entries rows;
+      size = n;
+      answered = answered;
+    } in state)
     (size_of-some (with_row seg from entries rows) more still ∙ sym (size_of-some rows count there))
     ∙ ap (part_with_row seg from entries) is
 
-pub part_not_put : (seg : ℕ) (from : ServerId) (entries : List Entry) (now : PartState) → list_any (is_awaited seg from) now.rows ≡ false → now ≡ part_with_row seg from entries now
-part_not_put seg from entries now none = ap (λ rows. let state : PartState = record now { rows = rows } in state) (sym (with_row-none seg from entries now.rows none))
+pub part_not_put : (seg : ℕ) (from : ServerId) (entries : List Entry) (now : PartState) →
+    list_any (is_awaited seg from) now.rows ≡ false → now ≡ part_with_row seg from entries now
+part_not_put seg from entries now none = ap (λ rows. let state : PartState = record now { rows = rows } in state)
+    (sym (with_row-none seg from entries now.rows none))

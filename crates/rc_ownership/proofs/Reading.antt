@@ -1,5 +1,7 @@
 -- What a read finds is the last record high; what is outdated is below it.
-use Rattle.std.proofs.Common.{◌≡◌, ℕ, ◌+◌, ◌-◌, Bool, true, false, cond, ◌&&◌, ◌||◌, nat_lt, List, [], ◌∷◌, ◌++◌, length, slice_get, Option, Some, None, max, sym, ap, ◌∙◌, refl, arith, length-append, append_assoc, zero, suc}
+use Rattle.std.proofs.Common.{◌≡◌, ℕ, ◌+◌, ◌-◌, Bool, true, false, cond, ◌&&◌, ◌||◌, nat_lt, List, [], ◌∷◌, ◌++◌}
+use Rattle.std.proofs.Common.{length, slice_get, Option, Some, None, max, sym, ap, ◌∙◌, refl, arith, length-append}
+use Rattle.std.proofs.Common.{append_assoc, zero, suc}
 use Rattle.std.proofs.lemmas.Bool.Decides.{nat_tests}
 use Rattle.std.specs.List.{list_any}
 use Rattle.std.specs.Option.{option_map_or}
@@ -13,7 +15,8 @@ abbrev pub last_high_or : Option (ℕ × ℕ) → List (ℕ × ℕ) → Option (
 last_high_or high [] = high
 last_high_or high (next ∷ highs) = last_high_or (Some next) highs
 
-last_high-at : (highs : List (ℕ × ℕ)) (high : Option (ℕ × ℕ)) (place : ℕ) → place + 1 ≡ length highs → last_high_or high highs ≡ slice_get highs place
+last_high-at : (highs : List (ℕ × ℕ)) (high : Option (ℕ × ℕ)) (place : ℕ) → place + 1 ≡ length highs →
+    last_high_or high highs ≡ slice_get highs place
 last_high-at [] high place end = absurd (omega arith)
 last_high-at (first ∷ []) high zero end = refl
 last_high-at (first ∷ []) high (suc place) end = absurd (omega arith)
@@ -27,19 +30,25 @@ last_high (first ∷ highs) = last_high-at (first ∷ highs) None (length (first
 -- what stands at a high, with its version
 abbrev pub found_at : List Entry → Found → Option (ℕ × ℕ) → Found
 found_at entries found None = found
-found_at entries found (Some high) = option_map_or (λ entry. record { version = high.1; value = entry.value }) (slice_get entries high.0) found
+found_at entries found (Some high) =
+    option_map_or (λ entry. record { version = high.1; value = entry.value }) (slice_get entries high.0) found
 
-slice_get-after : (before : List Entry) (entry : Entry) (entries : List Entry) → slice_get (before ++ entry ∷ entries) (length before) ≡ Some entry
+slice_get-after : (before : List Entry) (entry : Entry) (entries : List Entry) →
+    slice_get (before ++ entry ∷ entries) (length before) ≡ Some entry
 slice_get-after [] entry entries = refl
 slice_get-after (first ∷ before) entry entries = slice_get-after before entry entries
 
-read_from-highs : (term table key : ℕ) (all before entries : List Entry) (start found : Found) (high : Option (ℕ × ℕ)) → all ≡ before ++ entries →
+read_from-highs : (term table key : ℕ) (all before entries : List Entry) (start found : Found) (high : Option (ℕ × ℕ)) →
+    all ≡ before ++ entries →
     found ≡ found_at all start high →
-    read_from term table key found entries ≡ found_at all start (last_high_or high (highs_from term table key (length before) found.version entries))
+    read_from term table key found entries ≡ found_at all start
+    (last_high_or high (highs_from term table key (length before) found.version entries))
 read_from-highs term table key all before [] start found high is at = at
 read_from-highs term table key all before (entry ∷ entries) start found high is at =
-    by (λ next h e. read_from-highs term table key all (before ++ entry ∷ []) entries start next h (is ∙ sym (append_assoc before (entry ∷ []) entries)) e
-    ∙ ap (λ place. found_at all start (last_high_or h (highs_from term table key place next.version entries))) (length-append before (entry ∷ [])))
+    by (λ next h e. read_from-highs term table key all (before ++ entry ∷ []) entries start next h
+    (is ∙ sym (append_assoc before (entry ∷ []) entries)) e
+    ∙ ap (λ place. found_at all start (last_high_or h (highs_from term table key place next.version entries)))
+    (length-append before (entry ∷ [])))
     (is_of term table key entry && nat_lt found.version entry.version)
   where
     here : found_at all start (Some (length before, entry.version)) ≡ record { version = entry.version; value = entry.value }
@@ -47,7 +56,8 @@ read_from-highs term table key all before (entry ∷ entries) start found high i
         (ap (λ es. slice_get es (length before)) is ∙ slice_get-after before entry entries)
 
     by : ((next : Found) (h : Option (ℕ × ℕ)) → next ≡ found_at all start h →
-        read_from term table key next entries ≡ found_at all start (last_high_or h (highs_from term table key (length before + 1) next.version entries))) →
+        read_from term table key next entries ≡ found_at all start
+        (last_high_or h (highs_from term table key (length before + 1) next.version entries))) →
         (b : Bool) →
         read_from term table key (cond b (record { version = entry.version; value = entry.value }) found) entries
         ≡ found_at all start (last_high_or high (highs_after b term table key (length before) found.version entry entries))
@@ -60,16 +70,20 @@ pub read_of-highs : (term table key : ℕ) (entries : List Entry) →
     ≡ found_at entries (record { version = 0; value = None })
     (slice_get (highs_of term table key entries) (length (highs_of term table key entries) - 1))
 read_of-highs term table key entries =
-    read_from-highs term table key entries [] entries (record { version = 0; value = None }) (record { version = 0; value = None }) None refl refl
+    read_from-highs term table key entries [] entries (record { version = 0; value = None })
+    (record { version = 0; value = None }) None refl refl
     ∙ ap (λ high. found_at entries (record { version = 0; value = None }) high) (last_high (highs_of term table key entries))
 
 -- a greater version of a key is there where the greatest is greater
 pub list_any-greatest : (term table key version : ℕ) (entries : List Entry) →
-    list_any (λ other. is_of term table key other && nat_lt version other.version) entries ≡ nat_lt version (greatest_version term table key entries)
+    list_any (λ other. is_of term table key other && nat_lt version other.version) entries ≡ nat_lt version
+    (greatest_version term table key entries)
 list_any-greatest term table key version [] = grind (arith, nat_tests)
-list_any-greatest term table key version (first ∷ entries) = by (is_of term table key first) (list_any-greatest term table key version entries)
+list_any-greatest term table key version (first ∷ entries) =
+    by (is_of term table key first) (list_any-greatest term table key version entries)
   where
-    by : (is : Bool) → list_any (λ other. is_of term table key other && nat_lt version other.version) entries ≡ nat_lt version (greatest_version term table key entries) →
+    by : (is : Bool) → list_any (λ other. is_of term table key other && nat_lt version other.version) entries ≡ nat_lt
+        version (greatest_version term table key entries) →
         ((is && nat_lt version first.version) || list_any (λ other. is_of term table key other && nat_lt version other.version) entries)
         ≡ nat_lt version (cond is (max first.version (greatest_version term table key entries)) (greatest_version term table key entries))
     by true later = rw later (greater first.version (greatest_version term table key entries))
@@ -85,19 +99,26 @@ read-none term table key entries highs is at =
     read_of-highs term table key entries
     ∙ ap (λ high. found_at entries (record { version = 0; value = None }) high) (ap (λ hs. slice_get hs (length hs - 1)) (sym is) ∙ at)
 
-read_at : (term table key : ℕ) (entries : List Entry) (highs : List (ℕ × ℕ)) (high : ℕ × ℕ) (entry : Option Entry) → highs ≡ highs_of term table key entries →
+read_at : (term table key : ℕ) (entries : List Entry) (highs : List (ℕ × ℕ)) (high : ℕ × ℕ) (entry : Option Entry) →
+    highs ≡ highs_of term table key entries →
     slice_get highs (length highs - 1) ≡ Some high → slice_get entries high.0 ≡ entry →
     read_of term table key entries
-    ≡ option_map_or (λ one. let f : Found = record { version = high.1; value = one.value } in f) entry (record { version = 0; value = None })
+    ≡ option_map_or (λ one. let f : Found = record { version = high.1; value = one.value } in f) entry
+    (record { version = 0; value = None })
 read_at term table key entries highs high entry is at there =
     read_of-highs term table key entries
     ∙ ap (λ h. found_at entries (record { version = 0; value = None }) h) (ap (λ hs. slice_get hs (length hs - 1)) (sym is) ∙ at)
-    ∙ ap (λ o. option_map_or (λ one. let f : Found = record { version = high.1; value = one.value } in f) o (record { version = 0; value = None })) there
+    ∙ ap (λ o. option_map_or (λ one. let f : Found = record { version = high.1; value = one.value } in f) o
+    (record { version = 0; value = None })) there
 
-pub read-nothing : (term table key : ℕ) (entries : List Entry) (highs : List (ℕ × ℕ)) (high : ℕ × ℕ) → highs ≡ highs_of term table key entries →
-    slice_get highs (length highs - 1) ≡ Some high → slice_get entries high.0 ≡ None → read_of term table key entries ≡ record { version = 0; value = None }
+pub read-nothing : (term table key : ℕ) (entries : List Entry) (highs : List (ℕ × ℕ)) (high : ℕ × ℕ) →
+    highs ≡ highs_of term table key entries →
+    slice_get highs (length highs - 1) ≡ Some high → slice_get entries high.0 ≡ None →
+    read_of term table key entries ≡ record { version = 0; value = None }
 read-nothing term table key entries highs high is at there = read_at term table key entries highs high None is at there
 
-pub read-some : (term table key : ℕ) (entries : List Entry) (highs : List (ℕ × ℕ)) (high : ℕ × ℕ) (entry : Entry) → highs ≡ highs_of term table key entries →
-    slice_get highs (length highs - 1) ≡ Some high → slice_get entries high.0 ≡ Some entry → read_of term table key entries ≡ record { version = high.1; value = entry.value }
+pub read-some : (term table key : ℕ) (entries : List Entry) (highs : List (ℕ × ℕ)) (high : ℕ × ℕ) (entry : Entry) →
+    highs ≡ highs_of term table key entries →
+    slice_get highs (length highs - 1) ≡ Some high → slice_get entries high.0 ≡ Some entry →
+    read_of term table key entries ≡ record { version = high.1; value = entry.value }
 read-some term table key entries highs high entry is at there = read_at term table key entries highs high (Some entry) is at there

@@ -1,12 +1,14 @@
 -- What bounds say, with one more bound that says what holds there already, and with a term given to a stretch of them.
-use Rattle.std.proofs.Common.{◌≡◌, ℕ, ◌+◌, ◌<◌, ◌≤◌, ◌⊎◌, inl, inr, Bool, true, false, cond, Option, Some, None, option_map, sym, ap, subst, ◌∙◌, refl, arith, max, nat_cmp, is_gt, is_lt, is_eq, Less}
+use Rattle.std.proofs.Common.{◌≡◌, ℕ, ◌+◌, ◌<◌, ◌≤◌, ◌⊎◌, inl, inr, Bool, true, false, cond, Option, Some, None}
+use Rattle.std.proofs.Common.{option_map, sym, ap, subst, ◌∙◌, refl, arith, max, nat_cmp, is_gt, is_lt, is_eq, Less}
 use Rattle.std.specs.Option.{IsSome}
 use Rattle.std.proofs.lemmas.Bool.{cases_eq, cases_lt}
 use Rattle.std.proofs.lemmas.Bool.Decides.{nat_tests}
 use Rattle.rc_ownership.specs.Bounds.{Bounds, NoneBetween, NoneUpTo, IsSaid, Say, or_term, is_within}
 
 -- where the new bounds have none, the old ones had none, if only one was set where none was
-still_none : (old new : Bounds) (point : ℕ) → old point ≡ None → ((other : ℕ) → (other ≡ point → ⊥) → new other ≡ old other) → (other : ℕ) → new other ≡ None → old other ≡ None
+still_none : (old new : Bounds) (point : ℕ) → old point ≡ None →
+    ((other : ℕ) → (other ≡ point → ⊥) → new other ≡ old other) → (other : ℕ) → new other ≡ None → old other ≡ None
 still_none old new point none apart other h = by (cases_eq other point)
   where
     by : (other ≡ point) ⊎ (other ≡ point → ⊥) → old other ≡ None
@@ -14,7 +16,8 @@ still_none old new point none apart other h = by (cases_eq other point)
     by (inr ne) = sym (apart other ne) ∙ h
 
 -- what is said at a point is said on, as long as no further bound comes
-said_on : (old : Bounds) (point at : ℕ) (term : Option ℕ) → point ≤ at → ((other : ℕ) → point < other → other ≤ at → old other ≡ None) → IsSaid old point term → IsSaid old at term
+said_on : (old : Bounds) (point at : ℕ) (term : Option ℕ) → point ≤ at →
+    ((other : ℕ) → point < other → other ≤ at → old other ≡ None) → IsSaid old point term → IsSaid old at term
 said_on old point at term low none (inl v) = inl (v.0, omega arith, v.2, λ other above upto. by other above upto (cases_lt point other))
   where
     by : (other : ℕ) → v.0 < other → other ≤ at → (point < other) ⊎ (other ≤ point) → old other ≡ None
@@ -35,8 +38,16 @@ Say-cut old new point term said none here apart terms say at held (inl w) = by (
     by (inl e) =
         let at_point : new point ≡ Some held = subst (λ b. new b ≡ Some held) e w.2 in
         let same : held ≡ term = cc in
-        same ∙ say at term (said_on old point at term (omega arith) (λ other above upto. still_none old new point none apart other (w.3 other (omega arith) upto)) said)
-    by (inr ne) = say at held (inl (w.0, w.1, sym (apart w.0 ne) ∙ w.2, λ other above upto. still_none old new point none apart other (w.3 other above upto)))
+        same ∙ say at term (said_on old point at term (omega arith)
+        (λ other above upto. still_none old new point none apart other (w.3 other (omega arith) upto)) said)
+    by (inr ne) = say at held
+        (inl (
+          w.0,
+          w.1,
+          sym (apart w.0 ne) ∙ w.2,
+          λ other above upto. still_none old new point none apart other
+              (w.3 other above upto),
+        ))
 Say-cut old new point term said none here apart terms say at held (inr w) =
     say at held (inr ((λ other upto. still_none old new point none apart other (w.0 other upto)), w.1))
 
@@ -59,7 +70,8 @@ given-some term true (Some before) held h = (before, refl, cc)
 given-some term false None held h = absurd (cc)
 given-some term false (Some before) held h = (before, refl, cc)
 
-within-same : (first end bound at : ℕ) → bound ≤ at → (bound < first → at < first) → (bound < end → at < end) → is_within first end bound ≡ is_within first end at
+within-same : (first end bound at : ℕ) → bound ≤ at → (bound < first → at < first) → (bound < end → at < end) →
+    is_within first end bound ≡ is_within first end at
 within-same first end bound at low lower upper = grind (arith, nat_tests)
 
 -- a bound that stands is not passed
@@ -73,18 +85,23 @@ not_passed bounds bound at mark none stands below = by (cases_lt at mark)
 -- where bounds stand at the first point and at the end, a term given to those between is given to the points between
 pub Say-given : (old new : Bounds) (first end term : ℕ) → (old first ≡ None → ⊥) → (old end ≡ None → ⊥) →
     ((other : ℕ) → new other ≡ given term (is_within first end other) (old other)) →
-    (terms after : ℕ → Option ℕ) → ((at : ℕ) → after at ≡ cond (is_within first end at) (or_term term (terms at)) (terms at)) → Say old terms → Say new after
+    (terms after : ℕ → Option ℕ) →
+    ((at : ℕ) → after at ≡ cond (is_within first end at) (or_term term (terms at)) (terms at)) → Say old terms →
+    Say new after
 Say-given old new first end term at_first at_end gives terms after afterwards say at held (inl w) =
     let had = given-some term (is_within first end w.0) (old w.0) held (sym (gives w.0) ∙ w.2) in
-    let none : NoneBetween old w.0 at = λ other above upto. given-none term (is_within first end other) (old other) (sym (gives other) ∙ w.3 other above upto) in
+    let none : NoneBetween old w.0 at = λ other above upto. given-none term (is_within first end other) (old other)
+    (sym (gives other) ∙ w.3 other above upto) in
     let before : had.0 ≡ terms at = say at had.0 (inl (w.0, w.1, had.1, none)) in
-    let same : is_within first end w.0 ≡ is_within first end at = within-same first end w.0 at w.1 (not_passed old w.0 at first none at_first) (not_passed old w.0 at end none at_end) in
+    let same : is_within first end w.0 ≡ is_within first end at = within-same first end w.0 at w.1
+    (not_passed old w.0 at first none at_first) (not_passed old w.0 at end none at_end) in
     had.2
     ∙ ap (λ b. cond b (or_term term had.0) had.0) same
     ∙ ap (λ h. cond (is_within first end at) (or_term term h) h) before
     ∙ sym (afterwards at)
 Say-given old new first end term at_first at_end gives terms after afterwards say at held (inr w) =
-    let none : NoneUpTo old at = λ other upto. given-none term (is_within first end other) (old other) (sym (gives other) ∙ w.0 other upto) in
+    let none : NoneUpTo old at =
+    λ other upto. given-none term (is_within first end other) (old other) (sym (gives other) ∙ w.0 other upto) in
     let before : None ≡ terms at = say at None (inr (none, refl)) in
     let outside : is_within first end at ≡ false = by none (cases_lt at first) in
     w.1 ∙ before ∙ ap (λ b. cond b (or_term term (terms at)) (terms at)) (sym outside) ∙ sym (afterwards at)
@@ -123,23 +140,35 @@ some_unless (Some x) h e = cc
 
 -- the last of those up to a point is what is said there
 pub IsSaid-last : (bounds : Bounds) (bound point : ℕ) (term : Option ℕ) → is_gt (nat_cmp bound point) ≡ false → bounds bound ≡ Some term →
-    ((other : ℕ) → is_gt (nat_cmp other point) ≡ false → IsSome (bounds other) → is_lt (nat_cmp bound other) ≡ false) → IsSaid bounds point term
+    ((other : ℕ) → is_gt (nat_cmp other point) ≡ false → IsSome (bounds other) → is_lt (nat_cmp bound other) ≡ false) →
+    IsSaid bounds point term
 IsSaid-last bounds bound point term low is last =
-    inl (bound, upto bound point low, is, λ other above high. none_unless (bounds other) (λ some. passed other above (not_below bound other (last other (upto-cmp other point high) some))))
+    inl (
+      bound,
+      upto bound point low,
+      is,
+      λ other above high.
+          none_unless (bounds other)
+          (λ some. passed other above (not_below bound other (last other (upto-cmp other point high) some))),
+    )
   where
     passed : (other : ℕ) → bound < other → other ≤ bound → ⊥
     passed other above low = omega arith
 
 -- the first of those above a point has none before it
 pub none_before : (bounds : Bounds) (point end bound : ℕ) → bound < end →
-    ((other : ℕ) → is_gt (nat_cmp (point + 1) other) ≡ false → nat_cmp other end ≡ Less → IsSome (bounds other) → is_gt (nat_cmp bound other) ≡ false) →
+    ((other : ℕ) → is_gt (nat_cmp (point + 1) other) ≡ false → nat_cmp other end ≡ Less → IsSome (bounds other) →
+    is_gt (nat_cmp bound other) ≡ false) →
     (other : ℕ) → point < other → other < bound → bounds other ≡ None
 none_before bounds point end bound within first other above low =
-    none_unless (bounds other) (λ some. passed (upto bound other (first other (upto-cmp (point + 1) other (omega arith)) (below-cmp other end (omega arith)) some)))
+    none_unless (bounds other)
+    (λ some. passed (upto bound other (first other (upto-cmp (point + 1) other (omega arith))
+    (below-cmp other end (omega arith)) some)))
   where
     passed : bound ≤ other → ⊥
     passed h = omega arith
 
 -- a stretch that was gone through to its end
-pub within_end : (first end point : ℕ) → first ≤ point → end ≤ point → point ≤ max first end → (other : ℕ) → is_within first point other ≡ is_within first end other
+pub within_end : (first end point : ℕ) → first ≤ point → end ≤ point → point ≤ max first end → (other : ℕ) →
+    is_within first point other ≡ is_within first end other
 within_end first end point low past high other = grind (arith, nat_tests)

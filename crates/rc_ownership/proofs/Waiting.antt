@@ -1,7 +1,9 @@
 -- The entries that wait: at the cursor, once one is taken, and once rows have joined.
-use Rattle.std.proofs.Common.{◌≡◌, ℕ, ◌+◌, ◌-◌, ◌<◌, ◌≤◌, List, [], ◌∷◌, ◌++◌, map, length, take, drop, append_assoc, length-append, sym, ap, subst, ◌∙◌, refl, arith, zero, suc, nat_lt}
+use Rattle.std.proofs.Common.{◌≡◌, ℕ, ◌+◌, ◌-◌, ◌<◌, ◌≤◌, List, [], ◌∷◌, ◌++◌, map, length, take, drop, append_assoc}
+use Rattle.std.proofs.Common.{length-append, sym, ap, subst, ◌∙◌, refl, arith, zero, suc, nat_lt}
 use Rattle.std.proofs.lemmas.Bool.Decides.{nat_tests}
-use Rattle.std.proofs.lemmas.List.{append-nil, map-append, length-drop, drop-drop, drop-append-le, take-append-le, take-take, length-take-le}
+use Rattle.std.proofs.lemmas.List.{append-nil, map-append, length-drop, drop-drop, drop-append-le, take-append-le}
+use Rattle.std.proofs.lemmas.List.{take-take, length-take-le}
 use Rattle.std.proofs.Math.Seq.{drop-append_seam}
 use Rattle.std.proofs.Math.ListN.{drop_of_length-le}
 use Rattle.std.specs.Prelude.{slice_get, slice_index_or}
@@ -47,11 +49,14 @@ place-within [] place h = omega (arith, h)
 place-within (row ∷ rows) place h = omega (arith, h, length-append row (all_waiting rows))
 
 -- an entry waits where a row is left
-pub waits : (rows : List (List Entry)) (row place : ℕ) → row ≤ length rows → IsPlace place (drop row rows) → nat_lt row (length rows) ≡ nat_lt 0 (length (waiting_from place (drop row rows)))
+pub waits : (rows : List (List Entry)) (row place : ℕ) → row ≤ length rows → IsPlace place (drop row rows) →
+    nat_lt row (length rows) ≡ nat_lt 0 (length (waiting_from place (drop row rows)))
 waits rows row place within h = by (drop row rows) (length-drop row rows) h
   where
-    by : (rest : List (List Entry)) → length rest ≡ length rows - row → IsPlace place rest → nat_lt row (length rows) ≡ nat_lt 0 (length (waiting_from place rest))
-    by [] left none = outside (length rows) (drop place []) (omega (arith, left)) (omega (arith, length-drop place (let none : List Entry = [] in none)))
+    by : (rest : List (List Entry)) → length rest ≡ length rows - row → IsPlace place rest →
+        nat_lt row (length rows) ≡ nat_lt 0 (length (waiting_from place rest))
+    by [] left none = outside (length rows) (drop place []) (omega (arith, left))
+        (omega (arith, length-drop place (let none : List Entry = [] in none)))
       where
         outside : (count : ℕ) (entries : List Entry) → count ≤ row → length entries ≡ 0 → nat_lt row count ≡ nat_lt 0 (length entries)
         outside count entries past none = grind (arith, nat_tests)
@@ -65,7 +70,8 @@ waits rows row place within h = by (drop row rows) (length-drop row rows) h
 -- The first entry that waits
 
 -- the rows from a place on begin with the one at the place
-pub drop-at : (rows : List (List Entry)) (place : ℕ) (row : List Entry) → place < length rows → row ≡ slice_index_or rows place row → drop place rows ≡ row ∷ drop (place + 1) rows
+pub drop-at : (rows : List (List Entry)) (place : ℕ) (row : List Entry) → place < length rows →
+    row ≡ slice_index_or rows place row → drop place rows ≡ row ∷ drop (place + 1) rows
 drop-at [] place row within is = absurd (omega arith)
 drop-at (first ∷ rows) zero row within is = ap (λ r. r ∷ rows) (sym is)
 drop-at (first ∷ rows) (suc place) row within is =
@@ -74,7 +80,8 @@ drop-at (first ∷ rows) (suc place) row within is =
     moved : (n : ℕ) → suc (n + 1) ≡ suc n + 1
     moved n = omega arith
 
-get-drop : (entries more : List Entry) (place : ℕ) → place < length entries → slice_get entries place ≡ slice_get (drop place (entries ++ more)) 0
+get-drop : (entries more : List Entry) (place : ℕ) → place < length entries →
+    slice_get entries place ≡ slice_get (drop place (entries ++ more)) 0
 get-drop [] more place within = absurd (omega arith)
 get-drop (entry ∷ entries) more zero within = refl
 get-drop (entry ∷ entries) more (suc place) within = get-drop entries more place (omega arith)
@@ -108,14 +115,17 @@ first_waiting rows row place entries at =
     ∙ ap (λ rest. slice_get (waiting_from place rest) 0) (sym (drop-at rows row entries at.within at.is))
 
 -- the cursor moves on in its row
-pub next_place : (rows : List (List Entry)) (row place : ℕ) → waiting_from (place + 1) (drop row rows) ≡ without_first (waiting_from place (drop row rows))
+pub next_place : (rows : List (List Entry)) (row place : ℕ) →
+    waiting_from (place + 1) (drop row rows) ≡ without_first (waiting_from place (drop row rows))
 next_place rows row place = next-drop (all_waiting (drop row rows)) place
 
-pub place-next : (rows : List (List Entry)) (row place : ℕ) (entries : List Entry) → IsRowAt rows row place entries → place + 1 < length entries → IsPlace (place + 1) (drop row rows)
+pub place-next : (rows : List (List Entry)) (row place : ℕ) (entries : List Entry) → IsRowAt rows row place entries →
+    place + 1 < length entries → IsPlace (place + 1) (drop row rows)
 place-next rows row place entries at more = subst (IsPlace (place + 1)) (sym (drop-at rows row entries at.within at.is)) more
 
 -- the cursor moves on to the next row
-pub next_row : (rows : List (List Entry)) (row place : ℕ) (entries : List Entry) → IsRowAt rows row place entries → length entries ≤ place + 1 →
+pub next_row : (rows : List (List Entry)) (row place : ℕ) (entries : List Entry) → IsRowAt rows row place entries →
+    length entries ≤ place + 1 →
     waiting_from 0 (drop (row + 1) rows) ≡ without_first (waiting_from place (drop row rows))
 next_row rows row place entries at last =
     let there : place < length entries = place-row rows row place entries at in
@@ -125,7 +135,8 @@ next_row rows row place entries at last =
     ∙ next-drop (entries ++ rest) place
     ∙ ap (λ left. without_first (waiting_from place left)) (sym (drop-at rows row entries at.within at.is))
 
-pub replay-next_row : (rows : List (List Entry)) (kept first row place : ℕ) → IsReplay rows kept first row place → row < length rows → IsReplay rows kept first (row + 1) 0
+pub replay-next_row : (rows : List (List Entry)) (kept first row place : ℕ) → IsReplay rows kept first row place →
+    row < length rows → IsReplay rows kept first (row + 1) 0
 replay-next_row rows kept first row place is within = record {
   none_empty = is.none_empty;
   kept_within = is.kept_within;
@@ -151,16 +162,19 @@ joined-waiting rows more row place within h =
     ∙ ap (drop place) (all_waiting-append (drop row rows) more)
     ∙ drop-append-le place (all_waiting (drop row rows)) (all_waiting more) (place-within (drop row rows) place h)
 
-pub replay-joined : (rows more : List (List Entry)) (kept first row place : ℕ) → IsReplay rows kept first row place → NoneIsEmpty more → IsReplay (rows ++ more) kept first row place
+pub replay-joined : (rows more : List (List Entry)) (kept first row place : ℕ) → IsReplay rows kept first row place →
+    NoneIsEmpty more → IsReplay (rows ++ more) kept first row place
 replay-joined rows more kept first row place is none = record {
   none_empty = none_empty-append rows more is.none_empty none;
   kept_within = omega (arith, is.kept_within, length-append rows more);
   row_within = omega (arith, is.row_within, length-append rows more);
   place_before = subst (IsPlace first) (sym (take-append-le kept rows more is.kept_within)) is.place_before;
-  place_now = subst (IsPlace place) (sym (drop-append-le row rows more is.row_within)) (place-append (drop row rows) more place none is.place_now);
+  place_now = subst (IsPlace place) (sym (drop-append-le row rows more is.row_within))
+      (place-append (drop row rows) more place none is.place_now);
 }
 
-entries-push : (rows : List PartRow) (row : PartRow) → entries_that_came (rows ++ row ∷ []) ≡ entries_that_came rows ++ came_entries row.came
+entries-push : (rows : List PartRow) (row : PartRow) → entries_that_came (rows ++ row ∷ []) ≡ entries_that_came rows ++
+    came_entries row.came
 entries-push [] row = append-nil (came_entries row.came)
 entries-push (first ∷ rows) row =
     ap (λ entries. came_entries first.came ++ entries) (entries-push rows row)
@@ -171,7 +185,8 @@ length_under term [] = refl
 length_under term (entry ∷ entries) = ap suc (length_under term entries)
 
 -- one row more joins
-pub joined-push : (term : ℕ) (old new : List (List Entry)) (rows : List PartRow) (row : PartRow) → all_waiting old ≡ map (under_term term) (entries_that_came rows) →
+pub joined-push : (term : ℕ) (old new : List (List Entry)) (rows : List PartRow) (row : PartRow) →
+    all_waiting old ≡ map (under_term term) (entries_that_came rows) →
     all_waiting new ≡ all_waiting old ++ map (under_term term) (came_entries row.came) →
     all_waiting new ≡ map (under_term term) (entries_that_came (rows ++ row ∷ []))
 joined-push term old new rows row before pushed =
@@ -191,7 +206,8 @@ passed rows row more = drop-drop (row - 1) 1 rows ∙ ap (λ count. drop count r
 take_again : (rows : List (List Entry)) (count : ℕ) → take count (take count rows) ≡ take count rows
 take_again rows count = take-take count count rows (omega arith)
 
-pub replay-restored : (rows : List (List Entry)) (kept first row place : ℕ) → IsReplay rows kept first row place → IsReplay (take kept rows) kept first 0 first
+pub replay-restored : (rows : List (List Entry)) (kept first row place : ℕ) → IsReplay rows kept first row place →
+    IsReplay (take kept rows) kept first 0 first
 replay-restored rows kept first row place is = record {
   none_empty = none_empty-take rows kept is.none_empty;
   kept_within = omega (arith, length-take-le kept rows is.kept_within);

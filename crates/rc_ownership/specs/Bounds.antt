@@ -1,6 +1,7 @@
 -- Points of all tables in one order, and the terms that are granted there: each bound in the table says what
 -- holds from its point on, up to the next bound.
-use Rattle.std.specs.Prelude.{◌≡◌, ℕ, ◌+◌, ◌*◌, ◌/◌, ◌%◌, ◌^◌, ◌<◌, ◌≤◌, ◌⊎◌, Bool, nat_le, nat_lt, ◌&&◌, List, Option, Some, None}
+use Rattle.std.specs.Prelude.{◌≡◌, ℕ, ◌+◌, ◌*◌, ◌/◌, ◌%◌, ◌^◌, ◌<◌, ◌≤◌, ◌⊎◌, Bool, nat_le, nat_lt, ◌&&◌, List}
+use Rattle.std.specs.Prelude.{Option, Some, None}
 use Rattle.rc_types.specs.declared.kept.GrantedRange.{GrantedRange}
 use Rattle.rc_model.specs.Ownership.{term_of}
 use Rattle.rc_ownership.specs.Grants.{owner_of}
@@ -28,7 +29,8 @@ NoneUpTo bounds high = (at : ℕ) → at ≤ high → bounds at ≡ None
 -- the last bound up to a point says this; or there is none, and this is no term
 abbrev pub IsSaid : Bounds → ℕ → Option ℕ → Type 0
 IsSaid bounds point term =
-    ((bound : ℕ) × (bound ≤ point) × (bounds bound ≡ Some term) × NoneBetween bounds bound point) ⊎ (NoneUpTo bounds point × (term ≡ None))
+    ((bound : ℕ) × (bound ≤ point) × (bounds bound ≡ Some term) × NoneBetween bounds bound point) ⊎
+    (NoneUpTo bounds point × (term ≡ None))
 
 -- at each point the bounds say what the terms are
 abbrev pub Say : Bounds → (ℕ → Option ℕ) → Type 0

@@ -15,4 +15,5 @@ count_in counts term = unwrap_or (get nat_eq counts term) 0
 
 -- the term of each entry is in the table
 abbrev pub AreKnown : CountTable → List Entry → Type 0
-AreKnown counts entries = (place : ℕ) (other : Entry) → place < length entries → IsSome (get nat_eq counts (slice_index_or entries place other).term)
+AreKnown counts entries = (place : ℕ) (other : Entry) → place < length entries →
+    IsSome (get nat_eq counts (slice_index_or entries place other).term)

@@ -1,4 +1,5 @@
--- The record highs of a key under a term: the place and the version of each entry whose version is above all earlier ones.
+-- The record highs of a key under a term: the place and the version of each entry whose version is above all earlier
+-- ones.
 use Rattle.std.specs.Prelude.{ℕ, ◌+◌, nat_lt, ◌&&◌, if◌then◌else◌, List, [], ◌∷◌, ◌++◌}
 use Rattle.rc_types.specs.declared.entries.Entry.{Entry}
 use Rattle.rc_model.specs.Versions.{is_of}

@@ -7,7 +7,8 @@ use Rattle.rc_ownership.specs.Counts.{CountTable, count_in, AreKnown}
 use Rattle.rc_ownership.specs.Highs.{highs_of}
 use Rattle.rc_ownership.specs.Slots.{HighTable, highs_in}
 
--- the entries that were noted, and how many of them, from the first on, are durable; and both as `restore` lets them be again
+-- the entries that were noted, and how many of them, from the first on, are durable; and both as `restore` lets them
+-- be again
 pub record Noted : Type 0 where
   pub noted : List Entry
   pub durable : ℕ
@@ -15,14 +16,16 @@ pub record Noted : Type 0 where
   pub durable_before : ℕ
 
 -- the tables are those of the entries
-pub record AreTablesOf {A : Type 0} (noted : List Entry) (durable : ℕ) (highs : HighTable A) (counts : CountTable) : Type 0 where
+pub record AreTablesOf {A : Type 0} (noted : List Entry) (durable : ℕ) (highs : HighTable A) (counts : CountTable) :
+    Type 0 where
   pub within : durable ≤ length noted
   pub highs_are : (slot : Slot) → highs_in highs slot ≡ highs_of slot.term slot.table slot.key noted
   pub counts_are : (term : ℕ) → count_in counts term ≡ count_under term (take durable noted)
   pub known : AreKnown counts noted
 
 -- notes, and how many of them there were and were durable when `begin` was called
-pub record AreNotes {A : Type 0} (noted : List Entry) (durable kept kept_durable : ℕ) (highs : HighTable A) (counts : CountTable) : Type 0 where
+pub record AreNotes {A : Type 0} (noted : List Entry) (durable kept kept_durable : ℕ) (highs : HighTable A)
+    (counts : CountTable) : Type 0 where
   pub tables : AreTablesOf noted durable highs counts
   pub kept_within : kept ≤ length noted
   pub durable_within : kept_durable ≤ kept

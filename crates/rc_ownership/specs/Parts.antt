@@ -2,7 +2,8 @@
 use Rattle.std.specs.Prelude.{◌≡◌, ℕ, ◌<◌, ◌≤◌, nat_eq, false, not, ◌&&◌, List, [], ◌∷◌, length, map, filter, is_some}
 use Rattle.std.specs.Map.{set_value}
 use Rattle.rc_types.specs.declared.entries.Entry.{Entry}
-use Rattle.rc_model.specs.Ownership.{Ownership, owns_nothing, PartRow, PartState, entries_that_came, is_complete, owns_term}
+use Rattle.rc_model.specs.Ownership.{Ownership, owns_nothing, PartRow, PartState, entries_that_came, is_complete}
+use Rattle.rc_model.specs.Ownership.{owns_term}
 
 -- how many rows have not come
 abbrev pub count_missing : List PartRow → ℕ
@@ -26,7 +27,8 @@ HasNone key (entry ∷ entries) = (nat_eq key entry.0 ≡ false) × HasNone key 
 -- each part stands in the table under its own term, and no two have one term
 abbrev pub AreUnderTheirTerms : List (ℕ × PartState) → Type 0
 AreUnderTheirTerms [] = Unit {0}
-AreUnderTheirTerms (entry ∷ entries) = (entry.0 ≡ entry.1.part.term) × HasNone entry.0 entries × AreUnderTheirTerms entries
+AreUnderTheirTerms (entry ∷ entries) =
+    (entry.0 ≡ entry.1.part.term) × HasNone entry.0 entries × AreUnderTheirTerms entries
 
 -- the parts of a table's entries
 abbrev pub parts_in : List (ℕ × PartState) → List PartState
@@ -62,4 +64,5 @@ pub record IsPartTable (entries touched : List (ℕ × PartState)) (kept : ℕ) 
 -- the terms of the complete parts that aren't granted yet
 abbrev pub awaiting_grant : List Entry → Ownership → List PartState → List ℕ
 awaiting_grant durable own parts =
-    map (λ state. state.part.term) (filter (λ state. is_complete durable state && not (owns_term own state.part.term)) parts)
+    map (λ state. state.part.term) (filter (λ state. is_complete durable state && not (owns_term own state.part.term))
+    parts)

@@ -62,7 +62,8 @@ fn next_bound(bounds: &BTreeMap<u128, Option<u32>>, point: u128, end: u128) -> u
 
 /// Gives a term to the bound at a point, where it has none.
 fn give_at(bounds: &mut BTreeMap<u128, Option<u32>>, point: u128, term: u32)
-    ensures { (other : ℕ) → get nat_cmp bounds.new other ≡ (if is_within point (point + 1) other then option_map (or_term term) (get nat_cmp bounds.old other) else get nat_cmp bounds.old other) }
+    ensures { (other : ℕ) → get nat_cmp bounds.new other ≡ (if is_within point (point + 1) other then option_map
+        (or_term term) (get nat_cmp bounds.old other) else get nat_cmp bounds.old other) }
 {
     if let Some(held) = bounds.get_mut(&point) {
         if held.is_none() {
@@ -73,7 +74,9 @@ fn give_at(bounds: &mut BTreeMap<u128, Option<u32>>, point: u128, term: u32)
 
 /// Gives a term to each bound from one point on and before another that has none.
 pub(crate) fn give_from(bounds: &mut BTreeMap<u128, Option<u32>>, first: u128, end: u128, term: u32)
-    ensures { (other : ℕ) → get nat_cmp bounds.new other ≡ (if is_within first end other then option_map (or_term term) (get nat_cmp bounds.old other) else get nat_cmp bounds.old other) }
+    ensures { (other : ℕ) → get nat_cmp bounds.new
+        other ≡ (if is_within first end other then option_map (or_term term) (get nat_cmp bounds.old other)
+        else get nat_cmp bounds.old other) }
 {
     let mut point = first;
     while point < end {

@@ -68,7 +68,8 @@ impl Grants {
 
     /// Takes a granted range, unless one was granted under its term before.
     pub(crate) fn grant(&mut self, range: KeyRange, term: u32) -> Result<(), AllocError>
-        ensures ok { OnOk result (self.new ≡ (grant (record { range = range; term = term }) (owner_of self.old)).grants) }
+        ensures ok { OnOk result (self.new ≡ (grant (record { range = range; term = term })
+            (owner_of self.old)).grants) }
         ensures err { OnErr result (self.new ≡ self.old) }
     {
         if self.owns_term(term) {

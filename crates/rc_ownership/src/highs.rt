@@ -1,7 +1,8 @@
 //! The record highs of keys: of each key under a term, the place and the version of each noted
 //! entry whose version is above all earlier ones.
 
-ghost use Rattle.std.specs.Prelude.{◌≡◌, ℕ, ◌++◌, ◌∷◌, [], OnOk, OnErr, if◌then◌else◌, filter, nat_lt, ◌≤◌, length, take};
+ghost use Rattle.std.specs.Prelude.{◌≡◌, ℕ, ◌++◌, ◌∷◌, [], OnOk, OnErr, if◌then◌else◌, filter, nat_lt, ◌≤◌, length};
+ghost use Rattle.std.specs.Prelude.{take};
 ghost use Rattle.std.specs.List.Sorted.{IsNonDecreasingBy};
 ghost use Rattle.rc_model.specs.Versions.{is_of};
 ghost use Rattle.rc_ownership.specs.Highs.{last_version, with_high};
@@ -63,7 +64,9 @@ pub(crate) fn add_high(
     place: usize,
     version: u64,
 ) -> Result<(), AllocError>
-    ensures ok { OnOk result ((other : Slot) → highs_in highs.new other ≡ (if same_slot slot other then with_high place version (highs_in highs.old other) else highs_in highs.old other)) }
+    ensures ok { OnOk result ((other : Slot) →
+        highs_in highs.new other ≡ (if same_slot slot other then with_high place version (highs_in highs.old other)
+        else highs_in highs.old other)) }
     ensures err { OnErr result ((other : Slot) → highs_in highs.new other ≡ highs_in highs.old other) }
 {
     if version <= last_version(highs_in(highs, slot)) {
@@ -100,7 +103,9 @@ pub(crate) fn below(highs: &[(usize, u64)], count: usize) -> &[(usize, u64)]
 /// Drops the highs of a slot whose places aren't below a count.
 pub(crate) fn drop_from(highs: &mut IndexMap<Slot, Vec<(usize, u64)>>, slot: Slot, count: usize)
     requires { IsNonDecreasingBy (λ high. high.0) (highs_in highs.old slot) }
-    ensures { (other : Slot) → highs_in highs.new other ≡ (if same_slot slot other then filter (λ high. nat_lt high.0 count) (highs_in highs.old other) else highs_in highs.old other) }
+    ensures { (other : Slot) →
+        highs_in highs.new other ≡ (if same_slot slot other then filter (λ high. nat_lt high.0 count)
+        (highs_in highs.old other) else highs_in highs.old other) }
 {
     if let Some(list) = highs.get_mut(&slot) {
         let left = count_below(list.as_slice(), count);

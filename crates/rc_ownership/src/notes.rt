@@ -1,7 +1,8 @@
 //! The notes of a log: its entries as they were appended, how many of them are durable, and the
 //! tables by which versions are numbered and read without a walk over them.
 
-ghost use Rattle.std.specs.Prelude.{◌≡◌, ℕ, ◌+◌, ◌-◌, ◌^◌, ◌<◌, ◌≤◌, ◌++◌, ◌∷◌, [], length, take, slice_get, OnOk, OnErr, IfOk, IfErr};
+ghost use Rattle.std.specs.Prelude.{◌≡◌, ℕ, ◌+◌, ◌-◌, ◌^◌, ◌<◌, ◌≤◌, ◌++◌, ◌∷◌, [], length, take, slice_get, OnOk};
+ghost use Rattle.std.specs.Prelude.{OnErr, IfOk, IfErr};
 ghost use Rattle.std.specs.Option.{option_copied};
 ghost use Rattle.rc_types.specs.declared.faults.Fault.TheVariants.{OutOfMemory};
 
@@ -30,7 +31,12 @@ impl Model for Notes {
 
     ghost Value = { Noted };
 
-    ghost view = { λ s. record { noted = s.noted.items; durable = s.durable; noted_before = take s.kept s.noted.items; durable_before = s.kept_durable } };
+    ghost view = { λ s. record {
+      noted = s.noted.items;
+      durable = s.durable;
+      noted_before = take s.kept s.noted.items;
+      durable_before = s.kept_durable;
+    } };
 
     ghost invariant = { λ s. AreNotes s.noted.items s.durable s.kept s.kept_durable s.highs s.counts };
 }
@@ -182,7 +188,8 @@ impl Notes {
         table: u32,
         key: u64,
     ) -> Result<(u64, Option<Seq<u8>>), Fault>
-        ensures ok { IfOk result (λ found. read_of term table key (take self.now.durable self.now.noted) ≡ record { version = found.0; value = found.1 }) }
+        ensures ok { IfOk result (λ found. read_of term table key (take self.now.durable self.now.noted) ≡ record
+            { version = found.0; value = found.1 }) }
         ensures no_memory { IfErr result (λ fault. fault ≡ OutOfMemory) }
     {
         let Some((place, version)) = self.durable_highs(term, table, key).last() else {

@@ -1,6 +1,7 @@
 //! What a master owns, in one value.
 
-ghost use Rattle.std.specs.Prelude.{◌≡◌, ◌<◌, ◌≤◌, ◌+◌, ◌^◌, ◌++◌, ◌∷◌, [], length, not, nat_eq, nat_lt, slice_get, OnOk, OnErr, IfOk, IfErr};
+ghost use Rattle.std.specs.Prelude.{◌≡◌, ◌<◌, ◌≤◌, ◌+◌, ◌^◌, ◌++◌, ◌∷◌, [], length, not, nat_eq, nat_lt, slice_get};
+ghost use Rattle.std.specs.Prelude.{OnOk, OnErr, IfOk, IfErr};
 ghost use Rattle.rc_types.specs.declared.faults.Fault.TheVariants.{OutOfMemory};
 ghost use Rattle.rc_model.specs.Ownership.{owns_nothing};
 ghost use Rattle.rc_model.specs.Ownership as owning;
@@ -34,7 +35,15 @@ impl Model for Ownership {
       own = record { grants = s.grants; parts = s.parts.parts; replay = s.parts.replay };
       noted = s.notes.noted;
       durable = s.notes.durable;
-      before = record { own = record { grants = s.grants; parts = s.parts.parts_before; replay = s.parts.replay_before }; noted = s.notes.noted_before; durable = s.notes.durable_before };
+      before = record {
+        own = record {
+          grants = s.grants;
+          parts = s.parts.parts_before;
+          replay = s.parts.replay_before;
+        };
+        noted = s.notes.noted_before;
+        durable = s.notes.durable_before;
+      };
     } };
 }
 
@@ -61,7 +70,11 @@ impl Ownership {
     /// Goes back to where `begin` was called last, or to nothing where it never was; but for the
     /// grants, which stay. It takes no memory, and as long as what was done since.
     pub fn restore(&mut self)
-        ensures { self.new ≡ record self.old { own = self.old.before.own; noted = self.old.before.noted; durable = self.old.before.durable } }
+        ensures { self.new ≡ record self.old {
+          own = self.old.before.own;
+          noted = self.old.before.noted;
+          durable = self.old.before.durable;
+        } }
     {
         self.notes.restore();
         self.parts.restore();
@@ -74,7 +87,11 @@ impl Ownership {
     ///
     /// - `OutOfMemory` (F1): memory was refused; nothing has changed.
     pub fn grant(&mut self, range: KeyRange, term: u32) -> Result<(), Fault>
-        ensures ok { OnOk result (self.new ≡ record self.old { own = owning.grant (record { range = range; term = term }) self.old.own; before = record self.old.before { own = owning.grant (record { range = range; term = term }) self.old.before.own } }) }
+        ensures ok { OnOk result (self.new ≡ record self.old {
+          own = owning.grant (record { range = range; term = term }) self.old.own;
+          before = record self.old.before
+              { own = owning.grant (record { range = range; term = term }) self.old.before.own };
+        }) }
         ensures err { OnErr result (self.new ≡ self.old) }
         ensures no_memory { IfErr result (λ fault. fault ≡ OutOfMemory) }
     {
@@ -169,7 +186,8 @@ impl Ownership {
         table: u32,
         key: u64,
     ) -> Result<(u64, Option<Seq<u8>>), Fault>
-        ensures ok { IfOk result (λ found. versions.read_of term table key (durable_of self.now) ≡ record { version = found.0; value = found.1 }) }
+        ensures ok { IfOk result (λ found. versions.read_of term table key
+            (durable_of self.now) ≡ record { version = found.0; value = found.1 }) }
         ensures no_memory { IfErr result (λ fault. fault ≡ OutOfMemory) }
     {
         self.notes.read(alloc, term, table, key)
@@ -237,7 +255,8 @@ impl Ownership {
         entries: &[Entry],
     ) -> Result<bool, Fault>
         ensures put { IfOk result (λ put. put ≡ owning.awaits_data term seg from self.old.own) }
-        ensures ok { OnOk result (self.new ≡ record self.old { own = owning.put_data term seg from entries.now self.old.own }) }
+        ensures ok { OnOk result (self.new ≡ record self.old
+            { own = owning.put_data term seg from entries.now self.old.own }) }
         ensures err { OnErr result (self.new ≡ self.old) }
         ensures no_memory { IfErr result (λ fault. fault ≡ OutOfMemory) }
     {
@@ -278,7 +297,8 @@ impl Ownership {
     /// - `OutOfMemory` (F1): memory was refused; nothing has changed.
     pub fn complete(&mut self, alloc: Global) -> Result<Option<u32>, Fault>
         ensures term { IfOk result (λ term. term ≡ owning.to_answer (durable_of self.old) self.old.own) }
-        ensures answered { OnOk result (self.new ≡ record self.old { own = owning.after_answer (durable_of self.old) self.old.own }) }
+        ensures answered { OnOk result
+            (self.new ≡ record self.old { own = owning.after_answer (durable_of self.old) self.old.own }) }
         ensures err { OnErr result (self.new ≡ self.old) }
         ensures no_memory { IfErr result (λ fault. fault ≡ OutOfMemory) }
     {
@@ -293,7 +313,8 @@ impl Ownership {
     ///
     /// - `OutOfMemory` (F1): the memory for the list was refused.
     pub fn awaiting_grant(&self, alloc: Global) -> Result<Vec<u32>, Fault>
-        ensures ok { IfOk result (λ terms. terms.items ≡ awaiting_grant (durable_of self.now) self.now.own self.now.own.parts) }
+        ensures ok { IfOk result (λ terms. terms.items ≡ awaiting_grant (durable_of self.now) self.now.own
+            self.now.own.parts) }
         ensures no_memory { IfErr result (λ fault. fault ≡ OutOfMemory) }
     {
         let terms = self.parts.awaiting_grant(alloc, &self.notes, &self.grants)?;

@@ -1,9 +1,11 @@
 //! One part of a crashed master's log, from its begin to its end.
 
-ghost use Rattle.std.specs.Prelude.{◌≡◌, ◌<◌, ◌≤◌, ◌+◌, ◌^◌, true, position, length, take, Some, List, [], IfOk, IfErr, OnOk, OnErr};
+ghost use Rattle.std.specs.Prelude.{◌≡◌, ◌<◌, ◌≤◌, ◌+◌, ◌^◌, true, position, length, take, Some, List, [], IfOk};
+ghost use Rattle.std.specs.Prelude.{IfErr, OnOk, OnErr};
 ghost use Rattle.std.specs.List.{list_any};
 ghost use Rattle.rc_types.specs.declared.faults.Fault.TheVariants.{OutOfMemory};
-ghost use Rattle.rc_model.specs.Ownership.{new_part, is_awaited, with_row, part_with_row, all_came, joined, entries_that_came, is_complete, is_to_answer};
+ghost use Rattle.rc_model.specs.Ownership.{new_part, is_awaited, with_row, part_with_row, all_came, joined};
+ghost use Rattle.rc_model.specs.Ownership.{entries_that_came, is_complete, is_to_answer};
 
 use crate::notes::Notes;
 use crate::rows::{self, FetchedRow};
@@ -30,7 +32,12 @@ impl Model for FetchedPart {
 
     ghost Value = { PartState };
 
-    ghost view = { λ s. record { part = s.part; rows = s.rows.items; size = size_of s.rows.items s.count; answered = s.answered } };
+    ghost view = { λ s. record {
+      part = s.part;
+      rows = s.rows.items;
+      size = size_of s.rows.items s.count;
+      answered = s.answered;
+    } };
 
     ghost invariant = { λ s. AreCounted s.rows.items s.missing s.count };
 }

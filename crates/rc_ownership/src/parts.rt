@@ -1,6 +1,7 @@
 //! The parts that were begun, and the replay.
 
-ghost use Rattle.std.specs.Prelude.{◌≡◌, ◌++◌, ◌∷◌, [], true, false, nat_lt, length, slice_get, take, OnOk, OnErr, IfOk, IfErr};
+ghost use Rattle.std.specs.Prelude.{◌≡◌, ◌++◌, ◌∷◌, [], true, false, nat_lt, length, slice_get, take, OnOk, OnErr};
+ghost use Rattle.std.specs.Prelude.{IfOk, IfErr};
 ghost use Rattle.rc_types.specs.declared.faults.Fault.TheVariants.{OutOfMemory};
 ghost use Rattle.rc_model.specs.Ownership as owning;
 ghost use Rattle.rc_ownership.specs.Parts.{who_fetched, awaiting_grant};
@@ -32,7 +33,13 @@ impl Model for Parts {
 
     ghost Value = { Fetched };
 
-    ghost view = { λ s. record { parts = parts_in s.begun.entries; replay = s.replay.entries; parts_before = parts_in (undone s.touched.items (take s.kept s.begun.entries)); replay_before = s.replay.before } };
+    ghost view = { λ s. record {
+      parts = parts_in s.begun.entries;
+      replay = s.replay.entries;
+      parts_before = parts_in (undone s.touched.items (take s.kept s.begun.entries));
+      replay_before =
+          s.replay.before;
+    } };
 
     ghost invariant = { λ s. IsPartTable s.begun.entries s.touched.items s.kept };
 }
@@ -83,7 +90,10 @@ impl Parts {
         rows: &[(u16, ServerId)],
     ) -> Result<(), AllocError>
         requires { owning.has_part (who_fetched self.old) part.term ≡ false }
-        ensures ok { OnOk result (self.new ≡ record self.old { parts = self.old.parts ++ owning.new_part part rows.now ∷ [] }) }
+        ensures ok { OnOk result (self.new ≡ record self.old {
+          parts = self.old.parts ++
+              owning.new_part part rows.now ∷ [];
+        }) }
         ensures err { OnErr result (self.new ≡ self.old) }
     {
         let begun = FetchedPart::new(alloc, part, rows)?;
@@ -111,7 +121,11 @@ impl Parts {
         entries: &[Entry],
     ) -> Result<(), Fault>
         requires { owning.awaits_data term seg from (who_fetched self.old) ≡ true }
-        ensures ok { OnOk result (self.new ≡ record self.old { parts = owning.data_in term seg from entries.now self.old.parts; replay = self.old.replay ++ owning.replay_in term seg from entries.now self.old.parts }) }
+        ensures ok { OnOk result (self.new ≡ record self.old {
+          parts = owning.data_in term seg from entries.now self.old.parts;
+          replay = self.old.replay ++
+              owning.replay_in term seg from entries.now self.old.parts;
+        }) }
         ensures err { OnErr result (self.new ≡ self.old) }
         ensures no_memory { IfErr result (λ fault. fault ≡ OutOfMemory) }
     {
@@ -159,8 +173,13 @@ impl Parts {
         alloc: Global,
         notes: &Notes,
     ) -> Result<Option<u32>, AllocError>
-        ensures term { IfOk result (λ term. term ≡ owning.to_answer (take notes.now.durable notes.now.noted) (who_fetched self.old)) }
-        ensures answered { OnOk result (self.new ≡ record self.old { parts = owning.answered_in (take notes.now.durable notes.now.noted) self.old.parts }) }
+        ensures term { IfOk result (λ term. term ≡ owning.to_answer (take notes.now.durable notes.now.noted)
+            (who_fetched self.old)) }
+        ensures answered { OnOk result
+            (self.new ≡ record self.old {
+              parts = owning.answered_in (take notes.now.durable notes.now.noted)
+                  self.old.parts;
+            }) }
         ensures err { OnErr result (self.new ≡ self.old) }
     {
         let Some(term) = self.to_answer(notes) else {
@@ -184,7 +203,8 @@ impl Parts {
         notes: &Notes,
         grants: &Grants,
     ) -> Result<Vec<u32>, AllocError>
-        ensures { IfOk result (λ terms. terms.items ≡ awaiting_grant (take notes.now.durable notes.now.noted) (owner_of grants.now) self.now.parts) }
+        ensures { IfOk result (λ terms. terms.items ≡ awaiting_grant (take notes.now.durable notes.now.noted)
+            (owner_of grants.now) self.now.parts) }
     {
         self.begun
             .values()

@@ -70,7 +70,10 @@ impl Model for Replay {
 
     ghost Value = { Waiting };
 
-    ghost view = { λ s. record { entries = waiting_from s.place (drop s.row s.rows.items); before = waiting_from s.first (take s.kept s.rows.items) } };
+    ghost view = { λ s. record {
+      entries = waiting_from s.place (drop s.row s.rows.items);
+      before = waiting_from s.first (take s.kept s.rows.items);
+    } };
 
     ghost invariant = { λ s. IsReplay s.rows.items s.kept s.first s.row s.place };
 }
@@ -147,7 +150,10 @@ impl Replay {
         term: u32,
         rows: &VecDeque<FetchedRow>,
     ) -> Result<(), AllocError>
-        ensures ok { OnOk result (self.new ≡ record self.old { entries = self.old.entries ++ map (under_term term) (entries_that_came rows.now.items) }) }
+        ensures ok { OnOk result (self.new ≡ record self.old {
+          entries = self.old.entries ++
+              map (under_term term) (entries_that_came rows.now.items);
+        }) }
         ensures err { OnErr result (self.new ≡ self.old) }
     {
         let mut joined = joined_rows(alloc, term, rows)?;
@@ -181,7 +187,8 @@ fn joined_rows(
     term: u32,
     rows: &VecDeque<FetchedRow>,
 ) -> Result<VecDeque<JoinedRow>, AllocError>
-    ensures entries { IfOk result (λ joined. all_waiting joined.items ≡ map (under_term term) (entries_that_came rows.now.items)) }
+    ensures entries { IfOk result (λ joined. all_waiting joined.items ≡ map (under_term term)
+        (entries_that_came rows.now.items)) }
     ensures none_empty { IfOk result (λ joined. NoneIsEmpty joined.items) }
 {
     let mut joined = VecDeque::with_capacity(alloc, rows.len())?;
@@ -193,7 +200,8 @@ fn joined_rows(
 
 /// What came of a row goes last, if it has an entry.
 fn push_row(joined: &mut VecDeque<JoinedRow>, term: u32, row: &FetchedRow) -> Result<(), AllocError>
-    ensures entries { OnOk result (all_waiting joined.new.items ≡ all_waiting joined.old.items ++ map (under_term term) (came_entries row.now.came)) }
+    ensures entries { OnOk result (all_waiting joined.new.items ≡ all_waiting joined.old.items ++
+        map (under_term term) (came_entries row.now.came)) }
     ensures none_empty { NoneIsEmpty joined.old.items → NoneIsEmpty joined.new.items }
 {
     let Some(entries) = row.share_came()? else {

@@ -20,8 +20,10 @@ pub(crate) fn change(
     requires there { IsSome (get nat_eq begun.old part.part.term) }
     requires room { vec_len touched.old < vec_capacity touched.old }
     ensures changed { begun.new.entries ≡ set_value (nat_eq part.part.term) begun.old.entries part }
-    ensures undone { (count : ℕ) → undone touched.new.items (take count begun.new.entries) ≡ undone touched.old.items (take count begun.old.entries) }
-    ensures terms { AreUnderTheirTerms begun.old.entries → AreOfTheirTerms touched.old.items → AreOfTheirTerms touched.new.items }
+    ensures undone { (count : ℕ) → undone touched.new.items (take count begun.new.entries) ≡ undone touched.old.items
+        (take count begun.old.entries) }
+    ensures terms { AreUnderTheirTerms begun.old.entries → AreOfTheirTerms touched.old.items →
+        AreOfTheirTerms touched.new.items }
 {
     let term = part.term();
     if let Some(place) = begun.get_mut(&term) {

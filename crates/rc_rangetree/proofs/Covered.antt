@@ -1,5 +1,6 @@
 -- Lists that cover their tables: they are in order, and each change of a tree keeps them so.
-use Rattle.std.proofs.Common.{◌≡◌, ℕ, ◌+◌, ◌-◌, ◌<◌, ◌≤◌, Bool, true, false, cond, ◌⊎◌, List, [], ◌∷◌, length, nat_eq, nat_lt, Option, Some, None, refl, sym, ◌∙◌, inl, inr, arith}
+use Rattle.std.proofs.Common.{◌≡◌, ℕ, ◌+◌, ◌-◌, ◌<◌, ◌≤◌, Bool, true, false, cond, ◌⊎◌, List, [], ◌∷◌, length, nat_eq}
+use Rattle.std.proofs.Common.{nat_lt, Option, Some, None, refl, sym, ◌∙◌, inl, inr, arith}
 use Rattle.std.specs.Prelude.{is_some}
 use Rattle.std.proofs.lemmas.Bool.{cases_lt, cases_eq, eq-eqb, ne_eqb, or_parts, or_left, eqb-false, lt-ltb, le-ltb}
 use Rattle.std.proofs.lemmas.Bool.Decides.{nat_tests}
@@ -7,14 +8,16 @@ use Rattle.rc_types.specs.declared.ids.ServerId.{ServerId}
 use Rattle.rc_types.specs.declared.rows.Tablet.{Tablet}
 use Rattle.rc_types.specs.declared.rows.KeyRange.{KeyRange}
 use Rattle.rc_model.specs.Ids.{same_id}
-use Rattle.rc_model.specs.Tablets.{holds, tablet_of, has_table, insert_tablet, whole_table, with_table, marked_crashed, split_at, is_range, assigned}
+use Rattle.rc_model.specs.Tablets.{holds, tablet_of, has_table, insert_tablet, whole_table, with_table, marked_crashed}
+use Rattle.rc_model.specs.Tablets.{split_at, is_range, assigned}
 use Rattle.rc_rangetree.specs.Ranges.{Follows, CoversFrom, CoverTables, LiesBefore, LiesBeforeAll, AreInOrder}
 
 lies_before : (x y : Tablet) → Follows x y → LiesBefore x y
 lies_before x y f = record { tables = f.in_order; keys = λ e. omega (arith, f.goes_on e) }
 
 lies_before_later : (x y z : Tablet) → LiesBefore x y → y.lo ≤ y.hi → LiesBefore y z → LiesBefore x z
-lies_before_later x y z a r b = record { tables = omega (arith, a.tables, b.tables); keys = λ e. omega (arith, a.tables, b.tables, a.keys, b.keys) }
+lies_before_later x y z a r b =
+    record { tables = omega (arith, a.tables, b.tables); keys = λ e. omega (arith, a.tables, b.tables, a.keys, b.keys) }
 
 lies_before_all : (x y : Tablet) (ys : List Tablet) → LiesBefore x y → CoversFrom y ys → LiesBeforeAll x ys
 lies_before_all x y [] b c = tt
@@ -53,7 +56,8 @@ goes_on_to x y key f above last =
           (same, omega (arith, f.goes_on same))
     ]
 
-held_from : (x : Tablet) (xs : List Tablet) (table key : ℕ) → CoversFrom x xs → x.table ≡ table → x.lo ≤ key → key ≤ 18446744073709551615 → is_some (tablet_of (x ∷ xs) table key) ≡ true
+held_from : (x : Tablet) (xs : List Tablet) (table key : ℕ) → CoversFrom x xs → x.table ≡ table → x.lo ≤ key →
+    key ≤ 18446744073709551615 → is_some (tablet_of (x ∷ xs) table key) ≡ true
 held_from x [] table key c t l last = some_here _ x None (holds_inside x table key t l (omega (arith, c.1)))
 held_from x (y ∷ ys) table key c t l last =
     elim (cases_lt x.hi key) [
@@ -69,7 +73,8 @@ not_held x table key n = grind (arith, nat_tests)
 begins_at_zero : (x y : Tablet) (table : ℕ) → Follows x y → (x.table ≡ table → ⊥) → y.table ≡ table → y.lo ≡ 0
 begins_at_zero x y table f n t = f.begins (omega (arith, f.in_order, n))
 
-covered_from : (x : Tablet) (xs : List Tablet) (table key : ℕ) → CoversFrom x xs → (x.table ≡ table → ⊥) → key ≤ 18446744073709551615 → is_some (tablet_of xs table key) ≡ has_table xs table
+covered_from : (x : Tablet) (xs : List Tablet) (table key : ℕ) → CoversFrom x xs → (x.table ≡ table → ⊥) →
+    key ≤ 18446744073709551615 → is_some (tablet_of xs table key) ≡ has_table xs table
 covered_from x [] table key c n last = refl
 covered_from x (y ∷ ys) table key c n last =
     elim (cases_eq y.table table) [
@@ -80,7 +85,8 @@ covered_from x (y ∷ ys) table key c n last =
     ]
 
 -- each key of a table that is there has its tablet
-pub covered : (xs : List Tablet) (table key : ℕ) → CoverTables xs → key ≤ 18446744073709551615 → is_some (tablet_of xs table key) ≡ has_table xs table
+pub covered : (xs : List Tablet) (table key : ℕ) → CoverTables xs → key ≤ 18446744073709551615 →
+    is_some (tablet_of xs table key) ≡ has_table xs table
 covered [] table key c last = refl
 covered (x ∷ xs) table key c last =
     elim (cases_eq x.table table) [
@@ -94,26 +100,35 @@ insert_first new x xs h = rw (lt-ltb new.table x.table h)
 insert_later : (new x : Tablet) (xs : List Tablet) → x.table ≤ new.table → insert_tablet new (x ∷ xs) ≡ x ∷ insert_tablet new xs
 insert_later new x xs h = rw (le-ltb new.table x.table h)
 
-whole_follows : (x : Tablet) (table : ℕ) (owner : ServerId) (term : ℕ) → x.table < table → x.hi ≡ 18446744073709551615 → Follows x (whole_table table owner term)
-whole_follows x table owner term t e = record { in_order = omega arith; goes_on = λ s. absurd (omega arith); ends = λ _. e; begins = λ _. refl }
+whole_follows : (x : Tablet) (table : ℕ) (owner : ServerId) (term : ℕ) → x.table < table → x.hi ≡ 18446744073709551615 →
+    Follows x (whole_table table owner term)
+whole_follows x table owner term t e =
+    record { in_order = omega arith; goes_on = λ s. absurd (omega arith); ends = λ _. e; begins = λ _. refl }
 
-follows_whole : (y : Tablet) (table : ℕ) (owner : ServerId) (term : ℕ) → table < y.table → y.lo ≡ 0 → Follows (whole_table table owner term) y
-follows_whole y table owner term t z = record { in_order = omega arith; goes_on = λ s. absurd (omega arith); ends = λ _. refl; begins = λ _. z }
+follows_whole : (y : Tablet) (table : ℕ) (owner : ServerId) (term : ℕ) → table < y.table → y.lo ≡ 0 →
+    Follows (whole_table table owner term) y
+follows_whole y table owner term t z =
+    record { in_order = omega arith; goes_on = λ s. absurd (omega arith); ends = λ _. refl; begins = λ _. z }
 
-covers_insert_from : (x : Tablet) (xs : List Tablet) (table : ℕ) (owner : ServerId) (term : ℕ) → CoversFrom x xs → x.table < table → has_table xs table ≡ false → CoversFrom x (with_table table owner term xs)
+covers_insert_from : (x : Tablet) (xs : List Tablet) (table : ℕ) (owner : ServerId) (term : ℕ) → CoversFrom x xs →
+    x.table < table → has_table xs table ≡ false → CoversFrom x (with_table table owner term xs)
 covers_insert_from x [] table owner term c t n = (c.0, whole_follows x table owner term t c.1, (omega arith, refl))
 covers_insert_from x (y ∷ ys) table owner term c t n =
     let apart : (nat_eq y.table table ≡ false) × (has_table ys table ≡ false) = or_parts _ _ n in
     elim (cases_lt table y.table) [
       | inl earlier ↦
-          rw (insert_first (whole_table table owner term) y ys earlier)
-          (c.0, whole_follows x table owner term t (c.1.ends (omega arith)), (omega arith, follows_whole y table owner term earlier (c.1.begins (omega arith)), c.2))
+          rw (insert_first (whole_table table owner term) y ys earlier) (
+            c.0,
+            whole_follows x table owner term t (c.1.ends (omega arith)),
+            (omega arith, follows_whole y table owner term earlier (c.1.begins (omega arith)), c.2),
+          )
       | inr later ↦
           rw (insert_later (whole_table table owner term) y ys later)
           (c.0, c.1, covers_insert_from y ys table owner term c.2 (omega (arith, eqb-false y.table table apart.0)) apart.1)
     ]
 
-pub covers_insert : (xs : List Tablet) (table : ℕ) (owner : ServerId) (term : ℕ) → CoverTables xs → has_table xs table ≡ false → CoverTables (with_table table owner term xs)
+pub covers_insert : (xs : List Tablet) (table : ℕ) (owner : ServerId) (term : ℕ) → CoverTables xs →
+    has_table xs table ≡ false → CoverTables (with_table table owner term xs)
 covers_insert [] table owner term c n = (refl, (omega arith, refl))
 covers_insert (x ∷ xs) table owner term c n =
     let apart : (nat_eq x.table table ≡ false) × (has_table xs table ≡ false) = or_parts _ _ n in
@@ -149,7 +164,8 @@ first_below : (x : Tablet) (xs : List Tablet) → CoversFrom x xs → x.lo ≤ x
 first_below x [] c = c.0
 first_below x (y ∷ ys) c = c.0
 
-covers_same_from : (x y : Tablet) (xs ys : List Tablet) → x.table ≡ y.table → x.lo ≤ x.hi → x.hi ≡ y.hi → SameRanges xs ys → CoversFrom y ys → CoversFrom x xs
+covers_same_from : (x y : Tablet) (xs ys : List Tablet) → x.table ≡ y.table → x.lo ≤ x.hi → x.hi ≡ y.hi →
+    SameRanges xs ys → CoversFrom y ys → CoversFrom x xs
 covers_same_from x y [] [] t l h s c = (l, h ∙ c.1)
 covers_same_from x y [] (w ∷ ys) t l h s c = absurd s
 covers_same_from x y (v ∷ xs) [] t l h s c = absurd s
@@ -168,7 +184,8 @@ covers_same [] (y ∷ ys) s c = absurd s
 covers_same (x ∷ xs) [] s c = absurd s
 covers_same (x ∷ xs) (y ∷ ys) s c = (s.1 ∙ c.0, covers_same_from x y xs ys s.0 (omega (arith, s.1, s.2, first_below y ys c.1)) s.2 s.3 c.1)
 
-mark_keeps_range : (b : Bool) (x : Tablet) → let y = cond b (record x { crashed = true }) x in (y.table ≡ x.table) × (y.lo ≡ x.lo) × (y.hi ≡ x.hi)
+mark_keeps_range : (b : Bool) (x : Tablet) → let y =
+    cond b (record x { crashed = true }) x in (y.table ≡ x.table) × (y.lo ≡ x.lo) × (y.hi ≡ x.hi)
 mark_keeps_range true x = (refl, refl, refl)
 mark_keeps_range false x = (refl, refl, refl)
 
@@ -184,21 +201,26 @@ covers_marked owner xs c = covers_same _ xs (marked_same_ranges owner xs) c
 pub length-marked_crashed : (owner : ServerId) (xs : List Tablet) → length (marked_crashed owner xs) ≡ length xs
 length-marked_crashed owner xs = length_same _ xs (marked_same_ranges owner xs)
 
-same_ranges_if : (b : Bool) (x y : Tablet) (xs ys : List Tablet) → y.table ≡ x.table → y.lo ≡ x.lo → y.hi ≡ x.hi → SameRanges ys xs → SameRanges (cond b (y ∷ xs) (x ∷ ys)) (x ∷ xs)
+same_ranges_if : (b : Bool) (x y : Tablet) (xs ys : List Tablet) → y.table ≡ x.table → y.lo ≡ x.lo → y.hi ≡ x.hi →
+    SameRanges ys xs → SameRanges (cond b (y ∷ xs) (x ∷ ys)) (x ∷ xs)
 same_ranges_if true x y xs ys t l h s = (t, l, h, same_ranges xs)
 same_ranges_if false x y xs ys t l h s = (refl, refl, refl, s)
 
 assigned_same_ranges : (range : KeyRange) (owner : ServerId) (term : ℕ) (xs : List Tablet) → SameRanges (assigned range owner term xs) xs
 assigned_same_ranges range owner term [] = tt
-assigned_same_ranges range owner term (x ∷ xs) = same_ranges_if (is_range range x) x _ xs _ refl refl refl (assigned_same_ranges range owner term xs)
+assigned_same_ranges range owner term (x ∷ xs) =
+    same_ranges_if (is_range range x) x _ xs _ refl refl refl (assigned_same_ranges range owner term xs)
 
-pub covers_assigned : (range : KeyRange) (owner : ServerId) (term : ℕ) (xs : List Tablet) → CoverTables xs → CoverTables (assigned range owner term xs)
+pub covers_assigned : (range : KeyRange) (owner : ServerId) (term : ℕ) (xs : List Tablet) → CoverTables xs →
+    CoverTables (assigned range owner term xs)
 covers_assigned range owner term xs c = covers_same _ xs (assigned_same_ranges range owner term xs) c
 
-pub length-assigned : (range : KeyRange) (owner : ServerId) (term : ℕ) (xs : List Tablet) → length (assigned range owner term xs) ≡ length xs
+pub length-assigned : (range : KeyRange) (owner : ServerId) (term : ℕ) (xs : List Tablet) →
+    length (assigned range owner term xs) ≡ length xs
 length-assigned range owner term xs = length_same _ xs (assigned_same_ranges range owner term xs)
 
-longer : (b : Bool) (new x : Tablet) (xs all : List Tablet) → length all ≡ length xs + 1 → length (cond b (new ∷ x ∷ xs) (x ∷ all)) ≡ length (x ∷ xs) + 1
+longer : (b : Bool) (new x : Tablet) (xs all : List Tablet) → length all ≡ length xs + 1 →
+    length (cond b (new ∷ x ∷ xs) (x ∷ all)) ≡ length (x ∷ xs) + 1
 longer true new x xs all h = omega arith
 longer false new x xs all h = omega arith
 
@@ -211,7 +233,8 @@ covers_end : (x y : Tablet) (xs : List Tablet) → x.table ≡ y.table → x.hi 
 covers_end x y [] t h l c = (l, h ∙ c.1)
 covers_end x y (z ∷ zs) t h l c = (l, follows_same x z y z t h refl refl c.1, c.2)
 
-covers_parts : (x : Tablet) (xs : List Tablet) (at : ℕ) → CoversFrom x xs → x.lo < at → at ≤ x.hi → CoversFrom (record x { hi = at - 1 }) (record x { lo = at } ∷ xs)
+covers_parts : (x : Tablet) (xs : List Tablet) (at : ℕ) → CoversFrom x xs → x.lo < at → at ≤ x.hi →
+    CoversFrom (record x { hi = at - 1 }) (record x { lo = at } ∷ xs)
 covers_parts x xs at c above below = (
   omega arith,
   record { in_order = omega arith; goes_on = λ _. omega arith; ends = λ e. absurd (omega arith); begins = λ e. absurd (omega arith) },
@@ -221,21 +244,27 @@ covers_parts x xs at c above below = (
 holds_at : (x : Tablet) (table at : ℕ) → holds x table at ≡ true → at ≤ x.hi
 holds_at x table at h = grind (arith, nat_tests)
 
-found_here : (b : Bool) (x u : Tablet) (later : Option Tablet) → cond b (Some x) later ≡ Some u → ((b ≡ true) × (x ≡ u)) ⊎ ((b ≡ false) × (later ≡ Some u))
+found_here : (b : Bool) (x u : Tablet) (later : Option Tablet) → cond b (Some x) later ≡ Some u →
+    ((b ≡ true) × (x ≡ u)) ⊎ ((b ≡ false) × (later ≡ Some u))
 found_here true x u later h = inl (refl, cc)
 found_here false x u later h = inr (refl, h)
 
-covers_split_from : (x : Tablet) (xs : List Tablet) (table at : ℕ) (u : Tablet) → CoversFrom x xs → tablet_of xs table at ≡ Some u → u.lo < at → CoversFrom x (split_at table at xs)
+covers_split_from : (x : Tablet) (xs : List Tablet) (table at : ℕ) (u : Tablet) → CoversFrom x xs →
+    tablet_of xs table at ≡ Some u → u.lo < at → CoversFrom x (split_at table at xs)
 covers_split_from x [] table at u c f l = cc
 covers_split_from x (y ∷ ys) table at u c f l =
     elim (found_here (holds y table at) y u (tablet_of ys table at) f) [
       | inl here ↦
-          rw (here.0)
-          (c.0, follows_same x (record y { hi = at - 1 }) x y refl refl refl refl c.1, covers_parts y ys at c.2 (rw (here.1) l) (holds_at y table at here.0))
+          rw (here.0) (
+            c.0,
+            follows_same x (record y { hi = at - 1 }) x y refl refl refl refl c.1,
+            covers_parts y ys at c.2 (rw (here.1) l) (holds_at y table at here.0),
+          )
       | inr later ↦ rw (later.0) (c.0, c.1, covers_split_from y ys table at u c.2 later.1 l)
     ]
 
-pub covers_split : (xs : List Tablet) (table at : ℕ) (u : Tablet) → CoverTables xs → tablet_of xs table at ≡ Some u → u.lo < at → CoverTables (split_at table at xs)
+pub covers_split : (xs : List Tablet) (table at : ℕ) (u : Tablet) → CoverTables xs → tablet_of xs table at ≡ Some u →
+    u.lo < at → CoverTables (split_at table at xs)
 covers_split [] table at u c f l = cc
 covers_split (x ∷ xs) table at u c f l =
     elim (found_here (holds x table at) x u (tablet_of xs table at) f) [
@@ -243,11 +272,14 @@ covers_split (x ∷ xs) table at u c f l =
       | inr later ↦ rw (later.0) (c.0, covers_split_from x xs table at u c.1 later.1 l)
     ]
 
-split_longer : (b : Bool) (x low high u : Tablet) (later : Option Tablet) (xs all : List Tablet) → (later ≡ Some u → length all ≡ length xs + 1) → cond b (Some x) later ≡ Some u → length (cond b (low ∷ high ∷ xs) (x ∷ all)) ≡ length (x ∷ xs) + 1
+split_longer : (b : Bool) (x low high u : Tablet) (later : Option Tablet) (xs all : List Tablet) →
+    (later ≡ Some u → length all ≡ length xs + 1) → cond b (Some x) later ≡ Some u →
+    length (cond b (low ∷ high ∷ xs) (x ∷ all)) ≡ length (x ∷ xs) + 1
 split_longer true x low high u later xs all e h = omega arith
 split_longer false x low high u later xs all e h = omega (arith, e h)
 
-pub length-split_at : (xs : List Tablet) (table at : ℕ) (u : Tablet) → tablet_of xs table at ≡ Some u → length (split_at table at xs) ≡ length xs + 1
+pub length-split_at : (xs : List Tablet) (table at : ℕ) (u : Tablet) → tablet_of xs table at ≡ Some u →
+    length (split_at table at xs) ≡ length xs + 1
 length-split_at [] table at u h = cc
 length-split_at (x ∷ xs) table at u h = split_longer (holds x table at) x _ _ u _ xs _ (length-split_at xs table at u) h
 

@@ -11,7 +11,8 @@ LiesBeforeAll-left : (tablet : Tablet) (xs ys : List Tablet) → LiesBeforeAll t
 LiesBeforeAll-left tablet [] ys h = tt
 LiesBeforeAll-left tablet (x ∷ xs) ys h = (h.0, LiesBeforeAll-left tablet xs ys h.1)
 
-pub LiesBeforeAll-middle : (tablet : Tablet) (xs : List Tablet) (y : Tablet) (ys : List Tablet) → LiesBeforeAll tablet (xs ++ y ∷ ys) → LiesBefore tablet y
+pub LiesBeforeAll-middle : (tablet : Tablet) (xs : List Tablet) (y : Tablet) (ys : List Tablet) →
+    LiesBeforeAll tablet (xs ++ y ∷ ys) → LiesBefore tablet y
 LiesBeforeAll-middle tablet [] y ys h = h.0
 LiesBeforeAll-middle tablet (x ∷ xs) y ys h = LiesBeforeAll-middle tablet xs y ys h.1
 
@@ -23,43 +24,52 @@ pub AreInOrder-right : (xs ys : List Tablet) → AreInOrder (xs ++ ys) → AreIn
 AreInOrder-right [] ys h = h
 AreInOrder-right (x ∷ xs) ys h = AreInOrder-right xs ys h.2
 
-holds_too_low : (x y : Tablet) (table key : ℕ) (point : Point) → LiesBefore x y → y.table ≡ point.table → y.lo ≡ point.key → IsAtOrAfter table key point → holds x table key ≡ false
+holds_too_low : (x y : Tablet) (table key : ℕ) (point : Point) → LiesBefore x y → y.table ≡ point.table →
+    y.lo ≡ point.key → IsAtOrAfter table key point → holds x table key ≡ false
 holds_too_low x y table key point b t l h = grind (arith, nat_tests)
 
 -- no tablet before the point holds a key from the point on
-pub tablet_of-before : (xs ys : List Tablet) (table key : ℕ) (point : Point) → AreInOrder (xs ++ ys) → BeginsAt point ys → IsAtOrAfter table key point → tablet_of xs table key ≡ None
+pub tablet_of-before : (xs ys : List Tablet) (table key : ℕ) (point : Point) → AreInOrder (xs ++ ys) →
+    BeginsAt point ys → IsAtOrAfter table key point → tablet_of xs table key ≡ None
 tablet_of-before xs [] table key point o b h = absurd b
 tablet_of-before [] (y ∷ ys) table key point o b h = refl
 tablet_of-before (x ∷ xs) (y ∷ ys) table key point o b h =
     rw (holds_too_low x y table key point (LiesBeforeAll-middle x xs y ys o.1) b.0 b.1 h)
     (tablet_of-before xs (y ∷ ys) table key point o.2 b h)
 
-holds_too_high : (y z : Tablet) (table key : ℕ) (point : Point) → LiesBefore y z → y.lo ≤ y.hi → y.table ≡ point.table → y.lo ≡ point.key → IsBefore table key point → holds z table key ≡ false
+holds_too_high : (y z : Tablet) (table key : ℕ) (point : Point) → LiesBefore y z → y.lo ≤ y.hi → y.table ≡ point.table →
+    y.lo ≡ point.key → IsBefore table key point → holds z table key ≡ false
 holds_too_high y z table key point b r t l h = grind (arith, nat_tests)
 
-tablet_of-later : (y : Tablet) (zs : List Tablet) (table key : ℕ) (point : Point) → LiesBeforeAll y zs → y.lo ≤ y.hi → y.table ≡ point.table → y.lo ≡ point.key → IsBefore table key point → tablet_of zs table key ≡ None
+tablet_of-later : (y : Tablet) (zs : List Tablet) (table key : ℕ) (point : Point) → LiesBeforeAll y zs → y.lo ≤ y.hi →
+    y.table ≡ point.table → y.lo ≡ point.key → IsBefore table key point → tablet_of zs table key ≡ None
 tablet_of-later y [] table key point b r t l h = refl
 tablet_of-later y (z ∷ zs) table key point b r t l h =
     rw (holds_too_high y z table key point b.0 r t l h)
     (tablet_of-later y zs table key point b.1 r t l h)
 
-holds_first : (y : Tablet) (table key : ℕ) (point : Point) → y.table ≡ point.table → y.lo ≡ point.key → IsBefore table key point → holds y table key ≡ false
+holds_first : (y : Tablet) (table key : ℕ) (point : Point) → y.table ≡ point.table → y.lo ≡ point.key →
+    IsBefore table key point → holds y table key ≡ false
 holds_first y table key point t l h = grind (arith, nat_tests)
 
 -- no tablet from the point on holds a key before the point
-pub tablet_of-after : (ys : List Tablet) (table key : ℕ) (point : Point) → AreInOrder ys → BeginsAt point ys → IsBefore table key point → tablet_of ys table key ≡ None
+pub tablet_of-after : (ys : List Tablet) (table key : ℕ) (point : Point) → AreInOrder ys → BeginsAt point ys →
+    IsBefore table key point → tablet_of ys table key ≡ None
 tablet_of-after [] table key point o b h = absurd b
 tablet_of-after (y ∷ ys) table key point o b h =
     rw (holds_first y table key point b.0 b.1 h)
     (tablet_of-later y ys table key point o.1 o.0 b.0 b.1 h)
 
-found_cases : (b : Bool) (x u : Tablet) (later : Option Tablet) (P : Tablet → Type 0) → (b ≡ true → P x) → (later ≡ Some u → P u) → cond b (Some x) later ≡ Some u → P u
+found_cases : (b : Bool) (x u : Tablet) (later : Option Tablet) (P : Tablet → Type 0) → (b ≡ true → P x) →
+    (later ≡ Some u → P u) → cond b (Some x) later ≡ Some u → P u
 found_cases true x u later P here there h = let same : x ≡ u = cc in subst P same (here refl)
 found_cases false x u later P here there h = there h
 
-tablet_of-holds : (xs : List Tablet) (table key : ℕ) (tablet : Tablet) → tablet_of xs table key ≡ Some tablet → holds tablet table key ≡ true
+tablet_of-holds : (xs : List Tablet) (table key : ℕ) (tablet : Tablet) → tablet_of xs table key ≡ Some tablet →
+    holds tablet table key ≡ true
 tablet_of-holds [] table key tablet h = cc
-tablet_of-holds (x ∷ xs) table key tablet h = found_cases (holds x table key) x tablet _ (λ u. holds u table key ≡ true) (λ e. e) (tablet_of-holds xs table key tablet) h
+tablet_of-holds (x ∷ xs) table key tablet h = found_cases (holds x table key) x tablet _ (λ u. holds u table key ≡ true)
+    (λ e. e) (tablet_of-holds xs table key tablet) h
 
 table_of_holder : (tablet : Tablet) (table key : ℕ) → holds tablet table key ≡ true → tablet.table ≡ table
 table_of_holder tablet table key h = grind (arith, nat_tests)

@@ -1,5 +1,6 @@
 -- What a node of the tree stands for, how deep it is, and where its forks have their bounds.
-use Rattle.std.specs.Prelude.{◌≡◌, ℕ, ◌+◌, ◌<◌, ◌≤◌, max, Bool, false, List, [], ◌∷◌, ◌++◌, map, length, Result, Ok, Err}
+use Rattle.std.specs.Prelude.{◌≡◌, ℕ, ◌+◌, ◌<◌, ◌≤◌, max, Bool, false, List, [], ◌∷◌, ◌++◌, map, length, Result, Ok}
+use Rattle.std.specs.Prelude.{Err}
 use Rattle.rc_types.specs.declared.rows.Tablet.{Tablet}
 use Rattle.rc_rangetree.specs.declared.limits.TheConstants.{MAX_FORKS}
 use Rattle.rc_rangetree.specs.declared.nodes.Node.{Node}

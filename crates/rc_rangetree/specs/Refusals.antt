@@ -1,7 +1,8 @@
 -- Which refusal a call answers, as a function of the tablets before it.
 use Rattle.std.specs.Prelude.{◌≡◌, ℕ, nat_eq, if◌then◌else◌, List, length, Option, Some, None, Result, Err, IsOkUnless}
 use Rattle.rc_types.specs.declared.faults.Fault.{Fault}
-use Rattle.rc_types.specs.declared.faults.Fault.TheVariants.{OutOfMemory, TableExists, NoTable, BadSplit, TooManyTablets, Recovering}
+use Rattle.rc_types.specs.declared.faults.Fault.TheVariants.{OutOfMemory, TableExists, NoTable, BadSplit}
+use Rattle.rc_types.specs.declared.faults.Fault.TheVariants.{TooManyTablets, Recovering}
 use Rattle.rc_types.specs.declared.limits.TheConstants.{MAX_TABLETS}
 use Rattle.rc_types.specs.declared.rows.Tablet.{Tablet}
 use Rattle.rc_model.specs.Tablets.{tablet_of, has_table}

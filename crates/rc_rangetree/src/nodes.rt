@@ -1,10 +1,12 @@
 //! The tree's nodes. A node is searched from its forks' bounds; what it stands for are its leaves.
 
-ghost use Rattle.std.specs.Prelude.{◌≡◌, ℕ, ◌-◌, ◌<◌, ◌≤◌, ◌^◌, ◌∷◌, [], ◌++◌, length, slice_index, Some, Ok, is_ok, if◌then◌else◌, IfOk, OnOk, OnErr, false};
+ghost use Rattle.std.specs.Prelude.{◌≡◌, ℕ, ◌-◌, ◌<◌, ◌≤◌, ◌^◌, ◌∷◌, [], ◌++◌, length, slice_index, Some, Ok, is_ok};
+ghost use Rattle.std.specs.Prelude.{if◌then◌else◌, IfOk, OnOk, OnErr, false};
 ghost use Rattle.std.specs.List.{count_by};
 ghost use Rattle.rc_rangetree.specs.Nodes.{leaves, forks_above, node_depth, is_made, IsSearchTree, HasBounds};
 ghost use Rattle.rc_rangetree.specs.Trees.{begins_by};
-ghost use Rattle.rc_model.specs.Tablets.{holds, tablet_of, has_table, tablets_of, insert_tablet, split_at, is_range, has_range, assigned, marked_crashed, count_to_mark};
+ghost use Rattle.rc_model.specs.Tablets.{holds, tablet_of, has_table, tablets_of, insert_tablet, split_at, is_range};
+ghost use Rattle.rc_model.specs.Tablets.{has_range, assigned, marked_crashed, count_to_mark};
 
 use crate::limits::MAX_FORKS;
 use crate::points::Point;

@@ -1,8 +1,10 @@
 //! The tree of all tablets.
 
-ghost use Rattle.std.specs.Prelude.{◌≡◌, ◌≤◌, ◌↔◌, false, [], is_some, OnOk, OnErr, IfOk, IfErr, Ok, Err, if◌then◌else◌};
+ghost use Rattle.std.specs.Prelude.{◌≡◌, ◌≤◌, ◌↔◌, false, [], is_some, OnOk, OnErr, IfOk, IfErr, Ok, Err};
+ghost use Rattle.std.specs.Prelude.{if◌then◌else◌};
 ghost use Rattle.rc_types.specs.declared.faults.Fault.TheVariants.{OutOfMemory, NoTable};
-ghost use Rattle.rc_model.specs.Tablets.{tablet_of, has_table, tablets_of, with_table, marked_crashed, count_to_mark, split_at, has_range, assigned};
+ghost use Rattle.rc_model.specs.Tablets.{tablet_of, has_table, tablets_of, with_table, marked_crashed, count_to_mark};
+ghost use Rattle.rc_model.specs.Tablets.{split_at, has_range, assigned};
 ghost use Rattle.rc_rangetree.specs.Ranges.{AreTablets};
 ghost use Rattle.rc_rangetree.specs.Refusals.{Answers, create_refusal, split_refusal};
 ghost use Rattle.rc_rangetree.specs.Trees.{depth, forks_passed};

@@ -1,5 +1,6 @@
 -- Bytes as JSON texts.
-use Rattle.std.proofs.Common.{◌≡◌, ℕ, ◌<◌, ◌≤◌, Bool, true, false, nat_le, if◌then◌else◌, List, [], ◌∷◌, length, Option, None, Err, refl, ap, arith}
+use Rattle.std.proofs.Common.{◌≡◌, ℕ, ◌<◌, ◌≤◌, Bool, true, false, nat_le, if◌then◌else◌, List, [], ◌∷◌, length}
+use Rattle.std.proofs.Common.{Option, None, Err, refl, ap, arith}
 use Rattle.std.specs.Str.{IsUtf8, chars, is_utf8}
 use Rattle.std.proofs.lemmas.Str.{IsUtf8-from_is_utf8, is_utf8-from_IsUtf8}
 use Rattle.serde_json.specs.Data.{Data}
@@ -25,7 +26,8 @@ unless_text false o h = refl
 -- bytes that are no text
 pub no_text : (bytes : List ℕ) → length bytes ≤ MOST_BYTES → (IsUtf8 bytes → ⊥) → reading bytes ≡ Err 0
 no_text bytes few none =
-    let no_value : value_in bytes ≡ None = rw (short (length bytes) few) (unless_text (is_utf8 bytes) (read bytes) (λ text. absurd (none (IsUtf8-from_is_utf8 bytes text)))) in
+    let no_value : value_in bytes ≡ None = rw (short (length bytes) few)
+    (unless_text (is_utf8 bytes) (read bytes) (λ text. absurd (none (IsUtf8-from_is_utf8 bytes text)))) in
     ap of_value no_value
 
 pub too_long : (bytes : List ℕ) → MOST_BYTES < length bytes → reading bytes ≡ Err 0

@@ -1,5 +1,6 @@
 -- The events of a list, an event at a time.
-use Rattle.std.proofs.Common.{◌≡◌, ℕ, ◌+◌, List, [], ◌∷◌, ◌++◌, length, Option, Some, None, Result, Ok, Err, refl, ap, ◌∙◌, sym, arith, append_assoc, append-nil, length-append}
+use Rattle.std.proofs.Common.{◌≡◌, ℕ, ◌+◌, List, [], ◌∷◌, ◌++◌, length, Option, Some, None, Result, Ok, Err, refl, ap}
+use Rattle.std.proofs.Common.{◌∙◌, sym, arith, append_assoc, append-nil, length-append}
 use Rattle.serde_json.specs.Data.{Data, Items}
 use Rattle.rc_reading.specs.declared.scenarios.ScenarioEvent.{ScenarioEvent}
 use Rattle.rc_reading.specs.Values.{each, listed}
@@ -22,7 +23,8 @@ wrong_stays : (place : ℕ) (ds : List Data) → each takes_event (Err place) ds
 wrong_stays place [] = refl
 wrong_stays place (d ∷ ds) = wrong_stays place ds
 
-one_more : (there : List ScenarioEvent) (event : ScenarioEvent) (place : ℕ) (later : Events) → before (there ++ event ∷ []) later ≡ before there (one_event_more place (Some event) later)
+one_more : (there : List ScenarioEvent) (event : ScenarioEvent) (place : ℕ) (later : Events) →
+    before (there ++ event ∷ []) later ≡ before there (one_event_more place (Some event) later)
 one_more there event place (Ok later) = ap Ok (simp append_assoc)
 one_more there event place (Err p) = refl
 
@@ -38,7 +40,8 @@ by_event there d ds (Some event) is later =
     (later (there ++ event ∷ []) ∙ ap (λ place. Some (before (there ++ event ∷ []) (events_of place ds))) (next_place there event)
     ∙ ap Some (one_more there event (2 + length there) (events_of (2 + length there + 1) ds)))
 
-all_taken : (there : List ScenarioEvent) (ds : List Data) → each takes_event (Ok there) ds ≡ Some (before there (events_of (2 + length there) ds))
+all_taken : (there : List ScenarioEvent) (ds : List Data) →
+    each takes_event (Ok there) ds ≡ Some (before there (events_of (2 + length there) ds))
 all_taken there [] = ap (λ all. Some (Ok all)) (sym (append-nil there))
 all_taken there (d ∷ ds) = by_event there d ds (event_of d) refl (λ all. all_taken all ds)
 

@@ -1,5 +1,6 @@
 -- What a value says by its first token.
-use Rattle.std.proofs.Common.{◌≡◌, ℕ, zero, suc, ◌-◌, ◌<◌, List, ◌∷◌, Bool, true, false, Option, Some, None, option_map, option_and_then, refl, sym, ap, ◌∙◌, arith}
+use Rattle.std.proofs.Common.{◌≡◌, ℕ, zero, suc, ◌-◌, ◌<◌, List, ◌∷◌, Bool, true, false, Option, Some, None}
+use Rattle.std.proofs.Common.{option_map, option_and_then, refl, sym, ap, ◌∙◌, arith}
 use Rattle.json.specs.Token.{Token}
 use Rattle.json.proofs.Grammar.{left_some}
 use Rattle.serde_json.specs.Data.{Num, Data, number, array, object, Items, Members, no_members}
@@ -11,7 +12,8 @@ use Rattle.rc_types.specs.declared.ids.Addr.TheVariants.{Server}
 use Rattle.rc_reading.specs.Said.{Said, said_of, both_of, begins_object}
 use Rattle.rc_reading.specs.Ahead.{data_at, items_at, members_at, told, says, rest}
 use Rattle.rc_reading.proofs.Turns.{opened_list, opened_object, says_then}
-use Rattle.rc_reading.proofs.Passing.{at_string, at_bool, at_null, at_number, at_end_object, at_end_array, at_key, at_bad, too_deep_list, too_deep_object}
+use Rattle.rc_reading.proofs.Passing.{at_string, at_bool, at_null, at_number, at_end_object, at_end_array, at_key}
+use Rattle.rc_reading.proofs.Passing.{at_bad, too_deep_list, too_deep_object}
 
 pub text_said : (depth : ℕ) (s : List ℕ) (ts : List Token) → says both_of depth (Token.string s ∷ ts) ≡ Some ((Said.text s, None), ts)
 text_said depth s ts = ap (told both_of) (at_string depth s ts)
@@ -27,18 +29,21 @@ number_found : (o : Option Num) (read : Option (Option ℕ)) (n : Option ℕ) (t
 number_found None read n ts is some = absurd (cc)
 number_found (Some x) read n ts is some = let same : as_u64 x ≡ n = cc in ap (λ m. Some ((Said.number m, None), ts)) same
 
-pub number_said : (depth : ℕ) (s : List ℕ) (ts : List Token) (read : Option (Option ℕ)) (n : Option ℕ) → read ≡ option_map as_u64 (number_of s) → read ≡ Some n
+pub number_said : (depth : ℕ) (s : List ℕ) (ts : List Token) (read : Option (Option ℕ)) (n : Option ℕ) →
+    read ≡ option_map as_u64 (number_of s) → read ≡ Some n
     → says both_of depth (Token.number s ∷ ts) ≡ Some ((Said.number n, None), ts)
 number_said depth s ts read n is some = ap (told both_of) (at_number depth s ts) ∙ number_found (number_of s) read n ts is some
 
 same_end : (x r : List Token) → Some x ≡ Some r → x ≡ r
 same_end x r e = cc
 
-object_found : (o : Option (Members × List Token)) (r : List Token) → rest (told object o) ≡ Some r → told both_of (told object o) ≡ Some ((Said.other, None), r)
+object_found : (o : Option (Members × List Token)) (r : List Token) → rest (told object o) ≡ Some r →
+    told both_of (told object o) ≡ Some ((Said.other, None), r)
 object_found None r e = absurd (cc)
 object_found (Some q) r e = ap (λ y. Some ((Said.other, None), y)) (same_end q.1 r e)
 
-pub object_said : (depth : ℕ) (ts r : List Token) → rest (data_at depth (Token.begin_object ∷ ts)) ≡ Some r → says both_of depth (Token.begin_object ∷ ts) ≡ Some ((Said.other, None), r)
+pub object_said : (depth : ℕ) (ts r : List Token) → rest (data_at depth (Token.begin_object ∷ ts)) ≡ Some r →
+    says both_of depth (Token.begin_object ∷ ts) ≡ Some ((Said.other, None), r)
 object_said zero ts r e = absurd (let none : None ≡ Some r = sym (ap rest (too_deep_object ts)) ∙ e in cc)
 object_said (suc depth) ts r e =
     let is = opened_object (suc depth) ts (omega arith) in
@@ -48,33 +53,42 @@ list_found : (o : Option (Items × List Token)) (r : List Token) → rest o ≡ 
 list_found None r e = absurd (cc)
 list_found (Some q) r e = ap (λ y. Some (Said.other, y)) (same_end q.1 r e)
 
-pub list_said : (depth : ℕ) (ts r : List Token) → 0 < depth → rest (items_at (depth - 1) ts) ≡ Some r → says said_of depth (Token.begin_array ∷ ts) ≡ Some (Said.other, r)
+pub list_said : (depth : ℕ) (ts r : List Token) → 0 < depth → rest (items_at (depth - 1) ts) ≡ Some r →
+    says said_of depth (Token.begin_array ∷ ts) ≡ Some (Said.other, r)
 list_said depth ts r some e = ap (told said_of) (opened_list depth ts some) ∙ list_found (items_at (depth - 1) ts) r e
 
-pub said_alone : (depth : ℕ) (ts r : List Token) (s : Said) (o : Option Items) → says both_of depth ts ≡ Some ((s, o), r) → says said_of depth ts ≡ Some (s, r)
+pub said_alone : (depth : ℕ) (ts r : List Token) (s : Said) (o : Option Items) →
+    says both_of depth ts ≡ Some ((s, o), r) → says said_of depth ts ≡ Some (s, r)
 said_alone depth ts r s o e = says_then both_of (λ b. b.0) said_of depth ts r (s, o) (λ d. refl) e
 
 -- ---- a list's items
 
-listed_found : {A : Type 0} (f : List Data → Option A) (o : Option (Items × List Token)) → told (λ d. option_and_then f (list_of d)) (told array o) ≡ told (λ ds. f (listed ds)) o
+listed_found : {A : Type 0} (f : List Data → Option A) (o : Option (Items × List Token)) →
+    told (λ d. option_and_then f (list_of d)) (told array o) ≡ told (λ ds. f (listed ds)) o
 listed_found f None = refl
 listed_found f (Some q) = refl
 
-pub listed_says : {A : Type 0} (f : List Data → Option A) (depth : ℕ) (ts r : List Token) (a : Option A) → 0 < depth → told (λ ds. f (listed ds)) (items_at (depth - 1) ts) ≡ Some (a, r)
+pub listed_says : {A : Type 0} (f : List Data → Option A) (depth : ℕ) (ts r : List Token) (a : Option A) → 0 < depth →
+    told (λ ds. f (listed ds)) (items_at (depth - 1) ts) ≡ Some (a, r)
     → says (λ d. option_and_then f (list_of d)) depth (Token.begin_array ∷ ts) ≡ Some (a, r)
-listed_says f depth ts r a some e = ap (told (λ d. option_and_then f (list_of d))) (opened_list depth ts some) ∙ listed_found f (items_at (depth - 1) ts) ∙ e
+listed_says f depth ts r a some e = ap (told (λ d. option_and_then f (list_of d))) (opened_list depth ts some) ∙
+    listed_found f (items_at (depth - 1) ts) ∙ e
 
-pub unlisted_says : {A : Type 0} (f : List Data → Option A) (depth : ℕ) (ts r : List Token) (s : Said) → says both_of depth ts ≡ Some ((s, None), r)
+pub unlisted_says : {A : Type 0} (f : List Data → Option A) (depth : ℕ) (ts r : List Token) (s : Said) →
+    says both_of depth ts ≡ Some ((s, None), r)
     → says (λ d. option_and_then f (list_of d)) depth ts ≡ Some (None, r)
-unlisted_says f depth ts r s e = says_then both_of (λ b. option_and_then f (option_map listed b.1)) (λ d. option_and_then f (list_of d)) depth ts r (s, None) (λ d. refl) e
+unlisted_says f depth ts r s e = says_then both_of (λ b. option_and_then f (option_map listed b.1))
+    (λ d. option_and_then f (list_of d)) depth ts r (s, None) (λ d. refl) e
 
 list_none : {A : Type 0} (f : Items → A) (o : Option (Items × List Token)) → o ≡ None → told {B = A} f o ≡ None
 list_none f o e = ap (told f) e
 
-pub list_refused : (depth : ℕ) (ts : List Token) → 0 < depth → items_at (depth - 1) ts ≡ None → data_at depth (Token.begin_array ∷ ts) ≡ None
+pub list_refused : (depth : ℕ) (ts : List Token) → 0 < depth → items_at (depth - 1) ts ≡ None →
+    data_at depth (Token.begin_array ∷ ts) ≡ None
 list_refused depth ts some e = opened_list depth ts some ∙ ap (told array) e
 
-pub object_refused : (depth : ℕ) (ts : List Token) → 0 < depth → members_at no_members (depth - 1) ts ≡ None → data_at depth (Token.begin_object ∷ ts) ≡ None
+pub object_refused : (depth : ℕ) (ts : List Token) → 0 < depth → members_at no_members (depth - 1) ts ≡ None →
+    data_at depth (Token.begin_object ∷ ts) ≡ None
 object_refused depth ts some e = opened_object depth ts some ∙ ap (told object) e
 
 -- ---- a value that is no object
@@ -106,7 +120,8 @@ probed depth (Token.boolean b) ts apart = ap probe (at_bool depth b ts)
 probed depth Token.null ts apart = ap probe (at_null depth ts)
 probed depth Token.bad ts apart = ap probe (at_bad depth ts)
 
-pub no_object : (depth : ℕ) (t : Token) (ts r : List Token) → begins_object t ≡ false → rest (data_at depth (t ∷ ts)) ≡ Some r → says as_object depth (t ∷ ts) ≡ Some (None, r)
+pub no_object : (depth : ℕ) (t : Token) (ts r : List Token) → begins_object t ≡ false →
+    rest (data_at depth (t ∷ ts)) ≡ Some r → says as_object depth (t ∷ ts) ≡ Some (None, r)
 no_object depth t ts r apart e =
     let d = left_some (data_at depth (t ∷ ts)) r e in
     ap (told as_object) d.1 ∙ ap (λ o. Some (o, r)) (sym (ap probe d.1) ∙ probed depth t ts apart)
@@ -128,15 +143,21 @@ addr_found None = refl
 addr_found (Some q) = refl
 
 -- an id where an id or the coordinator's letter is wanted
-pub addr_says : (depth : ℕ) (ts r : List Token) (id : Option ServerId) → 0 < depth → told (λ ds. id_in (listed ds)) (items_at (depth - 1) ts) ≡ Some (id, r)
+pub addr_says : (depth : ℕ) (ts r : List Token) (id : Option ServerId) → 0 < depth →
+    told (λ ds. id_in (listed ds)) (items_at (depth - 1) ts) ≡ Some (id, r)
     → says addr_of depth (Token.begin_array ∷ ts) ≡ Some (option_map Server id, r)
-addr_says depth ts r id some e = ap (told addr_of) (opened_list depth ts some) ∙ addr_found (items_at (depth - 1) ts) ∙ ap (told (option_map Server)) e
+addr_says depth ts r id some e = ap (told addr_of) (opened_list depth ts some) ∙ addr_found (items_at (depth - 1) ts) ∙
+    ap (told (option_map Server)) e
 
-some_found : {A : Type 0} (f : List Data → A) (o : Option (Items × List Token)) → told (λ d. option_and_then (λ ds. Some (f ds)) (list_of d)) (told array o) ≡ told Some (told (λ ds. f (listed ds)) o)
+some_found : {A : Type 0} (f : List Data → A) (o : Option (Items × List Token)) →
+    told (λ d. option_and_then (λ ds. Some (f ds)) (list_of d)) (told array o) ≡ told Some
+    (told (λ ds. f (listed ds)) o)
 some_found f None = refl
 some_found f (Some q) = refl
 
 -- a list of which each says something
-pub listed_some : {A : Type 0} (f : List Data → A) (depth : ℕ) (ts r : List Token) (a : A) → 0 < depth → told (λ ds. f (listed ds)) (items_at (depth - 1) ts) ≡ Some (a, r)
+pub listed_some : {A : Type 0} (f : List Data → A) (depth : ℕ) (ts r : List Token) (a : A) → 0 < depth →
+    told (λ ds. f (listed ds)) (items_at (depth - 1) ts) ≡ Some (a, r)
     → says (λ d. option_and_then (λ ds. Some (f ds)) (list_of d)) depth (Token.begin_array ∷ ts) ≡ Some (Some a, r)
-listed_some f depth ts r a some e = ap (told (λ d. option_and_then (λ ds. Some (f ds)) (list_of d))) (opened_list depth ts some) ∙ some_found f (items_at (depth - 1) ts) ∙ ap (told Some) e
+listed_some f depth ts r a some e = ap (told (λ d. option_and_then (λ ds. Some (f ds)) (list_of d)))
+    (opened_list depth ts some) ∙ some_found f (items_at (depth - 1) ts) ∙ ap (told Some) e

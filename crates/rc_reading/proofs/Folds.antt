@@ -9,5 +9,8 @@ told_none f None e = refl
 told_none f (Some q) e = absurd (cc)
 
 -- a list whose later items are refused is refused
-pub folds_refused : {A : Type 0} (takes : A → Data → Option A) (now start : Option A) (depth : ℕ) (ts all : List Token) → folds takes now depth ts ≡ folds takes start depth all → items_at depth ts ≡ None → items_at depth all ≡ None
-folds_refused takes now start depth ts all same none = told_none (taken_from takes start) (items_at depth all) (sym same ∙ ap (told (taken_from takes now)) none)
+pub folds_refused : {A : Type 0} (takes : A → Data → Option A) (now start : Option A) (depth : ℕ)
+    (ts all : List Token) → folds takes now depth ts ≡ folds takes start depth all → items_at depth ts ≡ None →
+    items_at depth all ≡ None
+folds_refused takes now start depth ts all same none =
+    told_none (taken_from takes start) (items_at depth all) (sym same ∙ ap (told (taken_from takes now)) none)

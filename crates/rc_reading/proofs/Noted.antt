@@ -1,5 +1,6 @@
 -- The fields of an event after one more member.
-use Rattle.std.proofs.Common.{◌≡◌, ℕ, ◌-◌, ◌<◌, List, [], ◌∷◌, Bool, true, false, ◌&&◌, if◌then◌else◌, codes, Option, Some, None, option_map, option_and_then, bytes_eq, refl, ap, ◌∙◌}
+use Rattle.std.proofs.Common.{◌≡◌, ℕ, ◌-◌, ◌<◌, List, [], ◌∷◌, Bool, true, false, ◌&&◌, if◌then◌else◌, codes, Option}
+use Rattle.std.proofs.Common.{Some, None, option_map, option_and_then, bytes_eq, refl, ap, ◌∙◌}
 use Rattle.std.proofs.lemmas.Slice.Eq.{bytes_eq-Decides}
 use Rattle.json.specs.Token.{Token}
 use Rattle.serde_json.specs.Data.{Data, null, boolean, number, string, array, object, Members, no_members, put}
@@ -12,8 +13,10 @@ use Rattle.rc_reading.specs.declared.names.EventName.TheVariants as event
 use Rattle.rc_reading.specs.declared.scenarios.ScenarioEvent.TheVariants.{Stop, Suspect, Decide}
 use Rattle.rc_reading.specs.Kinds.{no_kinds}
 use Rattle.rc_reading.specs.Hosts.{no_hosts}
-use Rattle.rc_reading.specs.Names.{start_members, id_members, write_members, read_members, deliver_members, settle_members, create_members, split_members}
-use Rattle.rc_reading.specs.Values.{is_one_of, only, field, host_of, table_of, key_of, message_of, id_of, addr_of, kept_of, kinds_of, hosts_of, written, event_name}
+use Rattle.rc_reading.specs.Names.{start_members, id_members, write_members, read_members, deliver_members}
+use Rattle.rc_reading.specs.Names.{settle_members, create_members, split_members}
+use Rattle.rc_reading.specs.Values.{is_one_of, only, field, host_of, table_of, key_of, message_of, id_of, addr_of}
+use Rattle.rc_reading.specs.Values.{kept_of, kinds_of, hosts_of, written, event_name}
 use Rattle.rc_reading.specs.Scenario.{event_of, event_by}
 use Rattle.rc_reading.specs.Fields.{member_named, noted, fields_of, server_in, event_from, event_in}
 use Rattle.rc_reading.specs.Ahead.{told, says, members_at}
@@ -76,7 +79,8 @@ put_expanded k d ms =
     refl
 
 module _ (k : List ℕ) (d : Data) (f : Fields) where
-  by : (name : List ℕ) → bytes_eq k name ≡ true → expanded name d f ≡ noted (member_named name) d f → expanded k d f ≡ noted (member_named k) d f
+  by : (name : List ℕ) → bytes_eq k name ≡ true → expanded name d f ≡ noted (member_named name) d f →
+      expanded k d f ≡ noted (member_named k) d f
   by name is known = let same : k ≡ name = (bytes_eq-Decides k name).0 is in rw same known
 
   expanded_noted : expanded k d f ≡ noted (member_named k) d f
@@ -134,7 +138,8 @@ by_name event.Settle d = refl
 by_name event.Create d = refl
 by_name event.Split d = refl
 
-by_field : (o : Option EventName) (d : Data) → option_and_then (λ name. event_by name d) o ≡ option_and_then (λ name. event_from name (fields_of d)) o
+by_field : (o : Option EventName) (d : Data) →
+    option_and_then (λ name. event_by name d) o ≡ option_and_then (λ name. event_from name (fields_of d)) o
 by_field None d = refl
 by_field (Some name) d = by_name name d
 
@@ -152,11 +157,13 @@ no_event_of (array ds) is = refl
 no_event_of (object ms) is = absurd (cc)
 
 -- the members of an object, read whole
-pub event_says : (depth : ℕ) (ts r : List Token) (fields : Fields) → 0 < depth → told (λ ms. fields_of (object ms)) (members_at no_members (depth - 1) ts) ≡ Some (fields, r)
+pub event_says : (depth : ℕ) (ts r : List Token) (fields : Fields) → 0 < depth →
+    told (λ ms. fields_of (object ms)) (members_at no_members (depth - 1) ts) ≡ Some (fields, r)
     → says event_of depth (Token.begin_object ∷ ts) ≡ Some (event_in fields, r)
 event_says depth ts r fields some e =
     let q = told_of (members_at no_members (depth - 1) ts) (λ ms. fields_of (object ms)) fields r e in
-    ap (told event_of) (opened_object depth ts some ∙ ap (told object) q.1) ∙ ap (λ o. Some (o, r)) (event_of_fields (object q.0) ∙ ap event_in q.2)
+    ap (told event_of) (opened_object depth ts some ∙ ap (told object) q.1) ∙
+    ap (λ o. Some (o, r)) (event_of_fields (object q.0) ∙ ap event_in q.2)
 
 pub no_event_says : (depth : ℕ) (ts r : List Token) → says as_object depth ts ≡ Some (None, r) → says event_of depth ts ≡ Some (None, r)
 no_event_says depth ts r e =

@@ -6,7 +6,8 @@ use Rattle.rc_reading.specs.Values.{each, listed, id_in, name_in, host_of, id_of
 use Rattle.rc_reading.specs.Pairs.{generation_of, kept_segment_of, paired, both_in, server_id, replica_name, id_item, name_item}
 use Rattle.rc_reading.specs.Ahead.{taken_from}
 
-more_stays : {A B : Type 0} (first : Data → A) (second : Data → B) (ds : List Data) → each (λ pair d. Some (paired first second pair d)) More ds ≡ Some More
+more_stays : {A B : Type 0} (first : Data → A) (second : Data → B) (ds : List Data) →
+    each (λ pair d. Some (paired first second pair d)) More ds ≡ Some More
 more_stays first second [] = refl
 more_stays first second (d ∷ ds) = more_stays first second ds
 
@@ -21,7 +22,8 @@ id_found (a ∷ []) = refl
 id_found (a ∷ b ∷ []) = refl
 id_found (a ∷ b ∷ c ∷ ds) = rw (more_stays host_of generation_of ds) refl
 
-pub id_items_found : (ds : Items) → id_in (listed ds) ≡ found_by (both_in server_id) (taken_from (λ pair d. Some (id_item pair d)) (Some Nothing) ds)
+pub id_items_found : (ds : Items) →
+    id_in (listed ds) ≡ found_by (both_in server_id) (taken_from (λ pair d. Some (id_item pair d)) (Some Nothing) ds)
 id_items_found ds = id_found (listed ds)
 
 name_found : (ds : List Data) → name_in ds ≡ found_by (both_in replica_name) (each (λ pair d. Some (name_item pair d)) Nothing ds)
@@ -30,5 +32,7 @@ name_found (a ∷ []) = refl
 name_found (a ∷ b ∷ []) = refl
 name_found (a ∷ b ∷ c ∷ ds) = rw (more_stays id_of kept_segment_of ds) refl
 
-pub name_items_found : (ds : Items) → name_in (listed ds) ≡ found_by (both_in replica_name) (taken_from (λ pair d. Some (name_item pair d)) (Some Nothing) ds)
+pub name_items_found : (ds : Items) →
+    name_in (listed ds) ≡ found_by (both_in replica_name) (taken_from (λ pair d. Some (name_item pair d)) (Some Nothing)
+    ds)
 name_items_found ds = name_found (listed ds)

@@ -14,20 +14,27 @@ pub rest_told : {A B : Type 0} (f : A → B) (o : Option (A × List Token)) → 
 rest_told f None = refl
 rest_told f (Some q) = refl
 
-pub item_passed : (depth : ℕ) (ts r : List Token) → after_end_array ts ≡ None → rest (data_at depth ts) ≡ Some r → rest (items_at depth ts) ≡ rest (items_at depth r)
-item_passed depth ts r going e = let q = left_some (data_at depth ts) r e in ap rest (item_read depth ts r q.0 going q.1) ∙ rest_told _ (items_at depth r)
+pub item_passed : (depth : ℕ) (ts r : List Token) → after_end_array ts ≡ None → rest (data_at depth ts) ≡ Some r →
+    rest (items_at depth ts) ≡ rest (items_at depth r)
+item_passed depth ts r going e = let q =
+    left_some (data_at depth ts) r e in ap rest (item_read depth ts r q.0 going q.1) ∙ rest_told _ (items_at depth r)
 
 same_after : (k : List ℕ) (ms : json.Members) (f g : Members) (r : List Token) (o : Option Data)
-    → ((d : Data) → rest {A = Members} (option_map (λ b. (b, r)) (of_members ms (put k d f))) ≡ rest {A = Members} (option_map (λ b. (b, r)) (of_members ms (put k d g))))
-    → rest {A = Members} (option_map (λ b. (b, r)) (option_and_then (λ d. of_members ms (put k d f)) o)) ≡ rest {A = Members} (option_map (λ b. (b, r)) (option_and_then (λ d. of_members ms (put k d g)) o))
+    → ((d : Data) → rest {A = Members} (option_map (λ b. (b, r)) (of_members ms (put k d f))) ≡ rest {A = Members}
+    (option_map (λ b. (b, r)) (of_members ms (put k d g))))
+    → rest {A = Members} (option_map (λ b. (b, r)) (option_and_then (λ d. of_members ms (put k d f)) o)) ≡ rest
+    {A = Members} (option_map (λ b. (b, r)) (option_and_then (λ d. of_members ms (put k d g)) o))
 same_after k ms f g r None same = refl
 same_after k ms f g r (Some d) same = same d
 
-same_end : (ms : json.Members) (f g : Members) (r : List Token) → rest {A = Members} (option_map (λ b. (b, r)) (of_members ms f)) ≡ rest {A = Members} (option_map (λ b. (b, r)) (of_members ms g))
+same_end : (ms : json.Members) (f g : Members) (r : List Token) →
+    rest {A = Members} (option_map (λ b. (b, r)) (of_members ms f)) ≡ rest {A = Members}
+    (option_map (λ b. (b, r)) (of_members ms g))
 same_end json.no_members f g r = refl
 same_end (json.member k j ms) f g r = same_after k ms f g r (of_json j) (λ d. same_end ms (put k d f) (put k d g) r)
 
-same_rest : (f g : Members) (o : Option (json.Members × List Token)) → rest (converted (λ ms. of_members ms f) o) ≡ rest (converted (λ ms. of_members ms g) o)
+same_rest : (f g : Members) (o : Option (json.Members × List Token)) →
+    rest (converted (λ ms. of_members ms f) o) ≡ rest (converted (λ ms. of_members ms g) o)
 same_rest f g None = refl
 same_rest f g (Some q) = same_end q.0 f g q.1
 
@@ -35,7 +42,8 @@ members_rest : (f g : Members) (depth : ℕ) (ts : List Token) → rest (members
 unfolding members_at
 members_rest f g depth ts = same_rest f g (members (value depth) (length ts) ts)
 
-pub member_passed : (depth : ℕ) (k : List ℕ) (ts s r : List Token) → read_key ts ≡ Some (Some k, s) → rest (data_at depth s) ≡ Some r → rest (members_at no_members depth ts) ≡ rest (members_at no_members depth r)
+pub member_passed : (depth : ℕ) (k : List ℕ) (ts s r : List Token) → read_key ts ≡ Some (Some k, s) →
+    rest (data_at depth s) ≡ Some r → rest (members_at no_members depth ts) ≡ rest (members_at no_members depth r)
 member_passed depth k ts s r key e =
     let q = left_some (data_at depth s) r e in
     ap rest (member_read no_members depth k ts s r q.0 key q.1) ∙ members_rest (put k q.0 no_members) no_members depth r
@@ -54,11 +62,13 @@ pub at_null : (depth : ℕ) (ts : List Token) → data_at depth (Token.null ∷ 
 unfolding data_at
 at_null depth ts = ap (converted of_json) (value_is depth (Token.null ∷ ts))
 
-numbered : (ts : List Token) (o : Option Num) → option_map {U = Data × List Token} (λ b. (b, ts)) (option_map number o) ≡ option_map (λ n. (number n, ts)) o
+numbered : (ts : List Token) (o : Option Num) →
+    option_map {U = Data × List Token} (λ b. (b, ts)) (option_map number o) ≡ option_map (λ n. (number n, ts)) o
 numbered ts None = refl
 numbered ts (Some n) = refl
 
-pub at_number : (depth : ℕ) (s : List ℕ) (ts : List Token) → data_at depth (Token.number s ∷ ts) ≡ option_map (λ n. (number n, ts)) (number_of s)
+pub at_number : (depth : ℕ) (s : List ℕ) (ts : List Token) →
+    data_at depth (Token.number s ∷ ts) ≡ option_map (λ n. (number n, ts)) (number_of s)
 unfolding data_at
 at_number depth s ts = ap (converted of_json) (value_is depth (Token.number s ∷ ts)) ∙ numbered ts (number_of s)
 
@@ -93,13 +103,16 @@ too_deep_object ts = refl
 pub list_rest : (depth : ℕ) (ts : List Token) → 0 < depth → rest (data_at depth (Token.begin_array ∷ ts)) ≡ rest (items_at (depth - 1) ts)
 list_rest depth ts some = ap rest (opened_list depth ts some) ∙ rest_told array (items_at (depth - 1) ts)
 
-pub object_rest : (depth : ℕ) (ts : List Token) → 0 < depth → rest (data_at depth (Token.begin_object ∷ ts)) ≡ rest (members_at no_members (depth - 1) ts)
+pub object_rest : (depth : ℕ) (ts : List Token) → 0 < depth →
+    rest (data_at depth (Token.begin_object ∷ ts)) ≡ rest (members_at no_members (depth - 1) ts)
 object_rest depth ts some = ap rest (opened_object depth ts some) ∙ rest_told object (members_at no_members (depth - 1) ts)
 
-pub number_rest : (o : Option Num) (read : Option (Option ℕ)) (n : Option ℕ) (ts : List Token) → read ≡ option_map as_u64 o → read ≡ Some n → rest {A = Data} (option_map (λ x. (number x, ts)) o) ≡ Some ts
+pub number_rest : (o : Option Num) (read : Option (Option ℕ)) (n : Option ℕ) (ts : List Token) →
+    read ≡ option_map as_u64 o → read ≡ Some n → rest {A = Data} (option_map (λ x. (number x, ts)) o) ≡ Some ts
 number_rest None read n ts is some = absurd (cc)
 number_rest (Some x) read n ts is some = refl
 
-pub number_none : (o : Option Num) (read : Option (Option ℕ)) (ts : List Token) → read ≡ option_map as_u64 o → read ≡ None → option_map {U = Data × List Token} (λ x. (number x, ts)) o ≡ None
+pub number_none : (o : Option Num) (read : Option (Option ℕ)) (ts : List Token) → read ≡ option_map as_u64 o →
+    read ≡ None → option_map {U = Data × List Token} (λ x. (number x, ts)) o ≡ None
 number_none None read ts is none = refl
 number_none (Some x) read ts is none = absurd (cc)

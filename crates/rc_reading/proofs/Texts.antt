@@ -34,7 +34,8 @@ text_says text said e =
     ap of_value (whole_read text d.0 d.1) ∙ d.2
 
 -- something after a value
-pub text_and_more : (text : List ℕ) (said : Result Scenario ℕ) (t : Token) (r : List Token) → says scenario_of 127 (tokens text) ≡ Some (said, t ∷ r) → of_text text ≡ Err 0
+pub text_and_more : (text : List ℕ) (said : Result Scenario ℕ) (t : Token) (r : List Token) →
+    says scenario_of 127 (tokens text) ≡ Some (said, t ∷ r) → of_text text ≡ Err 0
 text_and_more text said t r e =
     let d = says_some scenario_of 127 (tokens text) (t ∷ r) said e in
     ap of_value (whole_and_more text d.0 t r d.1)

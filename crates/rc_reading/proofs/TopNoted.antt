@@ -1,5 +1,6 @@
 -- What the members of a scenario say after one more member, and at the end.
-use Rattle.std.proofs.Common.{◌≡◌, ℕ, ◌-◌, ◌<◌, nat_eq, List, ◌∷◌, true, ◌&&◌, if◌then◌else◌, codes, Option, Some, None, option_map, option_and_then, Err, bytes_eq, refl, sym, ap, ap₂, ◌∙◌}
+use Rattle.std.proofs.Common.{◌≡◌, ℕ, ◌-◌, ◌<◌, nat_eq, List, ◌∷◌, true, ◌&&◌, if◌then◌else◌, codes, Option, Some}
+use Rattle.std.proofs.Common.{None, option_map, option_and_then, Err, bytes_eq, refl, sym, ap, ap₂, ◌∙◌}
 use Rattle.std.proofs.lemmas.Slice.Eq.{bytes_eq-Decides}
 use Rattle.json.specs.Token.{Token}
 use Rattle.rc_types.specs.declared.events.Setup.{Setup}
@@ -42,7 +43,8 @@ put_expanded k d ms =
     refl
 
 module _ (k : List ℕ) (d : Data) (t : Top) where
-  by : (name : List ℕ) → bytes_eq k name ≡ true → expanded name d t ≡ top_noted (top_named name) d t → expanded k d t ≡ top_noted (top_named k) d t
+  by : (name : List ℕ) → bytes_eq k name ≡ true → expanded name d t ≡ top_noted (top_named name) d t →
+      expanded k d t ≡ top_noted (top_named k) d t
   by name is known = let same : k ≡ name = (bytes_eq-Decides k name).0 is in rw same known
 
   expanded_noted : expanded k d t ≡ top_noted (top_named k) d t
@@ -60,7 +62,9 @@ put_noted k d ms = put_expanded k d ms ∙ expanded_noted k d (top_of (object ms
 
 -- ---- the scenario that the members say
 
-by_format : (d : Data) (o : Option ℕ) → option_and_then (λ format. setup_by format d) o ≡ option_and_then (λ format. if nat_eq format 1 then first_in (top_of d) else second_in (top_of d)) o
+by_format : (d : Data) (o : Option ℕ) →
+    option_and_then (λ format. setup_by format d) o ≡ option_and_then
+    (λ format. if nat_eq format 1 then first_in (top_of d) else second_in (top_of d)) o
 by_format d None = refl
 by_format d (Some format) = refl
 
@@ -91,13 +95,16 @@ no_scenario_of (array ds) is = refl
 no_scenario_of (object ms) is = absurd (cc)
 
 -- the members of an object, read whole
-pub scenario_says : (depth : ℕ) (ts r : List Token) (top : Top) → 0 < depth → told (λ ms. top_of (object ms)) (members_at no_members (depth - 1) ts) ≡ Some (top, r)
+pub scenario_says : (depth : ℕ) (ts r : List Token) (top : Top) → 0 < depth →
+    told (λ ms. top_of (object ms)) (members_at no_members (depth - 1) ts) ≡ Some (top, r)
     → says scenario_of depth (Token.begin_object ∷ ts) ≡ Some (scenario_by top, r)
 scenario_says depth ts r top some e =
     let q = told_of (members_at no_members (depth - 1) ts) (λ ms. top_of (object ms)) top r e in
-    ap (told scenario_of) (opened_object depth ts some ∙ ap (told object) q.1) ∙ ap (λ o. Some (o, r)) (scenario_of_top (object q.0) ∙ ap scenario_by q.2)
+    ap (told scenario_of) (opened_object depth ts some ∙ ap (told object) q.1) ∙
+    ap (λ o. Some (o, r)) (scenario_of_top (object q.0) ∙ ap scenario_by q.2)
 
-pub no_scenario_says : (depth : ℕ) (ts r : List Token) → says as_object depth ts ≡ Some (None, r) → says scenario_of depth ts ≡ Some (Err 1, r)
+pub no_scenario_says : (depth : ℕ) (ts r : List Token) → says as_object depth ts ≡ Some (None, r) →
+    says scenario_of depth ts ≡ Some (Err 1, r)
 no_scenario_says depth ts r e =
     let q = says_some as_object depth ts r None e in
     ap (told scenario_of) q.1 ∙ ap (λ o. Some (o, r)) (no_scenario_of q.0 q.2)

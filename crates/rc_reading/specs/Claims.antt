@@ -9,11 +9,13 @@ use Rattle.rc_reading.specs.Kinds.{has_kind, with_kind, kind_place}
 
 -- a host is in a set with one more where it is that one or was in it before
 abbrev pub HostsAreSets : Type 0
-HostsAreSets = (hosts : Hosts) (put host : ℕ) → host < MAX_HOSTS → has_host (with_host hosts put) host ≡ (nat_eq host put || has_host hosts host)
+HostsAreSets = (hosts : Hosts) (put host : ℕ) → host < MAX_HOSTS →
+    has_host (with_host hosts put) host ≡ (nat_eq host put || has_host hosts host)
 
 -- and so is a kind
 abbrev pub KindsAreSets : Type 0
-KindsAreSets = (kinds : Kinds) (put kind : Kind) → has_kind (with_kind kinds put) kind ≡ (nat_eq (kind_place kind) (kind_place put) || has_kind kinds kind)
+KindsAreSets = (kinds : Kinds) (put kind : Kind) →
+    has_kind (with_kind kinds put) kind ≡ (nat_eq (kind_place kind) (kind_place put) || has_kind kinds kind)
 
 -- a kind is known by its place
 abbrev pub KindsHavePlaces : Type 0

@@ -1,5 +1,6 @@
 -- What the members of an event say, a member at a time.
-use Rattle.std.specs.Prelude.{ℕ, true, false, if◌then◌else◌, List, [], Option, Some, None, option_map, option_and_then, codes}
+use Rattle.std.specs.Prelude.{ℕ, true, false, if◌then◌else◌, List, [], Option, Some, None, option_map}
+use Rattle.std.specs.Prelude.{option_and_then, codes}
 use Rattle.std.specs.Str.{bytes_eq}
 use Rattle.rc_types.specs.declared.ids.ServerId.{ServerId}
 use Rattle.rc_types.specs.declared.ids.Addr.{Addr}
@@ -12,11 +13,14 @@ use Rattle.rc_reading.specs.declared.fields.Fields.{Fields}
 use Rattle.rc_reading.specs.declared.names.EventName.{EventName}
 use Rattle.rc_reading.specs.declared.names.EventName.TheVariants as event
 use Rattle.rc_reading.specs.declared.scenarios.ScenarioEvent.{ScenarioEvent}
-use Rattle.rc_reading.specs.declared.scenarios.ScenarioEvent.TheVariants.{Start, Stop, Suspect, Decide, Tick, Write, Read, Deliver, Create, Split, Settle}
+use Rattle.rc_reading.specs.declared.scenarios.ScenarioEvent.TheVariants.{Start, Stop, Suspect, Decide, Tick, Write}
+use Rattle.rc_reading.specs.declared.scenarios.ScenarioEvent.TheVariants.{Read, Deliver, Create, Split, Settle}
 use Rattle.rc_reading.specs.Kinds.{no_kinds}
 use Rattle.rc_reading.specs.Hosts.{no_hosts}
-use Rattle.rc_reading.specs.Names.{start_members, id_members, write_members, read_members, deliver_members, settle_members, create_members, split_members}
-use Rattle.rc_reading.specs.Values.{has_only, field, optional, given2, given3, given4, host_of, table_of, key_of, message_of, id_of, addr_of, kept_of, kinds_of, hosts_of, written, event_name}
+use Rattle.rc_reading.specs.Names.{start_members, id_members, write_members, read_members, deliver_members}
+use Rattle.rc_reading.specs.Names.{settle_members, create_members, split_members}
+use Rattle.rc_reading.specs.Values.{has_only, field, optional, given2, given3, given4, host_of, table_of, key_of}
+use Rattle.rc_reading.specs.Values.{message_of, id_of, addr_of, kept_of, kinds_of, hosts_of, written, event_name}
 
 abbrev pub member_named : List ℕ → Option MemberName
 member_named text =
@@ -38,10 +42,28 @@ member_named text =
 -- For each event whether it has all the members that have come
 
 abbrev pub all_events : Only
-all_events = record { start = true; id = true; write = true; read = true; deliver = true; settle = true; create = true; split = true }
+all_events = record {
+  start = true;
+  id = true;
+  write = true;
+  read = true;
+  deliver = true;
+  settle = true;
+  create = true;
+  split = true;
+}
 
 abbrev pub no_event : Only
-no_event = record { start = false; id = false; write = false; read = false; deliver = false; settle = false; create = false; split = false }
+no_event = record {
+  start = false;
+  id = false;
+  write = false;
+  read = false;
+  deliver = false;
+  settle = false;
+  create = false;
+  split = false;
+}
 
 abbrev pub narrowed : Option MemberName → Only → Only
 narrowed None only = no_event
@@ -50,7 +72,8 @@ narrowed (Some name.Host) only = record no_event { start = only.start }
 narrowed (Some name.Kept) only = record no_event { start = only.start }
 narrowed (Some name.Id) only = record no_event { id = only.id }
 narrowed (Some name.To) only = record no_event { write = only.write; read = only.read }
-narrowed (Some name.Table) only = record no_event { write = only.write; read = only.read; create = only.create; split = only.split }
+narrowed (Some name.Table) only =
+    record no_event { write = only.write; read = only.read; create = only.create; split = only.split }
 narrowed (Some name.Key) only = record no_event { write = only.write; read = only.read }
 narrowed (Some name.Value) only = record no_event { write = only.write }
 narrowed (Some name.Number) only = record no_event { deliver = only.deliver }
@@ -123,7 +146,8 @@ event_from event.Stop fields = if fields.only.id then option_map Stop (server_in
 event_from event.Suspect fields = if fields.only.id then option_map Suspect (server_in fields.addr) else None
 event_from event.Decide fields = if fields.only.id then option_map Decide (server_in fields.addr) else None
 event_from event.Tick fields = if fields.only.id then option_map Tick fields.addr else None
-event_from event.Write fields = if fields.only.write then given4 Write fields.to fields.table fields.key fields.value else None
+event_from event.Write fields =
+    if fields.only.write then given4 Write fields.to fields.table fields.key fields.value else None
 event_from event.Read fields = if fields.only.read then given3 Read fields.to fields.table fields.key else None
 event_from event.Deliver fields = if fields.only.deliver then option_map Deliver fields.number else None
 event_from event.Settle fields = if fields.only.settle then given2 Settle fields.kinds fields.hosts else None

@@ -61,8 +61,10 @@ kind_name kind.Free = codes "Free"
 -- every kind
 abbrev pub all_kinds : List Kind
 all_kinds =
-    kind.Write ∷ kind.Read ∷ kind.WriteOk ∷ kind.ReadOk ∷ kind.Refused ∷ kind.Place ∷ kind.Append ∷ kind.Close ∷ kind.Stored ∷ kind.Commit ∷ kind.CommitOk ∷ kind.Enlist
-    ∷ kind.Ready ∷ kind.List ∷ kind.Gather ∷ kind.Replicas ∷ kind.Plan ∷ kind.Fetch ∷ kind.Data ∷ kind.Recovered ∷ kind.Own ∷ kind.SplitOk ∷ kind.Free ∷ []
+    kind.Write ∷ kind.Read ∷ kind.WriteOk ∷ kind.ReadOk ∷ kind.Refused ∷ kind.Place ∷ kind.Append ∷ kind.Close ∷
+    kind.Stored ∷ kind.Commit ∷ kind.CommitOk ∷ kind.Enlist
+    ∷ kind.Ready ∷ kind.List ∷ kind.Gather ∷ kind.Replicas ∷ kind.Plan ∷ kind.Fetch ∷ kind.Data ∷ kind.Recovered ∷
+    kind.Own ∷ kind.SplitOk ∷ kind.Free ∷ []
 
 -- the kind of this name
 unfoldable pub kind_named : List ℕ → Option Kind

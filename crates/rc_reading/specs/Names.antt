@@ -52,4 +52,5 @@ abbrev pub first_members : List (List ℕ)
 first_members = codes "format" ∷ codes "factor" ∷ codes "segment" ∷ codes "events" ∷ []
 
 abbrev pub second_members : List (List ℕ)
-second_members = codes "format" ∷ codes "factor" ∷ codes "factors" ∷ codes "free" ∷ codes "segment" ∷ codes "events" ∷ []
+second_members = codes "format" ∷ codes "factor" ∷ codes "factors" ∷ codes "free" ∷ codes "segment" ∷ codes
+    "events" ∷ []

@@ -1,5 +1,6 @@
 -- Values that are no list and no object, as they are wanted.
-use Rattle.std.specs.Prelude.{ℕ, Bool, true, false, nat_lt, if◌then◌else◌, List, Option, Some, None, option_and_then, codes}
+use Rattle.std.specs.Prelude.{ℕ, Bool, true, false, nat_lt, if◌then◌else◌, List, Option, Some, None, option_and_then}
+use Rattle.std.specs.Prelude.{codes}
 use Rattle.std.specs.Str.{bytes_eq}
 use Rattle.json.specs.Token.{Token}
 use Rattle.rc_types.specs.declared.ids.Addr.{Addr}

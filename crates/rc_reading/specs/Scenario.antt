@@ -1,5 +1,6 @@
 -- What a JSON value says as a scenario, and which place of it is wrong.
-use Rattle.std.specs.Prelude.{ℕ, ◌+◌, false, nat_eq, nat_le, ◌&&◌, if◌then◌else◌, List, [], ◌∷◌, length, Option, Some, None, option_map, option_and_then, Result, Ok, Err, codes}
+use Rattle.std.specs.Prelude.{ℕ, ◌+◌, false, nat_eq, nat_le, ◌&&◌, if◌then◌else◌, List, [], ◌∷◌, length, Option}
+use Rattle.std.specs.Prelude.{Some, None, option_map, option_and_then, Result, Ok, Err, codes}
 use Rattle.std.specs.Str.{is_utf8}
 use Rattle.rc_types.specs.declared.events.Setup.{Setup}
 use Rattle.rc_types.specs.declared.events.Event.{Event}
@@ -14,11 +15,15 @@ use Rattle.rc_reading.specs.declared.names.EventName.{EventName}
 use Rattle.rc_reading.specs.declared.names.EventName.TheVariants as name
 use Rattle.rc_reading.specs.declared.scenarios.Scenario.{Scenario}
 use Rattle.rc_reading.specs.declared.scenarios.ScenarioEvent.{ScenarioEvent}
-use Rattle.rc_reading.specs.declared.scenarios.ScenarioEvent.TheVariants.{Start, Stop, Suspect, Decide, Tick, Write, Read, Deliver, Create, Split, Settle}
+use Rattle.rc_reading.specs.declared.scenarios.ScenarioEvent.TheVariants.{Start, Stop, Suspect, Decide, Tick, Write}
+use Rattle.rc_reading.specs.declared.scenarios.ScenarioEvent.TheVariants.{Read, Deliver, Create, Split, Settle}
 use Rattle.rc_reading.specs.Kinds.{no_kinds}
 use Rattle.rc_reading.specs.Hosts.{no_hosts}
-use Rattle.rc_reading.specs.Names.{start_members, id_members, write_members, read_members, deliver_members, settle_members, create_members, split_members, first_members, second_members}
-use Rattle.rc_reading.specs.Values.{only, field, optional, given2, given3, given4, whole, list_of, host_of, factor_of, table_of, key_of, message_of, id_of, addr_of, kept_of, kinds_of, hosts_of, factors_of, written, event_name}
+use Rattle.rc_reading.specs.Names.{start_members, id_members, write_members, read_members, deliver_members}
+use Rattle.rc_reading.specs.Names.{settle_members, create_members, split_members, first_members, second_members}
+use Rattle.rc_reading.specs.Values.{only, field, optional, given2, given3, given4, whole, list_of, host_of}
+use Rattle.rc_reading.specs.Values.{factor_of, table_of, key_of, message_of, id_of, addr_of, kept_of, kinds_of}
+use Rattle.rc_reading.specs.Values.{hosts_of, factors_of, written, event_name}
 
 -- The event of the world that an event of a scenario is
 
@@ -54,17 +59,20 @@ abbrev pub tick_of : Data → Option ScenarioEvent
 tick_of d = only id_members d (option_map Tick (field (codes "id") addr_of d))
 
 abbrev pub write_of : Data → Option ScenarioEvent
-write_of d = only write_members d (given4 Write (field (codes "to") id_of d) (field (codes "table") table_of d) (field (codes "key") key_of d) (field (codes "value") written d))
+write_of d = only write_members d (given4 Write (field (codes "to") id_of d) (field (codes "table") table_of d)
+    (field (codes "key") key_of d) (field (codes "value") written d))
 
 abbrev pub read_of : Data → Option ScenarioEvent
-read_of d = only read_members d (given3 Read (field (codes "to") id_of d) (field (codes "table") table_of d) (field (codes "key") key_of d))
+read_of d = only read_members d (given3 Read (field (codes "to") id_of d) (field (codes "table") table_of d)
+    (field (codes "key") key_of d))
 
 abbrev pub deliver_of : Data → Option ScenarioEvent
 deliver_of d = only deliver_members d (option_map Deliver (field (codes "n") message_of d))
 
 -- both lists may be left out
 abbrev pub settle_of : Data → Option ScenarioEvent
-settle_of d = only settle_members d (given2 Settle (optional no_kinds (codes "kinds") kinds_of d) (optional no_hosts (codes "hosts") hosts_of d))
+settle_of d = only settle_members d (given2 Settle (optional no_kinds (codes "kinds") kinds_of d)
+    (optional no_hosts (codes "hosts") hosts_of d))
 
 abbrev pub create_of : Data → Option ScenarioEvent
 create_of d = only create_members d (given2 Create (field (codes "table") table_of d) (field (codes "owner") id_of d))
@@ -106,13 +114,21 @@ segment_of = whole 1 MAX_SEGMENT
 
 -- the members of format 1 that aren't its events: one factor for all, and nothing is freed
 abbrev pub first_setup : Data → Option Setup
-first_setup d = only first_members d (given2 (λ factor segment. record { factor = factor; segment = segment; free = false; factors = [] })
+first_setup d = only first_members d
+    (given2 (λ factor segment. record { factor = factor; segment = segment; free = false; factors = [] })
     (field (codes "factor") factor_of d) (field (codes "segment") segment_of d))
 
 -- those of format 2
 abbrev pub second_setup : Data → Option Setup
-second_setup d = only second_members d (given4 (λ factor segment free factors. record { factor = factor; segment = segment; free = free; factors = factors })
-    (field (codes "factor") factor_of d) (field (codes "segment") segment_of d) (field (codes "free") as_bool d) (field (codes "factors") factors_of d))
+second_setup d = only second_members d
+    (given4 (λ factor segment free factors. record {
+      factor = factor;
+      segment = segment;
+      free = free;
+      factors = factors;
+    })
+    (field (codes "factor") factor_of d) (field (codes "segment") segment_of d) (field (codes "free") as_bool d)
+    (field (codes "factors") factors_of d))
 
 abbrev pub setup_by : ℕ → Data → Option Setup
 setup_by format d = if nat_eq format 1 then first_setup d else second_setup d

@@ -1,5 +1,6 @@
 -- What a JSON value says where a number, an id, a list or an object is wanted: nothing, where it is something else.
-use Rattle.std.specs.Prelude.{ℕ, Bool, true, false, nat_lt, nat_le, ◌&&◌, ◌||◌, if◌then◌else◌, List, [], ◌∷◌, ◌++◌, length, Option, Some, None, option_map, option_and_then, codes}
+use Rattle.std.specs.Prelude.{ℕ, Bool, true, false, nat_lt, nat_le, ◌&&◌, ◌||◌, if◌then◌else◌, List, [], ◌∷◌, ◌++◌}
+use Rattle.std.specs.Prelude.{length, Option, Some, None, option_map, option_and_then, codes}
 use Rattle.std.specs.Str.{bytes_eq}
 use Rattle.rc_types.specs.declared.ids.ServerId.{ServerId}
 use Rattle.rc_types.specs.declared.ids.Addr.{Addr}
@@ -112,7 +113,8 @@ list_from takes a d = option_and_then (each takes a) (list_of d)
 
 -- [index, generation]
 abbrev pub id_in : List Data → Option ServerId
-id_in (index ∷ generation ∷ []) = given2 (λ i g. record { index = i; generation = g }) (host_of index) (whole 1 LAST_GENERATION generation)
+id_in (index ∷ generation ∷ []) =
+    given2 (λ i g. record { index = i; generation = g }) (host_of index) (whole 1 LAST_GENERATION generation)
 id_in _ = None
 
 abbrev pub id_of : Data → Option ServerId
@@ -153,7 +155,8 @@ hosts_of = list_from take_host no_hosts
 
 -- a factor for each host, at most
 abbrev pub take_factor : List ℕ → Data → Option (List ℕ)
-take_factor factors d = if nat_lt (length factors) MAX_HOSTS then option_map (λ factor. factors ++ factor ∷ []) (factor_of d) else None
+take_factor factors d = if nat_lt (length factors) MAX_HOSTS then option_map (λ factor. factors ++ factor ∷ [])
+    (factor_of d) else None
 
 abbrev pub factors_of : Data → Option (List ℕ)
 factors_of = list_from take_factor []

@@ -1,5 +1,6 @@
 -- What the members of a scenario say, a member at a time, and an event at a time.
-use Rattle.std.specs.Prelude.{ℕ, ◌+◌, false, nat_eq, if◌then◌else◌, List, [], ◌∷◌, ◌++◌, length, Option, Some, None, option_and_then, Result, Ok, Err, codes}
+use Rattle.std.specs.Prelude.{ℕ, ◌+◌, false, nat_eq, if◌then◌else◌, List, [], ◌∷◌, ◌++◌, length, Option, Some, None}
+use Rattle.std.specs.Prelude.{option_and_then, Result, Ok, Err, codes}
 use Rattle.std.specs.Str.{bytes_eq}
 use Rattle.rc_types.specs.declared.events.Setup.{Setup}
 use Rattle.serde_json.specs.Data.{Data}
@@ -57,11 +58,15 @@ top_of d = record {
 
 -- the setup, by the format
 abbrev pub first_in : Top → Option Setup
-first_in top = if top.first then given2 (λ factor segment. record { factor = factor; segment = segment; free = false; factors = [] }) top.factor top.segment else None
+first_in top = if top.first then given2
+    (λ factor segment. record { factor = factor; segment = segment; free = false; factors = [] }) top.factor
+    top.segment else None
 
 abbrev pub second_in : Top → Option Setup
 second_in top =
-    if top.second then given4 (λ factor segment free factors. record { factor = factor; segment = segment; free = free; factors = factors }) top.factor top.segment top.free top.factors
+    if top.second then given4 (λ factor segment free factors.
+    record { factor = factor; segment = segment; free = free; factors = factors }) top.factor top.segment top.free
+    top.factors
     else None
 
 abbrev pub setup_in : Top → Option Setup

@@ -5,7 +5,8 @@ ghost use Rattle.rc_reading.specs.declared.scenarios.ReadFault.TheVariants.{BadS
 ghost use Rattle.serde_json.specs.Data.{object, no_members};
 ghost use Rattle.rc_reading.specs.Values.{written, table_of, message_of};
 ghost use Rattle.rc_reading.specs.Scenario.{event_of};
-ghost use Rattle.rc_reading.specs.Fields.{member_named, narrowed, all_events, noted, fields_of, event_in, event_from, server_in};
+ghost use Rattle.rc_reading.specs.Fields.{member_named, narrowed, all_events, noted, fields_of, event_in, event_from};
+ghost use Rattle.rc_reading.specs.Fields.{server_in};
 ghost use Rattle.rc_reading.specs.Ahead.{data_at, members_at, says, told};
 
 use crate::hosts::Hosts;
@@ -323,9 +324,11 @@ impl Fields {
 
 /// The members of an event, up to the end of its object.
 fn event_members(alloc: Global, reader: &mut Reader<'_>, depth: usize) -> Result<Fields, ReadFault>
-    ensures ok { IfOk result (λ fields. told (λ ms. fields_of (object ms)) (members_at no_members depth reader.old) ≡ Some (fields, reader.new)) }
+    ensures ok { IfOk result (λ fields. told (λ ms. fields_of (object ms)) (members_at no_members depth reader.old) ≡
+        Some (fields, reader.new)) }
     ensures shorter { OnOk result (length reader.new < length reader.old) }
-    ensures bad { (place : ℕ) → result ≡ Err (BadScenario place) → (place ≡ 0) × (members_at no_members depth reader.old ≡ None) }
+    ensures bad { (place : ℕ) → result ≡ Err (BadScenario place) →
+        (place ≡ 0) × (members_at no_members depth reader.old ≡ None) }
 {
     let mut fields = Fields::new(alloc);
     'members: while let Some(name) = reader.next_key()? {

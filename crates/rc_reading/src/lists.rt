@@ -2,10 +2,12 @@
 //! answers what it says, if it is such a list; or fails where none stands. Once an item is wrong, the later
 //! ones are passed and nothing is kept.
 
-ghost use Rattle.std.specs.Prelude.{◌≡◌, ◌<◌, ℕ, [], length, Some, None, Err, IfOk, OnOk, OnErr, IfSome, option_and_then};
+ghost use Rattle.std.specs.Prelude.{◌≡◌, ◌<◌, ℕ, [], length, Some, None, Err, IfOk, OnOk, OnErr, IfSome};
+ghost use Rattle.std.specs.Prelude.{option_and_then};
 ghost use Rattle.rc_types.specs.declared.limits.TheConstants.{MAX_HOSTS};
 ghost use Rattle.rc_reading.specs.declared.scenarios.ReadFault.TheVariants.{BadScenario};
-ghost use Rattle.rc_reading.specs.Values.{take_name, kept_of, take_kind, kinds_of, take_host, hosts_of, take_factor, factors_of};
+ghost use Rattle.rc_reading.specs.Values.{take_name, kept_of, take_kind, kinds_of, take_host, hosts_of, take_factor};
+ghost use Rattle.rc_reading.specs.Values.{factors_of};
 ghost use Rattle.rc_reading.specs.Kinds.{with_kind, no_kinds};
 ghost use Rattle.rc_reading.specs.Hosts.{with_host, no_hosts};
 ghost use Rattle.rc_reading.specs.Lists.{added, at_end, factor_added};

@@ -1,14 +1,18 @@
 //! Values of JSON where a number, an id, a name or a list is wanted. Each function takes one value whole,
 //! and answers what it says, if it says such a thing; or fails where none stands.
 
-ghost use Rattle.std.specs.Prelude.{◌≡◌, ◌<◌, ◌≤◌, [], length, Some, None, IfOk, OnOk, OnErr, IfSome, option_map, option_and_then};
+ghost use Rattle.std.specs.Prelude.{◌≡◌, ◌<◌, ◌≤◌, [], length, Some, None, IfOk, OnOk, OnErr, IfSome, option_map};
+ghost use Rattle.std.specs.Prelude.{option_and_then};
 ghost use Rattle.rc_types.specs.declared.limits.TheConstants.{MAX_HOSTS, MAX_FACTOR, LAST_SEGMENT};
 ghost use Rattle.serde_json.specs.Find.{as_bool, as_str};
 ghost use Rattle.rc_reading.specs.declared.limits.TheConstants.{LAST_GENERATION};
-ghost use Rattle.rc_reading.specs.Values.{whole, host_of, id_in, id_of, addr_of, name_in, list_of, listed, kept_of, take_name, kinds_of, take_kind, hosts_of, take_host, factors_of, take_factor, factor_of, event_name};
+ghost use Rattle.rc_reading.specs.Values.{whole, host_of, id_in, id_of, addr_of, name_in, list_of, listed, kept_of};
+ghost use Rattle.rc_reading.specs.Values.{take_name, kinds_of, take_kind, hosts_of, take_host, factors_of};
+ghost use Rattle.rc_reading.specs.Values.{take_factor, factor_of, event_name};
 ghost use Rattle.rc_reading.specs.Kinds.{kind_named, no_kinds};
 ghost use Rattle.rc_reading.specs.Hosts.{no_hosts};
-ghost use Rattle.rc_reading.specs.Pairs.{replica_name, both_in, server_id, id_item, name_item, generation_of, kept_segment_of};
+ghost use Rattle.rc_reading.specs.Pairs.{replica_name, both_in, server_id, id_item, name_item, generation_of};
+ghost use Rattle.rc_reading.specs.Pairs.{kept_segment_of};
 ghost use Rattle.rc_reading.specs.Ahead.{data_at, items_at, says, told, folds};
 
 use crate::hosts::Hosts;
@@ -79,7 +83,8 @@ pub(crate) fn event(reader: &mut Reader<'_>, depth: usize) -> Result<Option<Even
 
 /// The name of a kind of bodies.
 pub(crate) fn kind(reader: &mut Reader<'_>, depth: usize) -> Result<Option<Kind>, Invalid>
-    ensures ok { IfOk result (λ kind. says (λ d. option_and_then kind_named (as_str d)) depth reader.old ≡ Some (kind, reader.new)) }
+    ensures ok { IfOk result (λ kind. says (λ d. option_and_then kind_named (as_str d)) depth reader.old ≡ Some
+        (kind, reader.new)) }
     ensures shorter { OnOk result (length reader.new < length reader.old) }
     ensures err { OnErr result (data_at depth reader.old ≡ None) }
 {
@@ -131,7 +136,8 @@ fn paired_id(pair: Pair<Option<u8>, Option<u32>>) -> Option<ServerId>
 
 /// The items of an id's list, up to its end.
 fn id_items(reader: &mut Reader<'_>, depth: usize) -> Result<Option<ServerId>, Invalid>
-    ensures ok { IfOk result (λ id. told (λ ds. id_in (listed ds)) (items_at depth reader.old) ≡ Some (id, reader.new)) }
+    ensures ok { IfOk result (λ id. told (λ ds. id_in (listed ds)) (items_at depth reader.old) ≡ Some
+        (id, reader.new)) }
     ensures shorter { OnOk result (length reader.new < length reader.old) }
     ensures err { OnErr result (items_at depth reader.old ≡ None) }
 {
@@ -211,7 +217,8 @@ fn paired_name(pair: Pair<Option<ServerId>, Option<u16>>) -> Option<(ServerId, u
 
 /// The items of a replica's name, up to the end of their list.
 fn name_items(reader: &mut Reader<'_>, depth: usize) -> Result<Option<(ServerId, u16)>, Invalid>
-    ensures ok { IfOk result (λ name. told (λ ds. name_in (listed ds)) (items_at depth reader.old) ≡ Some (name, reader.new)) }
+    ensures ok { IfOk result (λ name. told (λ ds. name_in (listed ds)) (items_at depth reader.old) ≡ Some
+        (name, reader.new)) }
     ensures shorter { OnOk result (length reader.new < length reader.old) }
     ensures err { OnErr result (items_at depth reader.old ≡ None) }
 {
@@ -227,7 +234,8 @@ pub(crate) fn name(
     reader: &mut Reader<'_>,
     depth: usize,
 ) -> Result<Option<(ServerId, u16)>, Invalid>
-    ensures ok { IfOk result (λ name. says (λ d. option_and_then name_in (list_of d)) depth reader.old ≡ Some (name, reader.new)) }
+    ensures ok { IfOk result (λ name. says (λ d. option_and_then name_in (list_of d)) depth reader.old ≡ Some
+        (name, reader.new)) }
     ensures shorter { OnOk result (length reader.new < length reader.old) }
     ensures err { OnErr result (data_at depth reader.old ≡ None) }
 {

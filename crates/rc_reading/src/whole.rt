@@ -5,7 +5,8 @@ ghost use Rattle.rc_reading.specs.declared.scenarios.ReadFault.TheVariants.{BadS
 ghost use Rattle.serde_json.specs.Data.{object, no_members};
 ghost use Rattle.rc_reading.specs.Values.{listed, whole};
 ghost use Rattle.rc_reading.specs.Scenario.{events_of, scenario_of, segment_of};
-ghost use Rattle.rc_reading.specs.Whole.{top_named, top_noted, top_of, event_added, events_list, first_in, scenario_from, scenario_by};
+ghost use Rattle.rc_reading.specs.Whole.{top_named, top_noted, top_of, event_added, events_list, first_in};
+ghost use Rattle.rc_reading.specs.Whole.{scenario_from, scenario_by};
 ghost use Rattle.rc_reading.specs.Ahead.{data_at, items_at, members_at, says, told};
 
 use crate::fields::scenario_event;
@@ -40,7 +41,8 @@ fn with_event(events: Events, event: Option<ScenarioEvent>) -> Result<Events, Al
 
 /// The events of a list, up to its end.
 fn event_items(alloc: Global, reader: &mut Reader<'_>, depth: usize) -> Result<Events, ReadFault>
-    ensures ok { IfOk result (λ events. told (λ ds. events_of 2 (listed ds)) (items_at depth reader.old) ≡ Some (events, reader.new)) }
+    ensures ok { IfOk result (λ events. told (λ ds. events_of 2 (listed ds)) (items_at depth reader.old) ≡ Some
+        (events, reader.new)) }
     ensures shorter { OnOk result (length reader.new < length reader.old) }
     ensures bad { (place : ℕ) → result ≡ Err (BadScenario place) → (place ≡ 0) × (items_at depth reader.old ≡ None) }
 {
@@ -144,7 +146,8 @@ impl Top {
         reader: &mut Reader<'_>,
         depth: usize,
     ) -> Result<(), ReadFault>
-        ensures ok { OnOk result (says (λ d. top_noted name d self.old) depth reader.old ≡ Some (self.new, reader.new)) }
+        ensures ok { OnOk result (says (λ d. top_noted name d self.old) depth reader.old ≡ Some
+            (self.new, reader.new)) }
         ensures shorter { OnOk result (length reader.new < length reader.old) }
         ensures bad { (place : ℕ) → result ≡ Err (BadScenario place) → (place ≡ 0) × (data_at depth reader.old ≡ None) }
     {
@@ -229,9 +232,11 @@ fn with_events(setup: Setup, events: Option<Events>) -> Result<Scenario, usize>
 
 /// The members of a scenario, up to the end of its object.
 fn top_members(alloc: Global, reader: &mut Reader<'_>, depth: usize) -> Result<Top, ReadFault>
-    ensures ok { IfOk result (λ top. told (λ ms. top_of (object ms)) (members_at no_members depth reader.old) ≡ Some (top, reader.new)) }
+    ensures ok { IfOk result (λ top. told (λ ms. top_of (object ms)) (members_at no_members depth reader.old) ≡ Some
+        (top, reader.new)) }
     ensures shorter { OnOk result (length reader.new < length reader.old) }
-    ensures bad { (place : ℕ) → result ≡ Err (BadScenario place) → (place ≡ 0) × (members_at no_members depth reader.old ≡ None) }
+    ensures bad { (place : ℕ) → result ≡ Err (BadScenario place) →
+        (place ≡ 0) × (members_at no_members depth reader.old ≡ None) }
 {
     let mut top = Top::new();
     'members: while let Some(name) = reader.next_key()? {

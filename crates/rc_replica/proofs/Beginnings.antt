@@ -13,13 +13,18 @@ either_way : (P : Replica → Type 0) (b : Bool) (one other : Replica) → P one
 either_way P true one other p q = p
 either_way P false one other p q = q
 
-pub placed_begins : (replica : Replica) (epoch : ℕ) (sent : List Entry) (closed : Bool) → IsBeginning replica.entries (placed replica epoch sent closed).entries
+pub placed_begins : (replica : Replica) (epoch : ℕ) (sent : List Entry) (closed : Bool) →
+    IsBeginning replica.entries (placed replica epoch sent closed).entries
 placed_begins replica epoch sent closed =
     let P : Replica → Type 0 = λ r. IsBeginning replica.entries r.entries in
     either_way P (nat_lt epoch replica.epoch) replica _ (unmoved replica.entries)
-    (either_way P replica.closed (record replica { epoch = epoch }) (placed_open replica epoch sent closed) (unmoved replica.entries) (drop (length replica.entries - 0) sent, refl))
+    (either_way P replica.closed (record replica { epoch = epoch }) (placed_open replica epoch sent closed)
+    (unmoved replica.entries) (drop (length replica.entries - 0) sent, refl))
 
-pub appended_begins : (replica : Replica) (offset : ℕ) (sent : List Entry) → IsBeginning replica.entries (appended replica offset sent).entries
+pub appended_begins : (replica : Replica) (offset : ℕ) (sent : List Entry) →
+    IsBeginning replica.entries (appended replica offset sent).entries
 appended_begins replica offset sent =
     let P : Replica → Type 0 = λ r. IsBeginning replica.entries r.entries in
-    either_way P (not replica.closed && nat_le offset (length replica.entries)) (record replica { entries = grown replica.entries offset sent }) replica (drop (length replica.entries - offset) sent, refl) (unmoved replica.entries)
+    either_way P (not replica.closed && nat_le offset (length replica.entries))
+    (record replica { entries = grown replica.entries offset sent }) replica
+    (drop (length replica.entries - offset) sent, refl) (unmoved replica.entries)

@@ -49,4 +49,5 @@ AppendedClosesNothing = (replica : Replica) (offset : ℕ) (sent : List Entry) �
 -- a Close closes an open replica exactly where it has the stated number of entries
 abbrev pub ClosedAtClosesAtLength : Type 0
 ClosedAtClosesAtLength = (replica : Replica) (len : ℕ) → replica.closed ≡ false →
-    (((closed_at replica len).closed ≡ true → length replica.entries ≡ len) × (length replica.entries ≡ len → (closed_at replica len).closed ≡ true))
+    (((closed_at replica len).closed ≡ true → length replica.entries ≡ len) × (length replica.entries ≡ len →
+    (closed_at replica len).closed ≡ true))

@@ -23,7 +23,12 @@ impl Model for Replica {
 
     ghost Value = { Kept };
 
-    ghost view = { λ r. record { epoch = r.epoch; closed = r.closed; digest = r.digest.items; entries = r.entries.items } };
+    ghost view = { λ r. record {
+      epoch = r.epoch;
+      closed = r.closed;
+      digest = r.digest.items;
+      entries = r.entries.items;
+    } };
 }
 
 impl Replica {

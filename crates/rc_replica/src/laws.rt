@@ -1,6 +1,8 @@
 //! What holds of a replica whatever it is told, as contracts of functions that do nothing.
 
-ghost use Rattle.rc_replica.specs.Laws.{PlacedOnlyGrows, AppendedOnlyGrows, ClosedAtKeepsEntries, PlacedLeavesClosed, AppendedLeavesClosed, ClosedAtLeavesClosed, PlacedClosesAtLength, AppendedClosesNothing, ClosedAtClosesAtLength};
+ghost use Rattle.rc_replica.specs.Laws.{PlacedOnlyGrows, AppendedOnlyGrows, ClosedAtKeepsEntries, PlacedLeavesClosed};
+ghost use Rattle.rc_replica.specs.Laws.{AppendedLeavesClosed, ClosedAtLeavesClosed, PlacedClosesAtLength};
+ghost use Rattle.rc_replica.specs.Laws.{AppendedClosesNothing, ClosedAtClosesAtLength};
 
 /// Entries only grow: whatever a replica is told, its entries begin with those that it had.
 pub fn entries_only_grow()

@@ -1,5 +1,5 @@
--- The lines around the report: the last line of a run that stopped, the one line of a wrong input, and what is printed of
--- messages that are judged and not reported.
+-- The lines around the report: the last line of a run that stopped, the one line of a wrong input, and what is
+-- printed of messages that are judged and not reported.
 use Rattle.std.specs.Prelude.{ℕ, List, ◌++◌, codes, length}
 use Rattle.rc_types.specs.declared.faults.Code.{Code}
 use Rattle.rc_types.specs.declared.messages.Message.{Message}
@@ -9,7 +9,8 @@ use Rattle.rc_model.specs.Breach.{breach}
 
 -- the run stopped at this event of the scenario
 abbrev pub stopped_line : Code → ℕ → List ℕ
-stopped_line code event = then_number (codes "stopped F") (code_number code) ++ then_number (codes " at event ") event ++ line_feed
+stopped_line code event =
+    then_number (codes "stopped F") (code_number code) ++ then_number (codes " at event ") event ++ line_feed
 
 -- the input is wrong at this place
 abbrev pub error_line : ℕ → List ℕ

@@ -1,7 +1,8 @@
 //! How many messages of four kinds there are.
 
 ghost use Rattle.std.specs.Prelude.{◌≡◌, ◌++◌, OnOk, string_bytes};
-ghost use Rattle.rc_model.specs.Report.{count_of, count_line, counts_ack, counts_refused, counts_plan, counts_grant, counts_text};
+ghost use Rattle.rc_model.specs.Report.{count_of, count_line, counts_ack, counts_refused, counts_plan, counts_grant};
+ghost use Rattle.rc_model.specs.Report.{counts_text};
 
 use rc_types::{Body, Message};
 use std::alloc::AllocError;

@@ -26,7 +26,8 @@ fn add_message(text: &mut String, message: &Message) -> Result<(), AllocError>
 }
 
 fn add_line(text: &mut String, from: Addr, to: Addr, body: &Body) -> Result<(), AllocError>
-    ensures { OnOk result (string_bytes text.new ≡ string_bytes text.old ++ body_line (addr_text from) (addr_text to) body.now) }
+    ensures { OnOk result (string_bytes text.new ≡ string_bytes text.old ++ body_line (addr_text from) (addr_text to)
+        body.now) }
 {
     match body {
         Body::WriteOk {
@@ -86,7 +87,8 @@ fn add_plan(
     rows: &[PlanRow],
 ) -> Result<(), AllocError>
     ensures { OnOk result
-        (string_bytes text.new ≡ string_bytes text.old ++ body_line [] (addr_text to) (Plan attempt master head rows.now [])) }
+        (string_bytes text.new ≡ string_bytes text.old ++ body_line [] (addr_text to)
+        (Plan attempt master head rows.now [])) }
 {
     write!(text, "plan {attempt} of {master} to {to} head {head} rows")?;
     add_rows(text, rows)?;

@@ -60,7 +60,8 @@ pub fn judgement_of(
     messages: &[Message],
     found: Option<Breach>,
 ) -> Result<String, Fault>
-    ensures ok { IfOk result (λ text. string_bytes text ≡ count_line (codes "messages ") (length messages.now) ++ audit_line found) }
+    ensures ok { IfOk result (λ text. string_bytes text ≡ count_line (codes "messages ") (length messages.now) ++
+        audit_line found) }
     // told of the messages' own first breach, it is the judgement of the definitions
     ensures judged { found ≡ breach messages.now → IfOk result (λ text. string_bytes text ≡ judgement messages.now) }
     ensures err { IfErr result (λ e. e ≡ OutOfMemory) }

@@ -1,5 +1,7 @@
 -- The events of a scenario, one after another.
-use Rattle.std.proofs.Common.{◌≡◌, ◌⊎◌, inl, inr, ◌<◌, ℕ, ◌+◌, Bool, true, false, nat_lt, ◌&&◌, if◌then◌else◌, List, [], ◌∷◌, length, Some, None, Result, Ok, Err, OnOk, IfErr, OnErr, drop, refl, sym, ap, ◌∙◌, suc, slice_index_or, arith}
+use Rattle.std.proofs.Common.{◌≡◌, ◌⊎◌, inl, inr, ◌<◌, ℕ, ◌+◌, Bool, true, false, nat_lt, ◌&&◌, if◌then◌else◌, List}
+use Rattle.std.proofs.Common.{[], ◌∷◌, length, Some, None, Result, Ok, Err, OnOk, IfErr, OnErr, drop, refl, sym, ap}
+use Rattle.std.proofs.Common.{◌∙◌, suc, slice_index_or, arith}
 use Rattle.std.proofs.Math.Seq.{drop-cons}
 use Rattle.rc_types.specs.declared.events.Event.{Event}
 use Rattle.rc_types.specs.declared.faults.Fault.{Fault}
@@ -20,7 +22,8 @@ if_both : {X : Type 0} (a b : Bool) (x y : X) → a ≡ true → b ≡ true → 
 if_both a b x y one other = rw (one, other) refl
 
 -- what is no pass is its event of the world
-pub as_event : (event : ScenarioEvent) → ((kinds : Kinds) (hosts : Hosts) → event ≡ scene.Settle kinds hosts → ⊥) → (most : ℕ) (world : World)
+pub as_event : (event : ScenarioEvent) → ((kinds : Kinds) (hosts : Hosts) → event ≡ scene.Settle kinds hosts → ⊥) →
+    (most : ℕ) (world : World)
     → scenario_event most world event ≡ event_if_any most world (core_event event)
 as_event (scene.Start host kept) other most world = refl
 as_event (scene.Stop id) other most world = refl
@@ -35,7 +38,8 @@ as_event (scene.Split table at) other most world = refl
 as_event (scene.Settle kinds hosts) other most world = absurd (other kinds hosts refl)
 
 -- and it is one
-pub has_event : (event : ScenarioEvent) → ((kinds : Kinds) (hosts : Hosts) → event ≡ scene.Settle kinds hosts → ⊥) → (core : Event) × (core_event event ≡ Some core)
+pub has_event : (event : ScenarioEvent) → ((kinds : Kinds) (hosts : Hosts) → event ≡ scene.Settle kinds hosts → ⊥) →
+    (core : Event) × (core_event event ≡ Some core)
 has_event (scene.Start host kept) other = (_, refl)
 has_event (scene.Stop id) other = (_, refl)
 has_event (scene.Suspect id) other = (_, refl)
@@ -49,25 +53,30 @@ has_event (scene.Split table at) other = (_, refl)
 has_event (scene.Settle kinds hosts) other = absurd (other kinds hosts refl)
 
 -- one event of the world that happened
-one_taken : (old new : Happened) (event : Event) → (replayed old).events ≡ old.events → new ≡ with_events old (event ∷ []) → can_happen old event ≡ true
+one_taken : (old new : Happened) (event : Event) → (replayed old).events ≡ old.events →
+    new ≡ with_events old (event ∷ []) → can_happen old event ≡ true
     → GoesOn (λ most world. one_event most world event) old new
 one_taken old new event taken made can most room =
     let more = longer old new event made in
     let there : nat_lt (length old.events) most ≡ true = grind (arith, more, room) in
     let stepped : replayed new ≡ step (replayed old) event = ap replayed made ∙ replayed_more old event in
-    if_both (nat_lt (length (replayed old).events) most) (is_possible (replayed old) event) (Ok (step (replayed old) event)) (Err (replayed old))
+    if_both (nat_lt (length (replayed old).events) most) (is_possible (replayed old) event)
+    (Ok (step (replayed old) event)) (Err (replayed old))
     (rw taken there) (possible_of old event can) ∙ ap Ok (sym stepped)
 
 pub one_goes_on : {T E : Type 0} (result : Result T E) (old new : Happened) (event : Event) (whole : ScenarioEvent)
-    → ((most : ℕ) (world : World) → scenario_event most world whole ≡ event_if_any most world (core_event whole)) → Some event ≡ core_event whole
+    → ((most : ℕ) (world : World) → scenario_event most world whole ≡ event_if_any most world (core_event whole)) →
+    Some event ≡ core_event whole
     → (replayed old).events ≡ old.events → OnOk result (new ≡ with_events old (event ∷ [])) → OnOk result (can_happen old event ≡ true)
     → OnOk result (GoesOn (λ most world. scenario_event most world whole) old new)
 one_goes_on (Ok t) old new event whole alike same taken made can =
-    λ most room. alike most (replayed old) ∙ ap (event_if_any most (replayed old)) (sym same) ∙ one_taken old new event taken made can most room
+    λ most room. alike most (replayed old) ∙ ap (event_if_any most (replayed old)) (sym same) ∙
+    one_taken old new event taken made can most room
 one_goes_on (Err e) old new event whole alike same taken made can = tt
 
 -- one that did not
-one_refused : (old : Happened) (event : Event) (fault : Fault) → (replayed old).events ≡ old.events → (fault ≡ OutOfMemory) ⊎ (fault ≡ BadEvent)
+one_refused : (old : Happened) (event : Event) (fault : Fault) → (replayed old).events ≡ old.events →
+    (fault ≡ OutOfMemory) ⊎ (fault ≡ BadEvent)
     → (fault ≡ BadEvent → can_happen old event ≡ false) → one_event (room_at fault old) (replayed old) event ≡ Err (replayed old)
 one_refused old event fault taken (inl same) bad =
     let full : nat_lt (length old.events) (length old.events) ≡ false = grind arith in
@@ -77,25 +86,31 @@ one_refused old event fault taken (inr same) bad =
     rw (same, taken, never) refl
 
 whole_refused : (old : Happened) (event : Event) (fault : Fault) (whole : ScenarioEvent)
-    → ((most : ℕ) (world : World) → scenario_event most world whole ≡ event_if_any most world (core_event whole)) → Some event ≡ core_event whole
+    → ((most : ℕ) (world : World) → scenario_event most world whole ≡ event_if_any most world (core_event whole)) →
+    Some event ≡ core_event whole
     → (replayed old).events ≡ old.events → (fault ≡ OutOfMemory) ⊎ (fault ≡ BadEvent)
     → (fault ≡ BadEvent → can_happen old event ≡ false) → scenario_event (room_at fault old) (replayed old) whole ≡ Err (replayed old)
 whole_refused old event fault whole alike same taken which bad =
-    alike (room_at fault old) (replayed old) ∙ ap (event_if_any (room_at fault old) (replayed old)) (sym same) ∙ one_refused old event fault taken which bad
+    alike (room_at fault old) (replayed old) ∙ ap (event_if_any (room_at fault old) (replayed old)) (sym same) ∙
+    one_refused old event fault taken which bad
 
 pub one_stops : {T : Type 0} (result : Result T Fault) (old new : Happened) (event : Event) (whole : ScenarioEvent)
-    → ((most : ℕ) (world : World) → scenario_event most world whole ≡ event_if_any most world (core_event whole)) → Some event ≡ core_event whole
-    → (replayed old).events ≡ old.events → IfErr result (λ fault. (fault ≡ OutOfMemory) ⊎ (fault ≡ BadEvent)) → (result ≡ Err BadEvent → can_happen old event ≡ false)
+    → ((most : ℕ) (world : World) → scenario_event most world whole ≡ event_if_any most world (core_event whole)) →
+    Some event ≡ core_event whole
+    → (replayed old).events ≡ old.events → IfErr result (λ fault. (fault ≡ OutOfMemory) ⊎ (fault ≡ BadEvent)) →
+    (result ≡ Err BadEvent → can_happen old event ≡ false)
     → OnErr result (new ≡ old) → IfErr result (λ fault. StopsIn (λ most world. scenario_event most world whole) fault old new)
 one_stops (Ok t) old new event whole alike same taken which bad kept = tt
-one_stops (Err fault) old new event whole alike same taken which bad kept = rw kept (whole_refused old event fault whole alike same taken which (λ is. bad (ap Err is)))
+one_stops (Err fault) old new event whole alike same taken which bad kept =
+    rw kept (whole_refused old event fault whole alike same taken which (λ is. bad (ap Err is)))
 
 -- where the event could not be copied, the run stops before it
 pub copy_stops : (old : Happened) (whole : ScenarioEvent) → ((kinds : Kinds) (hosts : Hosts) → whole ≡ scene.Settle kinds hosts → ⊥)
     → (replayed old).events ≡ old.events → StopsIn (λ most world. scenario_event most world whole) OutOfMemory old old
 copy_stops old whole other taken =
     let core = has_event whole other in
-    whole_refused old core.0 OutOfMemory whole (as_event whole other) (sym core.1) taken (inl refl) (λ same. absurd (memory_is_not_bad same))
+    whole_refused old core.0 OutOfMemory whole (as_event whole other) (sym core.1) taken (inl refl)
+    (λ same. absurd (memory_is_not_bad same))
   where
     memory_is_not_bad : OutOfMemory ≡ BadEvent → ⊥
     memory_is_not_bad same = cc
@@ -109,7 +124,8 @@ pub scene_stops : (most place : ℕ) (world next : World) (event : ScenarioEvent
     → scenario_event most world event ≡ Err next → run_from most place world events ≡ record { world = next; stopped = Some place }
 scene_stops most place world next event events rest same made = rw (same, made) refl
 
-pub dropped_at : (events : List ScenarioEvent) (place : ℕ) (event : ScenarioEvent) → place < length events → event ≡ slice_index_or events place event
+pub dropped_at : (events : List ScenarioEvent) (place : ℕ) (event : ScenarioEvent) → place < length events →
+    event ≡ slice_index_or events place event
     → drop place events ≡ event ∷ drop (place + 1) events
 dropped_at events place event lt is =
     let next : suc place ≡ place + 1 = omega arith in

@@ -1,5 +1,7 @@
 -- One event more: the mail still fits the world.
-use Rattle.std.proofs.Common.{◌≡◌, ◌≤◌, ◌<◌, ℕ, Bool, true, false, nat_lt, ◌&&◌, cond, List, [], ◌∷◌, ◌++◌, length, Option, Some, None, slice_get, refl, sym, ap, subst, ◌∙◌, arith, true≢false, length-append}
+use Rattle.std.proofs.Common.{◌≡◌, ◌≤◌, ◌<◌, ℕ, Bool, true, false, nat_lt, ◌&&◌, cond, List, [], ◌∷◌, ◌++◌, length}
+use Rattle.std.proofs.Common.{Option, Some, None, slice_get, refl, sym, ap, subst, ◌∙◌, arith, true≢false}
+use Rattle.std.proofs.Common.{length-append}
 use Rattle.std.proofs.lemmas.Option.{slice_get_within}
 use Rattle.rc_types.specs.declared.events.Event.{Event}
 use Rattle.rc_types.specs.declared.events.Event.TheVariants as event
@@ -39,7 +41,8 @@ replayed_more world one = replay_from-push (opening world.setup) world.events on
 pub sent_of : (world : World) (number : ℕ) → is_possible world (event.Deliver number) ≡ true → number < length world.sent
 sent_of world number possible = by_message (slice_get world.sent number) refl possible
   where
-    by_message : (message : Option Message) → slice_get world.sent number ≡ message → is_possible world (event.Deliver number) ≡ true → number < length world.sent
+    by_message : (message : Option Message) → slice_get world.sent number ≡ message →
+        is_possible world (event.Deliver number) ≡ true → number < length world.sent
     by_message None none can = absurd (true≢false (sym (rw none at can)))
     by_message (Some message) at can = slice_get_within world.sent number message at
 
@@ -60,7 +63,8 @@ taken_more : (world : Happened) (one : Event) → (replayed world).events ≡ wo
 taken_more world one taken possible =
     ap (λ w. w.events) (replayed_more world one) ∙ noted_possible (replayed world) one possible ∙ ap (λ events. events ++ one ∷ []) taken
 
-pub taken_then : (world after : Happened) (one : Event) → (replayed world).events ≡ world.events → after ≡ with_events world (one ∷ []) → can_happen world one ≡ true
+pub taken_then : (world after : Happened) (one : Event) → (replayed world).events ≡ world.events →
+    after ≡ with_events world (one ∷ []) → can_happen world one ≡ true
     → (replayed after).events ≡ after.events
 taken_then world after one taken made can = rw made (taken_more world one taken (possible_of world one can))
 
@@ -68,10 +72,12 @@ few_more : (world : Happened) (one : Event) → can_happen world one ≡ true �
 few_more world one can = omega (arith, room_of world one can, length-append world.events (one ∷ []))
 
 -- a message that was delivered was noted
-pub delivered_within : (world : Happened) (one : Event) (number : ℕ) (sent : List Message) (mail : Letters) → one ≡ event.Deliver number → can_happen world one ≡ true
+pub delivered_within : (world : Happened) (one : Event) (number : ℕ) (sent : List Message) (mail : Letters) →
+    one ≡ event.Deliver number → can_happen world one ≡ true
     → sent ≡ sent_in world → HasNoted sent mail → number < length mail.delivered
 delivered_within world one number sent mail same can told noted_all =
-    let was_sent = sent_of (replayed world) number (possible_of world (event.Deliver number) (subst (λ e. can_happen world e ≡ true) same can)) in
+    let was_sent = sent_of (replayed world) number
+    (possible_of world (event.Deliver number) (subst (λ e. can_happen world e ≡ true) same can)) in
     omega (arith, was_sent, ap length told, noted_all)
 
 -- after an event, where the mail has kept up with it
@@ -91,7 +97,8 @@ holds_after world after one mail taken then can waits =
 pub holds_delivered : (world after : Happened) (one : Event) (number : ℕ) (mail noted : Letters) → (replayed world).events ≡ world.events
     → after ≡ with_events world (one ∷ []) → can_happen world one ≡ true → one ≡ event.Deliver number
     → Waits (replayed world).events (replayed world).sent noted
-    → ((events : List Event) (sent more : List Message) → Waits events sent noted → Waits (events ++ event.Deliver number ∷ []) (sent ++ more) mail)
+    → ((events : List Event) (sent more : List Message) → Waits events sent noted →
+    Waits (events ++ event.Deliver number ∷ []) (sent ++ more) mail)
     → RunHolds after mail
 holds_delivered world after one number mail noted taken then can same fits kept =
     holds_after world after one mail taken then can
@@ -113,7 +120,8 @@ still_fits world sent mail noted holds told kept =
     subst (λ list. Waits events list noted) told (kept events (subst (λ list. Waits events list mail) (sym told) holds.waits))
 
 -- where nothing has happened, but the mail has noted more
-pub holds_noted : (world after : Happened) (sent : List Message) (mail noted : Letters) → RunHolds world mail → after ≡ world → sent ≡ sent_in world
+pub holds_noted : (world after : Happened) (sent : List Message) (mail noted : Letters) → RunHolds world mail →
+    after ≡ world → sent ≡ sent_in world
     → ((events : List Event) → Waits events sent mail → Waits events sent noted) → RunHolds after noted
 holds_noted world after sent mail noted holds same told kept = rw same (record {
   taken = holds.taken;

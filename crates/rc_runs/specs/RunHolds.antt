@@ -1,4 +1,5 @@
--- What is true of a run's fields: the mail fits the world, and all its events were possible, and they are no more than a world takes.
+-- What is true of a run's fields: the mail fits the world, and all its events were possible, and they are no more
+-- than a world takes.
 use Rattle.std.specs.Prelude.{◌≡◌, ◌≤◌, length}
 use Rattle.rc_types.specs.declared.limits.TheConstants.{MAX_EVENTS}
 use Rattle.rc_mail.specs.Letters.{Letters, Waits}

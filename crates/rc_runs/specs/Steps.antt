@@ -24,7 +24,9 @@ StopsIn step fault old new = step (room_at fault new) (replayed old) ≡ Err (re
 
 -- the same of a scenario's events
 abbrev pub RunsThrough : List ScenarioEvent → Happened → Happened → Type 0
-RunsThrough events old new = (most : ℕ) → length new.events ≤ most → run_from most 0 (replayed old) events ≡ record { world = replayed new; stopped = None }
+RunsThrough events old new = (most : ℕ) → length new.events ≤ most →
+    run_from most 0 (replayed old) events ≡ record { world = replayed new; stopped = None }
 
 abbrev pub StopsAt : List ScenarioEvent → ℕ → Fault → Happened → Happened → Type 0
-StopsAt events place fault old new = run_from (room_at fault new) 0 (replayed old) events ≡ record { world = replayed new; stopped = Some place }
+StopsAt events place fault old new =
+    run_from (room_at fault new) 0 (replayed old) events ≡ record { world = replayed new; stopped = Some place }

@@ -1,6 +1,7 @@
 //! A run that goes on: a world, and its mail.
 
-ghost use Rattle.std.specs.Prelude.{◌≡◌, ◌⊎◌, ◌≤◌, ◌+◌, ◌∷◌, [], true, false, length, Some, Err, IfOk, OnOk, OnErr, IfErr};
+ghost use Rattle.std.specs.Prelude.{◌≡◌, ◌⊎◌, ◌≤◌, ◌+◌, ◌∷◌, [], true, false, length, Some, Err, IfOk, OnOk, OnErr};
+ghost use Rattle.std.specs.Prelude.{IfErr};
 ghost use Rattle.rc_types.specs.declared.faults.Fault.TheVariants.{OutOfMemory, BadEvent};
 ghost use Rattle.rc_types.specs.declared.events.Event.TheVariants.{Deliver};
 ghost use Rattle.rc_types.specs.declared.limits.TheConstants.{MAX_EVENTS};
@@ -130,7 +131,8 @@ impl<A: Allocator + Clone> Run<A> {
     /// One event of a scenario.
     fn play(&mut self, alloc: Global, event: &ScenarioEvent) -> Result<(), Fault>
         ensures ok { OnOk result (GoesOn (λ most world. scenario_event most world event.now) self.old self.new) }
-        ensures err { IfErr result (λ fault. StopsIn (λ most world. scenario_event most world event.now) fault self.old self.new) }
+        ensures err { IfErr result (λ fault. StopsIn (λ most world. scenario_event most world event.now) fault
+            self.old self.new) }
         ensures fault { IfErr result (λ fault. (fault ≡ OutOfMemory) ⊎ (fault ≡ BadEvent)) }
         ensures more { length self.old.events ≤ length self.new.events }
         ensures few { length self.new.events ≤ MAX_EVENTS }

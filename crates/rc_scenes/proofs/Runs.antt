@@ -1,5 +1,7 @@
 -- A scenario's run is a run of the world.
-use Rattle.std.proofs.Common.{◌≡◌, ℕ, ◌+◌, ◌<◌, ◌≤◌, zero, suc, Bool, true, false, nat_lt, ◌&&◌, if◌then◌else◌, cond, ◌++◌, List, [], ◌∷◌, length, Option, Some, None, Result, Ok, Err, refl, sym, ap, ◌∙◌, arith, length-append}
+use Rattle.std.proofs.Common.{◌≡◌, ℕ, ◌+◌, ◌<◌, ◌≤◌, zero, suc, Bool, true, false, nat_lt, ◌&&◌, if◌then◌else◌, cond}
+use Rattle.std.proofs.Common.{◌++◌, List, [], ◌∷◌, length, Option, Some, None, Result, Ok, Err, refl, sym, ap, ◌∙◌}
+use Rattle.std.proofs.Common.{arith, length-append}
 use Rattle.rc_types.specs.declared.events.Setup.{Setup}
 use Rattle.rc_types.specs.declared.events.Event.{Event}
 use Rattle.rc_types.specs.declared.events.Event.TheVariants.{Deliver}
@@ -22,11 +24,13 @@ pub record IsRun (most : ℕ) (setup : Setup) (world : World) : Type 0 where
 noted_possible : (world : World) (event : Event) → is_possible world event ≡ true → (step world event).events ≡ world.events ++ event ∷ []
 noted_possible world event possible = noted world event ∙ ap (λ b. cond b (world.events ++ event ∷ []) world.events) possible
 
-one_more : (most : ℕ) (setup : Setup) (world : World) (event : Event) → IsRun most setup world → length world.events < most → is_possible world event ≡ true → IsRun most setup (step world event)
+one_more : (most : ℕ) (setup : Setup) (world : World) (event : Event) → IsRun most setup world →
+    length world.events < most → is_possible world event ≡ true → IsRun most setup (step world event)
 one_more most setup world event run room possible =
     let same = noted_possible world event possible in
     record {
-      replayed = ap (λ w. step w event) run.replayed ∙ sym (replay_from-push (opening setup) world.events event) ∙ ap (replay setup) (sym same);
+      replayed = ap (λ w. step w event) run.replayed ∙ sym (replay_from-push (opening setup) world.events event) ∙
+          ap (replay setup) (sym same);
       few = omega (arith, ap length same, length-append world.events (event ∷ []));
     }
 
@@ -45,10 +49,12 @@ in_core_event most setup world event true true run left is = one_more most setup
 
 -- a pass that goes on with fewer events left
 GoesOn : ℕ → Setup → ℕ → (World → ℕ → Result World World) → Type 0
-GoesOn most setup left rest = (next : World) (m : ℕ) → IsRun most setup next → left + length next.events ≤ most → EndsInRun most setup (rest next m)
+GoesOn most setup left rest = (next : World) (m : ℕ) → IsRun most setup next → left + length next.events ≤ most →
+    EndsInRun most setup (rest next m)
 
 delivered : (most : ℕ) (setup : Setup) (left : ℕ) (rest : World → ℕ → Result World World) (world : World) (n : ℕ) (possible : Bool)
-    → GoesOn most setup left rest → IsRun most setup world → suc left + length world.events ≤ most → is_possible world (Deliver n) ≡ possible
+    → GoesOn most setup left rest → IsRun most setup world → suc left + length world.events ≤ most →
+    is_possible world (Deliver n) ≡ possible
     → EndsInRun most setup (rest (if possible then job_done world (Deliver n) (work_of world.sent (Deliver n)) else world) (n + 1))
 unfolding GoesOn
 delivered most setup left rest world n false later run room is = later world (n + 1) run (omega arith)
@@ -60,12 +66,15 @@ delivered most setup left rest world n true later run room is =
     (omega (arith, ap length same, length-append world.events (Deliver n ∷ []))))
 
 in_one_left : (most : ℕ) (setup : Setup) (left : ℕ) (rest : World → ℕ → Result World World) (world : World) (due : Option ℕ)
-    → GoesOn most setup left rest → IsRun most setup world → suc left + length world.events ≤ most → EndsInRun most setup (one_left rest world due)
+    → GoesOn most setup left rest → IsRun most setup world → suc left + length world.events ≤ most →
+    EndsInRun most setup (one_left rest world due)
 unfolding EndsInRun
 in_one_left most setup left rest world None later run room = run
-in_one_left most setup left rest world (Some n) later run room = delivered most setup left rest world n (is_possible world (Deliver n)) later run room refl
+in_one_left most setup left rest world (Some n) later run room =
+    delivered most setup left rest world n (is_possible world (Deliver n)) later run room refl
 
-in_none_left : (most : ℕ) (setup : Setup) (world : World) (due : Option ℕ) → IsRun most setup world → EndsInRun most setup (none_left world due)
+in_none_left : (most : ℕ) (setup : Setup) (world : World) (due : Option ℕ) → IsRun most setup world →
+    EndsInRun most setup (none_left world due)
 unfolding EndsInRun
 in_none_left most setup world None run = run
 in_none_left most setup world (Some n) run = run
@@ -73,21 +82,25 @@ in_none_left most setup world (Some n) run = run
 in_pass : (most : ℕ) (setup : Setup) (passing : Passing) (left : ℕ) → GoesOn most setup left (pass passing left)
 unfolding GoesOn
 in_pass most setup passing zero world n run room = in_none_left most setup world (due_from passing world.events world.sent n) run
-in_pass most setup passing (suc left) world n run room = in_one_left most setup left (pass passing left) world (due_from passing world.events world.sent n) (in_pass most setup passing left) run room
+in_pass most setup passing (suc left) world n run room = in_one_left most setup left (pass passing left) world
+    (due_from passing world.events world.sent n) (in_pass most setup passing left) run room
 
-in_event_if_any : (most : ℕ) (setup : Setup) (world : World) (event : Option Event) → IsRun most setup world → EndsInRun most setup (event_if_any most world event)
+in_event_if_any : (most : ℕ) (setup : Setup) (world : World) (event : Option Event) → IsRun most setup world →
+    EndsInRun most setup (event_if_any most world event)
 unfolding EndsInRun
 in_event_if_any most setup world None run = run
 in_event_if_any most setup world (Some event) run = in_core_event most setup world event _ _ run refl refl
 
-in_event : (most : ℕ) (setup : Setup) (world : World) (event : ScenarioEvent) → IsRun most setup world → EndsInRun most setup (scenario_event most world event)
+in_event : (most : ℕ) (setup : Setup) (world : World) (event : ScenarioEvent) → IsRun most setup world →
+    EndsInRun most setup (scenario_event most world event)
 unfolding GoesOn
 in_event most setup world (scene.Start host kept) run = in_event_if_any most setup world (core_event (scene.Start host kept)) run
 in_event most setup world (scene.Stop id) run = in_event_if_any most setup world (core_event (scene.Stop id)) run
 in_event most setup world (scene.Suspect id) run = in_event_if_any most setup world (core_event (scene.Suspect id)) run
 in_event most setup world (scene.Decide id) run = in_event_if_any most setup world (core_event (scene.Decide id)) run
 in_event most setup world (scene.Tick addr) run = in_event_if_any most setup world (core_event (scene.Tick addr)) run
-in_event most setup world (scene.Write to table key value) run = in_event_if_any most setup world (core_event (scene.Write to table key value)) run
+in_event most setup world (scene.Write to table key value) run =
+    in_event_if_any most setup world (core_event (scene.Write to table key value)) run
 in_event most setup world (scene.Read to table key) run = in_event_if_any most setup world (core_event (scene.Read to table key)) run
 in_event most setup world (scene.Deliver n) run = in_event_if_any most setup world (core_event (scene.Deliver n)) run
 in_event most setup world (scene.Create table owner) run = in_event_if_any most setup world (core_event (scene.Create table owner)) run
@@ -96,12 +109,14 @@ in_event most setup world (scene.Settle kinds hosts) run =
     in_pass most setup (record { kinds = kinds; hosts = hosts }) (events_left most world) world 0 run (omega (arith, run.few))
 
 in_goes_on : (most : ℕ) (setup : Setup) (place : ℕ) (rest : World → Ended) (outcome : Result World World)
-    → ((next : World) → IsRun most setup next → IsRun most setup (rest next).world) → EndsInRun most setup outcome → IsRun most setup (goes_on place rest outcome).world
+    → ((next : World) → IsRun most setup next → IsRun most setup (rest next).world) → EndsInRun most setup outcome →
+    IsRun most setup (goes_on place rest outcome).world
 unfolding EndsInRun
 in_goes_on most setup place rest (Ok next) later run = later next run
 in_goes_on most setup place rest (Err world) later run = run
 
-in_run : (most : ℕ) (setup : Setup) (place : ℕ) (world : World) (events : List ScenarioEvent) → IsRun most setup world → IsRun most setup (run_from most place world events).world
+in_run : (most : ℕ) (setup : Setup) (place : ℕ) (world : World) (events : List ScenarioEvent) → IsRun most setup world →
+    IsRun most setup (run_from most place world events).world
 in_run most setup place world [] run = run
 in_run most setup place world (event ∷ events) run =
     in_goes_on most setup place (λ next. run_from most (place + 1) next events) (scenario_event most world event)

@@ -6,7 +6,8 @@ use Rattle.rc_scenes.specs.Runs.{run_within}
 
 -- the world in which a run ends is what its events lead to
 abbrev pub RunsAreReplays : Type 0
-RunsAreReplays = (most : ℕ) (scenario : Scenario) → let world = (run_within most scenario).world in world ≡ replay scenario.setup world.events
+RunsAreReplays = (most : ℕ) (scenario : Scenario) → let world =
+    (run_within most scenario).world in world ≡ replay scenario.setup world.events
 
 -- and there are no more of them than it has room for
 abbrev pub RunsAreShort : Type 0

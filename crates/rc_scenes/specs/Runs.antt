@@ -1,6 +1,7 @@
 -- A scenario as a run: which events of the world it makes, and where it stops. A run may have room for so many events:
 -- `MAX_EVENTS` are as many as a world takes, and fewer stand for memory that was refused before the next.
-use Rattle.std.specs.Prelude.{ℕ, ◌+◌, nat_lt, ◌&&◌, if◌then◌else◌, List, [], ◌∷◌, length, Option, Some, None, Result, Ok, Err}
+use Rattle.std.specs.Prelude.{ℕ, ◌+◌, nat_lt, ◌&&◌, if◌then◌else◌, List, [], ◌∷◌, length, Option, Some, None, Result}
+use Rattle.std.specs.Prelude.{Ok, Err}
 use Rattle.rc_types.specs.declared.events.Event.{Event}
 use Rattle.rc_types.specs.declared.limits.TheConstants.{MAX_EVENTS}
 use Rattle.rc_model.specs.World.{World, opening, step, is_possible}
@@ -12,7 +13,8 @@ use Rattle.rc_mail.specs.Settling.{settles}
 
 -- the run goes on after the event of the world; where that isn't possible, or no room is left, this world stands
 abbrev pub one_event : ℕ → World → Event → Result World World
-one_event most world event = if nat_lt (length world.events) most && is_possible world event then Ok (step world event) else Err world
+one_event most world event =
+    if nat_lt (length world.events) most && is_possible world event then Ok (step world event) else Err world
 
 abbrev pub event_if_any : ℕ → World → Option Event → Result World World
 event_if_any most world None = Ok world
@@ -35,7 +37,8 @@ goes_on place rest (Err world) = record { world = world; stopped = Some place }
 -- the events, of which the first has this place
 abbrev pub run_from : ℕ → ℕ → World → List ScenarioEvent → Ended
 run_from most place world [] = record { world = world; stopped = None }
-run_from most place world (event ∷ events) = goes_on place (λ next. run_from most (place + 1) next events) (scenario_event most world event)
+run_from most place world (event ∷ events) =
+    goes_on place (λ next. run_from most (place + 1) next events) (scenario_event most world event)
 
 -- the run of a scenario with room for so many events
 abbrev pub run_within : ℕ → Scenario → Ended

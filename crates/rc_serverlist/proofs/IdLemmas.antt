@@ -1,5 +1,6 @@
 -- Ids: equal ones, their order, and a list of them in order.
-use Rattle.std.proofs.Common.{◌≡◌, ℕ, ◌+◌, Bool, true, false, cond, not, List, [], ◌∷◌, length, suc, ◌≤◌, Option, position, unwrap_or, refl, ap, ◌∙◌, arith}
+use Rattle.std.proofs.Common.{◌≡◌, ℕ, ◌+◌, Bool, true, false, cond, not, List, [], ◌∷◌, length, suc, ◌≤◌, Option}
+use Rattle.std.proofs.Common.{position, unwrap_or, refl, ap, ◌∙◌, arith}
 use Rattle.std.proofs.lemmas.Bool.Decides.{nat_tests}
 use Rattle.std.proofs.lemmas.List.Sums.{prefix_len-le-length}
 use Rattle.std.specs.List.{insert, position_or_len}
@@ -22,7 +23,8 @@ insert-id id [] = refl
 insert-id id (other ∷ ids) = by (id_before id other) (insert-id id ids)
   where
     by : (b : Bool) → insert ids (position_or_len (id_before id) ids) id ≡ insert_id id ids
-        → insert (other ∷ ids) (cond (not b) (1 + position_or_len (id_before id) ids) 0) id ≡ cond b (id ∷ other ∷ ids) (other ∷ insert_id id ids)
+        → insert (other ∷ ids) (cond (not b) (1 + position_or_len (id_before id) ids) 0) id ≡ cond b (id ∷ other ∷ ids)
+        (other ∷ insert_id id ids)
     by true rest = refl
     by false rest =
         let n : ℕ = position_or_len (id_before id) ids in
@@ -30,7 +32,8 @@ insert-id id (other ∷ ids) = by (id_before id other) (insert-id id ids)
         ap (λ place. insert (other ∷ ids) place id) e ∙ ap (λ tail. other ∷ tail) rest
 
 -- in particular before the first that a search finds, and at the end where it finds none
-pub insert-found : (id : ServerId) (ids : List ServerId) (found : Option ℕ) (end place : ℕ) → found ≡ position (id_before id) ids → end ≡ length ids → place ≡ unwrap_or found end
+pub insert-found : (id : ServerId) (ids : List ServerId) (found : Option ℕ) (end place : ℕ) →
+    found ≡ position (id_before id) ids → end ≡ length ids → place ≡ unwrap_or found end
     → insert ids place id ≡ insert_id id ids
 insert-found id ids found end place searched all chosen =
     let p : ServerId → Bool = id_before id in

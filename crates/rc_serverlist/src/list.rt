@@ -26,7 +26,8 @@ impl Model for ServerList {
 }
 
 impl ServerList {
-    ghost use Rattle.rc_model.specs.ServerList.{no_servers, knows, is_up, has_crashed, up, is_newest, enlisted, crashed, from_rows, newer_than};
+    ghost use Rattle.rc_model.specs.ServerList.{no_servers, knows, is_up, has_crashed, up, is_newest, enlisted};
+    ghost use Rattle.rc_model.specs.ServerList.{crashed, from_rows, newer_than};
 
     /// The list of nobody, of version 0. It takes no memory until an id is enlisted.
     pub fn new(alloc: Global) -> ServerList

@@ -1,6 +1,7 @@
 //! Rows of ids and marks, as an `IndexMap` in the order of enlisting.
 
-ghost use Rattle.std.specs.Prelude.{◌≡◌, ◌≤◌, ◌++◌, ◌∷◌, [], take, drop, length, position, not, if◌then◌else◌, nat_eq, nat_lt, ◌||◌, OnOk, IfErr};
+ghost use Rattle.std.specs.Prelude.{◌≡◌, ◌≤◌, ◌++◌, ◌∷◌, [], take, drop, length, position, not, if◌then◌else◌};
+ghost use Rattle.std.specs.Prelude.{nat_eq, nat_lt, ◌||◌, OnOk, IfErr};
 ghost use Rattle.std.specs.Bool.{OnFalse};
 ghost use Rattle.std.specs.List.{list_all};
 ghost use Rattle.indexmap.specs.IndexMap.{keys};
@@ -18,7 +19,8 @@ pub(crate) fn insert_if_unknown(
     id: ServerId,
     up: bool,
 ) -> Result<(), Fault>
-    ensures ok { OnOk result (rows.new.entries ≡ (if knows rows.old.entries id then rows.old.entries else rows.old.entries ++ (id, up) ∷ [])) }
+    ensures ok { OnOk result (rows.new.entries ≡ (if knows rows.old.entries id then rows.old.entries
+        else rows.old.entries ++ (id, up) ∷ [])) }
     ensures no_memory { IfErr result (λ fault. fault ≡ OutOfMemory) }
 {
     if !rows.contains_key(&id) {
@@ -29,7 +31,8 @@ pub(crate) fn insert_if_unknown(
 
 /// Whether each known id is of another index or of a lower generation.
 fn are_all_older(rows: &IndexMap<ServerId, bool>, id: ServerId) -> bool
-    ensures { result ≡ list_all (λ known. not (nat_eq known.index id.index) || nat_lt known.generation id.generation) (keys rows.now) }
+    ensures { result ≡ list_all (λ known. not (nat_eq known.index id.index) || nat_lt known.generation id.generation)
+        (keys rows.now) }
 {
     rows.keys().all(|known| known.index != id.index || known.generation < id.generation)
 }

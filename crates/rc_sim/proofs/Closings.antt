@@ -1,5 +1,6 @@
 -- A command that failed, as the program tells it.
-use Rattle.std.proofs.Common.{◌≡◌, ◌≢◌, ◌∙◌, ℕ, List, Option, Some, None, is_some, unwrap_or, true≢false, Result, Ok, Err, IfOk, refl, sym, ap, subst}
+use Rattle.std.proofs.Common.{◌≡◌, ◌≢◌, ◌∙◌, ℕ, List, Option, Some, None, is_some, unwrap_or, true≢false, Result, Ok}
+use Rattle.std.proofs.Common.{Err, IfOk, refl, sym, ap, subst}
 use Rattle.std.specs.Option.{IfSome}
 use Rattle.std.specs.Io.KnownBytes.{Keeps}
 use Rattle.rc_commands.specs.declared.asking.Asked.{Asked}
@@ -71,7 +72,8 @@ pub no_command : {P : Type 0} (command : Asked) (asked : Option Asked) → None 
 no_command command asked is same = absurd (true≢false (sym (ap is_some (is ∙ same))))
 
 -- no command has begun where memory was refused before it
-pub not_begun : (command : Asked) (status : ℕ) (input known : Option (List ℕ)) → status ≡ fault_status Memory → Does command status input known known
+pub not_begun : (command : Asked) (status : ℕ) (input known : Option (List ℕ)) → status ≡ fault_status Memory →
+    Does command status input known known
 not_begun (asked.Run heap) status input known is = (Err Memory, is, keeps_same known)
 not_begun asked.Trace status input known is = (Err Memory, is, keeps_same known)
 not_begun asked.Audit status input known is = (Err Memory, is, keeps_same known)

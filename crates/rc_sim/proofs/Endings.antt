@@ -1,5 +1,7 @@
 -- What comes of a scenario's run, as it ended or stopped.
-use Rattle.std.proofs.Common.{◌≡◌, ◌≢◌, ◌⊎◌, inl, inr, ◌≤◌, ℕ, Bool, true, false, true≢false, List, [], ◌++◌, length, Option, Some, None, Result, Ok, Err, IfOk, refl, sym, ap, subst, ◌∙◌, ◌<◌, take, string_bytes}
+use Rattle.std.proofs.Common.{◌≡◌, ◌≢◌, ◌⊎◌, inl, inr, ◌≤◌, ℕ, Bool, true, false, true≢false, List, [], ◌++◌, length}
+use Rattle.std.proofs.Common.{Option, Some, None, Result, Ok, Err, IfOk, refl, sym, ap, subst, ◌∙◌, ◌<◌, take}
+use Rattle.std.proofs.Common.{string_bytes}
 use Rattle.std.specs.Option.{IfSome}
 use Rattle.std.specs.Io.KnownBytes.{Appends}
 use Rattle.std.proofs.lemmas.List.{append-nil}
@@ -10,7 +12,7 @@ use Rattle.rc_types.specs.declared.faults.Code.{Code}
 use Rattle.rc_types.specs.declared.faults.Code.TheVariants.{BadEvent, OutOfMemory}
 use Rattle.rc_types.specs.declared.limits.TheConstants.{MAX_EVENTS}
 use Rattle.rc_model.specs.Breach.{breach}
-use Rattle.rc_version_safety.proofs.Replays.{there-is-no-breach}
+use Rattle.rc_owner_laws.proofs.VersionReplays.{there-is-no-breach}
 use Rattle.rc_reading.specs.declared.scenarios.Scenario.{Scenario}
 use Rattle.rc_reading.specs.declared.scenarios.ScenarioEvent.{ScenarioEvent}
 use Rattle.rc_reading.specs.Scenario.{of_value, value_in}
@@ -29,15 +31,18 @@ use Rattle.rc_sim.specs.declared.verdicts.Output.TheVariants.{Report}
 use Rattle.rc_sim.specs.declared.answers.Answer.{Answer}
 use Rattle.rc_runs.specs.Steps.{RunsThrough, StopsAt}
 use Rattle.rc_sim.specs.Written.{IsWritten, IsBegun}
-use Rattle.rc_sim.specs.Verdicts.{verdict_of, printed_of, last_line, unless_stopped, ended_verdict, ended_output, found_verdict, Comes, Played, Judged, Drawn}
+use Rattle.rc_sim.specs.Verdicts.{verdict_of, printed_of, last_line, unless_stopped, ended_verdict, ended_output}
+use Rattle.rc_sim.specs.Verdicts.{found_verdict, Comes, Played, Judged, Drawn}
 
 -- nothing has happened yet
 abbrev pub start_of : Scenario → Happened
 start_of scenario = record { setup = scenario.setup; events = [] }
 
 -- all events have happened
-whole_of : (output : Output) (scenario : Scenario) (new : Happened) (verdict : Verdict) (text : List ℕ) → RunsThrough scenario.events (start_of scenario) new
-    → length new.events ≤ MAX_EVENTS → verdict ≡ verdict_of output (sent_in new) → text ≡ printed_of output (sent_in new) → Comes output (Ok scenario) verdict text
+whole_of : (output : Output) (scenario : Scenario) (new : Happened) (verdict : Verdict) (text : List ℕ) →
+    RunsThrough scenario.events (start_of scenario) new
+    → length new.events ≤ MAX_EVENTS → verdict ≡ verdict_of output (sent_in new) →
+    text ≡ printed_of output (sent_in new) → Comes output (Ok scenario) verdict text
 whole_of output scenario new verdict text through few judged printed =
     let run : scenario_run scenario ≡ record { world = replayed new; stopped = None } = through MAX_EVENTS few in
     inl (record {
@@ -45,18 +50,23 @@ whole_of output scenario new verdict text through few judged printed =
       printed = printed ∙ sym (append-nil (printed_of output (sent_in new))) ∙ sym (ap (ended_output output BadEvent) run);
     })
 
-pub whole_answer : {E : Type 0} (output : Output) (result : Result Answer E) (scenario : Scenario) (events : List ScenarioEvent) (start new world : Happened)
+pub whole_answer : {E : Type 0} (output : Output) (result : Result Answer E) (scenario : Scenario)
+    (events : List ScenarioEvent) (start new world : Happened)
     → events ≡ scenario.events → start ≡ start_of scenario → world ≡ new → RunsThrough events start new
-    → length new.events ≤ MAX_EVENTS → IfOk result (λ a. a.verdict ≡ verdict_of output (sent_in world)) → IfOk result (λ a. string_bytes a.text ≡ printed_of output (sent_in world))
+    → length new.events ≤ MAX_EVENTS → IfOk result (λ a. a.verdict ≡ verdict_of output (sent_in world)) →
+    IfOk result (λ a. string_bytes a.text ≡ printed_of output (sent_in world))
     → IfOk result (λ a. Comes output (Ok scenario) a.verdict (string_bytes a.text))
 whole_answer output (Ok a) scenario events start new world same begun seen through few judged printed =
-    whole_of output scenario new a.verdict (string_bytes a.text) (rw (same, begun) at through) few (judged ∙ ap (λ w. verdict_of output (sent_in w)) seen) (printed ∙ ap (λ w. printed_of output (sent_in w)) seen)
+    whole_of output scenario new a.verdict (string_bytes a.text) (rw (same, begun) at through) few
+    (judged ∙ ap (λ w. verdict_of output (sent_in w)) seen) (printed ∙ ap (λ w. printed_of output (sent_in w)) seen)
 whole_answer output (Err e) scenario events start new world same begun seen through few judged printed = tt
 
 -- the run stopped
-stopped_of : (output : Output) (scenario : Scenario) (new : Happened) (place : ℕ) (why : Fault) (verdict : Verdict) (text : List ℕ) → StopsAt scenario.events place why (start_of scenario) new
+stopped_of : (output : Output) (scenario : Scenario) (new : Happened) (place : ℕ) (why : Fault) (verdict : Verdict)
+    (text : List ℕ) → StopsAt scenario.events place why (start_of scenario) new
     → (why ≡ fault.OutOfMemory) ⊎ (why ≡ fault.BadEvent) → (replayed new).events ≡ new.events → length new.events ≤ MAX_EVENTS
-    → verdict ≡ Stopped place (code_of why) → text ≡ printed_of output (sent_in new) ++ last_line output (code_of why) place → Comes output (Ok scenario) verdict text
+    → verdict ≡ Stopped place (code_of why) → text ≡ printed_of output (sent_in new) ++ last_line output (code_of why)
+    place → Comes output (Ok scenario) verdict text
 stopped_of output scenario new place why verdict text stops (inl memory) taken few judged printed =
     let run : run_within (length new.events) scenario ≡ record { world = replayed new; stopped = Some place } = rw memory at stops in
     inr (record {
@@ -66,23 +76,29 @@ stopped_of output scenario new place why verdict text stops (inl memory) taken f
       full = ap (λ ended. length ended.world.events) run ∙ ap length taken;
       stopped = ap (λ ended. ended.stopped) run;
       answered = judged ∙ ap (λ f. Stopped place (code_of f)) memory;
-      printed = printed ∙ ap (λ f. printed_of output (sent_in new) ++ last_line output (code_of f) place) memory ∙ sym (ap (ended_output output OutOfMemory) run);
+      printed = printed ∙ ap (λ f. printed_of output (sent_in new) ++ last_line output (code_of f) place) memory ∙
+          sym (ap (ended_output output OutOfMemory) run);
     })
 stopped_of output scenario new place why verdict text stops (inr bad) taken few judged printed =
     let run : scenario_run scenario ≡ record { world = replayed new; stopped = Some place } = rw bad at stops in
     inl (record {
       answered = judged ∙ ap (λ f. Stopped place (code_of f)) bad ∙ sym (ap (ended_verdict output BadEvent) run);
-      printed = printed ∙ ap (λ f. printed_of output (sent_in new) ++ last_line output (code_of f) place) bad ∙ sym (ap (ended_output output BadEvent) run);
+      printed = printed ∙ ap (λ f. printed_of output (sent_in new) ++ last_line output (code_of f) place) bad ∙
+          sym (ap (ended_output output BadEvent) run);
     })
 
-pub stopped_answer : {E : Type 0} (output : Output) (result : Result Answer E) (scenario : Scenario) (events : List ScenarioEvent) (start new world : Happened) (place : ℕ) (why : Fault) (code : Code)
+pub stopped_answer : {E : Type 0} (output : Output) (result : Result Answer E) (scenario : Scenario)
+    (events : List ScenarioEvent) (start new world : Happened) (place : ℕ) (why : Fault) (code : Code)
     → events ≡ scenario.events → start ≡ start_of scenario → world ≡ new → code ≡ code_of why → StopsAt events place why start new
     → (why ≡ fault.OutOfMemory) ⊎ (why ≡ fault.BadEvent) → (replayed new).events ≡ new.events → length new.events ≤ MAX_EVENTS
-    → IfOk result (λ a. a.verdict ≡ Stopped place code) → IfOk result (λ a. string_bytes a.text ≡ printed_of output (sent_in world) ++ last_line output code place)
+    → IfOk result (λ a. a.verdict ≡ Stopped place code) →
+    IfOk result (λ a. string_bytes a.text ≡ printed_of output (sent_in world) ++ last_line output code place)
     → IfOk result (λ a. Comes output (Ok scenario) a.verdict (string_bytes a.text))
 stopped_answer output (Ok a) scenario events start new world place why code same begun seen coded stops which taken few judged printed =
-    stopped_of output scenario new place why a.verdict (string_bytes a.text) (rw (same, begun) at stops) which taken few (judged ∙ ap (Stopped place) coded)
-    (printed ∙ ap (λ w. printed_of output (sent_in w) ++ last_line output code place) seen ∙ ap (λ k. printed_of output (sent_in new) ++ last_line output k place) coded)
+    stopped_of output scenario new place why a.verdict (string_bytes a.text) (rw (same, begun) at stops) which taken few
+    (judged ∙ ap (Stopped place) coded)
+    (printed ∙ ap (λ w. printed_of output (sent_in w) ++ last_line output code place) seen ∙
+    ap (λ k. printed_of output (sent_in new) ++ last_line output k place) coded)
 stopped_answer output (Err e) scenario events start new world place why code same begun seen coded stops which taken few judged printed = tt
 
 -- no run ends with a breach
@@ -99,7 +115,8 @@ not_told code (Some place) = refl
 run_not_breach : (most : ℕ) (code : Code) (scenario : Scenario) → is_breach (ended_verdict Report code (run_within most scenario)) ≡ false
 run_not_breach most code scenario =
     let world = (run_within most scenario).world in
-    let none : breach world.sent ≡ None = ap (λ w. breach w.sent) (scenario_is_run most scenario).replayed ∙ there-is-no-breach scenario.setup world.events in
+    let none : breach world.sent ≡ None = ap (λ w. breach w.sent) (scenario_is_run most scenario).replayed ∙
+    there-is-no-breach scenario.setup world.events in
     rw none (not_told code (run_within most scenario).stopped)
 
 breach_is_none : (read : Result Scenario ℕ) (verdict : Verdict) (text : List ℕ) → Comes Report read verdict text → is_breach verdict ≡ false
@@ -134,8 +151,10 @@ told_fault (Err e) = e
 -- What is written
 
 -- the whole text of an answer
-pub written_of : (remaining : Option (List ℕ)) (bytes slice : List ℕ) (F : List ℕ → Verdict → List ℕ → Type 0) (result : Result Verdict SimFault) (verdict : Verdict) (text : List ℕ) (old new : Option (List ℕ))
-    → IfSome remaining (λ all. value_in bytes ≡ value_in all) → slice ≡ bytes → ((one other : List ℕ) → value_in one ≡ value_in other → F one verdict text → F other verdict text)
+pub written_of : (remaining : Option (List ℕ)) (bytes slice : List ℕ) (F : List ℕ → Verdict → List ℕ → Type 0)
+    (result : Result Verdict SimFault) (verdict : Verdict) (text : List ℕ) (old new : Option (List ℕ))
+    → IfSome remaining (λ all. value_in bytes ≡ value_in all) → slice ≡ bytes →
+    ((one other : List ℕ) → value_in one ≡ value_in other → F one verdict text → F other verdict text)
     → F slice verdict text → IfOk result (λ v. v ≡ verdict) → IfOk result (λ _. Appends old new text)
     → IfOk result (λ v. IfSome remaining (λ all. IsWritten (F all) v old new))
 written_of remaining bytes slice F (Err e) verdict text old new same sliced goes comes told appends = tt
@@ -144,24 +163,31 @@ written_of (Some all) bytes slice F (Ok v) verdict text old new same sliced goes
     rw told (text, goes slice all (ap value_in sliced ∙ same) comes, appends)
 
 -- a beginning of it
-pub begun_of : (remaining : Option (List ℕ)) (bytes slice : List ℕ) (F : List ℕ → Verdict → List ℕ → Type 0) (verdict : Verdict) (text : List ℕ) (count : ℕ) (old new : Option (List ℕ))
-    → IfSome remaining (λ all. value_in bytes ≡ value_in all) → slice ≡ bytes → ((one other : List ℕ) → value_in one ≡ value_in other → F one verdict text → F other verdict text)
-    → F slice verdict text → (count < length text) × Appends old new (take count text) → IfSome remaining (λ all. IsBegun (F all) count old new)
+pub begun_of : (remaining : Option (List ℕ)) (bytes slice : List ℕ) (F : List ℕ → Verdict → List ℕ → Type 0)
+    (verdict : Verdict) (text : List ℕ) (count : ℕ) (old new : Option (List ℕ))
+    → IfSome remaining (λ all. value_in bytes ≡ value_in all) → slice ≡ bytes →
+    ((one other : List ℕ) → value_in one ≡ value_in other → F one verdict text → F other verdict text)
+    → F slice verdict text → (count < length text) × Appends old new (take count text) →
+    IfSome remaining (λ all. IsBegun (F all) count old new)
 begun_of None bytes slice F verdict text count old new same sliced goes comes begun = tt
 begun_of (Some all) bytes slice F verdict text count old new same sliced goes comes begun =
     (verdict, text, goes slice all (ap value_in sliced ∙ same) comes, begun.0, begun.1)
 
 -- bytes that are one value come to the same
-pub played_so : (output : Output) (verdict : Verdict) (text : List ℕ) (one other : List ℕ) → value_in one ≡ value_in other → Played output one verdict text → Played output other verdict text
+pub played_so : (output : Output) (verdict : Verdict) (text : List ℕ) (one other : List ℕ) →
+    value_in one ≡ value_in other → Played output one verdict text → Played output other verdict text
 played_so output verdict text one other same h = subst (λ d. Comes output (of_value d) verdict text) same h
 
-pub judged_so : (verdict : Verdict) (text : List ℕ) (one other : List ℕ) → value_in one ≡ value_in other → Judged one verdict text → Judged other verdict text
+pub judged_so : (verdict : Verdict) (text : List ℕ) (one other : List ℕ) → value_in one ≡ value_in other →
+    Judged one verdict text → Judged other verdict text
 judged_so verdict text one other same h =
     subst (λ d. (verdict ≡ found_verdict (finding_of (trace.of_value d))) × (text ≡ text_of (trace.of_value d))) same h
 
 -- the report of a drawing is that of its world
-pub drawn_of : {E : Type 0} (result : Result Answer E) (world : Happened) (seed steps : ℕ) (free : Bool) → replayed world ≡ drawn_world seed steps free
-    → IfOk result (λ a. a.verdict ≡ verdict_of Report (sent_in world)) → IfOk result (λ a. string_bytes a.text ≡ printed_of Report (sent_in world))
+pub drawn_of : {E : Type 0} (result : Result Answer E) (world : Happened) (seed steps : ℕ) (free : Bool) →
+    replayed world ≡ drawn_world seed steps free
+    → IfOk result (λ a. a.verdict ≡ verdict_of Report (sent_in world)) →
+    IfOk result (λ a. string_bytes a.text ≡ printed_of Report (sent_in world))
     → IfOk result (λ a. Drawn seed steps free a.verdict (string_bytes a.text))
 drawn_of (Ok a) world seed steps free same judged printed =
     (judged ∙ ap (λ w. verdict_of Report w.sent) same, printed ∙ ap (λ w. printed_of Report w.sent) same)

@@ -1,5 +1,7 @@
 -- What is read is within the limits of a world.
-use Rattle.std.proofs.Common.{◌≡◌, ◌≤◌, ◌<◌, ℕ, Bool, true, false, nat_le, nat_lt, nat_eq, ◌&&◌, if◌then◌else◌, cond, List, [], ◌∷◌, ◌++◌, length, Option, Some, None, Result, Ok, Err, IfOk, option_and_then, option_map, refl, arith, All, codes, subst}
+use Rattle.std.proofs.Common.{◌≡◌, ◌≤◌, ◌<◌, ℕ, Bool, true, false, nat_le, nat_lt, nat_eq, ◌&&◌, if◌then◌else◌, cond}
+use Rattle.std.proofs.Common.{List, [], ◌∷◌, ◌++◌, length, Option, Some, None, Result, Ok, Err, IfOk, option_and_then}
+use Rattle.std.proofs.Common.{option_map, refl, arith, All, codes, subst}
 use Rattle.std.specs.Option.{IfSome}
 use Rattle.std.proofs.lemmas.List.Elements.{All-push}
 use Rattle.rc_types.specs.declared.events.Setup.{Setup}
@@ -10,14 +12,17 @@ use Rattle.rc_reading.specs.declared.scenarios.Scenario.{Scenario}
 use Rattle.rc_reading.specs.declared.scenarios.ScenarioEvent.{ScenarioEvent}
 use Rattle.rc_reading.specs.Names.{first_members, second_members}
 use Rattle.rc_reading.specs.Values.{has_only, within, whole, only, field, given2, given4, each, list_of, factor_of, take_factor, factors_of}
-use Rattle.rc_reading.specs.Scenario.{segment_of, first_setup, second_setup, setup_by, setup_of, with_events, scenario_in, of_value, value_in, reading}
+use Rattle.rc_reading.specs.Scenario.{segment_of, first_setup, second_setup, setup_by, setup_of, with_events}
+use Rattle.rc_reading.specs.Scenario.{scenario_in, of_value, value_in, reading}
 use Rattle.rc_world.specs.HostView.{IsFactor, IsWithinLimits}
 
-and_then_if : {A B : Type 0} (P : B → Type 0) (f : A → Option B) (o : Option A) → ((a : A) → IfSome (f a) P) → IfSome (option_and_then f o) P
+and_then_if : {A B : Type 0} (P : B → Type 0) (f : A → Option B) (o : Option A) → ((a : A) → IfSome (f a) P) →
+    IfSome (option_and_then f o) P
 and_then_if P f None says = tt
 and_then_if P f (Some a) says = says a
 
-only_if : {A : Type 0} (P : A → Type 0) (names : List (List ℕ)) (d : Data) (found : Option A) → IfSome found P → IfSome (only names d found) P
+only_if : {A : Type 0} (P : A → Type 0) (names : List (List ℕ)) (d : Data) (found : Option A) → IfSome found P →
+    IfSome (only names d found) P
 only_if {A} P names d found says = by_test (has_only names d)
   where
     by_test : (b : Bool) → IfSome (cond b found None) P
@@ -31,7 +36,8 @@ IsFrom1 high n = (0 < n) × (n ≤ high)
 within_range : (high n : ℕ) → IfSome (within 1 high n) (IsFrom1 high)
 within_range high n = by_test (nat_le 1 n) (nat_le n high) refl refl
   where
-    by_test : (above below : Bool) → nat_le 1 n ≡ above → nat_le n high ≡ below → IfSome (if above && below then Some n else None) (IsFrom1 high)
+    by_test : (above below : Bool) → nat_le 1 n ≡ above → nat_le n high ≡ below →
+        IfSome (if above && below then Some n else None) (IsFrom1 high)
     by_test true true over under = (grind (arith, over), grind (arith, under))
     by_test true false over under = tt
     by_test false below over under = tt
@@ -46,7 +52,8 @@ AreFactors factors = All IsFactor factors
 take_factor_if : (factors : List ℕ) (d : Data) → AreFactors factors → IfSome (take_factor factors d) AreFactors
 take_factor_if factors d all = by_test (nat_lt (length factors) MAX_HOSTS) (factor_of d) (whole_range MAX_FACTOR d)
   where
-    by_test : (b : Bool) (factor : Option ℕ) → IfSome factor (IsFrom1 MAX_FACTOR) → IfSome (cond b (option_map (λ factor. factors ++ factor ∷ []) factor) None) AreFactors
+    by_test : (b : Bool) (factor : Option ℕ) → IfSome factor (IsFrom1 MAX_FACTOR) →
+        IfSome (cond b (option_map (λ factor. factors ++ factor ∷ []) factor) None) AreFactors
     by_test false factor few = tt
     by_test true None few = tt
     by_test true (Some factor) few = All-push IsFactor factors factor all few
@@ -56,7 +63,8 @@ each_factor_if factors [] all = all
 each_factor_if factors (d ∷ ds) all =
     by_first (take_factor factors d) (take_factor_if factors d all) (λ next more. each_factor_if next ds more)
   where
-    by_first : (first : Option (List ℕ)) → IfSome first AreFactors → ((next : List ℕ) → AreFactors next → IfSome (each take_factor next ds) AreFactors)
+    by_first : (first : Option (List ℕ)) → IfSome first AreFactors →
+        ((next : List ℕ) → AreFactors next → IfSome (each take_factor next ds) AreFactors)
         → IfSome (option_and_then (λ next. each take_factor next ds) first) AreFactors
     by_first None more rest = tt
     by_first (Some next) more rest = rest next more
@@ -75,7 +83,8 @@ first_if d =
     (and_then_if (IsFrom1 MAX_SEGMENT) segment_of (get (codes "segment") d) (whole_range MAX_SEGMENT)))
   where
     by : (factor segment : Option ℕ) → IfSome factor (IsFrom1 MAX_FACTOR) → IfSome segment (IsFrom1 MAX_SEGMENT)
-        → IfSome (given2 (λ factor segment. record { factor = factor; segment = segment; free = false; factors = [] }) factor segment) IsWithinLimits
+        → IfSome (given2 (λ factor segment. record { factor = factor; segment = segment; free = false; factors = [] })
+        factor segment) IsWithinLimits
     by None segment f s = tt
     by (Some factor) None f s = tt
     by (Some factor) (Some segment) f s = record { factor = f; segment = s.1; factors = no_factors }
@@ -83,14 +92,21 @@ first_if d =
 second_if : (d : Data) → IfSome (second_setup d) IsWithinLimits
 second_if d =
     only_if IsWithinLimits second_members d _
-    (by (field (codes "factor") factor_of d) (field (codes "segment") segment_of d) (field (codes "free") as_bool d) (field (codes "factors") factors_of d)
+    (by (field (codes "factor") factor_of d) (field (codes "segment") segment_of d) (field (codes "free") as_bool d)
+    (field (codes "factors") factors_of d)
     (and_then_if (IsFrom1 MAX_FACTOR) factor_of (get (codes "factor") d) (whole_range MAX_FACTOR))
     (and_then_if (IsFrom1 MAX_SEGMENT) segment_of (get (codes "segment") d) (whole_range MAX_SEGMENT))
     (and_then_if AreFactors factors_of (get (codes "factors") d) factors_if))
   where
-    by : (factor segment : Option ℕ) (free : Option Bool) (factors : Option (List ℕ)) → IfSome factor (IsFrom1 MAX_FACTOR) → IfSome segment (IsFrom1 MAX_SEGMENT)
+    by : (factor segment : Option ℕ) (free : Option Bool) (factors : Option (List ℕ)) →
+        IfSome factor (IsFrom1 MAX_FACTOR) → IfSome segment (IsFrom1 MAX_SEGMENT)
         → IfSome factors AreFactors
-        → IfSome (given4 (λ factor segment free factors. record { factor = factor; segment = segment; free = free; factors = factors }) factor segment free factors) IsWithinLimits
+        → IfSome (given4 (λ factor segment free factors. record {
+          factor = factor;
+          segment = segment;
+          free = free;
+          factors = factors;
+        }) factor segment free factors) IsWithinLimits
     by None segment free factors f s all = tt
     by (Some factor) None free factors f s all = tt
     by (Some factor) (Some segment) None factors f s all = tt

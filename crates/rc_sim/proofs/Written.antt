@@ -1,5 +1,6 @@
 -- What a writer has taken, write by write.
-use Rattle.std.proofs.Common.{◌≡◌, ◌≤◌, ◌<◌, ℕ, ◌+◌, ◌-◌, zero, suc, List, [], ◌∷◌, ◌++◌, length, take, drop, Option, Some, None, Result, Ok, refl, ap, append_assoc, arith}
+use Rattle.std.proofs.Common.{◌≡◌, ◌≤◌, ◌<◌, ℕ, ◌+◌, ◌-◌, zero, suc, List, [], ◌∷◌, ◌++◌, length, take, drop, Option}
+use Rattle.std.proofs.Common.{Some, None, Result, Ok, refl, ap, append_assoc, arith}
 use Rattle.std.proofs.lemmas.List.{length-drop}
 use Rattle.std.specs.Io.KnownBytes.{Appends}
 use Rattle.rc_sim.specs.Failures.{after_write}
@@ -15,19 +16,23 @@ take_more (suc n) zero [] = take_none (suc n + 0)
 take_more (suc n) (suc m) [] = take_none (suc n + suc m)
 take_more (suc n) m (x ∷ xs) = let moved : suc n + m ≡ suc (n + m) = omega arith in rw moved (ap (λ ys. x ∷ ys) (take_more n m xs))
 
-appends_more : (old mid new : Option (List ℕ)) (bs cs all : List ℕ) → Appends old mid bs → Appends mid new cs → all ≡ bs ++ cs → Appends old new all
+appends_more : (old mid new : Option (List ℕ)) (bs cs all : List ℕ) → Appends old mid bs → Appends mid new cs →
+    all ≡ bs ++ cs → Appends old new all
 appends_more None mid new bs cs all first second same = tt
 appends_more (Some old) None new bs cs all first second same = absurd first
 appends_more (Some old) (Some mid) None bs cs all first second same = absurd second
 appends_more (Some old) (Some mid) (Some new) bs cs all first second same = rw (second, first, same) (append_assoc old bs cs)
 
 -- one write more
-pub written_more : (old mid new : Option (List ℕ)) (text rest : List ℕ) (written count : ℕ) → Appends old mid (take written text) → rest ≡ drop written text
+pub written_more : (old mid new : Option (List ℕ)) (text rest : List ℕ) (written count : ℕ) →
+    Appends old mid (take written text) → rest ≡ drop written text
     → Appends mid new (take count rest) → Appends old new (take (written + count) text)
 written_more old mid new text rest written count first same second =
-    appends_more old mid new (take written text) (take count (drop written text)) (take (written + count) text) first (rw (← same) second) (take_more written count text)
+    appends_more old mid new (take written text) (take count (drop written text)) (take (written + count) text) first
+    (rw (← same) second) (take_more written count text)
 
-pub some_taken : {E : Type 0} (result : Result ℕ E) (count failures : ℕ) → result ≡ Ok count → 0 < count → after_write result failures ≡ failures
+pub some_taken : {E : Type 0} (result : Result ℕ E) (count failures : ℕ) → result ≡ Ok count → 0 < count →
+    after_write result failures ≡ failures
 some_taken result zero failures same some = absurd (omega (arith, some))
 some_taken result (suc count) failures same some = rw same refl
 

@@ -30,15 +30,18 @@ outcome_status (Ok verdict) = verdict_status verdict
 outcome_status (Err fault) = fault_status fault
 
 -- what is written for this input, by what was told of it
-abbrev pub Answered : (List ℕ → Verdict → List ℕ → Type 0) → Result Verdict SimFault → Option (List ℕ) → Option (List ℕ) → Option (List ℕ) → Type 0
+abbrev pub Answered : (List ℕ → Verdict → List ℕ → Type 0) → Result Verdict SimFault → Option (List ℕ) →
+    Option (List ℕ) → Option (List ℕ) → Type 0
 Answered Comes (Ok verdict) input old new = IfSome input (λ bytes. IsWritten (Comes bytes) verdict old new)
 Answered Comes (Err (Write count)) input old new = IfSome input (λ bytes. IsBegun (Comes bytes) count old new)
 Answered Comes (Err Memory) input old new = Keeps old new
 Answered Comes (Err Read) input old new = Keeps old new
 
 -- the program ended by this status, after what comes of the input was written
-abbrev pub EndsBy : (List ℕ → Verdict → List ℕ → Type 0) → ℕ → Option (List ℕ) → Option (List ℕ) → Option (List ℕ) → Type 0
-EndsBy Comes status input old new = (outcome : Result Verdict SimFault) × (status ≡ outcome_status outcome) × Answered Comes outcome input old new
+abbrev pub EndsBy : (List ℕ → Verdict → List ℕ → Type 0) → ℕ → Option (List ℕ) → Option (List ℕ) → Option (List ℕ) →
+    Type 0
+EndsBy Comes status input old new =
+    (outcome : Result Verdict SimFault) × (status ≡ outcome_status outcome) × Answered Comes outcome input old new
 
 -- the program ended by this status, after it has done this command
 abbrev pub Does : Asked → ℕ → Option (List ℕ) → Option (List ℕ) → Option (List ℕ) → Type 0

@@ -1,5 +1,6 @@
 -- What comes of a scenario, a trace, or drawn events: what is printed, and what is answered.
-use Rattle.std.specs.Prelude.{◌≡◌, ◌⊎◌, ◌≤◌, ◌*◌, ℕ, Bool, false, List, [], ◌++◌, length, codes, Option, Some, None, Result, Ok, Err}
+use Rattle.std.specs.Prelude.{◌≡◌, ◌⊎◌, ◌≤◌, ◌*◌, ℕ, Bool, false, List, [], ◌++◌, length, codes, Option, Some, None}
+use Rattle.std.specs.Prelude.{Result, Ok, Err}
 use Rattle.rc_types.specs.declared.faults.Code.{Code}
 use Rattle.rc_types.specs.declared.faults.Code.TheVariants.{OutOfMemory, BadEvent}
 use Rattle.rc_types.specs.declared.limits.TheConstants.{MAX_EVENTS}
@@ -88,7 +89,8 @@ found_verdict (finding.Bad place) = Bad place
 
 -- of these bytes as a trace
 abbrev pub Judged : List ℕ → Verdict → List ℕ → Type 0
-Judged bytes verdict text = (verdict ≡ found_verdict (finding_of (trace.reading bytes))) × (text ≡ text_of (trace.reading bytes))
+Judged bytes verdict text =
+    (verdict ≡ found_verdict (finding_of (trace.reading bytes))) × (text ≡ text_of (trace.reading bytes))
 
 -- of the events that are drawn from this seed: the report of the world that they lead to
 abbrev pub Drawn : ℕ → ℕ → Bool → Verdict → List ℕ → Type 0

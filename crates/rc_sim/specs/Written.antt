@@ -9,4 +9,5 @@ IsWritten Comes verdict old new = (text : List ℕ) × Comes verdict text × App
 
 -- so many bytes of a text that comes of it were written, and not all
 abbrev pub IsBegun : (Verdict → List ℕ → Type 0) → ℕ → Option (List ℕ) → Option (List ℕ) → Type 0
-IsBegun Comes count old new = (verdict : Verdict) × (text : List ℕ) × Comes verdict text × (count < length text) × Appends old new (take count text)
+IsBegun Comes count old new = (verdict : Verdict) × (text : List ℕ) × Comes verdict text × (count < length text) ×
+    Appends old new (take count text)

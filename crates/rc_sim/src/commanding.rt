@@ -65,7 +65,8 @@ fn run<R: Read, W: Write, E: Write>(
     writer: &mut Counted<W>,
     errors: &mut Counted<E>,
 ) -> u8
-    ensures done { EndsBy (Played Report) result (R.remaining reader.old.inner) (W.contents writer.old.inner) (W.contents writer.new.inner) }
+    ensures done { EndsBy (Played Report) result (R.remaining reader.old.inner) (W.contents writer.old.inner)
+        (W.contents writer.new.inner) }
     ensures known { result ≤ 4 }
 {
     let Some(bytes) = heap else {

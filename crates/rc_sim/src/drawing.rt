@@ -30,7 +30,8 @@ pub fn fuzz<W: Write>(
         IsWritten (Drawn seed steps free) verdict (W.contents writer.old.inner) (W.contents writer.new.inner)) }
     ensures cut_short { (count : ℕ) → result ≡ Err (WriteFailed count) →
         IsBegun (Drawn seed steps free) count (W.contents writer.old.inner) (W.contents writer.new.inner) }
-    ensures nothing_without_memory { result ≡ Err Memory → Keeps (W.contents writer.old.inner) (W.contents writer.new.inner) }
+    ensures nothing_without_memory { result ≡ Err Memory →
+        Keeps (W.contents writer.old.inner) (W.contents writer.new.inner) }
     ensures writes { writer.new.failures ≡ failed_writes result writer.old.failures }
     ensures unread { result ≢ Err ReadFailed }
 {
@@ -63,7 +64,8 @@ pub fn stops<W: Write>(
         IsWritten (PowerCut seed steps) verdict (W.contents writer.old.inner) (W.contents writer.new.inner)) }
     ensures cut_short { (count : ℕ) → result ≡ Err (WriteFailed count) →
         IsBegun (PowerCut seed steps) count (W.contents writer.old.inner) (W.contents writer.new.inner) }
-    ensures nothing_without_memory { result ≡ Err Memory → Keeps (W.contents writer.old.inner) (W.contents writer.new.inner) }
+    ensures nothing_without_memory { result ≡ Err Memory →
+        Keeps (W.contents writer.old.inner) (W.contents writer.new.inner) }
     ensures writes { writer.new.failures ≡ failed_writes result writer.old.failures }
     ensures unread { result ≢ Err ReadFailed }
 {

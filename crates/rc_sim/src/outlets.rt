@@ -17,7 +17,8 @@ const CHUNK: usize = 4096;
 
 /// What the reader gives up to its end, or up to where a scenario is too long.
 pub fn read_all<R: Read>(alloc: Global, reader: &mut Counted<R>) -> Result<Vec<u8>, SimFault>
-    ensures ok { IfOk result (λ bytes. IfSome (R.remaining reader.old.inner) (λ all. value_in bytes.items ≡ value_in all)) }
+    ensures ok { IfOk result (λ bytes. IfSome (R.remaining reader.old.inner)
+        (λ all. value_in bytes.items ≡ value_in all)) }
     ensures failures { reader.new.failures ≡ failed_reads result reader.old.failures }
     ensures fault { (count : ℕ) → result ≢ Err (WriteFailed count) }
 {
@@ -36,7 +37,9 @@ pub fn read_all<R: Read>(alloc: Global, reader: &mut Counted<R>) -> Result<Vec<u
 /// All of the text, in as many writes as it takes.
 pub fn write_all<W: Write>(writer: &mut Counted<W>, text: &[u8]) -> Result<(), SimFault>
     ensures ok { OnOk result (Appends (W.contents writer.old.inner) (W.contents writer.new.inner) text.now) }
-    ensures err { (count : ℕ) → result ≡ Err (WriteFailed count) → (count < length text.now) × Appends (W.contents writer.old.inner) (W.contents writer.new.inner) (take count text.now) }
+    ensures err { (count : ℕ) → result ≡ Err (WriteFailed count) →
+        (count < length text.now) × Appends (W.contents writer.old.inner) (W.contents writer.new.inner)
+        (take count text.now) }
     ensures failures { writer.new.failures ≡ failed_writes result writer.old.failures }
     ensures fault { (result ≢ Err Memory) × (result ≢ Err ReadFailed) }
 {

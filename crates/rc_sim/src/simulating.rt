@@ -32,11 +32,14 @@ pub fn simulate<R: Read, W: Write, A: Allocator + Clone>(
 ) -> Result<Verdict, SimFault>
     // what is written is what the definitions say of the bytes that the reader had
     ensures ok { IfOk result (λ verdict. IfSome (R.remaining reader.old.inner)
-        (λ bytes. IsWritten (Played Report bytes) verdict (W.contents writer.old.inner) (W.contents writer.new.inner))) }
+        (λ bytes. IsWritten (Played Report bytes) verdict (W.contents writer.old.inner)
+        (W.contents writer.new.inner))) }
     ensures cut_short { (count : ℕ) → result ≡ Err (WriteFailed count) → IfSome (R.remaining reader.old.inner)
         (λ bytes. IsBegun (Played Report bytes) count (W.contents writer.old.inner) (W.contents writer.new.inner)) }
-    ensures nothing_without_memory { result ≡ Err Memory → Keeps (W.contents writer.old.inner) (W.contents writer.new.inner) }
-    ensures nothing_unread { result ≡ Err ReadFailed → Keeps (W.contents writer.old.inner) (W.contents writer.new.inner) }
+    ensures nothing_without_memory { result ≡ Err Memory →
+        Keeps (W.contents writer.old.inner) (W.contents writer.new.inner) }
+    ensures nothing_unread { result ≡ Err ReadFailed →
+        Keeps (W.contents writer.old.inner) (W.contents writer.new.inner) }
 
     // a fault of the reader or the writer is told exactly where it failed now
     ensures reads { reader.new.failures ≡ failed_reads result reader.old.failures }
@@ -63,8 +66,10 @@ pub fn trace<R: Read, W: Write>(
         (λ bytes. IsWritten (Played Trace bytes) verdict (W.contents writer.old.inner) (W.contents writer.new.inner))) }
     ensures cut_short { (count : ℕ) → result ≡ Err (WriteFailed count) → IfSome (R.remaining reader.old.inner)
         (λ bytes. IsBegun (Played Trace bytes) count (W.contents writer.old.inner) (W.contents writer.new.inner)) }
-    ensures nothing_without_memory { result ≡ Err Memory → Keeps (W.contents writer.old.inner) (W.contents writer.new.inner) }
-    ensures nothing_unread { result ≡ Err ReadFailed → Keeps (W.contents writer.old.inner) (W.contents writer.new.inner) }
+    ensures nothing_without_memory { result ≡ Err Memory →
+        Keeps (W.contents writer.old.inner) (W.contents writer.new.inner) }
+    ensures nothing_unread { result ≡ Err ReadFailed →
+        Keeps (W.contents writer.old.inner) (W.contents writer.new.inner) }
     ensures reads { reader.new.failures ≡ failed_reads result reader.old.failures }
     ensures writes { writer.new.failures ≡ failed_writes result writer.old.failures }
 {
@@ -86,8 +91,10 @@ pub fn judge<R: Read, W: Write>(
         (λ bytes. IsWritten (Judged bytes) verdict (W.contents writer.old.inner) (W.contents writer.new.inner))) }
     ensures cut_short { (count : ℕ) → result ≡ Err (WriteFailed count) → IfSome (R.remaining reader.old.inner)
         (λ bytes. IsBegun (Judged bytes) count (W.contents writer.old.inner) (W.contents writer.new.inner)) }
-    ensures nothing_without_memory { result ≡ Err Memory → Keeps (W.contents writer.old.inner) (W.contents writer.new.inner) }
-    ensures nothing_unread { result ≡ Err ReadFailed → Keeps (W.contents writer.old.inner) (W.contents writer.new.inner) }
+    ensures nothing_without_memory { result ≡ Err Memory →
+        Keeps (W.contents writer.old.inner) (W.contents writer.new.inner) }
+    ensures nothing_unread { result ≡ Err ReadFailed →
+        Keeps (W.contents writer.old.inner) (W.contents writer.new.inner) }
     ensures reads { reader.new.failures ≡ failed_reads result reader.old.failures }
     ensures writes { writer.new.failures ≡ failed_writes result writer.old.failures }
 {
@@ -102,9 +109,11 @@ pub(crate) fn write_answer<W: Write>(
     answer: &Answer,
 ) -> Result<Verdict, SimFault>
     ensures verdict { IfOk result (λ verdict. verdict ≡ answer.now.verdict) }
-    ensures ok { IfOk result (λ _. Appends (W.contents writer.old.inner) (W.contents writer.new.inner) (string_bytes answer.now.text)) }
+    ensures ok { IfOk result (λ _. Appends (W.contents writer.old.inner) (W.contents writer.new.inner)
+        (string_bytes answer.now.text)) }
     ensures cut_short { (count : ℕ) → result ≡ Err (WriteFailed count) → (count < length (string_bytes answer.now.text))
-        × Appends (W.contents writer.old.inner) (W.contents writer.new.inner) (take count (string_bytes answer.now.text)) }
+        × Appends (W.contents writer.old.inner) (W.contents writer.new.inner)
+        (take count (string_bytes answer.now.text)) }
     ensures writes { writer.new.failures ≡ failed_writes result writer.old.failures }
     ensures fault { (result ≢ Err Memory) × (result ≢ Err ReadFailed) }
 {

@@ -1,5 +1,6 @@
 -- Bytes as JSON texts.
-use Rattle.std.proofs.Common.{◌≡◌, ℕ, ◌<◌, ◌≤◌, Bool, true, false, nat_le, if◌then◌else◌, List, [], ◌∷◌, length, Option, Some, None, refl, arith}
+use Rattle.std.proofs.Common.{◌≡◌, ℕ, ◌<◌, ◌≤◌, Bool, true, false, nat_le, if◌then◌else◌, List, [], ◌∷◌, length}
+use Rattle.std.proofs.Common.{Option, Some, None, refl, arith}
 use Rattle.std.specs.Str.{IsUtf8, chars, is_utf8}
 use Rattle.std.proofs.lemmas.Str.{IsUtf8-from_is_utf8, is_utf8-from_IsUtf8}
 use Rattle.serde_json.specs.Data.{Data}
@@ -21,7 +22,9 @@ unless_text false o h = refl
 
 -- bytes that are no text, or one that is not read
 pub no_value : (bytes : List ℕ) → length bytes ≤ MOST_BYTES → (IsUtf8 bytes → read bytes ≡ None) → value_in bytes ≡ None
-no_value bytes few none = rw (short (length bytes) few) (unless_text (is_utf8 bytes) (read bytes) (λ text. none (IsUtf8-from_is_utf8 bytes text)))
+no_value bytes few none =
+    rw (short (length bytes) few)
+    (unless_text (is_utf8 bytes) (read bytes) (λ text. none (IsUtf8-from_is_utf8 bytes text)))
 
 nothing : value_in [] ≡ None
 unfolding chars is_utf8 serde_json_on_literals

@@ -7,12 +7,16 @@ use Rattle.rc_types.specs.declared.entries.Entry.{Entry}
 use Rattle.rc_types.specs.declared.rows.PlanRow.{PlanRow}
 use Rattle.rc_types.specs.declared.messages.Message.{Message}
 use Rattle.rc_types.specs.declared.messages.Body.{Body}
-use Rattle.rc_types.specs.declared.messages.Body.TheVariants.{Write, Read, WriteOk, ReadOk, Refused, Place, Append, Close, Stored, Commit, CommitOk, Enlist, Ready, List as ServersOf, Gather, Replicas, Plan, Fetch, Data, Recovered, Own, SplitOk, Free}
+use Rattle.rc_types.specs.declared.messages.Body.TheVariants.{Write, Read, WriteOk, ReadOk, Refused, Place, Append}
+use Rattle.rc_types.specs.declared.messages.Body.TheVariants.{Close, Stored, Commit, CommitOk, Enlist, Ready}
+use Rattle.rc_types.specs.declared.messages.Body.TheVariants.{List as ServersOf, Gather, Replicas, Plan, Fetch, Data}
+use Rattle.rc_types.specs.declared.messages.Body.TheVariants.{Recovered, Own, SplitOk, Free}
 use Rattle.serde_json.specs.Data.{Data as Json}
 use Rattle.std.specs.Option.{option_to_list}
 use Rattle.serde_json.specs.View.{items_of}
 use Rattle.serde_json.specs.Written.{has_float, items_have_float}
-use Rattle.rc_traces.specs.Written.{value_data, entry_data, row_data, sent_data, grant_in, sent_from, body_data, message_data, messages_data, trace_data}
+use Rattle.rc_traces.specs.Written.{value_data, entry_data, row_data, sent_data, grant_in, sent_from, body_data}
+use Rattle.rc_traces.specs.Written.{message_data, messages_data, trace_data}
 
 value_none : (value : Option (List ℕ)) → has_float (value_data value) ≡ false
 value_none None = refl
@@ -106,7 +110,8 @@ message_none message = body_none message.from message.to message.body
 
 messages_none : (messages : List Message) → items_have_float (items_of (messages_data messages)) ≡ false
 messages_none [] = refl
-messages_none (message ∷ messages) = found_none (message_data message) (messages_data messages) (message_none message) (messages_none messages)
+messages_none (message ∷ messages) =
+    found_none (message_data message) (messages_data messages) (message_none message) (messages_none messages)
 
 pub no_float : (messages : List Message) → has_float (trace_data messages) ≡ false
 no_float messages = ap (λ b. b || false) (messages_none messages)

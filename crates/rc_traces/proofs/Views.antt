@@ -18,5 +18,7 @@ pub list_found : (d : Data) (vs list : List Value) → Some (items_view vs) ≡ 
 list_found d vs list found is = ap (λ l. Some (map view l)) is ∙ ap Some (sym (listed-items_view vs)) ∙ ap (option_map listed) found
 
 -- the number of a map's members that was found
-pub object_found : (d : Data) (es : List Entry) (len n : ℕ) → Some (members_view es) ≡ as_object d → len ≡ length es → nat_eq len n ≡ has_members n d
-object_found d es len n found is = ap (λ l. nat_eq l n) (is ∙ sym (members_len-members_view es)) ∙ ap (λ o. is_count n (option_map members_len o)) found
+pub object_found : (d : Data) (es : List Entry) (len n : ℕ) → Some (members_view es) ≡ as_object d → len ≡ length es →
+    nat_eq len n ≡ has_members n d
+object_found d es len n found is = ap (λ l. nat_eq l n) (is ∙ sym (members_len-members_view es)) ∙
+    ap (λ o. is_count n (option_map members_len o)) found

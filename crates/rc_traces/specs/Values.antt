@@ -1,6 +1,7 @@
--- What a JSON value says where a trace wants a number, a list, bytes, or an object of so many members: nothing, where it is
--- something else.
-use Rattle.std.specs.Prelude.{ℕ, Bool, false, nat_eq, nat_le, ◌&&◌, if◌then◌else◌, List, [], ◌∷◌, Option, Some, None, option_map, option_and_then, Result, Ok, Err}
+-- What a JSON value says where a trace wants a number, a list, bytes, or an object of so many members: nothing, where
+-- it is something else.
+use Rattle.std.specs.Prelude.{ℕ, Bool, false, nat_eq, nat_le, ◌&&◌, if◌then◌else◌, List, [], ◌∷◌, Option, Some, None}
+use Rattle.std.specs.Prelude.{option_map, option_and_then, Result, Ok, Err}
 use Rattle.std.specs.List.{list_any}
 use Rattle.rc_types.specs.declared.limits.TheConstants.{LAST_SEGMENT}
 use Rattle.rc_traces.specs.declared.limits.TheConstants.{LAST_NUMBER}
@@ -37,7 +38,8 @@ abbrev pub list_of_each : {A : Type 0} → (Data → Option A) → Data → Opti
 list_of_each says d = option_and_then (each says) (list_of d)
 
 -- all that was looked for was found
-abbrev pub given5 : {A B C D E R : Type 0} → (A → B → C → D → E → R) → Option A → Option B → Option C → Option D → Option E → Option R
+abbrev pub given5 : {A B C D E R : Type 0} → (A → B → C → D → E → R) → Option A → Option B → Option C → Option D →
+    Option E → Option R
 given5 f (Some a) b c d e = given4 (f a) b c d e
 given5 f None b c d e = None
 

@@ -10,7 +10,8 @@ use Rattle.rc_types.specs.declared.messages.Message.{Message}
 use Rattle.rc_types.specs.declared.messages.Body.{Body}
 use Rattle.rc_types.specs.declared.messages.Body.TheVariants.{Place, Append, WriteOk, Plan, Own}
 use Rattle.hex.specs.Hex.{encode_lower}
-use Rattle.serde_json.specs.Data.{Data, null, number, unsigned, string, array, object, Items, no_items, item, no_members, member}
+use Rattle.serde_json.specs.Data.{Data, null, number, unsigned, string, array, object, Items, no_items, item}
+use Rattle.serde_json.specs.Data.{no_members, member}
 use Rattle.serde_json.specs.View.{items_of}
 use Rattle.serde_json.specs.Written.{compact_text}
 
@@ -44,7 +45,8 @@ rows_data rows = items_of (map row_data rows)
 -- The messages: each an object whose members stand in the order of their names
 
 abbrev pub place_data : ServerId → ℕ → List Entry → Data
-place_data from seg entries = object (member (codes "entries") (array (entries_data entries)) (member (codes "from") (id_data from)
+place_data from seg entries =
+    object (member (codes "entries") (array (entries_data entries)) (member (codes "from") (id_data from)
     (member (codes "m") (string (codes "place")) (member (codes "seg") (count_data seg) no_members))))
 
 abbrev pub append_data : ServerId → ℕ → ℕ → List Entry → Data
@@ -54,8 +56,10 @@ append_data from seg offset entries = object (member (codes "entries") (array (e
 
 abbrev pub ok_data : ServerId → ℕ → ℕ → ℕ → ℕ → ℕ → ℕ → Data
 ok_data from seg offset term table key version = object (member (codes "from") (id_data from)
-    (member (codes "key") (count_data key) (member (codes "m") (string (codes "ok")) (member (codes "offset") (count_data offset)
-    (member (codes "seg") (count_data seg) (member (codes "table") (count_data table) (member (codes "term") (count_data term)
+    (member (codes "key") (count_data key)
+    (member (codes "m") (string (codes "ok")) (member (codes "offset") (count_data offset)
+    (member (codes "seg") (count_data seg)
+    (member (codes "table") (count_data table) (member (codes "term") (count_data term)
     (member (codes "version") (count_data version) no_members))))))))
 
 abbrev pub plan_data : ℕ → ServerId → List PlanRow → Data
@@ -108,7 +112,8 @@ messages_data (message ∷ messages) = option_to_list (message_data message) ++ 
 
 abbrev pub trace_data : List Message → Data
 trace_data messages =
-    object (member (codes "format") (count_data 1) (member (codes "messages") (array (items_of (messages_data messages))) no_members))
+    object (member (codes "format") (count_data 1)
+    (member (codes "messages") (array (items_of (messages_data messages))) no_members))
 
 -- the compact text, and a line feed
 abbrev pub trace_text : List Message → List ℕ

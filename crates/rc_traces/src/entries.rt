@@ -2,9 +2,9 @@
 
 ghost use Rattle.std.specs.Prelude.{◌≡◌, map, IfOk, IfErr};
 ghost use Rattle.rc_traces.specs.declared.faults.TraceFault.TheVariants.{OutOfMemory};
-ghost use Rattle.rc_traces.specs.Values.{each};
+ghost use Rattle.rc_traces.specs.Values.{each, given5, number_of};
 ghost use Rattle.rc_traces.specs.Trace.{entry_of, entries_of, row_of, rows_of};
-ghost use Rattle.rc_reading.specs.Values.{field};
+ghost use Rattle.rc_reading.specs.Values.{field, table_of, key_of};
 ghost use Rattle.serde_json.specs.View.{view};
 
 use crate::faults::TraceFault;
@@ -13,36 +13,42 @@ use rc_types::{Entry, PlanRow, Seq};
 use serde_json::Value;
 use std::alloc::{AllocError, Global};
 
+/// The entry that these parts say, with what is said of its value.
+fn entry_with(
+    term: &Value,
+    table_at: &Value,
+    key_at: &Value,
+    version: &Value,
+    value: Option<Option<Seq<u8>>>,
+) -> Option<Entry>
+    ensures { result ≡ given5 (λ t n k v bytes. record { term = t; table = n; key = k; version = v; value = bytes })
+        (number_of (view term.now)) (table_of (view table_at.now)) (key_of (view key_at.now))
+        (key_of (view version.now)) value }
+{
+    let term = number(term)?;
+    let table = table(table_at)?;
+    let key_of = key(key_at)?;
+    let version = key(version)?;
+    let value = value?;
+    Some(Entry {
+        term,
+        table,
+        key: key_of,
+        version,
+        value,
+    })
+}
+
 /// An entry: a term, a table, a key, a version and a value.
 fn entry(alloc: Global, value: &Value) -> Result<Option<Entry>, TraceFault>
     ensures ok { IfOk result (λ entry. entry ≡ entry_of (view value.now)) }
     ensures err { IfErr result (λ e. e ≡ OutOfMemory) }
 {
-    let Some([term_at, table_at, key_at, version_at, value_at]) = items(value) else {
+    let Some([term, table, key, version, value_at]) = items(value) else {
         return Ok(None);
     };
-    let Some(term) = number(term_at) else {
-        return Ok(None);
-    };
-    let Some(table) = table(table_at) else {
-        return Ok(None);
-    };
-    let Some(key_of) = key(key_at) else {
-        return Ok(None);
-    };
-    let Some(version) = key(version_at) else {
-        return Ok(None);
-    };
-    let Some(bytes) = entry_value(alloc, value_at)? else {
-        return Ok(None);
-    };
-    Ok(Some(Entry {
-        term,
-        table,
-        key: key_of,
-        version,
-        value: bytes,
-    }))
+    let bytes = entry_value(alloc, value_at)?;
+    Ok(entry_with(term, table, key, version, bytes))
 }
 
 fn each_entry(alloc: Global, list: &[Value]) -> Result<Option<Seq<Entry>>, TraceFault>

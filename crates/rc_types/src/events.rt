@@ -36,7 +36,9 @@ impl TryClone for Setup {
 pub enum Event {
     /// The outside asks a server to write or read.
     Ask {
+        /// The server that is asked.
         to: ServerId,
+        /// A Write or a Read.
         body: Body,
     },
     /// The message of this number, counted from 0, reaches its addressee.
@@ -47,7 +49,9 @@ pub enum Event {
     Stop(ServerId),
     /// A host is started, with what it keeps of its open replicas, named by master and segment.
     Start {
+        /// The host's index, 0 to 63.
         host: u8,
+        /// The open replicas that outlived its stop, by master and segment.
         kept: Seq<(ServerId, u16)>,
     },
     /// The coordinator is told that a server is believed dead.
@@ -56,12 +60,16 @@ pub enum Event {
     Decide(ServerId),
     /// The coordinator is told to create a table for an owner.
     Create {
+        /// The table, which must be new.
         table: u32,
+        /// The server that gets it.
         owner: ServerId,
     },
     /// The coordinator is told to split a tablet before a key.
     Split {
+        /// The table.
         table: u32,
+        /// The first key of the upper part.
         at: u64,
     },
 }

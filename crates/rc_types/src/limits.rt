@@ -9,7 +9,8 @@ pub const MAX_SEGMENT: u16 = 1024;
 /// The greatest length of a value, in bytes. A master refuses a longer one with F7.
 pub const MAX_VALUE: usize = 1024;
 
-/// How many hosts there may be: host indexes are 0 to one less.
+/// How many hosts there may be: host indexes are 0 to one less. At most 64, since `rc_reading`'s `Hosts` has a bit of a
+/// `u64` for each.
 pub const MAX_HOSTS: u8 = 64;
 
 /// The last segment of a log. Segments count from 1.

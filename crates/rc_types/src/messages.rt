@@ -35,69 +35,103 @@ impl TryClone for Message {
 pub enum Body {
     /// O to S: write this value at this key; `None` deletes.
     Write {
+        /// The table.
         table: u32,
+        /// The key in it.
         key: u64,
+        /// What to write; `None` deletes.
         value: Option<Seq<u8>>,
     },
     /// O to S: read this key.
     Read {
+        /// The table.
         table: u32,
+        /// The key in it.
         key: u64,
     },
     /// S to O: the write at this place of the sender's log is durable.
     WriteOk {
+        /// The segment of the sender's log.
         seg: u16,
+        /// The place in it, in entries.
         offset: usize,
+        /// The term under which the sender owns the key.
         term: u32,
+        /// The table.
         table: u32,
+        /// The key in it.
         key: u64,
+        /// The version that the write got.
         version: u64,
     },
     /// S to O: the key's greatest durable version and its value; version 0 where there is none.
     ReadOk {
+        /// The table.
         table: u32,
+        /// The key in it.
         key: u64,
+        /// The greatest durable version; 0 where there is none.
         version: u64,
+        /// Its value; `None` where it was deleted, or there is none.
         value: Option<Seq<u8>>,
     },
     /// S to O, C to S, C to O: refused, and why.
     Refused {
+        /// Why.
         code: Code,
     },
     /// S to S: keep a replica of this segment of mine, whole as it is now, under this epoch.
     Place {
+        /// The segment of the sender's log.
         seg: u16,
+        /// The epoch under which it is kept from now on.
         epoch: u16,
+        /// The segments that made up the log when this one was opened.
         digest: Seq<u16>,
+        /// All its entries.
         entries: Seq<Entry>,
+        /// Whether the segment is shut, so that these are all that it will ever have.
         closed: bool,
     },
     /// S to S: add these entries, of which the first stands at `offset`.
     Append {
+        /// The segment of the sender's log.
         seg: u16,
+        /// Where the first of the entries stands.
         offset: usize,
+        /// The entries, in order.
         entries: Seq<Entry>,
     },
     /// S to S: close the replica, which then has exactly `len` entries.
     Close {
+        /// The segment of the sender's log.
         seg: u16,
+        /// How many entries it has.
         len: usize,
     },
     /// S to S: the replica's epoch, length and closed mark, as they now are.
     Stored {
+        /// The segment of the addressee's log.
         seg: u16,
+        /// The replica's epoch.
         epoch: u16,
+        /// How many entries the replica has.
         len: usize,
+        /// Whether the replica is closed.
         closed: bool,
     },
     /// S to C: make this pair my least one.
     Commit {
+        /// The segment of the sender's log.
         seg: u16,
+        /// The epoch of its members.
         epoch: u16,
     },
     /// C to S: your least pair is now at least this one.
     CommitOk {
+        /// The segment of the addressee's log.
         seg: u16,
+        /// The epoch of its members.
         epoch: u16,
     },
     /// S to C: I am here.
@@ -106,63 +140,94 @@ pub enum Body {
     Ready,
     /// C to S: the whole server list with its version; with each id, whether it is up.
     List {
+        /// The version of the list; a greater one is newer.
         version: u32,
+        /// Each id that ever was on the list, and whether it is up.
         rows: Seq<(ServerId, bool)>,
     },
     /// C to S: fence this crashed master, and tell what you hold of its log.
     Gather {
+        /// The number of the recovery attempt, counted from 1.
         attempt: u32,
+        /// The crashed master.
         master: ServerId,
     },
     /// S to C: what I hold of it, in order of segment.
     Replicas {
+        /// The number of the recovery attempt, counted from 1.
         attempt: u32,
+        /// A row for each replica, in order of segment.
         rows: Seq<Row>,
     },
     /// C to S: the crashed master's log is in these rows; take these parts of it.
     Plan {
+        /// The number of the recovery attempt, counted from 1.
         attempt: u32,
+        /// The crashed master.
         master: ServerId,
+        /// The greatest segment of the log.
         head: u16,
+        /// Where each segment of the log is read, and how much of it.
         rows: Seq<PlanRow>,
+        /// The parts of its ranges that the addressee recovers.
         parts: Seq<Part>,
     },
     /// S to S: send the entries of this part among the first `len` of your replica.
     Fetch {
+        /// The number of the recovery attempt, counted from 1.
         attempt: u32,
+        /// The crashed master.
         master: ServerId,
+        /// The segment of the crashed master's log.
         seg: u16,
+        /// How many entries of the replica count.
         len: usize,
+        /// The part whose entries are wanted.
         part: Part,
     },
     /// S to S: those entries, unchanged; `term` is the part's new one.
     Data {
+        /// The number of the recovery attempt, counted from 1.
         attempt: u32,
+        /// The segment that was asked for.
         seg: u16,
+        /// The part's new term.
         term: u32,
+        /// Its entries, in order.
         entries: Seq<Entry>,
     },
     /// S to C: the part of this term is durable in my log.
     Recovered {
+        /// The number of the recovery attempt, counted from 1.
         attempt: u32,
+        /// The part's new term.
         term: u32,
     },
     /// C to S: the range is yours under this term. `previous` and `attempt` are 0 for a new table.
     Own {
+        /// The table.
         table: u32,
+        /// The first key of the range.
         lo: u64,
+        /// The last key of the range.
         hi: u64,
+        /// The term of the new ownership.
         term: u32,
+        /// The term of the owner before; 0 for a new table.
         previous: u32,
+        /// The recovery by which it comes; 0 for a new table.
         attempt: u32,
     },
     /// C to O: the tablet is split at this key.
     SplitOk {
+        /// The table.
         table: u32,
+        /// The first key of the upper part.
         at: u64,
     },
     /// S to S: drop the replica of this segment of mine.
     Free {
+        /// The segment of the sender's log.
         seg: u16,
     },
 }

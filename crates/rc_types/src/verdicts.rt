@@ -8,26 +8,40 @@ use std::fmt;
 pub enum Breach {
     /// A write that the plan's master has acknowledged is not in the recovered log at its place.
     Missing {
+        /// The attempt of the plan.
         attempt: u32,
+        /// The master that the plan recovers.
         master: ServerId,
+        /// The segment of the acknowledged write.
         seg: u16,
+        /// Its place there, in entries.
         offset: usize,
     },
     /// A place of the recovered log holds what its master never sent there, or sent in two ways.
     Invented {
+        /// The attempt of the plan.
         attempt: u32,
+        /// The master that the plan recovers.
         master: ServerId,
+        /// The segment of the recovered log.
         seg: u16,
+        /// The place there, in entries.
         offset: usize,
     },
     /// A write acknowledged under a later ownership has no greater version than one acknowledged
     /// under an earlier one.
     Version {
+        /// The table.
         table: u32,
+        /// The key in it.
         key: u64,
+        /// The term of the earlier ownership.
         earlier_term: u32,
+        /// The version acknowledged under it.
         earlier_version: u64,
+        /// The term of the later ownership.
         later_term: u32,
+        /// The version acknowledged under that one.
         later_version: u64,
     },
 }

@@ -1,6 +1,7 @@
 -- Worked runs.
 use Rattle.std.specs.Prelude.{◌≡◌, false, List, [], ◌∷◌, ◌++◌, codes}
-use Rattle.rc_worked.specs.Settling.{Line, report_of, create, decide, deliver, id, settle, settle_without_ready, settle_without_ready_and_fetch, split, start, suspect, write}
+use Rattle.rc_worked.specs.Settling.{Line, report_of, create, decide, deliver, id, settle, settle_without_ready}
+use Rattle.rc_worked.specs.Settling.{settle_without_ready_and_fetch, split, start, suspect, write}
 
 abbrev pub close_to_a_lost_member : List Line
 close_to_a_lost_member =

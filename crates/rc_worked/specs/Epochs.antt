@@ -1,6 +1,7 @@
 -- Worked runs.
 use Rattle.std.specs.Prelude.{◌≡◌, false, List, [], ◌∷◌, ◌++◌, codes}
-use Rattle.rc_worked.specs.Settling.{Line, report_of, create, decide, deliver, id, settle, start, start_keeping, stop, suspect, write}
+use Rattle.rc_worked.specs.Settling.{Line, report_of, create, decide, deliver, id, settle, start, start_keeping}
+use Rattle.rc_worked.specs.Settling.{stop, suspect, write}
 
 abbrev pub append_after_fence : List Line
 append_after_fence =

@@ -1,6 +1,7 @@
 -- Worked runs.
 use Rattle.std.specs.Prelude.{◌≡◌, false, List, [], ◌∷◌, ◌++◌, codes}
-use Rattle.rc_worked.specs.Settling.{Line, report_of, repeat_letter, create, decide, deliver, id, settle, start, suspect, write}
+use Rattle.rc_worked.specs.Settling.{Line, report_of, repeat_letter, create, decide, deliver, id, settle, start}
+use Rattle.rc_worked.specs.Settling.{suspect, write}
 
 abbrev pub nothing : List Line
 nothing =

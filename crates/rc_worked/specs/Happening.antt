@@ -12,7 +12,8 @@ use Rattle.rc_model.specs.Durable.{IsDurable}
 use Rattle.rc_model.specs.Breach.{is_superseded}
 use Rattle.rc_model.specs.Headline.{NothingIsDropped}
 use Rattle.rc_model.specs.Report.{message_lines}
-use Rattle.rc_worked.specs.Settling.{Line, runs, of_two, of_eight, create, decide, deliver, id, settle, settle_without, settle_without_ready, start, stop, suspect, write}
+use Rattle.rc_worked.specs.Settling.{Line, runs, of_two, of_eight, create, decide, deliver, id, settle}
+use Rattle.rc_worked.specs.Settling.{settle_without, settle_without_ready, start, stop, suspect, write}
 use Rattle.rc_worked.specs.Rolls.{replaced_then_rolled}
 use Rattle.rc_worked.specs.Freeing.{freed}
 

@@ -9,3 +9,5 @@ pub mod Freeing
 pub mod Doubts
 pub mod Shown
 pub mod Happening
+pub mod Sentences
+pub mod Clients

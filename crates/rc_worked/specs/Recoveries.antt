@@ -1,6 +1,7 @@
 -- Worked runs.
 use Rattle.std.specs.Prelude.{◌≡◌, false, List, [], ◌∷◌, ◌++◌, codes}
-use Rattle.rc_worked.specs.Settling.{Line, report_of, create, decide, deliver, id, read, settle, settle_without, settle_without_ready, start, stop, suspect, write}
+use Rattle.rc_worked.specs.Settling.{Line, report_of, create, decide, deliver, id, read, settle, settle_without}
+use Rattle.rc_worked.specs.Settling.{settle_without_ready, start, stop, suspect, write}
 
 abbrev pub read_back : List Line
 read_back =

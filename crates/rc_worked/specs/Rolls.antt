@@ -2,7 +2,8 @@
 use Rattle.std.specs.Prelude.{◌≡◌, false, List, [], ◌∷◌, ◌++◌, codes}
 use Rattle.rc_model.specs.World.{opening}
 use Rattle.rc_model.specs.Report.{message_lines}
-use Rattle.rc_worked.specs.Settling.{Line, of_two, runs, report_of, create, decide, deliver, id, settle, start, suspect, write}
+use Rattle.rc_worked.specs.Settling.{Line, of_two, runs, report_of, create, decide, deliver, id, settle, start}
+use Rattle.rc_worked.specs.Settling.{suspect, write}
 
 abbrev pub roll : List Line
 roll =
@@ -91,4 +92,5 @@ ReplacedThenRolledReports =
 
 -- by then the first segment has other members, under a fresh epoch
 abbrev pub ReplacedThenRolledChanged : Type 0
-ReplacedThenRolledChanged = (((runs (opening of_two) replaced_then_rolled).masters (id 0 1)).log.segments 1).config.epoch ≡ 1
+ReplacedThenRolledChanged =
+    (((runs (opening of_two) replaced_then_rolled).masters (id 0 1)).log.segments 1).config.epoch ≡ 1

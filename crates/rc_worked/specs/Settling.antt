@@ -1,5 +1,6 @@
 -- Scenarios: events one by one, and settling, which delivers what was sent and not delivered.
-use Rattle.std.specs.Prelude.{ℕ, ◌+◌, Bool, true, false, nat_eq, ◌||◌, List, [], ◌∷◌, Option, Some, None, zero, suc}
+use Rattle.std.specs.Prelude.{ℕ, ◌+◌, Bool, true, false, not, nat_eq, ◌||◌, List, [], ◌∷◌, Option, Some, None, zero}
+use Rattle.std.specs.Prelude.{suc}
 use Rattle.std.specs.List.{list_any}
 use Rattle.rc_types.specs.declared.ids.ServerId.{ServerId}
 use Rattle.rc_types.specs.declared.ids.Addr.{Addr}
@@ -9,7 +10,8 @@ use Rattle.rc_types.specs.declared.events.Event.{Event}
 use Rattle.rc_types.specs.declared.events.Event.TheVariants as event
 use Rattle.rc_types.specs.declared.messages.Message.{Message}
 use Rattle.rc_types.specs.declared.messages.Body.{Body}
-use Rattle.rc_types.specs.declared.messages.Body.TheVariants.{Write, Read, Ready, Fetch, Place, Close, CommitOk}
+use Rattle.rc_types.specs.declared.messages.Body.TheVariants.{Write, Read, Ready, Fetch, Place, Append, Stored}
+use Rattle.rc_types.specs.declared.messages.Body.TheVariants.{Close, CommitOk}
 use Rattle.std.specs.Prelude.{slice_get}
 use Rattle.rc_model.specs.World.{World, step, opening}
 use Rattle.rc_model.specs.Report.{report}
@@ -158,6 +160,32 @@ is_place _ = false
 
 abbrev pub settle_without_place : Line
 settle_without_place = Settle (λ message. is_place message.body)
+
+abbrev pub is_append : Body → Bool
+is_append (Append seg offset entries) = true
+is_append _ = false
+
+-- settling without this host's servers, and without Append messages
+abbrev pub settle_without_append : ℕ → Line
+settle_without_append index = Settle (λ message. is_on index message.to || is_append message.body)
+
+abbrev pub is_fetch : Body → Bool
+is_fetch (Fetch attempt master seg len part) = true
+is_fetch _ = false
+
+abbrev pub settle_without_fetch : Line
+settle_without_fetch = Settle (λ message. is_fetch message.body)
+
+abbrev pub is_stored : Body → Bool
+is_stored (Stored seg epoch len closed) = true
+is_stored _ = false
+
+abbrev pub settle_without_stored : Line
+settle_without_stored = Settle (λ message. is_stored message.body)
+
+-- settling of what goes to this host's servers, and of nothing else
+abbrev pub settle_at : ℕ → Line
+settle_at index = Settle (λ message. not (is_on index message.to))
 
 -- kinds of messages
 

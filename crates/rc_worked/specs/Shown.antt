@@ -1,11 +1,14 @@
 -- Runs in which one rule each shows.
-use Rattle.std.specs.Prelude.{◌≡◌, ℕ, ◌-◌, Bool, true, List, [], ◌∷◌, ◌++◌, length, map, filter, Option, Some, slice_get, codes}
+use Rattle.std.specs.Prelude.{◌≡◌, ℕ, ◌-◌, Bool, true, List, [], ◌∷◌, ◌++◌, length, map, filter, Option, Some}
+use Rattle.std.specs.Prelude.{slice_get, codes}
 use Rattle.rc_types.specs.declared.ids.Addr.{Addr}
 use Rattle.rc_types.specs.declared.ids.Addr.TheVariants.{Outside, Server}
 use Rattle.rc_types.specs.declared.messages.Message.{Message}
 use Rattle.rc_types.specs.declared.messages.Body.TheVariants.{ReadOk}
 use Rattle.rc_model.specs.World.{opening}
-use Rattle.rc_worked.specs.Settling.{Line, runs, report_of, of_eight, of_one, of_two, create, decide, deliver, id, is_close, is_closed_place, read, settle, settle_without_commit_ok, settle_without_place, start, stop, suspect, tick, write}
+use Rattle.rc_worked.specs.Settling.{Line, runs, report_of, of_eight, of_one, of_two, create, decide, deliver, id}
+use Rattle.rc_worked.specs.Settling.{is_close, is_closed_place, read, settle, settle_without_commit_ok}
+use Rattle.rc_worked.specs.Settling.{settle_without_place, start, stop, suspect, tick, write}
 
 -- three hosts and four, and table 7 of server 0.1
 abbrev pub three_hosts : List Line
@@ -93,7 +96,8 @@ SecondAttemptReports =
 -- what was replayed isn't told to be recovered before it is stored
 abbrev pub recovered_when_stored : List Line
 recovered_when_stored =
-    four_hosts ++ write (id 0 1) 7 5 (codes "a") ∷ settle ∷ suspect (id 0 1) ∷ deliver 44 ∷ deliver 47 ∷ decide (id 0 1) ∷
+    four_hosts ++ write (id 0 1) 7 5 (codes "a") ∷ settle ∷ suspect (id 0 1) ∷ deliver 44 ∷ deliver 47 ∷ decide
+    (id 0 1) ∷
     deliver 48 ∷ deliver 49 ∷ deliver 50 ∷ []
 
 abbrev pub RecoveredWhenStoredReports : Type 0

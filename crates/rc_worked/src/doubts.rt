@@ -1,6 +1,7 @@
 //! Runs of `specs/Doubts.antt`.
 
-ghost use Rattle.rc_worked.specs.Doubts.{CloseToALostMemberReports, CommitAnswersItsOwnPairReports, StepsOneByOneReports};
+ghost use Rattle.rc_worked.specs.Doubts.{CloseToALostMemberReports, CommitAnswersItsOwnPairReports};
+ghost use Rattle.rc_worked.specs.Doubts.{StepsOneByOneReports};
 
 /// close to a lost member
 pub fn close_to_a_lost_member()

@@ -1,6 +1,7 @@
 //! Runs of `specs/Epochs.antt`.
 
-ghost use Rattle.rc_worked.specs.Epochs.{AppendAfterFenceReports, CommitLostNewReports, CommitLostOldReports, CommitOfCrashedReports, StaleReplicaReturnsReports};
+ghost use Rattle.rc_worked.specs.Epochs.{AppendAfterFenceReports, CommitLostNewReports, CommitLostOldReports};
+ghost use Rattle.rc_worked.specs.Epochs.{CommitOfCrashedReports, StaleReplicaReturnsReports};
 
 /// append after fence
 pub fn append_after_fence()

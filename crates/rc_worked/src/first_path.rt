@@ -1,6 +1,7 @@
 //! Runs of `specs/FirstPath.antt`.
 
-ghost use Rattle.rc_worked.specs.FirstPath.{NothingReports, FirstWriteReports, LostStoredReports, RefusalsReports, TwiceAndInReverseReports, DeliverUnsentReports};
+ghost use Rattle.rc_worked.specs.FirstPath.{NothingReports, FirstWriteReports, LostStoredReports, RefusalsReports};
+ghost use Rattle.rc_worked.specs.FirstPath.{TwiceAndInReverseReports, DeliverUnsentReports};
 
 /// nothing
 pub fn nothing()

@@ -1,7 +1,11 @@
 //! The theorems are about something: runs of `specs/Happening.antt`.
 
 ghost use Rattle.rc_worked.specs.Rolls.{ReplacedThenRolledChanged};
-ghost use Rattle.rc_worked.specs.Happening.{ScenariosAreReplays, RolledIsAcknowledged, RolledIsRecovered, RolledHasItsHeadAbove, RolledIsCovered, RolledIsDurable, FreedIsAcknowledged, FreedIsRecovered, FreedIsLeftOut, FreedIsSuperseded, FreedIsDropped, ThreeOwnersTell, ThreeOwnersAcknowledge, ThreeOwnersAreInTurn};
+ghost use Rattle.rc_worked.specs.Happening.{ScenariosAreReplays, RolledIsAcknowledged, RolledIsRecovered};
+ghost use Rattle.rc_worked.specs.Happening.{RolledHasItsHeadAbove, RolledIsCovered, RolledIsDurable};
+ghost use Rattle.rc_worked.specs.Happening.{FreedIsAcknowledged, FreedIsRecovered, FreedIsLeftOut, FreedIsSuperseded};
+ghost use Rattle.rc_worked.specs.Happening.{FreedIsDropped, ThreeOwnersTell, ThreeOwnersAcknowledge};
+ghost use Rattle.rc_worked.specs.Happening.{ThreeOwnersAreInTurn};
 
 /// A scenario is what a list of events leads to, so that each theorem on every list of events speaks
 /// of it.

@@ -1,11 +1,13 @@
 //! Worked runs: scenarios that the definitions of the protocol compute, each to its whole report.
 #![tactic(auto)]
 
+pub mod clients;
 pub mod doubts;
 pub mod epochs;
 pub mod first_path;
 pub mod freeing;
 pub mod happening;
+pub mod kept;
 pub mod recoveries;
 pub mod restarts;
 pub mod rolls;

@@ -1,6 +1,7 @@
 //! Runs of `specs/Rolls.antt`.
 
-ghost use Rattle.rc_worked.specs.Rolls.{RollReports, SuspectedWhileOpeningReports, NewHeadNowhereReports, ReplacedThenRolledReports, ReplacedThenRolledChanged};
+ghost use Rattle.rc_worked.specs.Rolls.{RollReports, SuspectedWhileOpeningReports, NewHeadNowhereReports};
+ghost use Rattle.rc_worked.specs.Rolls.{ReplacedThenRolledReports, ReplacedThenRolledChanged};
 
 /// roll
 pub fn roll()

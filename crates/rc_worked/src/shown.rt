@@ -1,6 +1,10 @@
 //! Runs of `specs/Shown.antt`, in each of which one rule shows.
 
-ghost use Rattle.rc_worked.specs.Shown.{TwoWritesOfOneKeyReports, ReadAtSecondOwnerReports, ReadAtSecondOwnerAnswers, ReadBeforeStoredReports, NewerGenerationReports, SecondAttemptReports, RecoveredWhenStoredReports, FreedWhenWritingReports, NoDataBeforeClosedReports, CloseToANewMemberReports, CloseToANewMemberGoes, PlaceToALostMemberReports, PlaceToALostMemberGoes};
+ghost use Rattle.rc_worked.specs.Shown.{TwoWritesOfOneKeyReports, ReadAtSecondOwnerReports, ReadAtSecondOwnerAnswers};
+ghost use Rattle.rc_worked.specs.Shown.{ReadBeforeStoredReports, NewerGenerationReports, SecondAttemptReports};
+ghost use Rattle.rc_worked.specs.Shown.{RecoveredWhenStoredReports, FreedWhenWritingReports};
+ghost use Rattle.rc_worked.specs.Shown.{NoDataBeforeClosedReports, CloseToANewMemberReports, CloseToANewMemberGoes};
+ghost use Rattle.rc_worked.specs.Shown.{PlaceToALostMemberReports, PlaceToALostMemberGoes};
 
 /// The second write of a key has version 2.
 pub fn two_writes_of_one_key()

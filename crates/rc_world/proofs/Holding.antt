@@ -1,5 +1,6 @@
 -- What is true of a world's fields stays true after one more event.
-use Rattle.std.proofs.Common.{◌≡◌, ℕ, ◌<◌, ◌≤◌, Bool, true, ◌&&◌, nat_lt, List, [], ◌∷◌, ◌++◌, length, refl, sym, subst, ◌∙◌, length-append, arith}
+use Rattle.std.proofs.Common.{◌≡◌, ℕ, ◌<◌, ◌≤◌, Bool, true, ◌&&◌, nat_lt, List, [], ◌∷◌, ◌++◌, length, refl, sym}
+use Rattle.std.proofs.Common.{subst, ◌∙◌, length-append, arith}
 use Rattle.std.proofs.lemmas.Bool.Decides.{nat_tests}
 use Rattle.rc_types.specs.declared.limits.TheConstants.{MAX_EVENTS}
 use Rattle.rc_types.specs.declared.events.Setup.{Setup}
@@ -46,7 +47,8 @@ holds_on old new sent seen after events event holds few same_list possible_seen 
     let two : IsSame (world_of new after) (replay old.setup (events ++ event ∷ [])) =
     goes_on old.setup events event (world_of old sent) (world_of new after) holds.same possible one in
     let all : AllHappen (opened old.setup) (events ++ event ∷ []) =
-    AllHappen-push (opened old.setup) events event holds.possible (happens old.setup events event (world_of old sent) holds.same few possible) in
+    AllHappen-push (opened old.setup) events event holds.possible
+    (happens old.setup events event (world_of old sent) holds.same few possible) in
     record {
       same = subst (λ (s : Setup). IsSame (world_of new after) (replay s (events ++ event ∷ []))) (sym setup) two;
       limits = subst (λ (s : Setup). IsWithinLimits s) (sym setup) holds.limits;

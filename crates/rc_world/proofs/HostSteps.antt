@@ -21,13 +21,15 @@ ticked result (Ok x) host seen after was now e same gone is h = rw (e, gone, ←
 ticked result (Err x) host seen after was now e same gone is h = rw e tt
 
 -- where none runs, nothing happens
-pub idle : {T E : Type 0} (result : Result T E) (x : T) (host seen after : HostData) → result ≡ Ok x → host ≡ seen → after ≡ host → host.master ≡ None →
+pub idle : {T E : Type 0} (result : Result T E) (x : T) (host seen after : HostData) → result ≡ Ok x → host ≡ seen →
+    after ≡ host → host.master ≡ None →
     OnOk result (host_of after ≡ (ticks_if_running (host_of seen) (option_map master_of seen.master)).0)
 idle result x host seen after e same gone none = rw (e, gone, ← same) (no_tick host none)
 
 one_left : (host : HostData) (was now : MasterData) → host.master ≡ Some was → master_of now ≡ master_of was →
     host_of (record host { master = Some now }) ≡ host_of host
-one_left host was now is h = ap (λ (m : Option Master). record (host_of host) { master = m }) (ap Some h ∙ sym (ap (option_map master_of) is))
+one_left host was now is h =
+    ap (λ (m : Option Master). record (host_of host) { master = m }) (ap Some h ∙ sym (ap (option_map master_of) is))
 
 -- a master that has no memory for it is as it was, and so is the host
 pub left : {T E : Type 0} (result r : Result T E) (host seen after : HostData) (was now : MasterData) → result ≡ r → host ≡ seen →

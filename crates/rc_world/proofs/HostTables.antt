@@ -1,5 +1,6 @@
 -- Hosts in a map, as the definitions see them.
-use Rattle.std.proofs.Common.{◌≡◌, ℕ, Bool, true, false, cond, nat_eq, Option, Some, IsSome, Result, Ok, Err, OnOk, OnErr, refl, ap, ◌∙◌, arith}
+use Rattle.std.proofs.Common.{◌≡◌, ℕ, Bool, true, false, cond, nat_eq, Option, Some, IsSome, Result, Ok, Err, OnOk}
+use Rattle.std.proofs.Common.{OnErr, refl, ap, ◌∙◌, arith}
 use Rattle.std.proofs.Math.Path.{fun_ext}
 use Rattle.std.proofs.lemmas.Bool.Decides.{nat_tests}
 use Rattle.indexmap.specs.IndexMap.{get, UpdatesBy}
@@ -33,12 +34,14 @@ put-same table k v is = fun_ext (λ i. at i (nat_eq k i) refl)
 
 -- the host that the map has at the index is written
 pub written : (setup : Setup) (old new : Hosts) (k : ℕ) (was now : HostData) → get nat_eq old k ≡ Some was →
-    (IsSome (get nat_eq old k) → UpdatesBy nat_eq (nat_eq k) old new (Some now)) → hosts_of setup new ≡ put (hosts_of setup old) k (host_of now)
+    (IsSome (get nat_eq old k) → UpdatesBy nat_eq (nat_eq k) old new (Some now)) →
+    hosts_of setup new ≡ put (hosts_of setup old) k (host_of now)
 written setup old new k was now found writes =
     let there : IsSome (get nat_eq old k) = rw found refl in
     hosts_of-put setup old new k now (writes there).0
 
-pub there-at : (setup : Setup) (hosts : Hosts) (k : ℕ) (was : HostData) → get nat_eq hosts k ≡ Some was → host_of was ≡ hosts_of setup hosts k
+pub there-at : (setup : Setup) (hosts : Hosts) (k : ℕ) (was : HostData) → get nat_eq hosts k ≡ Some was →
+    host_of was ≡ hosts_of setup hosts k
 there-at setup hosts k was found = rw found refl
 
 -- a host that has taken a step

@@ -25,12 +25,14 @@ given_back-after sent more number there =
 
 -- the message was taken out, what it brings about was sent, and it was put back
 pub sent_after : (F : Message → List Message) (sent lent mid after : List Message) (number : ℕ) (message : Message) → number < length sent →
-    message ≡ message_at sent number → lent ≡ slice_set sent number nothing → mid ≡ lent ++ F message → after ≡ slice_set mid number message →
+    message ≡ message_at sent number → lent ≡ slice_set sent number nothing → mid ≡ lent ++ F message →
+    after ≡ slice_set mid number message →
     after ≡ sent ++ F (message_at sent number)
 sent_after F sent lent mid after number message there is left says back =
     rw (back, says, left, is) (given_back-after sent (F (message_at sent number)) number there)
 
 -- the message was taken out, nothing was sent, and it was put back
 pub sent_nothing : (sent lent mid after : List Message) (number : ℕ) (message : Message) →
-    message ≡ message_at sent number → lent ≡ slice_set sent number nothing → mid ≡ lent → after ≡ slice_set mid number message → after ≡ sent
+    message ≡ message_at sent number → lent ≡ slice_set sent number nothing → mid ≡ lent →
+    after ≡ slice_set mid number message → after ≡ sent
 sent_nothing sent lent mid after number message is left says back = rw (back, says, left, is) (given_back sent number)

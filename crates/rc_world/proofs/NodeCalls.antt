@@ -10,7 +10,9 @@ use Rattle.rc_world.specs.NodeCalls.{event_of, WasSent, CallsAreSteps}
 use Rattle.rc_world.specs.declared.work.NodeWork.{NodeWork}
 use Rattle.rc_world.specs.declared.work.NodeWork.TheVariants as work
 
-given-job : (sent : List Message) (node : Node) (number : ℕ) (given : NodeWork) → WasSent sent node number given → may_take node given ≡ true →
+-- the job of a call that is not refused
+pub given-job : (sent : List Message) (node : Node) (number : ℕ) (given : NodeWork) → WasSent sent node number given →
+    may_take node given ≡ true →
     work_of sent (event_of node number given) ≡ Some (record { node = name_of node; work = work_at node given })
 given-job sent node number (work.Deliver message) was can =
     ap delivery was.0 ∙ ap (λ (name : NodeName). Some (let job : Job = record { node = name; work = Take message } in job)) was.1

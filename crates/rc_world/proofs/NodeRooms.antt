@@ -38,7 +38,11 @@ more-allow-more n m (TheHost host) more h = host-more n m more host h
 
 outside-steps : (n : ℕ) (given : NodeWork) → GivenWithin n given → StepWithin (n + 1) (after_work TheOutside given)
 outside-steps n (work.Ask to body) p =
-    record { node = tt; sent = one-within (n + 1) (record { from = Outside; to = Server to; body = body }) (body-more n (n + 1) (omega arith) body p) }
+    record {
+      node = tt;
+      sent = one-within (n + 1) (record { from = Outside; to = Server to; body = body })
+          (body-more n (n + 1) (omega arith) body p);
+    }
 outside-steps n (work.Deliver message) p = record { node = tt; sent = none-within (n + 1) }
 outside-steps n work.Tick p = record { node = tt; sent = none-within (n + 1) }
 outside-steps n work.Stop p = record { node = tt; sent = none-within (n + 1) }
@@ -83,7 +87,8 @@ host-has-room : (n : ℕ) (host : HostNode) → n ≤ MAX_EVENTS → HostWithin 
 host-has-room n host few h = record {
   generation = omega (arith, h.generation, few);
   versions = λ (master : Master) is.
-      All-weaker (λ (entry : Entry). entry.version ≤ n) (λ (entry : Entry). entry.version < 2 ^ 64 - 1) (λ entry p. omega (arith, p, few)) (entries_of master.log)
+      All-weaker (λ (entry : Entry). entry.version ≤ n) (λ (entry : Entry). entry.version < 2 ^ 64 - 1)
+      (λ entry p. omega (arith, p, few)) (entries_of master.log)
       (versions-of n master (h.master master is));
 }
 

@@ -4,11 +4,11 @@ use Rattle.rc_types.specs.declared.events.Setup.{Setup}
 use Rattle.rc_types.specs.declared.events.Event.{Event}
 use Rattle.rc_types.specs.declared.messages.Message.{Message}
 use Rattle.rc_model.specs.World.{replay}
-use Rattle.rc_log_words.specs.Claims.{sent_after}
-use Rattle.rc_service.specs.Service.{IsWritten}
-use Rattle.rc_service.proofs.Once.{one-version-is-one-write}
-use Rattle.rc_service.proofs.Time.{writes-follow-time}
-use Rattle.rc_service.proofs.Reading.{reads-see-acknowledged-writes}
+use Rattle.rc_log_laws.specs.WordClaims.{sent_after}
+use Rattle.rc_promises.specs.Service.{IsWritten}
+use Rattle.rc_promises.proofs.Once.{one-version-is-one-write}
+use Rattle.rc_promises.proofs.Time.{writes-follow-time}
+use Rattle.rc_promises.proofs.Reading.{reads-see-acknowledged-writes}
 use Rattle.rc_world.specs.Happened.{Happened}
 use Rattle.rc_world.specs.Served.{IsServed}
 

@@ -6,7 +6,8 @@ use Rattle.rc_types.specs.declared.messages.Message.{Message}
 use Rattle.rc_model.specs.Tables.{put}
 use Rattle.rc_model.specs.Coordinator.{Coordinator}
 use Rattle.rc_model.specs.Nodes.{HostNode, Work, outside_sends, coordinator_step, host_can, host_step}
-use Rattle.rc_model.specs.World.{World, NodeName, TheOutside, TheCoordinator, TheHost, Job, work_of, node_can, is_possible, is_possible_job, node_done, job_done, step, replay, opening}
+use Rattle.rc_model.specs.World.{World, NodeName, TheOutside, TheCoordinator, TheHost, Job, work_of, node_can}
+use Rattle.rc_model.specs.World.{is_possible, is_possible_job, node_done, job_done, step, replay, opening}
 use Rattle.rc_model.proofs.Replays.{replay_from-push}
 use Rattle.rc_world.specs.WorldView.{IsSame}
 
@@ -24,14 +25,16 @@ pub possible-same : (one other : World) (event : Event) → IsSame one other →
 possible-same one other event same =
     job-same one other same (work_of one.sent event) ∙ ap (λ (sent : List Message). is_possible_job other (work_of sent event)) same.sent
 
-coordinator-sent : (a b : List Message) (c d : Coordinator) (work : Work) → a ≡ b → c ≡ d → a ++ (coordinator_step c work).1 ≡ b ++ (coordinator_step d work).1
+coordinator-sent : (a b : List Message) (c d : Coordinator) (work : Work) → a ≡ b → c ≡ d →
+    a ++ (coordinator_step c work).1 ≡ b ++ (coordinator_step d work).1
 coordinator-sent a b c d work e f =
     ap (λ (sent : List Message). sent ++ (coordinator_step c work).1) e ∙ ap (λ (now : Coordinator). b ++ (coordinator_step now work).1) f
 
 host-sent : (a b : List Message) (index : ℕ) (g h : ℕ → HostNode) (work : Work) → a ≡ b → g ≡ h →
     a ++ (host_step (g index) work).1 ≡ b ++ (host_step (h index) work).1
 host-sent a b index g h work e f =
-    ap (λ (sent : List Message). sent ++ (host_step (g index) work).1) e ∙ ap (λ (hosts : ℕ → HostNode). b ++ (host_step (hosts index) work).1) f
+    ap (λ (sent : List Message). sent ++ (host_step (g index) work).1) e ∙
+    ap (λ (hosts : ℕ → HostNode). b ++ (host_step (hosts index) work).1) f
 
 node-same : (one other : World) (event : Event) → IsSame one other → (node : NodeName) (work : Work) →
     IsSame (node_done one event node work) (node_done other event node work)
@@ -51,7 +54,8 @@ node-same one other event same (TheHost index) work = record {
   coordinator = same.coordinator;
 }
 
-done-same : (one other : World) (event : Event) → IsSame one other → (job : Option Job) → IsSame (job_done one event job) (job_done other event job)
+done-same : (one other : World) (event : Event) → IsSame one other → (job : Option Job) →
+    IsSame (job_done one event job) (job_done other event job)
 done-same one other event same None = same
 done-same one other event same (Some job) = node-same one other event same job.node job.work
 
@@ -62,12 +66,14 @@ same-then one other third h k = record {
   coordinator = h.coordinator ∙ k.coordinator;
 }
 
-step-possible : (world : World) (event : Event) → is_possible world event ≡ true → step world event ≡ job_done world event (work_of world.sent event)
+step-possible : (world : World) (event : Event) → is_possible world event ≡ true →
+    step world event ≡ job_done world event (work_of world.sent event)
 step-possible world event possible = rw possible refl
 
 -- nodes that were what the events led to, and have taken one event more, are what these lead to
 pub goes_on : (setup : Setup) (events : List Event) (event : Event) (old new : World) → IsSame old (replay setup events) →
-    is_possible old event ≡ true → IsSame new (job_done old event (work_of old.sent event)) → IsSame new (replay setup (events ++ event ∷ []))
+    is_possible old event ≡ true → IsSame new (job_done old event (work_of old.sent event)) →
+    IsSame new (replay setup (events ++ event ∷ []))
 goes_on setup events event old new same possible done =
     let now : World = replay setup events in
     let so : is_possible now event ≡ true = sym (possible-same old now event same) ∙ possible in
@@ -77,4 +83,6 @@ goes_on setup events event old new same possible done =
     let two : job_done now event (work_of old.sent event) ≡ step now event =
     ap (λ (job : Option Job). job_done now event job) jobs ∙ sym (step-possible now event so) in
     let three : step now event ≡ replay setup (events ++ event ∷ []) = sym (replay_from-push (opening setup) events event) in
-    subst (λ (world : World). IsSame new world) (two ∙ three) (same-then new (job_done old event (work_of old.sent event)) (job_done now event (work_of old.sent event)) done one)
+    subst (λ (world : World). IsSame new world) (two ∙ three)
+    (same-then new (job_done old event (work_of old.sent event)) (job_done now event (work_of old.sent event)) done
+    one)

@@ -25,7 +25,8 @@ event_of node number (work.Split table at) = event.Split table at
 
 -- a message that is delivered was sent, under this number, to this node
 abbrev pub WasSent : List Message → Node → ℕ → NodeWork → Type 0
-WasSent sent node number (work.Deliver message) = (slice_get sent number ≡ Some message) × (node_of message.to ≡ name_of node)
+WasSent sent node number (work.Deliver message) =
+    (slice_get sent number ≡ Some message) × (node_of message.to ≡ name_of node)
 WasSent sent node number _ = Unit {0}
 
 -- the call as a step: what `NodeState::step` ensures of the node and of what it sends
@@ -42,5 +43,6 @@ step_of node number given = record {
 -- a call that isn't refused can be taken after these steps
 abbrev pub CallsAreSteps : Type 0
 CallsAreSteps = (setup : Setup) (earlier : List Step) (node : Node) (number : ℕ) (given : NodeWork) →
-    node ≡ left_at (name_of node) (new_node setup (name_of node)) earlier → WasSent (sent_by earlier) node number given →
+    node ≡ left_at (name_of node) (new_node setup (name_of node)) earlier →
+    WasSent (sent_by earlier) node number given →
     may_take node given ≡ true → Follows setup earlier (step_of node number given)

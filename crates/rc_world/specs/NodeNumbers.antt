@@ -1,12 +1,14 @@
 -- How great the numbers of a node that runs apart are, after so many works of all nodes.
-use Rattle.std.specs.Prelude.{ℕ, ◌+◌, ◌≤◌, List}
+use Rattle.std.specs.Prelude.{ℕ, ◌+◌, ◌≤◌, List, length}
 use Rattle.rc_types.specs.declared.events.Setup.{Setup}
+use Rattle.rc_types.specs.declared.events.Event.{Event}
 use Rattle.rc_types.specs.declared.messages.Message.{Message}
 use Rattle.rc_types.specs.declared.limits.TheConstants.{MAX_EVENTS}
 use Rattle.rc_model.specs.Coordinator.{new_coordinator}
 use Rattle.rc_model.specs.Nodes.{new_host, master_setup}
+use Rattle.rc_model.specs.World.{NodeName, replay}
 use Rattle.rc_numbers.specs.Numbers.{CoordinatorWithin, HostWithin, MessagesWithin, body_within}
-use Rattle.rc_history.specs.Nodes.{Node, TheOutside, TheCoordinator, TheHost}
+use Rattle.rc_history.specs.Nodes.{Node, TheOutside, TheCoordinator, TheHost, node_in}
 use Rattle.rc_world.specs.NodeView.{after_work, NodeHasRoom}
 use Rattle.rc_world.specs.declared.work.NodeWork.{NodeWork}
 use Rattle.rc_world.specs.declared.work.NodeWork.TheVariants.{Ask, Deliver}
@@ -34,10 +36,16 @@ pub record StepWithin (n : ℕ) (after : Node × List Message) : Type 0 where
   pub sent : MessagesWithin n after.1
 
 abbrev pub StepsStayWithin : Type 0
-StepsStayWithin = (n : ℕ) (node : Node) (work : NodeWork) → NodeWithin n node → GivenWithin n work → StepWithin (n + 1) (after_work node work)
+StepsStayWithin = (n : ℕ) (node : Node) (work : NodeWork) → NodeWithin n node → GivenWithin n work →
+    StepWithin (n + 1) (after_work node work)
 
 abbrev pub MoreWorksAllowMore : Type 0
 MoreWorksAllowMore = (n m : ℕ) (node : Node) → n ≤ m → NodeWithin n node → NodeWithin m node
 
 abbrev pub NodesHaveRoom : Type 0
 NodesHaveRoom = (n : ℕ) (node : Node) → n ≤ MAX_EVENTS → NodeWithin n node → NodeHasRoom node
+
+-- each node of a history within the limit has room, whatever else has happened
+abbrev pub HistoriesLeaveRoom : Type 0
+HistoriesLeaveRoom = (setup : Setup) (events : List Event) (name : NodeName) → length events ≤ MAX_EVENTS →
+    NodeHasRoom (node_in (replay setup events) name)

@@ -6,8 +6,8 @@ use Rattle.rc_types.specs.declared.events.Event.{Event}
 use Rattle.rc_types.specs.declared.messages.Message.{Message}
 use Rattle.rc_model.specs.Recovered.{Ack}
 use Rattle.rc_model.specs.Headline.{HasAcknowledged}
-use Rattle.rc_log_words.specs.Claims.{sent_after}
-use Rattle.rc_service.specs.Service.{IsOneWrite, IsWritten, IsOfKey, HasAsked, Answer, HasRead, SeesEveryWrite}
+use Rattle.rc_log_laws.specs.WordClaims.{sent_after}
+use Rattle.rc_promises.specs.Service.{IsOneWrite, IsWritten, IsOfKey, HasAsked, Answer, HasRead, SeesEveryWrite}
 use Rattle.rc_world.specs.Happened.{Happened}
 
 pub record IsServed (world : Happened) (sent : List Message) : Type 0 where
@@ -17,7 +17,8 @@ pub record IsServed (world : Happened) (sent : List Message) : Type 0 where
   pub ordered : (earlier more : List Event) (m x : ServerId) (first later : Ack) (entry : Entry) →
       world.events ≡ earlier ++ more → HasAcknowledged (sent_after world.setup earlier) m first →
       IsWritten sent x later entry → IsOfKey first.table first.key later →
-      (HasAsked (sent_after world.setup earlier) x later.table later.key entry.value → ⊥) → first.version < later.version
+      (HasAsked (sent_after world.setup earlier) x later.table later.key entry.value → ⊥) →
+      first.version < later.version
   -- each read sees every acknowledged write
   pub seen : (m : ServerId) (before : List Message) (answer : Answer) → HasRead sent m before answer →
       SeesEveryWrite world.setup world.events m before answer

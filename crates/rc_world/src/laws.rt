@@ -2,17 +2,19 @@
 
 ghost use Rattle.rc_world.specs.NodeCalls.{CallsAreSteps};
 ghost use Rattle.rc_world.specs.NodeNumbers.{NewNodesAreWithin, StepsStayWithin, MoreWorksAllowMore, NodesHaveRoom};
+ghost use Rattle.rc_world.specs.NodeNumbers.{HistoriesLeaveRoom};
 
 /// A node that runs apart has room for one more step (`NodeState::step` asks for it) where all nodes
 /// together took at most 200,000 works, and were brought only messages that these nodes sent: a new
 /// node has used nothing up; whatever number of works bounds the numbers of a node and of what it is
 /// given, one work more bounds those of the node after it, and of all that it sends; and up to 200,000
-/// there is room.
+/// there is room. So each node of a history of at most 200,000 events has room.
 pub fn nodes_have_room()
     ensures new { NewNodesAreWithin }
     ensures steps { StepsStayWithin }
     ensures more { MoreWorksAllowMore }
     ensures room { NodesHaveRoom }
+    ensures histories { HistoriesLeaveRoom }
 {}
 
 /// A call of `NodeState::step` that is not refused is a step that can be taken after the steps before it, as

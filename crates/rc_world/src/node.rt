@@ -8,15 +8,16 @@ ghost use Rattle.rc_coordinator.specs.Book.{coordinator_of};
 ghost use Rattle.rc_coordinator.specs.Steps.{HasNumbers};
 ghost use Rattle.rc_world.specs.HostView.{host_of, HostHasRoom, IsWithinLimits};
 ghost use Rattle.rc_history.specs.Nodes.{TheOutside, TheCoordinator, TheHost};
-ghost use Rattle.rc_world.specs.NodeView.{node_of, work_at, NodeHasRoom};
+ghost use Rattle.rc_world.specs.NodeView.{node_of, own_server, work_at, NodeHasRoom};
 ghost use Rattle.rc_world.specs.NodeView.{may_take, after_work, coordinator_may, coordinator_after};
 ghost use Rattle.rc_world.specs.NodeView.{host_may, host_after};
+ghost use Rattle.rc_world.specs.declared.work.NodeWork.TheVariants.{Deliver};
 
 use crate::host::Host;
 use crate::outside::{ask, can_ask};
 use crate::work::NodeWork;
 use rc_coordinator::Coordinator;
-use rc_types::{Fault, Input, Message, Setup};
+use rc_types::{Fault, Input, Message, ServerId, Setup};
 use std::alloc::{Allocator, Global};
 use std::marker::Model;
 
@@ -79,6 +80,18 @@ impl<A: Allocator + Clone> NodeState<A> {
         }
     }
 
+    /// The server of the host's last start, which a timer and a stop of the node name. A host that was
+    /// never started has generation 0; the outside and the coordinator have no server, and answer 0.0.
+    /// It takes no memory.
+    pub fn server(&self) -> ServerId
+        ensures { result ≡ own_server (node_of self.now) }
+    {
+        match &self.node {
+            Node::Outside | Node::Coordinator(_) => no_server(),
+            Node::Host(host) => host.server(),
+        }
+    }
+
     /// Gives the node this, and adds what it sends to those sent.
     ///
     /// # Errors
@@ -101,6 +114,28 @@ impl<A: Allocator + Clone> NodeState<A> {
         }
     }
 
+    /// Gives the node a message that is only lent, as `step_into` does with a delivery of it: nothing is
+    /// copied. A message is never refused; where its addressee does not run, it does nothing.
+    ///
+    /// # Errors
+    ///
+    /// `OutOfMemory` (F1): memory was refused. The node and what was sent are as before.
+    pub fn take(&mut self, message: &Message, sent: &mut Vec<Message>) -> Result<(), Fault>
+        requires { NodeHasRoom (node_of self.old) }
+        ensures state { OnOk result (node_of self.new ≡ (after_work (node_of self.old) (Deliver message.now)).0) }
+        ensures sends { OnOk result (sent.new.items ≡
+            sent.old.items ++ (after_work (node_of self.old) (Deliver message.now)).1) }
+        ensures err { OnErr result (node_of self.new ≡ node_of self.old) }
+        ensures unsent { OnErr result (sent.new.items ≡ sent.old.items) }
+        ensures no_memory { IfErr result (λ fault. fault ≡ OutOfMemory) }
+    {
+        match &mut self.node {
+            Node::Outside => Ok(()),
+            Node::Coordinator(coordinator) => coordinator.take(message, sent),
+            Node::Host(host) => host.take(message, sent),
+        }
+    }
+
     /// Gives the node this, and gives back what it sends, as `step_into` does.
     ///
     /// # Errors
@@ -118,6 +153,16 @@ impl<A: Allocator + Clone> NodeState<A> {
         let mut sent = Vec::new(self.alloc);
         self.step_into(work, &mut sent)?;
         Ok(sent)
+    }
+}
+
+/// The server of a node that has none.
+fn no_server() -> ServerId
+    ensures { result ≡ record { index = 0; generation = 0 } }
+{
+    ServerId {
+        index: 0,
+        generation: 0,
     }
 }
 

@@ -7,4 +7,5 @@ use Rattle.rc_audit.proofs.falling.first_among.Given as goal
 -- it falls from none so far
 abbrev pub invariant-loop-message : goal.invariant-loop-message
 invariant-loop-message l =
-    first_fall l.messages (ack_of l.later) (all_acknowledged l.messages) ≡ first_fall l.messages (ack_of l.later) (all_acknowledged (drop l.message-index l.messages))
+    first_fall l.messages (ack_of l.later) (all_acknowledged l.messages) ≡ first_fall l.messages (ack_of l.later)
+    (all_acknowledged (drop l.message-index l.messages))

@@ -9,4 +9,6 @@ use Rattle.rc_audit.proofs.invented.invented_in.Given as goal
 -- the segments so far have no invented place
 abbrev pub invariant-loop-seg : goal.invariant-loop-seg
 invariant-loop-seg l =
-    (sent : List Message) → AreRuns l.runs sent → first_invented sent (accepted_of l.recovery) (ascending (segments_of l.recovery.rows.now)) ≡ first_invented sent (accepted_of l.recovery) l.seg-iterator
+    (sent : List Message) → AreRuns l.runs sent →
+    first_invented sent (accepted_of l.recovery) (ascending (segments_of l.recovery.rows.now)) ≡ first_invented sent
+    (accepted_of l.recovery) l.seg-iterator

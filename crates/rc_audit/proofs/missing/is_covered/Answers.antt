@@ -20,13 +20,15 @@ returns-then-number_of-top c =
     let limit = unwrap_or (get nat_cmp c.args.reaches.now c.in-Some.seg.now) 0 in (
       λ no s. cc,
       λ all.
-          absurd (not_covered (get nat_cmp c.args.tops.now c.in-Some.seg.now) c.in-Some.top.now limit found (subst (λ n. n ≤ c.in-Some.top.now) c.number_of.ensures c.if-number_of-top.true) (all c.in-Some.seg.now)),
+          absurd (not_covered (get nat_cmp c.args.tops.now c.in-Some.seg.now) c.in-Some.top.now limit found
+          (subst (λ n. n ≤ c.in-Some.top.now) c.number_of.ensures c.if-number_of-top.true) (all c.in-Some.seg.now)),
     )
 
 pub returns : goal.returns
 returns c = (
   λ is s.
       below_from_all (λ q. unwrap_or (get nat_cmp c.args.reaches.now q) 0) c.args.tops.now.entries s
-      (c.loop-seg.invariant.covered (subst (λ x. AllBelow (λ q. unwrap_or (get nat_cmp c.args.reaches.now q) 0) x) (sym c.in-None.ensures.steps.0) tt)),
+      (c.loop-seg.invariant.covered (subst (λ x. AllBelow (λ q. unwrap_or (get nat_cmp c.args.reaches.now q) 0) x)
+      (sym c.in-None.ensures.steps.0) tt)),
   λ all. refl,
 )

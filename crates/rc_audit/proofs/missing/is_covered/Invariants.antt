@@ -8,6 +8,7 @@ use Rattle.rc_audit.proofs.missing.is_covered.Given as goal
 abbrev pub invariant-loop-seg : goal.invariant-loop-seg
 invariant-loop-seg l = record {
   covered :
-      AllBelow (λ s. unwrap_or (get nat_cmp l.reaches s) 0) l.seg-iterator → AllBelow (λ s. unwrap_or (get nat_cmp l.reaches s) 0) l.tops.entries;
+      AllBelow (λ s. unwrap_or (get nat_cmp l.reaches s) 0) l.seg-iterator →
+      AllBelow (λ s. unwrap_or (get nat_cmp l.reaches s) 0) l.tops.entries;
   found : AllFound (get nat_cmp l.tops) l.seg-iterator;
 }

@@ -8,10 +8,12 @@ use Rattle.rc_audit.proofs.missing.missing_from.Goals as goal
 pub returns-then-is_kept-clause-found : goal.returns-then-is_kept-clause-found
 returns-then-is_kept-clause-found c =
     let kept = c.is_kept.ensures.0 c.if-is_kept.true in
-    sym (none_missing c.args.evidence.now.messages.now (accepted_of c.args.recovery.now) (acknowledged c.args.evidence.now.messages.now c.args.recovery.now.master)
+    sym (none_missing c.args.evidence.now.messages.now (accepted_of c.args.recovery.now)
+    (acknowledged c.args.evidence.now.messages.now c.args.recovery.now.master)
     (sym (c.requires.standings.kept c.args.recovery.now.master) ∙ kept.0)
     (λ s. omega (arith, kept.1 s, c.requires.standings.below c.args.recovery.now.master s, c.in_ok-reaches.ensures.reaches.reach_of s)))
 
 pub returns-in_default-clause-found : goal.returns-in_default-clause-found
 returns-in_default-clause-found c =
-    missing_nothing c.args.senders.now c.args.evidence.now.messages.now (accepted_of c.args.recovery.now) c.requires.senders (sym c.in_default.ensures.value)
+    missing_nothing c.args.senders.now c.args.evidence.now.messages.now (accepted_of c.args.recovery.now)
+    c.requires.senders (sym c.in_default.ensures.value)

@@ -9,5 +9,6 @@ abbrev pub invariant-loop-message : goal.invariant-loop-message
 invariant-loop-message l = record {
   clean : AreClean l.clean l.evidence.messages.now;
   so_far :
-      missing_of l.evidence.messages.now (accepted l.evidence.messages.now) ≡ missing_of l.evidence.messages.now (accepted (drop l.message-index l.evidence.messages.now));
+      missing_of l.evidence.messages.now (accepted l.evidence.messages.now) ≡ missing_of l.evidence.messages.now
+      (accepted (drop l.message-index l.evidence.messages.now));
 }

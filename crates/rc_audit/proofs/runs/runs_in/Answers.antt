@@ -10,5 +10,7 @@ loop-place-init c =
 
 pub loop-place-preserved-in_ok-insert : goal.loop-place-preserved-in_ok-insert
 loop-place-preserved-in_ok-insert c =
-    runs_more c.loop-place.runs c.insert.new.self c.args.evidence.now.messages.now c.in-Some.place.now c.next.new.self c.count_run-run.result
-    (subst (RunsSoFar c.loop-place.runs c.args.evidence.now.messages.now) c.in-Some.ensures.steps c.loop-place.invariant) c.count_run-run.ensures c.in_ok-insert.ensures.updates.0
+    runs_more c.loop-place.runs c.insert.new.self c.args.evidence.now.messages.now c.in-Some.place.now c.next.new.self
+    c.count_run-run.result
+    (subst (RunsSoFar c.loop-place.runs c.args.evidence.now.messages.now) c.in-Some.ensures.steps
+    c.loop-place.invariant) c.count_run-run.ensures c.in_ok-insert.ensures.updates.0

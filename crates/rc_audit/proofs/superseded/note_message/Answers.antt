@@ -9,5 +9,7 @@ returns-in_ok-note_entries-in-Place-clause-noted c =
 
 pub returns-in_ok-note_entries-in-Append-clause-noted : goal.returns-in_ok-note_entries-in-Append-clause-noted
 returns-in_ok-note_entries-in-Append-clause-noted c =
-    append_noted _ _ c.args.recovery.now.rows.now c.args.message.now.body _ _ _ c.as_slice-in-Append.result.now c.number_of-reach-in-Append.result
-    c.in-Append.is c.as_slice-in-Append.ensures (c.number_of-reach-in-Append.ensures ∙ c.requires.reach_of _) c.in_ok-note_entries-in-Append.ensures.noted
+    append_noted _ _ c.args.recovery.now.rows.now c.args.message.now.body _ _ _ c.as_slice-in-Append.result.now
+    c.number_of-reach-in-Append.result
+    c.in-Append.is c.as_slice-in-Append.ensures (c.number_of-reach-in-Append.ensures ∙ c.requires.reach_of _)
+    c.in_ok-note_entries-in-Append.ensures.noted

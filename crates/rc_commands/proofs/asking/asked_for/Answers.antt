@@ -20,19 +20,22 @@ returns-in-Ok-clause-command c =
     let words = map string_bytes c.args.words.now in
     let is = c.in_ok-program.ensures in
     IfOk-weaker c.found.result _ _
-    (λ a h. h ∙ gives_command _ words is c.in-Ok.matches c.in-Ok.ensures.matches (taken _ words is c.in-Ok.ensures.kinds)) c.found.ensures.command
+    (λ a h. h ∙ gives_command _ words is c.in-Ok.matches c.in-Ok.ensures.matches
+    (taken _ words is c.in-Ok.ensures.kinds)) c.found.ensures.command
 
 pub returns-in-Ok-clause-tells : goal.returns-in-Ok-clause-tells
 returns-in-Ok-clause-tells c =
     let words = map string_bytes c.args.words.now in
-    IfOk-weaker c.found.result _ _ (λ a h. subst (λ faults. Tells faults a) (sym (taken _ words c.in_ok-program.ensures c.in-Ok.ensures.kinds)) h)
+    IfOk-weaker c.found.result _ _
+    (λ a h. subst (λ faults. Tells faults a) (sym (taken _ words c.in_ok-program.ensures c.in-Ok.ensures.kinds)) h)
     c.found.ensures.text
 
 pub returns-in-Err-clause-command : goal.returns-in-Err-clause-command
 returns-in-Err-clause-command c =
     let words = map string_bytes c.args.words.now in
     IfOk-weaker c.refused.result _ _
-    (λ a h. h.0 ∙ none_asked (fault_of ramseg words) _ (subcommand_of ramseg words) (refused _ words c.in_ok-program.ensures c.in-Err.error c.in-Err.ensures.kinds h.1.0))
+    (λ a h. h.0 ∙ none_asked (fault_of ramseg words) _ (subcommand_of ramseg words)
+    (refused _ words c.in_ok-program.ensures c.in-Err.error c.in-Err.ensures.kinds h.1.0))
     (IfOk-both c.refused.result _ _ c.refused.ensures.command c.refused.ensures.kind)
 
 pub returns-in-Err-clause-tells : goal.returns-in-Err-clause-tells
@@ -43,55 +46,71 @@ returns-in-Err-clause-tells c =
     c.refused.ensures.kind
 
 pub returns-in-Ok-clause-trace : goal.returns-in-Ok-clause-trace
-returns-in-Ok-clause-trace c = IfOk-weaker c.found.result _ _ (trace_told (map string_bytes c.args.words.now)) (returns-in-Ok-clause-command c)
+returns-in-Ok-clause-trace c =
+    IfOk-weaker c.found.result _ _ (trace_told (map string_bytes c.args.words.now)) (returns-in-Ok-clause-command c)
 
 pub returns-in-Ok-clause-audit : goal.returns-in-Ok-clause-audit
-returns-in-Ok-clause-audit c = IfOk-weaker c.found.result _ _ (audit_told (map string_bytes c.args.words.now)) (returns-in-Ok-clause-command c)
+returns-in-Ok-clause-audit c =
+    IfOk-weaker c.found.result _ _ (audit_told (map string_bytes c.args.words.now)) (returns-in-Ok-clause-command c)
 
 pub returns-in-Ok-clause-fuzz : goal.returns-in-Ok-clause-fuzz
-returns-in-Ok-clause-fuzz c = IfOk-weaker c.found.result _ _ (fuzz_told (map string_bytes c.args.words.now)) (returns-in-Ok-clause-command c)
+returns-in-Ok-clause-fuzz c =
+    IfOk-weaker c.found.result _ _ (fuzz_told (map string_bytes c.args.words.now)) (returns-in-Ok-clause-command c)
 
 pub returns-in-Ok-clause-stops : goal.returns-in-Ok-clause-stops
-returns-in-Ok-clause-stops c = IfOk-weaker c.found.result _ _ (stops_told (map string_bytes c.args.words.now)) (returns-in-Ok-clause-command c)
+returns-in-Ok-clause-stops c =
+    IfOk-weaker c.found.result _ _ (stops_told (map string_bytes c.args.words.now)) (returns-in-Ok-clause-command c)
 
 pub returns-in-Ok-clause-texts : goal.returns-in-Ok-clause-texts
-returns-in-Ok-clause-texts c = IfOk-weaker c.found.result _ _ (texts_told (map string_bytes c.args.words.now)) (returns-in-Ok-clause-tells c)
+returns-in-Ok-clause-texts c =
+    IfOk-weaker c.found.result _ _ (texts_told (map string_bytes c.args.words.now)) (returns-in-Ok-clause-tells c)
 
 pub returns-in-Err-clause-trace : goal.returns-in-Err-clause-trace
-returns-in-Err-clause-trace c = IfOk-weaker c.refused.result _ _ (trace_told (map string_bytes c.args.words.now)) (returns-in-Err-clause-command c)
+returns-in-Err-clause-trace c =
+    IfOk-weaker c.refused.result _ _ (trace_told (map string_bytes c.args.words.now)) (returns-in-Err-clause-command c)
 
 pub returns-in-Err-clause-audit : goal.returns-in-Err-clause-audit
-returns-in-Err-clause-audit c = IfOk-weaker c.refused.result _ _ (audit_told (map string_bytes c.args.words.now)) (returns-in-Err-clause-command c)
+returns-in-Err-clause-audit c =
+    IfOk-weaker c.refused.result _ _ (audit_told (map string_bytes c.args.words.now)) (returns-in-Err-clause-command c)
 
 pub returns-in-Err-clause-fuzz : goal.returns-in-Err-clause-fuzz
-returns-in-Err-clause-fuzz c = IfOk-weaker c.refused.result _ _ (fuzz_told (map string_bytes c.args.words.now)) (returns-in-Err-clause-command c)
+returns-in-Err-clause-fuzz c =
+    IfOk-weaker c.refused.result _ _ (fuzz_told (map string_bytes c.args.words.now)) (returns-in-Err-clause-command c)
 
 pub returns-in-Err-clause-stops : goal.returns-in-Err-clause-stops
-returns-in-Err-clause-stops c = IfOk-weaker c.refused.result _ _ (stops_told (map string_bytes c.args.words.now)) (returns-in-Err-clause-command c)
+returns-in-Err-clause-stops c =
+    IfOk-weaker c.refused.result _ _ (stops_told (map string_bytes c.args.words.now)) (returns-in-Err-clause-command c)
 
 pub returns-in-Err-clause-texts : goal.returns-in-Err-clause-texts
-returns-in-Err-clause-texts c = IfOk-weaker c.refused.result _ _ (texts_told (map string_bytes c.args.words.now)) (returns-in-Err-clause-tells c)
+returns-in-Err-clause-texts c =
+    IfOk-weaker c.refused.result _ _ (texts_told (map string_bytes c.args.words.now)) (returns-in-Err-clause-tells c)
 
 pub returns-in-Ok-clause-run : goal.returns-in-Ok-clause-run
 returns-in-Ok-clause-run c = IfOk-weaker c.found.result _ _ (run_told (map string_bytes c.args.words.now)) (returns-in-Ok-clause-command c)
 
 pub returns-in-Err-clause-run : goal.returns-in-Err-clause-run
-returns-in-Err-clause-run c = IfOk-weaker c.refused.result _ _ (run_told (map string_bytes c.args.words.now)) (returns-in-Err-clause-command c)
+returns-in-Err-clause-run c =
+    IfOk-weaker c.refused.result _ _ (run_told (map string_bytes c.args.words.now)) (returns-in-Err-clause-command c)
 
 pub returns-in-Ok-clause-heap : goal.returns-in-Ok-clause-heap
-returns-in-Ok-clause-heap c = IfOk-weaker c.found.result _ _ (heap_told (map string_bytes c.args.words.now)) (returns-in-Ok-clause-command c)
+returns-in-Ok-clause-heap c =
+    IfOk-weaker c.found.result _ _ (heap_told (map string_bytes c.args.words.now)) (returns-in-Ok-clause-command c)
 
 pub returns-in-Ok-clause-drawn : goal.returns-in-Ok-clause-drawn
-returns-in-Ok-clause-drawn c = IfOk-weaker c.found.result _ _ (drawn_told (map string_bytes c.args.words.now)) (returns-in-Ok-clause-command c)
+returns-in-Ok-clause-drawn c =
+    IfOk-weaker c.found.result _ _ (drawn_told (map string_bytes c.args.words.now)) (returns-in-Ok-clause-command c)
 
 pub returns-in-Ok-clause-cut : goal.returns-in-Ok-clause-cut
 returns-in-Ok-clause-cut c = IfOk-weaker c.found.result _ _ (cut_told (map string_bytes c.args.words.now)) (returns-in-Ok-clause-command c)
 
 pub returns-in-Err-clause-heap : goal.returns-in-Err-clause-heap
-returns-in-Err-clause-heap c = IfOk-weaker c.refused.result _ _ (heap_told (map string_bytes c.args.words.now)) (returns-in-Err-clause-command c)
+returns-in-Err-clause-heap c =
+    IfOk-weaker c.refused.result _ _ (heap_told (map string_bytes c.args.words.now)) (returns-in-Err-clause-command c)
 
 pub returns-in-Err-clause-drawn : goal.returns-in-Err-clause-drawn
-returns-in-Err-clause-drawn c = IfOk-weaker c.refused.result _ _ (drawn_told (map string_bytes c.args.words.now)) (returns-in-Err-clause-command c)
+returns-in-Err-clause-drawn c =
+    IfOk-weaker c.refused.result _ _ (drawn_told (map string_bytes c.args.words.now)) (returns-in-Err-clause-command c)
 
 pub returns-in-Err-clause-cut : goal.returns-in-Err-clause-cut
-returns-in-Err-clause-cut c = IfOk-weaker c.refused.result _ _ (cut_told (map string_bytes c.args.words.now)) (returns-in-Err-clause-command c)
+returns-in-Err-clause-cut c =
+    IfOk-weaker c.refused.result _ _ (cut_told (map string_bytes c.args.words.now)) (returns-in-Err-clause-command c)

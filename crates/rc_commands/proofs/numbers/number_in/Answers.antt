@@ -5,7 +5,8 @@ use Rattle.rc_commands.proofs.numbers.number_in.Goals as goal
 
 pub returns-in_default-clause-number : goal.returns-in_default-clause-number
 returns-in_default-clause-number c =
-    refused c.args.least c.args.most c.args.text.now (λ e. c.if-as_bytes-eq43.false (ap (λ t. slice_index t 0) c.as_bytes.ensures.value ∙ e))
+    refused c.args.least c.args.most c.args.text.now
+    (λ e. c.if-as_bytes-eq43.false (ap (λ t. slice_index t 0) c.as_bytes.ensures.value ∙ e))
     c.in_default.field-0 c.in_default.ensures.value.0 c.ranges.most.fits
 
 pub returns-then-number-most-clause-number : goal.returns-then-number-most-clause-number

@@ -10,14 +10,17 @@ abbrev read : ℕ → ℕ → Text → Option (Option ℕ)
 read least most text = option_map Some (decimal_in least most text)
 
 pub returns-in_default-clause-number : goal.returns-in_default-clause-number
-returns-in_default-clause-number c = as_given (read c.args.least c.args.most) (Some None) (found_of c.args.given.now) c.args.option.now None c.in_default.ensures
+returns-in_default-clause-number c = as_given (read c.args.least c.args.most) (Some None) (found_of c.args.given.now)
+    c.args.option.now None c.in_default.ensures
 
 pub returns-in-Some-number_in-clause-number : goal.returns-in-Some-number_in-clause-number
 returns-in-Some-number_in-clause-number c =
-    as_given (read c.args.least c.args.most) (Some None) (found_of c.args.given.now) c.args.option.now (Some c.in-Some.text) c.in-Some.ensures
+    as_given (read c.args.least c.args.most) (Some None) (found_of c.args.given.now) c.args.option.now
+    (Some c.in-Some.text) c.in-Some.ensures
     ∙ ap (option_map Some) (sym c.in-Some-number_in.ensures.number)
 
 pub returns-in-None-clause-number : goal.returns-in-None-clause-number
 returns-in-None-clause-number c =
-    as_given (read c.args.least c.args.most) (Some None) (found_of c.args.given.now) c.args.option.now (Some c.in-Some.text) c.in-Some.ensures
+    as_given (read c.args.least c.args.most) (Some None) (found_of c.args.given.now) c.args.option.now
+    (Some c.in-Some.text) c.in-Some.ensures
     ∙ ap (option_map Some) (sym c.in-None.ensures.number)

@@ -6,4 +6,5 @@ use Rattle.rc_coordinator.proofs.notices.spread_list.Given as goal
 -- the messages so far, and then those to the ids that are left
 abbrev pub invariant-loop-id : goal.invariant-loop-id
 invariant-loop-id l =
-    l.messages.items ++ to_each (drop l.id-index l.id-items) (Listed l.servers.version l.servers.rows) ≡ to_each l.id-items (Listed l.servers.version l.servers.rows)
+    l.messages.items ++ to_each (drop l.id-index l.id-items) (Listed l.servers.version l.servers.rows) ≡ to_each
+    l.id-items (Listed l.servers.version l.servers.rows)

@@ -5,4 +5,5 @@ use Rattle.rc_digestpick.proofs.best.enter_rows.Goals as goal
 
 pub loop-row-preserved : goal.loop-row-preserved
 loop-row-preserved c = λ seg.
-    first_after_step closed_first (is_valid_of c.args.min seg) _ _ _ _ _ _ _ (omega arith) c.row-item.is (c.loop-row.invariant seg) (c.in_ok-enter.ensures.ok seg)
+    first_after_step closed_first (is_valid_of c.args.min seg) _ _ _ _ _ _ _ (omega arith) c.row-item.is
+    (c.loop-row.invariant seg) (c.in_ok-enter.ensures.ok seg)

@@ -5,4 +5,6 @@ use Rattle.rc_digestpick.proofs.head.head_row.Goals as goal
 
 pub loop-holder-preserved : goal.loop-holder-preserved
 loop-holder-preserved c =
-    first_by_step head_first (is_open_valid c.args.min) _ _ c.args.replies.now c.loop-holder.holder-index c.loop-holder-item.result _ (omega arith) c.loop-holder-item.is c.as_slice.ensures c.loop-holder.invariant c.highest-best.ensures
+    first_by_step head_first (is_open_valid c.args.min) _ _ c.args.replies.now c.loop-holder.holder-index
+    c.loop-holder-item.result _ (omega arith) c.loop-holder-item.is c.as_slice.ensures c.loop-holder.invariant
+    c.highest-best.ensures

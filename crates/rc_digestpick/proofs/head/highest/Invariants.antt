@@ -6,4 +6,5 @@ use Rattle.rc_digestpick.proofs.head.highest.Given as goal
 
 -- the first so far
 abbrev pub invariant-loop-row : goal.invariant-loop-row
-invariant-loop-row l = option_map held_row l.best ≡ first_open l.min (option_map held_row l.fn.so_far) (rows_of l.holder (take l.row-index l.rows))
+invariant-loop-row l = option_map held_row l.best ≡ first_open l.min (option_map held_row l.fn.so_far)
+    (rows_of l.holder (take l.row-index l.rows))

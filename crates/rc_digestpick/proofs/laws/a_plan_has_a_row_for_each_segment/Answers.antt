@@ -1,5 +1,6 @@
 use Rattle.rc_model.specs.Pick.{ascending}
-use Rattle.rc_digestpick.proofs.Ascending.{IsAscending-ascending, IsStrictlyIncreasing-ascending, In-ascending, In-from_ascending, In-contains, Contains-in}
+use Rattle.rc_digestpick.proofs.Ascending.{IsAscending-ascending, IsStrictlyIncreasing-ascending, In-ascending}
+use Rattle.rc_digestpick.proofs.Ascending.{In-from_ascending, In-contains, Contains-in}
 use Rattle.rc_digestpick.proofs.Columns.{segs-taken}
 use Rattle.rc_digestpick.proofs.laws.a_plan_has_a_row_for_each_segment.Goals as goal
 

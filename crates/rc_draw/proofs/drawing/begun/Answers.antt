@@ -3,4 +3,5 @@ use Rattle.rc_draw.proofs.drawing.begun.Goals as goal
 
 pub returns-in-Ok-clause-ok : goal.returns-in-Ok-clause-ok
 returns-in-Ok-clause-ok c =
-    begun_from c.args.free c.drawing_setup.result c.new-run.result c.begin.new.run c.drawing_setup.ensures c.new-run.ensures c.in-Ok.ensures.ok
+    begun_from c.args.free c.drawing_setup.result c.new-run.result c.begin.new.run c.drawing_setup.ensures
+    c.new-run.ensures c.in-Ok.ensures.ok

@@ -7,7 +7,8 @@ use Rattle.rc_draw.proofs.drawing.draw.Goals as goal
 
 pub returns-in-Ok-clause-ok : goal.returns-in-Ok-clause-ok
 returns-in-Ok-clause-ok c =
-    IfOk-weaker c.copied.result (λ copies. copies.items ≡ c.events.result.now) (λ copies. copies.items ≡ drawn c.args.seed c.args.steps c.args.free)
+    IfOk-weaker c.copied.result (λ copies. copies.items ≡ c.events.result.now)
+    (λ copies. copies.items ≡ drawn c.args.seed c.args.steps c.args.free)
     (λ copies same. same ∙ (c.events.ensures.events ∙ (ap (λ world. world.events) c.world.ensures.world ∙ c.in-Ok.ensures.events)))
     c.copied.ensures.ok
 

@@ -12,7 +12,8 @@ returns-in-Some-clause-ok c =
     let same : Some (core_event c.in-Some.event) ≡ option_map Some (event_of world c.args.number c.args.words) =
     ap (option_map core_event) (sym c.in-Some.is) ∙ c.in_ok-event.ensures.ok
     ∙ ap (λ w. option_map Some (event_of (replayed w) c.args.number c.args.words)) c.world.ensures.world in
-    step_played c.play.result world (replayed c.play.new.run) c.in-Some.event (event_of world c.args.number c.args.words) same c.play.ensures.ok
+    step_played c.play.result world (replayed c.play.new.run) c.in-Some.event
+    (event_of world c.args.number c.args.words) same c.play.ensures.ok
 
 pub returns-in-None-clause-ok : goal.returns-in-None-clause-ok
 unfolding drawn_step

@@ -8,7 +8,8 @@ loop-last-init c = record { so_far = sym (breaches_none c.args.events.now); none
 pub loop-last-preserved : goal.loop-last-preserved
 loop-last-preserved c = record {
   so_far =
-      counted_more c.args.events.now (take (c.loop-last.last + 1) c.args.events.now) c.loop-last.last c.loop-last.breaches c.in_ok-breaches.field-0
+      counted_more c.args.events.now (take (c.loop-last.last + 1) c.args.events.now) c.loop-last.last
+      c.loop-last.breaches c.in_ok-breaches.field-0
       c.loop-last.invariant.so_far refl c.in_ok-breaches.ensures.ok;
   none = omega (arith, c.loop-last.invariant.none, c.in_ok-breaches.ensures.none);
 }

@@ -12,6 +12,7 @@ loop-entry-preserved c =
       added =
           ap (map log_place) c.in_ok-push.ensures.items
           ∙ map_push log_place c.loop-entry.places.items _
-          ∙ add-step (map log_place c.args.places.now.items) (map log_place c.loop-entry.places.items) c.args.seg c.args.offset c.loop-entry.entry-index c.loop-entry.at
+          ∙ add-step (map log_place c.args.places.now.items) (map log_place c.loop-entry.places.items) c.args.seg
+          c.args.offset c.loop-entry.entry-index c.loop-entry.at
           c.args.entries.now c.loop-entry-item.result inside c.loop-entry.invariant.at c.loop-entry-item.is c.loop-entry.invariant.added;
     }

@@ -8,7 +8,8 @@ use Rattle.rc_ownership.proofs.bounds.cut_at.Goals as goal
 
 pub returns-in_err-insert-clause-same : goal.returns-in_err-insert-clause-same
 returns-in_err-insert-clause-same c =
-    λ terms say. subst (λ entries. Say (λ other. lookup (λ key. is_eq (nat_cmp other key)) entries) terms) (sym c.in_err-insert.ensures.err) say
+    λ terms say. subst (λ entries. Say (λ other. lookup (λ key. is_eq (nat_cmp other key)) entries) terms)
+    (sym c.in_err-insert.ensures.err) say
 
 pub returns-in_ok-insert-clause-same : goal.returns-in_ok-insert-clause-same
 returns-in_ok-insert-clause-same c =

@@ -9,7 +9,8 @@ abbrev pub invariant-loop-point : goal.invariant-loop-point
 invariant-loop-point l = record {
   low : l.first ≤ l.point;
   high : l.point ≤ max l.first l.end;
-  given_so_far : (other : ℕ) → get nat_cmp l.bounds other ≡ given l.term (is_within l.first l.point other) (get nat_cmp l.initial.bounds other);
+  given_so_far : (other : ℕ) → get nat_cmp l.bounds other ≡ given l.term (is_within l.first l.point other)
+      (get nat_cmp l.initial.bounds other);
 }
 
 abbrev pub decreases-loop-point : goal.decreases-loop-point

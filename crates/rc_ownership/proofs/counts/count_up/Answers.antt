@@ -8,5 +8,6 @@ pub overflow_add-count : goal.overflow_add-count
 overflow_add-count c =
     let term = c.entry-item.result.term in
     let is : count_in c.loop-entry.counts term ≡ c.in-Some.count.now = ap (λ o. unwrap_or o 0) (sym c.in-Some.ensures.value) in
-    let few : count_under term (take c.loop-entry.entry-index c.args.entries.now) ≤ c.loop-entry.entry-index = count_under-le term c.args.entries.now c.loop-entry.entry-index in
+    let few : count_under term (take c.loop-entry.entry-index c.args.entries.now) ≤ c.loop-entry.entry-index =
+    count_under-le term c.args.entries.now c.loop-entry.entry-index in
     omega (arith, is, few, c.loop-entry.invariant.counted term, c.requires.room term)

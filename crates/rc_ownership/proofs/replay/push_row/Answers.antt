@@ -7,6 +7,10 @@ use Rattle.rc_ownership.proofs.replay.push_row.Goals as goal
 
 pub returns-in_ok-push_back-clause-none_empty : goal.returns-in_ok-push_back-clause-none_empty
 returns-in_ok-push_back-clause-none_empty c none =
-    let pushed : c.push_back.new.self.items ≡ c.args.joined.now.items ++ map (under_term c.args.term) c.in-Some.entries ∷ [] = grind (arith, common_steps) in
-    let more : 0 < length (map (under_term c.args.term) c.in-Some.entries) = omega (arith, c.len.ensures, c.if-len-gt0.true, length_under c.args.term c.in-Some.entries) in
-    subst NoneIsEmpty (sym pushed) (none_empty-append c.args.joined.now.items (map (under_term c.args.term) c.in-Some.entries ∷ []) none (more, tt))
+    let pushed : c.push_back.new.self.items ≡ c.args.joined.now.items ++ map (under_term c.args.term)
+    c.in-Some.entries ∷ [] = grind (arith, common_steps) in
+    let more : 0 < length (map (under_term c.args.term) c.in-Some.entries) =
+    omega (arith, c.len.ensures, c.if-len-gt0.true, length_under c.args.term c.in-Some.entries) in
+    subst NoneIsEmpty (sym pushed)
+    (none_empty-append c.args.joined.now.items (map (under_term c.args.term) c.in-Some.entries ∷ []) none
+    (more, tt))

@@ -8,4 +8,5 @@ pub returns : goal.returns
 returns c =
     c.in_ok-insert.ensures.items
     ∙ ap (λ row. insert c.args.rows.now.items c.unwrap_or-place.result row) c.new.ensures
-    ∙ insert-found (awaited_row (c.args.seg, c.args.holder)) c.args.rows.now.items c.place_of.result c.len.result _ (search rules) (search rules) c.unwrap_or-place.ensures
+    ∙ insert-found (awaited_row (c.args.seg, c.args.holder)) c.args.rows.now.items c.place_of.result c.len.result _
+    (search rules) (search rules) c.unwrap_or-place.ensures

@@ -15,7 +15,8 @@ members-preserved c =
     let k = c.in-Some.name.now in
     let s = c.next_key.new.self in
     let key : read_key l.reader ≡ Some (Some k, s) = grind arith in
-    let took : says (λ d. noted (member_named k) d l.fields) c.args.depth s ≡ Some (c.take.new.self, c.take.new.reader) = rw (← c.named.ensures) c.in_ok-take.ensures.ok in
+    let took : says (λ d. noted (member_named k) d l.fields) c.args.depth s ≡ Some (c.take.new.self, c.take.new.reader)
+    = rw (← c.named.ensures) c.in_ok-take.ensures.ok in
     let read = says_some (λ d. noted (member_named k) d l.fields) c.args.depth s c.take.new.reader c.take.new.self took in
     let less = read_key-shorter l.reader (Some k) s key in
     let lesser = c.in_ok-take.ensures.shorter in

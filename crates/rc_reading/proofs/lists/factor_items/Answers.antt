@@ -11,17 +11,21 @@ pub items-preserved : goal.items-preserved
 items-preserved c =
     let l = c.items in
     let going : (after_end_array l.reader ≡ None) × (c.take_end_array.new.self ≡ l.reader) = grind arith in
-    let read : says (factor_of) c.args.depth l.reader ≡ Some (c.in_ok-factor.factor, c.factor.new.reader) = rw (← going.1) c.in_ok-factor.ensures.ok in
+    let read : says (factor_of) c.args.depth l.reader ≡ Some (c.in_ok-factor.factor, c.factor.new.reader) =
+    rw (← going.1) c.in_ok-factor.ensures.ok in
     let less : length c.factor.new.reader < length l.reader = rw (← going.1) c.in_ok-factor.ensures.shorter in
-    let same = folds_more take_factor l.factors (factor_of) (factor_added l.factors) c.args.depth l.reader _ _ (λ d. refl) going.0 read in
-    (ap (λ o. folds take_factor o c.args.depth c.factor.new.reader) c.in_ok-factors.ensures ∙ sym same ∙ l.invariant.0, omega (arith, l.invariant.1, less))
+    let same = folds_more take_factor l.factors (factor_of) (factor_added l.factors) c.args.depth l.reader _ _ (λ d. refl) going.0 read in (
+      ap (λ o. folds take_factor o c.args.depth c.factor.new.reader) c.in_ok-factors.ensures ∙ sym same ∙ l.invariant.0,
+      omega (arith, l.invariant.1, less),
+    )
 
 pub returns-in_err-factor-clause-bad : goal.returns-in_err-factor-clause-bad
 returns-in_err-factor-clause-bad c place is =
     let l = c.items in
     let going : (after_end_array l.reader ≡ None) × (c.take_end_array.new.self ≡ l.reader) = grind arith in
     let none : items_at c.args.depth c.args.reader.now ≡ None =
-    folds_refused take_factor l.factors (Some []) c.args.depth l.reader _ l.invariant.0 (item_refused c.args.depth l.reader going.0 (rw (← going.1) c.in_err-factor.ensures.err)) in
+    folds_refused take_factor l.factors (Some []) c.args.depth l.reader _ l.invariant.0
+    (item_refused c.args.depth l.reader going.0 (rw (← going.1) c.in_err-factor.ensures.err)) in
     (grind (arith, is), none)
 
 pub returns-clause-ok : goal.returns-clause-ok

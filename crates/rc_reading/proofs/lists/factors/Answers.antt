@@ -8,7 +8,9 @@ use Rattle.rc_reading.proofs.lists.factors.Goals as goal
 pub returns-in-None-clause-ok : goal.returns-in-None-clause-ok
 returns-in-None-clause-ok c =
     let begun : (c.args.reader.now ≡ Token.begin_array ∷ c.begin.new.reader) × (0 < c.args.depth) = grind arith in
-    IfOk-weaker c.factor_items.result _ _ (λ all e. rw begun.0 (listed_says (each take_factor []) c.args.depth c.begin.new.reader _ all begun.1 e)) c.factor_items.ensures.ok
+    IfOk-weaker c.factor_items.result _ _
+    (λ all e. rw begun.0 (listed_says (each take_factor []) c.args.depth c.begin.new.reader _ all begun.1 e))
+    c.factor_items.ensures.ok
 
 pub returns-in-None-clause-bad : goal.returns-in-None-clause-bad
 returns-in-None-clause-bad c place is =

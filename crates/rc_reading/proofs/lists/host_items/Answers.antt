@@ -12,17 +12,21 @@ pub items-preserved : goal.items-preserved
 items-preserved c =
     let l = c.items in
     let going : (after_end_array l.reader ≡ None) × (c.take_end_array.new.self ≡ l.reader) = grind arith in
-    let read : says (host_of) c.args.depth l.reader ≡ Some (c.in_ok-host.host, c.host.new.reader) = rw (← going.1) c.in_ok-host.ensures.ok in
+    let read : says (host_of) c.args.depth l.reader ≡ Some (c.in_ok-host.host, c.host.new.reader) =
+    rw (← going.1) c.in_ok-host.ensures.ok in
     let less : length c.host.new.reader < length l.reader = rw (← going.1) c.in_ok-host.ensures.shorter in
-    let same = folds_more take_host l.hosts (host_of) (added with_host l.hosts) c.args.depth l.reader _ _ (λ d. refl) going.0 read in
-    (ap (λ o. folds take_host o c.args.depth c.host.new.reader) c.with_host-hosts.ensures ∙ sym same ∙ l.invariant.0, omega (arith, l.invariant.1, less))
+    let same = folds_more take_host l.hosts (host_of) (added with_host l.hosts) c.args.depth l.reader _ _ (λ d. refl) going.0 read in (
+      ap (λ o. folds take_host o c.args.depth c.host.new.reader) c.with_host-hosts.ensures ∙ sym same ∙ l.invariant.0,
+      omega (arith, l.invariant.1, less),
+    )
 
 pub returns-in_err-host-clause-err : goal.returns-in_err-host-clause-err
 returns-in_err-host-clause-err c =
     let l = c.items in
     let going : (after_end_array l.reader ≡ None) × (c.take_end_array.new.self ≡ l.reader) = grind arith in
     let none : items_at c.args.depth c.args.reader.now ≡ None =
-    folds_refused take_host l.hosts (Some no_hosts) c.args.depth l.reader _ l.invariant.0 (item_refused c.args.depth l.reader going.0 (rw (← going.1) c.in_err-host.ensures.err)) in
+    folds_refused take_host l.hosts (Some no_hosts) c.args.depth l.reader _ l.invariant.0
+    (item_refused c.args.depth l.reader going.0 (rw (← going.1) c.in_err-host.ensures.err)) in
     grind (arith, none)
 
 pub returns-clause-ok : goal.returns-clause-ok

@@ -9,7 +9,9 @@ use Rattle.rc_reading.proofs.lists.hosts.Goals as goal
 pub returns-in-None-clause-ok : goal.returns-in-None-clause-ok
 returns-in-None-clause-ok c =
     let begun : (c.args.reader.now ≡ Token.begin_array ∷ c.begin.new.reader) × (0 < c.args.depth) = grind arith in
-    IfOk-weaker c.host_items.result _ _ (λ all e. rw begun.0 (listed_says (each take_host no_hosts) c.args.depth c.begin.new.reader _ all begun.1 e)) c.host_items.ensures.ok
+    IfOk-weaker c.host_items.result _ _
+    (λ all e. rw begun.0 (listed_says (each take_host no_hosts) c.args.depth c.begin.new.reader _ all begun.1 e))
+    c.host_items.ensures.ok
 
 pub returns-in-None-clause-err : goal.returns-in-None-clause-err
 returns-in-None-clause-err c =

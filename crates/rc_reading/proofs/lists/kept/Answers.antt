@@ -8,7 +8,9 @@ use Rattle.rc_reading.proofs.lists.kept.Goals as goal
 pub returns-in-None-clause-ok : goal.returns-in-None-clause-ok
 returns-in-None-clause-ok c =
     let begun : (c.args.reader.now ≡ Token.begin_array ∷ c.begin.new.reader) × (0 < c.args.depth) = grind arith in
-    IfOk-weaker c.kept_items.result _ _ (λ all e. rw begun.0 (listed_says (each take_name []) c.args.depth c.begin.new.reader _ all begun.1 e)) c.kept_items.ensures.ok
+    IfOk-weaker c.kept_items.result _ _
+    (λ all e. rw begun.0 (listed_says (each take_name []) c.args.depth c.begin.new.reader _ all begun.1 e))
+    c.kept_items.ensures.ok
 
 pub returns-in-None-clause-bad : goal.returns-in-None-clause-bad
 returns-in-None-clause-bad c place is =

@@ -7,7 +7,8 @@ use Rattle.rc_reading.proofs.lists.kind_items.Given as goal
 -- what the items to come make of what there is
 abbrev pub invariant-items : goal.invariant-items
 invariant-items l =
-    (folds take_kind l.kinds l.depth l.reader ≡ folds take_kind (Some no_kinds) l.depth l.initial.reader) × (length l.reader ≤ length l.initial.reader)
+    (folds take_kind l.kinds l.depth l.reader ≡ folds take_kind (Some no_kinds) l.depth l.initial.reader) ×
+    (length l.reader ≤ length l.initial.reader)
 
 abbrev pub decreases-items : goal.decreases-items
 decreases-items l = length l.reader

@@ -17,7 +17,8 @@ returns-in-Ok-clause-ok c =
 
 pub returns-in-Ok-clause-bad : goal.returns-in-Ok-clause-bad
 returns-in-Ok-clause-bad c place is =
-    of_text_read c.args.bytes.now (omega arith) c.in-Ok.ensures.cases.1 ∙ ap of_text (sym c.in-Ok.ensures.cases.0) ∙ c.read_text.ensures.bad place is
+    of_text_read c.args.bytes.now (omega arith) c.in-Ok.ensures.cases.1 ∙ ap of_text (sym c.in-Ok.ensures.cases.0) ∙
+    c.read_text.ensures.bad place is
 
 pub returns-in-Err-clause-bad : goal.returns-in-Err-clause-bad
 returns-in-Err-clause-bad c place is = no_text c.args.bytes.now (omega arith) (λ text. c.in-Err.ensures.cases.0 text) ∙ ap Err (cc)

@@ -29,18 +29,22 @@ returns-in-Null-clause-ok c = rw (c.in-Some.ensures.value, c.in-Null.is) (null_s
 
 pub returns-in-Some-number_of-clause-ok : goal.returns-in-Some-number_of-clause-ok
 returns-in-Some-number_of-clause-ok c =
-    rw (c.in-Some.ensures.value, c.in-Number.is) (number_said c.args.depth c.in-Number.text.now _ _ _ c.number_of.ensures c.in-Some-number_of.is)
+    rw (c.in-Some.ensures.value, c.in-Number.is)
+    (number_said c.args.depth c.in-Number.text.now _ _ _ c.number_of.ensures c.in-Some-number_of.is)
 
 pub returns-in-None-clause-err : goal.returns-in-None-clause-err
 returns-in-None-clause-err c =
-    rw (c.in-Some.ensures.value, c.in-Number.is) (at_number c.args.depth c.in-Number.text.now _ ∙ number_none _ _ _ c.number_of.ensures c.in-None.is)
+    rw (c.in-Some.ensures.value, c.in-Number.is) (at_number c.args.depth c.in-Number.text.now _ ∙
+    number_none _ _ _ c.number_of.ensures c.in-None.is)
 
 pub returns-in-EndObject-clause-err : goal.returns-in-EndObject-clause-err
 unfolding data_at
 returns-in-EndObject-clause-err c =
-    let none : value c.args.depth (token_of c.in-Some.token ∷ c.next.new.self) ≡ None = rw (value_is c.args.depth (token_of c.in-Some.token ∷ c.next.new.self)) (grind arith) in
+    let none : value c.args.depth (token_of c.in-Some.token ∷ c.next.new.self) ≡ None =
+    rw (value_is c.args.depth (token_of c.in-Some.token ∷ c.next.new.self)) (grind arith) in
     rw c.in-Some.ensures.value (ap (converted of_json) none)
 
 pub returns-in_ok-pass_rest-in-BeginObject-clause-ok : goal.returns-in_ok-pass_rest-in-BeginObject-clause-ok
 returns-in_ok-pass_rest-in-BeginObject-clause-ok c =
-    rw (c.in-Some.ensures.value, c.in-BeginObject.is) (object_said c.args.depth _ _ (rw c.in-BeginObject.is at c.in_ok-pass_rest-in-BeginObject.ensures.ok))
+    rw (c.in-Some.ensures.value, c.in-BeginObject.is)
+    (object_said c.args.depth _ _ (rw c.in-BeginObject.is at c.in_ok-pass_rest-in-BeginObject.ensures.ok))

@@ -12,7 +12,9 @@ returns-in_default-clause-err c =
 
 pub returns-then-not-begins_object-clause-ok : goal.returns-then-not-begins_object-clause-ok
 returns-then-not-begins_object-clause-ok c =
-    rw c.in-Some.ensures.value (no_object c.args.depth (token_of c.in-Some.token) _ _ (sym c.if-not-begins_object.ensures) c.in_ok-pass_rest.ensures.ok)
+    rw c.in-Some.ensures.value
+    (no_object c.args.depth (token_of c.in-Some.token) _ _ (sym c.if-not-begins_object.ensures)
+    c.in_ok-pass_rest.ensures.ok)
 
 pub returns-then-depth-eq0-clause-err : goal.returns-then-depth-eq0-clause-err
 returns-then-depth-eq0-clause-err c =

@@ -12,5 +12,6 @@ returns-in_ok-pass_items-in-None-clause-ok c =
 pub returns-in_err-pass_items-in-None-clause-err : goal.returns-in_err-pass_items-in-None-clause-err
 returns-in_err-pass_items-in-None-clause-err c =
     let begun : (c.args.reader.now ≡ Token.begin_array ∷ c.begin.new.reader) × (0 < c.args.depth) = grind arith in
-    let none : data_at c.args.depth c.args.reader.now ≡ None = rw begun.0 (list_refused c.args.depth c.begin.new.reader begun.1 c.in_err-pass_items-in-None.ensures.err) in
+    let none : data_at c.args.depth c.args.reader.now ≡ None =
+    rw begun.0 (list_refused c.args.depth c.begin.new.reader begun.1 c.in_err-pass_items-in-None.ensures.err) in
     grind (arith, none)

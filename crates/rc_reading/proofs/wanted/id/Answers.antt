@@ -8,7 +8,8 @@ use Rattle.rc_reading.proofs.wanted.id.Goals as goal
 pub returns-in-None-clause-ok : goal.returns-in-None-clause-ok
 returns-in-None-clause-ok c =
     let begun : (c.args.reader.now ≡ Token.begin_array ∷ c.begin.new.reader) × (0 < c.args.depth) = grind arith in
-    IfOk-weaker c.id_items.result _ _ (λ id e. rw begun.0 (listed_says id_in c.args.depth c.begin.new.reader _ id begun.1 e)) c.id_items.ensures.ok
+    IfOk-weaker c.id_items.result _ _
+    (λ id e. rw begun.0 (listed_says id_in c.args.depth c.begin.new.reader _ id begun.1 e)) c.id_items.ensures.ok
 
 pub returns-in-None-clause-err : goal.returns-in-None-clause-err
 returns-in-None-clause-err c =

@@ -7,7 +7,8 @@ use Rattle.rc_reading.proofs.wanted.id_items.Given as goal
 -- what the items to come make of what there is
 abbrev pub invariant-items : goal.invariant-items
 invariant-items l =
-    (folds (λ pair d. Some (id_item pair d)) (Some l.so_far) l.depth l.reader ≡ folds (λ pair d. Some (id_item pair d)) (Some Nothing) l.depth l.initial.reader)
+    (folds (λ pair d. Some (id_item pair d)) (Some l.so_far) l.depth l.reader ≡ folds (λ pair d. Some (id_item pair d))
+    (Some Nothing) l.depth l.initial.reader)
     × (length l.reader ≤ length l.initial.reader)
 
 abbrev pub decreases-items : goal.decreases-items

@@ -16,4 +16,5 @@ returns-in_err-top-clause-bad c place is =
 pub returns-clause-ok : goal.returns-clause-ok
 returns-clause-ok c =
     let opened : (c.args.reader.now ≡ Token.begin_object ∷ c.opens_object.new.reader) × (0 < c.args.depth) = grind arith in
-    rw (c.scenario.ensures, opened.0) (scenario_says c.args.depth c.opens_object.new.reader _ c.in_ok-top.top opened.1 c.in_ok-top.ensures.ok)
+    rw (c.scenario.ensures, opened.0) (scenario_says c.args.depth c.opens_object.new.reader _ c.in_ok-top.top opened.1
+    c.in_ok-top.ensures.ok)

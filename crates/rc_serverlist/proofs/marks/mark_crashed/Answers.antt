@@ -6,7 +6,8 @@ use Rattle.rc_serverlist.proofs.marks.mark_crashed.Goals as goal
 
 pub returns-in-Some-clause-was_up : goal.returns-in-Some-clause-was_up
 returns-in-Some-clause-was_up c =
-    c.replace.ensures.value ∙ ap (λ found. unwrap_or found false) c.in-Some.ensures.value ∙ sym (marked_up-lookup c.args.rows.now.entries c.args.id)
+    c.replace.ensures.value ∙ ap (λ found. unwrap_or found false) c.in-Some.ensures.value ∙
+    sym (marked_up-lookup c.args.rows.now.entries c.args.id)
 
 pub returns-in-Some-clause-crashed : goal.returns-in-Some-clause-crashed
 returns-in-Some-clause-crashed c =
@@ -16,7 +17,8 @@ returns-in-Some-clause-crashed c =
 
 pub returns-in-Some-clause-unchanged : goal.returns-in-Some-clause-unchanged
 returns-in-Some-clause-unchanged c =
-    unchanged-down c.args.id c.args.rows.now.entries _ c.replace.result c.get_mut.ensures.unique (returns-in-Some-clause-was_up c) (returns-in-Some-clause-crashed c)
+    unchanged-down c.args.id c.args.rows.now.entries _ c.replace.result c.get_mut.ensures.unique
+    (returns-in-Some-clause-was_up c) (returns-in-Some-clause-crashed c)
 
 pub returns-in-None-clause-was_up : goal.returns-in-None-clause-was_up
 returns-in-None-clause-was_up c =

@@ -10,6 +10,10 @@ pair_mut-up-requires c =
 pub loop-place-preserved : goal.loop-place-preserved
 loop-place-preserved c =
     elim c.if-id-index.branch [
-      | then-id-index w ↦ ap (λ rows. rows.entries) w.rows-is ∙ crashed_below-marked c.args.index c.loop-place.place c.args.rows.now.entries c.loop-place.rows.entries _ _ c.loop-place.invariant c.pair_mut-up.ensures.value w.if-id-index.true
-      | else-id-index w ↦ ap (λ rows. rows.entries) w.rows-is ∙ crashed_below-kept c.args.index c.loop-place.place c.args.rows.now.entries c.loop-place.rows.entries _ _ c.loop-place.invariant c.pair_mut-up.ensures.value w.if-id-index.false
+      | then-id-index w ↦ ap (λ rows. rows.entries) w.rows-is ∙ crashed_below-marked c.args.index c.loop-place.place
+          c.args.rows.now.entries c.loop-place.rows.entries _ _ c.loop-place.invariant c.pair_mut-up.ensures.value
+          w.if-id-index.true
+      | else-id-index w ↦ ap (λ rows. rows.entries) w.rows-is ∙ crashed_below-kept c.args.index c.loop-place.place
+          c.args.rows.now.entries c.loop-place.rows.entries _ _ c.loop-place.invariant c.pair_mut-up.ensures.value
+          w.if-id-index.false
     ]

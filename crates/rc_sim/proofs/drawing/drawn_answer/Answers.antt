@@ -5,5 +5,6 @@ use Rattle.rc_sim.proofs.drawing.drawn_answer.Goals as goal
 
 pub returns-in-Ok-clause-ok : goal.returns-in-Ok-clause-ok
 returns-in-Ok-clause-ok c =
-    drawn_of c.ended.result c.world.result.now c.args.seed c.args.steps c.args.free (ap replayed c.world.ensures.world ∙ c.in-Ok.ensures.world)
+    drawn_of c.ended.result c.world.result.now c.args.seed c.args.steps c.args.free (ap replayed c.world.ensures.world ∙
+    c.in-Ok.ensures.world)
     c.ended.ensures.verdict c.ended.ensures.text

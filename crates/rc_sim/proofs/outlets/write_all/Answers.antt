@@ -11,5 +11,6 @@ loop-written-preserved g c =
     record {
       within = omega (arith, c.in-Ok.ensures.bound, length-drop written text);
       taken = written_more _ _ _ text _ written count c.loop-written.invariant.taken (rest_of written text) c.in-Ok.ensures.bytes;
-      counted = c.write.ensures.failures ∙ some_taken c.write.result count c.loop-written.writer.failures c.in-Ok.is (grind arith) ∙ c.loop-written.invariant.counted;
+      counted = c.write.ensures.failures ∙ some_taken c.write.result count c.loop-written.writer.failures c.in-Ok.is
+          (grind arith) ∙ c.loop-written.invariant.counted;
     }

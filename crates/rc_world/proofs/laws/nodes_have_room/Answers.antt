@@ -1,4 +1,5 @@
 use Rattle.rc_world.proofs.NodeRooms.{new-nodes-within, steps-stay-within, more-allow-more, nodes-have-room}
+use Rattle.rc_world.proofs.Rooms.{histories-leave-room}
 use Rattle.rc_world.proofs.laws.nodes_have_room.Goals as goal
 
 pub returns-clause-new : goal.returns-clause-new
@@ -12,3 +13,6 @@ returns-clause-more c = more-allow-more
 
 pub returns-clause-room : goal.returns-clause-room
 returns-clause-room c = nodes-have-room
+
+pub returns-clause-histories : goal.returns-clause-histories
+returns-clause-histories c = histories-leave-room

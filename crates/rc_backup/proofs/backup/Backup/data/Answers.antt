@@ -13,5 +13,6 @@ returns-in-Some-clause-ok c =
     (λ answer said.
     said
     ∙ ap (λ held. fetched held r.attempt r.seg r.len r.part)
-    (found-held m c.self.inside.held.entries (Some c.in-Some.held.now) c.in-Some.ensures.value ∙ ap (λ holdings. held_in holdings.table m) c.self.view_is))
+    (found-held m c.self.inside.held.entries (Some c.in-Some.held.now) c.in-Some.ensures.value ∙
+    ap (λ holdings. held_in holdings.table m) c.self.view_is))
     c.data.ensures.ok

@@ -10,7 +10,8 @@ pub returns-in-Some-clause-ok : goal.returns-in-Some-clause-ok
 returns-in-Some-clause-ok c =
     let b = c.self.inside in
     let f = λ (held : Held). let fenced : Held = record held { fenced = true } in fenced in
-    changed-found f c.args.self.now b.id b.held.entries _ c.args.master c.in-Some.held.now c.fence.new.self c.self.view_is c.get_mut.ensures.ordered c.in-Some.ensures.value c.fence.ensures
+    changed-found f c.args.self.now b.id b.held.entries _ c.args.master c.in-Some.held.now c.fence.new.self
+    c.self.view_is c.get_mut.ensures.ordered c.in-Some.ensures.value c.fence.ensures
     (c.get_mut.follows.holds c.fence.new.self).0
 
 pub returns-in-None-clause-ok : goal.returns-in-None-clause-ok

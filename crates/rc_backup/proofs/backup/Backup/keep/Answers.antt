@@ -10,7 +10,8 @@ pub returns-in-Some-clause-state : goal.returns-in-Some-clause-state
 returns-in-Some-clause-state c =
     let b = c.self.inside in
     on_ok_weaker c.store.result
-    (λ state. stores-found c.args.self.now b.id b.held.entries _ c.args.master c.args.seg c.args.body.now c.in-Some.held.now c.store.new.self c.self.view_is c.get_mut.ensures.ordered c.in-Some.ensures.value state
+    (λ state. stores-found c.args.self.now b.id b.held.entries _ c.args.master c.args.seg c.args.body.now
+    c.in-Some.held.now c.store.new.self c.self.view_is c.get_mut.ensures.ordered c.in-Some.ensures.value state
     (c.get_mut.follows.holds c.store.new.self).0)
     c.store.ensures.state
 
@@ -21,7 +22,8 @@ returns-in-Some-clause-answer c =
     (λ answer said.
     said
     ∙ ap (λ held. stored_after c.args.seg (next_replica held c.args.seg c.args.body.now))
-    (found-held m c.self.inside.held.entries (Some c.in-Some.held.now) c.in-Some.ensures.value ∙ ap (λ holdings. held_in holdings.table m) c.self.view_is))
+    (found-held m c.self.inside.held.entries (Some c.in-Some.held.now) c.in-Some.ensures.value ∙
+    ap (λ holdings. held_in holdings.table m) c.self.view_is))
     c.store.ensures.answer
 
 pub returns-in-Some-clause-err : goal.returns-in-Some-clause-err
@@ -29,13 +31,16 @@ returns-in-Some-clause-err c =
     let b = c.self.inside in
     on_err_weaker c.store.result
     (λ same.
-    unwritten b.id b.held.entries _ c.args.master c.in-Some.held.now c.store.new.self c.in-Some.ensures.value (c.get_mut.follows.holds c.store.new.self).0 same ∙ c.self.view_is)
+    unwritten b.id b.held.entries _ c.args.master c.in-Some.held.now c.store.new.self c.in-Some.ensures.value
+    (c.get_mut.follows.holds c.store.new.self).0 same ∙ c.self.view_is)
     c.store.ensures.err
 
 pub returns-in-None-clause-state : goal.returns-in-None-clause-state
 returns-in-None-clause-state c =
     let b = c.self.inside in
     on_ok_weaker c.keep_first.result
-    (λ state. stores-first c.args.self.now b.id b.held.entries _ c.args.master c.args.seg c.args.body.now c.self.view_is c.in-None.ensures.value
-    (state ∙ ap (λ map. put_first map.entries c.args.master c.args.seg (replica_after None c.args.body.now)) c.get_mut.follows.holds-at-none))
+    (λ state. stores-first c.args.self.now b.id b.held.entries _ c.args.master c.args.seg c.args.body.now c.self.view_is
+    c.in-None.ensures.value
+    (state ∙ ap (λ map. put_first map.entries c.args.master c.args.seg (replica_after None c.args.body.now))
+    c.get_mut.follows.holds-at-none))
     c.keep_first.ensures.state

@@ -8,5 +8,6 @@ pub returns-in-Some-clause-sends : goal.returns-in-Some-clause-sends
 returns-in-Some-clause-sends c =
     let said =
     ap (λ holdings. between holdings.own c.args.master c.in-Some.answer ∷ []) c.self.view_is
-    ∙ stores-sends (backup_of c.args.self.now) c.args.master c.args.seg c.args.body.now c.in-Some.answer (sym c.in-Some.is ∙ c.in_ok-answer.ensures.answer) in
+    ∙ stores-sends (backup_of c.args.self.now) c.args.master c.args.seg c.args.body.now c.in-Some.answer
+    (sym c.in-Some.is ∙ c.in_ok-answer.ensures.answer) in
     rw (← said) (search rules)

@@ -5,6 +5,7 @@ use Rattle.rc_backup.proofs.held.Held.free.Goals as goal
 pub returns-clause-ok : goal.returns-clause-ok
 returns-clause-ok c =
     let h = c.self.inside in
-    held_without-removed c.args.self.now h.fenced h.replicas.entries c.remove.new.self.entries h.freed.keys c.insert.new.self.keys c.args.seg c.self.view_is c.if-self.false
+    held_without-removed c.args.self.now h.fenced h.replicas.entries c.remove.new.self.entries h.freed.keys
+    c.insert.new.self.keys c.args.seg c.self.view_is c.if-self.false
     (remove_entry-replica c.args.seg h.replicas.entries c.remove.new.self.entries c.remove.ensures.entries c.remove.ensures.updates.1)
     (c.in_ok-insert.ensures.keys ∙ insert_key-number c.args.seg h.freed.keys)

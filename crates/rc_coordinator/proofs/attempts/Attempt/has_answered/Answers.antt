@@ -8,6 +8,7 @@ use Rattle.rc_coordinator.proofs.attempts.Attempt.has_answered.Goals as goal
 
 pub returns : goal.returns
 returns c =
-    any_from_yields_List (λ reply. same_id c.args.from reply.0) _ _ _ c.any.ensures.ran (YieldsList-from_slice c.self.inside.replies.items cc) (λ x b q k. search (rules, tests))
+    any_from_yields_List (λ reply. same_id c.args.from reply.0) _ _ _ c.any.ensures.ran
+    (YieldsList-from_slice c.self.inside.replies.items cc) (λ x b q k. search (rules, tests))
     ∙ any-has_answered c.args.from c.self.inside.replies.items
     ∙ ap (λ attempt. has_answered c.args.from attempt.replies) c.self.view_is

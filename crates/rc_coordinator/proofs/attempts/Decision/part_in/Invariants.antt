@@ -5,4 +5,5 @@ use Rattle.rc_coordinator.proofs.attempts.Decision.part_in.Given as goal
 -- the part is the first among those that are left
 abbrev pub invariant-loop-given : goal.invariant-loop-given
 invariant-loop-given l =
-    find (λ part. nat_eq part.term l.term) (parts_of l.id (drop l.given-index l.self.parts)) ≡ find (λ part. nat_eq part.term l.term) (parts_of l.id l.self.parts)
+    find (λ part. nat_eq part.term l.term) (parts_of l.id (drop l.given-index l.self.parts)) ≡ find
+    (λ part. nat_eq part.term l.term) (parts_of l.id l.self.parts)

@@ -6,9 +6,14 @@ use Rattle.rc_coordinator.proofs.coordinator.Coordinator.take.Goals as goal
 
 pub returns-clause-state : goal.returns-clause-state
 returns-clause-state g c =
-    on_ok_weaker c.take.result (λ ok. ok ∙ ap (λ (book : Book). (coordinator_takes (coordinator_of book) c.args.message.now.from c.args.message.now.body).0) c.self.view_is) c.take.ensures.state
+    on_ok_weaker c.take.result
+    (λ ok. ok ∙ ap (λ (book : Book).
+    (coordinator_takes (coordinator_of book) c.args.message.now.from c.args.message.now.body).0) c.self.view_is)
+    c.take.ensures.state
 
 pub returns-clause-sends : goal.returns-clause-sends
 returns-clause-sends g c =
     on_ok_weaker c.take.result
-    (λ ok. ok ∙ ap (λ (book : Book). c.args.sent.now.items ++ (coordinator_takes (coordinator_of book) c.args.message.now.from c.args.message.now.body).1) c.self.view_is) c.take.ensures.sends
+    (λ ok. ok ∙ ap (λ (book : Book). c.args.sent.now.items ++
+    (coordinator_takes (coordinator_of book) c.args.message.now.from c.args.message.now.body).1) c.self.view_is)
+    c.take.ensures.sends

@@ -7,9 +7,11 @@ use Rattle.rc_coordinator.proofs.state.State.decide.Goals as goal
 pub returns-in-Ok-clause-state : goal.returns-in-Ok-clause-state
 returns-in-Ok-clause-state g c =
     let there = attempt-there (state_view c.args.self.now) c.in-Ok.choice.number c.in-Ok.ensures.place.0 c.in-Ok.ensures.place.1 in
-    on_ok_weaker c.decide_on.result (λ after. after there.0 there.1 ∙ ap (λ r. r.0) (sym (c.in-Ok.ensures.chosen there.0 there.1))) c.decide_on.ensures.state
+    on_ok_weaker c.decide_on.result (λ after. after there.0 there.1 ∙
+    ap (λ r. r.0) (sym (c.in-Ok.ensures.chosen there.0 there.1))) c.decide_on.ensures.state
 
 pub returns-in-Ok-clause-sends : goal.returns-in-Ok-clause-sends
 returns-in-Ok-clause-sends g c =
     let there = attempt-there (state_view c.args.self.now) c.in-Ok.choice.number c.in-Ok.ensures.place.0 c.in-Ok.ensures.place.1 in
-    on_ok_weaker c.decide_on.result (λ after. after there.0 (c.in-Ok.ensures.master there.0 there.1) ∙ ap (λ r. c.args.sent.now.items ++ r.1) (sym (c.in-Ok.ensures.chosen there.0 there.1))) c.decide_on.ensures.sends
+    on_ok_weaker c.decide_on.result (λ after. after there.0 (c.in-Ok.ensures.master there.0 there.1) ∙
+    ap (λ r. c.args.sent.now.items ++ r.1) (sym (c.in-Ok.ensures.chosen there.0 there.1))) c.decide_on.ensures.sends

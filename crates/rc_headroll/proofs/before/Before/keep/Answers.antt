@@ -7,7 +7,8 @@ use Rattle.rc_headroll.proofs.before.Before.keep.Goals as goal
 
 pub returns-in_ok-insert-clause-ok : goal.returns-in_ok-insert-clause-ok
 returns-in_ok-insert-clause-ok c =
-    let none : other_of c.self.inside.others.entries c.args.seg ≡ None = none-from (other_of c.self.inside.others.entries c.args.seg) c.if-not-contains_key.ensures in
+    let none : other_of c.self.inside.others.entries c.args.seg ≡ None =
+    none-from (other_of c.self.inside.others.entries c.args.seg) c.if-not-contains_key.ensures in
     let added = c.in_ok-insert.ensures.entries ∙ insert_entry-new eqb c.self.inside.others c.args.seg c.state.result none
     ∙ ap (λ state. c.self.inside.others.entries ++ (c.args.seg, state) ∷ []) c.state.ensures in
     rw (← c.self.view_is)

@@ -7,10 +7,14 @@ use Rattle.rc_headroll.proofs.log.LogHead.begin.Goals as goal
 
 pub invariant_of-self : goal.invariant_of-self
 invariant_of-self c =
-    let is = c.begin.ensures ∙ ap (λ (segments : List Segment). mark_of segments c.self.inside.phase c.self.inside.durable c.self.inside.passed c.self.inside.passed_entries) c.as_slice.ensures.value in
+    let is = c.begin.ensures ∙
+    ap (λ (segments : List Segment). mark_of segments c.self.inside.phase c.self.inside.durable c.self.inside.passed
+    c.self.inside.passed_entries) c.as_slice.ensures.value in
     sound-begin (the_view c.self.inside) c.self.inside.passed c.self.inside.passed_entries c.begin.new.self c.self.invariant.now is
 
 pub returns-clause-before : goal.returns-clause-before
 returns-clause-before c =
-    let is = c.begin.ensures ∙ ap (λ (segments : List Segment). mark_of segments c.self.inside.phase c.self.inside.durable c.self.inside.passed c.self.inside.passed_entries) c.as_slice.ensures.value in
+    let is = c.begin.ensures ∙
+    ap (λ (segments : List Segment). mark_of segments c.self.inside.phase c.self.inside.durable c.self.inside.passed
+    c.self.inside.passed_entries) c.as_slice.ensures.value in
     rw (← c.self.view_is) (before_of-begin (the_view c.self.inside) c.self.inside.passed c.self.inside.passed_entries c.begin.new.self is)

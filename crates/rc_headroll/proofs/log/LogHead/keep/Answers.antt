@@ -13,7 +13,8 @@ invariant_of-self c =
     let at = seg_place (the_view c.self.inside) c.args.seg c.from.result (rw (← c.self.view_is) at has) c.from.ensures in
     let read = segment_at-read c.self.inside.segments.items c.args.seg _ c.index.result.now at.0 at.1 c.index.ensures in
     sound-kept (the_view c.self.inside) c.self.inside.passed c.self.inside.passed_entries c.keep.new.self c.self.invariant
-    (keep-keeps c.self.inside.before c.keep.new.self (length c.self.inside.segments.items) (segment_at c.self.inside.segments.items) c.args.seg c.index.result.now
+    (keep-keeps c.self.inside.before c.keep.new.self (length c.self.inside.segments.items)
+    (segment_at c.self.inside.segments.items) c.args.seg c.index.result.now
     c.self.invariant.back read c.keep.result c.keep.ensures.ok c.keep.ensures.err)
 
 pub returns-clause-before : goal.returns-clause-before
@@ -23,7 +24,8 @@ returns-clause-before c =
     let read = segment_at-read c.self.inside.segments.items c.args.seg _ c.index.result.now at.0 at.1 c.index.ensures in
     rw (← c.self.view_is)
     (before_of-kept (the_view c.self.inside) c.keep.new.self
-    (keep-keeps c.self.inside.before c.keep.new.self (length c.self.inside.segments.items) (segment_at c.self.inside.segments.items) c.args.seg c.index.result.now
+    (keep-keeps c.self.inside.before c.keep.new.self (length c.self.inside.segments.items)
+    (segment_at c.self.inside.segments.items) c.args.seg c.index.result.now
     c.self.invariant.back read c.keep.result c.keep.ensures.ok c.keep.ensures.err))
 
 pub returns-clause-kept : goal.returns-clause-kept
@@ -33,7 +35,8 @@ returns-clause-kept c =
     let at = seg_place (the_view c.self.inside) c.args.seg c.from.result has' c.from.ensures in
     let read = segment_at-read c.self.inside.segments.items c.args.seg _ c.index.result.now at.0 at.1 c.index.ensures in
     let parts = has-parts (log_of (the_view c.self.inside)) c.args.seg (sym has') in
-    keep-kept c.self.inside.before c.keep.new.self (length c.self.inside.segments.items) (segment_at c.self.inside.segments.items) c.args.seg c.index.result.now
+    keep-kept c.self.inside.before c.keep.new.self (length c.self.inside.segments.items)
+    (segment_at c.self.inside.segments.items) c.args.seg c.index.result.now
     c.self.invariant.back read c.keep.result parts.0 c.keep.ensures.ok
 
 pub returns-clause-others : goal.returns-clause-others
@@ -41,6 +44,7 @@ returns-clause-others c =
     let has : true ≡ has_segment (log_of c.args.self.now) c.args.seg = sym c.requires in
     let at = seg_place (the_view c.self.inside) c.args.seg c.from.result (rw (← c.self.view_is) at has) c.from.ensures in
     let read = segment_at-read c.self.inside.segments.items c.args.seg _ c.index.result.now at.0 at.1 c.index.ensures in
-    let keeps = keep-keeps c.self.inside.before c.keep.new.self (length c.self.inside.segments.items) (segment_at c.self.inside.segments.items) c.args.seg c.index.result.now
+    let keeps = keep-keeps c.self.inside.before c.keep.new.self (length c.self.inside.segments.items)
+    (segment_at c.self.inside.segments.items) c.args.seg c.index.result.now
     c.self.invariant.back read c.keep.result c.keep.ensures.ok c.keep.ensures.err in
     rw (← c.self.view_is) keeps.others

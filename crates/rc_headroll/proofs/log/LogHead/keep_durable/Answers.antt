@@ -11,15 +11,23 @@ use Rattle.rc_headroll.proofs.log.LogHead.keep_durable.Goals as goal
 pub invariant_of-self : goal.invariant_of-self
 invariant_of-self c =
     let known : c.shut_front-front.result.segments ≤ length c.args.self.now.segments = c.shut_front-front.ensures.known in
-    let shut : (seg : ℕ) → 0 < seg → seg ≤ c.shut_front-front.result.segments → (segment_at c.args.self.now.segments seg).shut ≡ true = c.shut_front-front.ensures.shut in
-    let is : c.shut_front-front.result.entries ≡ entries_to (segment_at c.args.self.now.segments) c.shut_front-front.result.segments = c.shut_front-front.ensures.entries in
+    let shut : (seg : ℕ) → 0 < seg → seg ≤ c.shut_front-front.result.segments →
+    (segment_at c.args.self.now.segments seg).shut ≡ true = c.shut_front-front.ensures.shut in
+    let is : c.shut_front-front.result.entries ≡ entries_to (segment_at c.args.self.now.segments)
+    c.shut_front-front.result.segments = c.shut_front-front.ensures.entries in
     let now : c.durable_now-self-inside.result ≡ durable_now (log_of c.args.self.now) = c.durable_now-self-inside.ensures in
     let kept : LogData = the_view c.self.inside in
     let known' : c.shut_front-front.result.segments ≤ length c.self.inside.segments.items = rw (← c.self.view_is) at known in
-    let shut' : (seg : ℕ) → 0 < seg → seg ≤ c.shut_front-front.result.segments → (segment_at c.self.inside.segments.items seg).shut ≡ true = rw (← c.self.view_is) at shut in
-    let is' : c.shut_front-front.result.entries ≡ entries_to (segment_at c.self.inside.segments.items) c.shut_front-front.result.segments = rw (← c.self.view_is) at is in
+    let shut' : (seg : ℕ) → 0 < seg → seg ≤ c.shut_front-front.result.segments →
+    (segment_at c.self.inside.segments.items seg).shut ≡ true = rw (← c.self.view_is) at shut in
+    let is' : c.shut_front-front.result.entries ≡ entries_to (segment_at c.self.inside.segments.items)
+    c.shut_front-front.result.segments = rw (← c.self.view_is) at is in
     let now' : c.durable_now-self-inside.result ≡ durable_now (log_of kept) = rw (← c.self.view_is) at now in
-    let least : entries_to (segment_at c.self.inside.segments.items) c.shut_front-front.result.segments ≤ durable_now (log_of kept) = durable_now-least (log_of kept) c.shut_front-front.result.segments known' shut' in
-    sound_log-same kept c.self.inside.phase c.durable_now-self-inside.result c.self.inside.passed c.self.inside.passed_entries c.shut_front-front.result.segments c.shut_front-front.result.entries c.self.invariant
-    (sound-durable (log_of kept) c.self.inside.passed c.self.inside.passed_entries c.durable_now-self-inside.result c.shut_front-front.result.segments c.shut_front-front.result.entries
+    let least : entries_to (segment_at c.self.inside.segments.items) c.shut_front-front.result.segments ≤ durable_now
+    (log_of kept) = durable_now-least (log_of kept) c.shut_front-front.result.segments known' shut' in
+    sound_log-same kept c.self.inside.phase c.durable_now-self-inside.result c.self.inside.passed
+    c.self.inside.passed_entries c.shut_front-front.result.segments c.shut_front-front.result.entries
+    c.self.invariant
+    (sound-durable (log_of kept) c.self.inside.passed c.self.inside.passed_entries c.durable_now-self-inside.result
+    c.shut_front-front.result.segments c.shut_front-front.result.entries
     c.self.invariant.now known' shut' is' (rw (is', now') least))

@@ -7,7 +7,8 @@ use Rattle.rc_headroll.proofs.log.LogHead.lose.Goals as goal
 
 pub returns-clause-ok : goal.returns-clause-ok
 returns-clause-ok c =
-    subst (λ (log : Log). IfOk c.lose_members.result (λ ids. loses c.args.servers.now c.args.seg log ≡ (log_of c.lose_members.new.self, Ok ids.items)))
+    subst (λ (log : Log). IfOk c.lose_members.result
+    (λ ids. loses c.args.servers.now c.args.seg log ≡ (log_of c.lose_members.new.self, Ok ids.items)))
     c.in_ok-keep.ensures.log c.lose_members.ensures.ok
 
 pub returns-clause-err : goal.returns-clause-err

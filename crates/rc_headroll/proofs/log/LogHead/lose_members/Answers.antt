@@ -12,7 +12,8 @@ invariant_of-self c =
     let has : true ≡ has_segment (log_of c.args.self.now) c.args.seg = sym c.requires.has in
     let kept : IsKept c.args.self.now.mark c.args.seg = c.requires.kept in
     let was = c.index_mut.result.now in
-    written-sound (the_view c.self.inside) c.args.seg c.from.result c.self.inside.passed c.self.inside.passed_entries c.lose.new.self was c.self.invariant
+    written-sound (the_view c.self.inside) c.args.seg c.from.result c.self.inside.passed c.self.inside.passed_entries
+    c.lose.new.self was c.self.invariant
     (rw (← c.self.view_is) at has) c.from.ensures c.index_mut.ensures.value
     (lose_keeps c.self.inside.own c.args.servers.now c.lose.new.self was c.lose.result c.lose.ensures.ok c.lose.ensures.err)
     (rw (← c.self.view_is) at kept)
@@ -23,7 +24,8 @@ returns-clause-before c =
     let kept : IsKept c.args.self.now.mark c.args.seg = c.requires.kept in
     let was = c.index_mut.result.now in
     rw (← c.self.view_is)
-    (written-before (the_view c.self.inside) c.args.seg c.from.result c.self.inside.passed c.self.inside.passed_entries c.lose.new.self was c.self.invariant
+    (written-before (the_view c.self.inside) c.args.seg c.from.result c.self.inside.passed c.self.inside.passed_entries
+    c.lose.new.self was c.self.invariant
     (rw (← c.self.view_is) at has) c.from.ensures c.index_mut.ensures.value
     (lose_keeps c.self.inside.own c.args.servers.now c.lose.new.self was c.lose.result c.lose.ensures.ok c.lose.ensures.err)
     (rw (← c.self.view_is) at kept))

@@ -10,30 +10,40 @@ use Rattle.rc_headroll.proofs.log.LogHead.mark_close_sent.Goals as goal
 pub invariant_of-self : goal.invariant_of-self
 invariant_of-self c =
     let due : close_is_due (log_of c.args.self.now) ≡ true = c.requires in
-    let more : 1 < length c.self.inside.segments.items = close_is_due-parts (log_of (the_view c.self.inside)) (rw (← c.self.view_is) at due) in
-    let is : c.len-old.result - 2 ≡ length c.self.inside.segments.items - 2 = ap (λ (n : ℕ). n - 2) (c.len-old.ensures ∙ c.self.inside.segments.ok.0) in
+    let more : 1 < length c.self.inside.segments.items =
+    close_is_due-parts (log_of (the_view c.self.inside)) (rw (← c.self.view_is) at due) in
+    let is : c.len-old.result - 2 ≡ length c.self.inside.segments.items - 2 =
+    ap (λ (n : ℕ). n - 2) (c.len-old.ensures ∙ c.self.inside.segments.ok.0) in
     let was = c.index_mut.result.now in
     let keeps = keeps_from c.mark_close_sent.new.self was _ c.mark_close_sent.ensures refl refl refl in
-    old_head-sound (the_view c.self.inside) (c.len-old.result - 2) c.self.inside.passed c.self.inside.passed_entries c.mark_close_sent.new.self was c.self.invariant more is
+    old_head-sound (the_view c.self.inside) (c.len-old.result - 2) c.self.inside.passed c.self.inside.passed_entries
+    c.mark_close_sent.new.self was c.self.invariant more is
     c.index_mut.ensures.value keeps.entries keeps.digest
-    (sound-set (the_view c.self.inside) (c.len-old.result - 2) (length c.self.inside.segments.items - 1) c.self.inside.passed c.self.inside.passed_entries c.mark_close_sent.new.self was c.self.invariant.now
+    (sound-set (the_view c.self.inside) (c.len-old.result - 2) (length c.self.inside.segments.items - 1)
+    c.self.inside.passed c.self.inside.passed_entries c.mark_close_sent.new.self was c.self.invariant.now
     (omega (arith, more, is)) (omega (arith, more, is)) c.index_mut.ensures.value keeps)
 
 pub returns-clause-state : goal.returns-clause-state
 returns-clause-state c =
     let due : close_is_due (log_of c.args.self.now) ≡ true = c.requires in
-    let more : 1 < length c.self.inside.segments.items = close_is_due-parts (log_of (the_view c.self.inside)) (rw (← c.self.view_is) at due) in
-    let is : c.len-old.result - 2 ≡ length c.self.inside.segments.items - 2 = ap (λ (n : ℕ). n - 2) (c.len-old.ensures ∙ c.self.inside.segments.ok.0) in
+    let more : 1 < length c.self.inside.segments.items =
+    close_is_due-parts (log_of (the_view c.self.inside)) (rw (← c.self.view_is) at due) in
+    let is : c.len-old.result - 2 ≡ length c.self.inside.segments.items - 2 =
+    ap (λ (n : ℕ). n - 2) (c.len-old.ensures ∙ c.self.inside.segments.ok.0) in
     rw (← c.self.view_is)
-    (close-marked (the_view c.self.inside) (c.len-old.result - 2) c.mark_close_sent.new.self c.index_mut.result.now more is c.index_mut.ensures.value c.mark_close_sent.ensures)
+    (close-marked (the_view c.self.inside) (c.len-old.result - 2) c.mark_close_sent.new.self c.index_mut.result.now more
+    is c.index_mut.ensures.value c.mark_close_sent.ensures)
 
 pub returns-clause-before : goal.returns-clause-before
 returns-clause-before c =
     let due : close_is_due (log_of c.args.self.now) ≡ true = c.requires in
-    let more : 1 < length c.self.inside.segments.items = close_is_due-parts (log_of (the_view c.self.inside)) (rw (← c.self.view_is) at due) in
-    let is : c.len-old.result - 2 ≡ length c.self.inside.segments.items - 2 = ap (λ (n : ℕ). n - 2) (c.len-old.ensures ∙ c.self.inside.segments.ok.0) in
+    let more : 1 < length c.self.inside.segments.items =
+    close_is_due-parts (log_of (the_view c.self.inside)) (rw (← c.self.view_is) at due) in
+    let is : c.len-old.result - 2 ≡ length c.self.inside.segments.items - 2 =
+    ap (λ (n : ℕ). n - 2) (c.len-old.ensures ∙ c.self.inside.segments.ok.0) in
     let was = c.index_mut.result.now in
     let keeps = keeps_from c.mark_close_sent.new.self was _ c.mark_close_sent.ensures refl refl refl in
     rw (← c.self.view_is)
-    (old_head-before (the_view c.self.inside) (c.len-old.result - 2) c.self.inside.passed c.self.inside.passed_entries c.mark_close_sent.new.self was c.self.invariant more is
+    (old_head-before (the_view c.self.inside) (c.len-old.result - 2) c.self.inside.passed c.self.inside.passed_entries
+    c.mark_close_sent.new.self was c.self.invariant more is
     c.index_mut.ensures.value keeps.entries keeps.digest)

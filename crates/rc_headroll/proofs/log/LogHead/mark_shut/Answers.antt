@@ -11,26 +11,33 @@ pub invariant_of-self : goal.invariant_of-self
 invariant_of-self c =
     let may : true ≡ shuts (log_of c.args.self.now) = c.if-shuts.ensures in
     let may' = rw (← c.self.view_is) at may in
-    let is : c.len-old.result - 2 ≡ length c.self.inside.segments.items - 2 = ap (λ (n : ℕ). n - 2) (c.len-old.ensures ∙ c.self.inside.segments.ok.0) in
-    old_head-sound (the_view c.self.inside) (c.len-old.result - 2) c.self.inside.passed c.self.inside.passed_entries c.mark_shut.new.self c.index_mut.result.now c.self.invariant
+    let is : c.len-old.result - 2 ≡ length c.self.inside.segments.items - 2 =
+    ap (λ (n : ℕ). n - 2) (c.len-old.ensures ∙ c.self.inside.segments.ok.0) in
+    old_head-sound (the_view c.self.inside) (c.len-old.result - 2) c.self.inside.passed c.self.inside.passed_entries
+    c.mark_shut.new.self c.index_mut.result.now c.self.invariant
     (shuts-parts (log_of (the_view c.self.inside)) (sym may')) is c.index_mut.ensures.value
     (ap (λ (s : Segment). s.entries) c.mark_shut.ensures) (ap (λ (s : Segment). s.digest) c.mark_shut.ensures)
-    (sound-shut_marked (the_view c.self.inside) (c.len-old.result - 2) c.self.inside.passed c.self.inside.passed_entries c.mark_shut.new.self c.index_mut.result.now c.self.invariant.now
+    (sound-shut_marked (the_view c.self.inside) (c.len-old.result - 2) c.self.inside.passed c.self.inside.passed_entries
+    c.mark_shut.new.self c.index_mut.result.now c.self.invariant.now
     may' is c.index_mut.ensures.value c.mark_shut.ensures)
 
 pub returns-then-shuts-clause-state : goal.returns-then-shuts-clause-state
 returns-then-shuts-clause-state c =
     let may : true ≡ shuts (log_of c.args.self.now) = c.if-shuts.ensures in
-    let is : c.len-old.result - 2 ≡ length c.self.inside.segments.items - 2 = ap (λ (n : ℕ). n - 2) (c.len-old.ensures ∙ c.self.inside.segments.ok.0) in
+    let is : c.len-old.result - 2 ≡ length c.self.inside.segments.items - 2 =
+    ap (λ (n : ℕ). n - 2) (c.len-old.ensures ∙ c.self.inside.segments.ok.0) in
     rw (← c.self.view_is)
-    (shut-marked (the_view c.self.inside) (c.len-old.result - 2) c.mark_shut.new.self c.index_mut.result.now (rw (← c.self.view_is) at may) is c.index_mut.ensures.value c.mark_shut.ensures)
+    (shut-marked (the_view c.self.inside) (c.len-old.result - 2) c.mark_shut.new.self c.index_mut.result.now
+    (rw (← c.self.view_is) at may) is c.index_mut.ensures.value c.mark_shut.ensures)
 
 pub returns-then-shuts-clause-before : goal.returns-then-shuts-clause-before
 returns-then-shuts-clause-before c =
     let may : true ≡ shuts (log_of c.args.self.now) = c.if-shuts.ensures in
     let may' = rw (← c.self.view_is) at may in
-    let is : c.len-old.result - 2 ≡ length c.self.inside.segments.items - 2 = ap (λ (n : ℕ). n - 2) (c.len-old.ensures ∙ c.self.inside.segments.ok.0) in
+    let is : c.len-old.result - 2 ≡ length c.self.inside.segments.items - 2 =
+    ap (λ (n : ℕ). n - 2) (c.len-old.ensures ∙ c.self.inside.segments.ok.0) in
     rw (← c.self.view_is)
-    (old_head-before (the_view c.self.inside) (c.len-old.result - 2) c.self.inside.passed c.self.inside.passed_entries c.mark_shut.new.self c.index_mut.result.now c.self.invariant
+    (old_head-before (the_view c.self.inside) (c.len-old.result - 2) c.self.inside.passed c.self.inside.passed_entries
+    c.mark_shut.new.self c.index_mut.result.now c.self.invariant
     (shuts-parts (log_of (the_view c.self.inside)) (sym may')) is c.index_mut.ensures.value
     (ap (λ (s : Segment). s.entries) c.mark_shut.ensures) (ap (λ (s : Segment). s.digest) c.mark_shut.ensures))

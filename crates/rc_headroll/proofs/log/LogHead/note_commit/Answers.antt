@@ -12,8 +12,10 @@ invariant_of-self c =
     let has : true ≡ has_segment (log_of c.args.self.now) c.args.seg = sym c.requires.has in
     let kept : IsKept c.args.self.now.mark c.args.seg = c.requires.kept in
     let was = c.index_mut.result.now in
-    written-sound (the_view c.self.inside) c.args.seg c.from.result c.self.inside.passed c.self.inside.passed_entries c.committed_at.new.self was c.self.invariant
-    (rw (← c.self.view_is) at has) c.from.ensures c.index_mut.ensures.value (keeps_from c.committed_at.new.self was _ c.committed_at.ensures refl refl refl)
+    written-sound (the_view c.self.inside) c.args.seg c.from.result c.self.inside.passed c.self.inside.passed_entries
+    c.committed_at.new.self was c.self.invariant
+    (rw (← c.self.view_is) at has) c.from.ensures c.index_mut.ensures.value
+    (keeps_from c.committed_at.new.self was _ c.committed_at.ensures refl refl refl)
     (rw (← c.self.view_is) at kept)
 
 pub returns-clause-noted : goal.returns-clause-noted
@@ -29,6 +31,8 @@ returns-clause-before c =
     let kept : IsKept c.args.self.now.mark c.args.seg = c.requires.kept in
     let was = c.index_mut.result.now in
     rw (← c.self.view_is)
-    (written-before (the_view c.self.inside) c.args.seg c.from.result c.self.inside.passed c.self.inside.passed_entries c.committed_at.new.self was c.self.invariant
-    (rw (← c.self.view_is) at has) c.from.ensures c.index_mut.ensures.value (keeps_from c.committed_at.new.self was _ c.committed_at.ensures refl refl refl)
+    (written-before (the_view c.self.inside) c.args.seg c.from.result c.self.inside.passed c.self.inside.passed_entries
+    c.committed_at.new.self was c.self.invariant
+    (rw (← c.self.view_is) at has) c.from.ensures c.index_mut.ensures.value
+    (keeps_from c.committed_at.new.self was _ c.committed_at.ensures refl refl refl)
     (rw (← c.self.view_is) at kept))

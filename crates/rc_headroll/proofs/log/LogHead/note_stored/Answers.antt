@@ -12,7 +12,8 @@ invariant_of-self c =
     let has : true ≡ has_segment (log_of c.args.self.now) c.args.seg = sym c.requires.has in
     let kept : IsKept c.args.self.now.mark c.args.seg = c.requires.kept in
     let was = c.index_mut.result.now in
-    written-sound (the_view c.self.inside) c.args.seg c.from.result c.self.inside.passed c.self.inside.passed_entries c.stored.new.self was c.self.invariant
+    written-sound (the_view c.self.inside) c.args.seg c.from.result c.self.inside.passed c.self.inside.passed_entries
+    c.stored.new.self was c.self.invariant
     (rw (← c.self.view_is) at has) c.from.ensures c.index_mut.ensures.value
     (keeps_from c.stored.new.self was _ c.stored.ensures.noted refl refl refl)
     (rw (← c.self.view_is) at kept)
@@ -23,7 +24,8 @@ returns-clause-before c =
     let kept : IsKept c.args.self.now.mark c.args.seg = c.requires.kept in
     let was = c.index_mut.result.now in
     rw (← c.self.view_is)
-    (written-before (the_view c.self.inside) c.args.seg c.from.result c.self.inside.passed c.self.inside.passed_entries c.stored.new.self was c.self.invariant
+    (written-before (the_view c.self.inside) c.args.seg c.from.result c.self.inside.passed c.self.inside.passed_entries
+    c.stored.new.self was c.self.invariant
     (rw (← c.self.view_is) at has) c.from.ensures c.index_mut.ensures.value
     (keeps_from c.stored.new.self was _ c.stored.ensures.noted refl refl refl)
     (rw (← c.self.view_is) at kept))
@@ -32,12 +34,14 @@ pub returns-clause-notes : goal.returns-clause-notes
 returns-clause-notes c =
     let has : true ≡ has_segment (log_of c.args.self.now) c.args.seg = sym c.requires.has in
     rw (← c.self.view_is)
-    (c.stored.ensures.notes ∙ notes-written (the_view c.self.inside) c.args.seg c.args.epoch c.args.from c.from.result c.index_mut.result.now
+    (c.stored.ensures.notes ∙ notes-written (the_view c.self.inside) c.args.seg c.args.epoch c.args.from c.from.result
+    c.index_mut.result.now
     (rw (← c.self.view_is) at has) c.from.ensures c.index_mut.ensures.value)
 
 pub returns-clause-noted : goal.returns-clause-noted
 returns-clause-noted c =
     let has : true ≡ has_segment (log_of c.args.self.now) c.args.seg = sym c.requires.has in
     rw (← c.self.view_is)
-    (stored-written (the_view c.self.inside) c.args.seg c.args.epoch c.args.len c.args.from c.args.closed c.from.result c.stored.new.self c.index_mut.result.now
+    (stored-written (the_view c.self.inside) c.args.seg c.args.epoch c.args.len c.args.from c.args.closed c.from.result
+    c.stored.new.self c.index_mut.result.now
     (rw (← c.self.view_is) at has) c.from.ensures c.index_mut.ensures.value c.stored.ensures.noted)

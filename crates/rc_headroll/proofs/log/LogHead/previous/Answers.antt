@@ -4,4 +4,5 @@ use Rattle.rc_headroll.proofs.log.LogHead.previous.Goals as goal
 
 pub returns : goal.returns
 returns c = rw (← c.self.view_is) (segment_at-read c.self.inside.segments.items _ _ c.index.result.now
-    (omega (arith, c.self.inside.segments.ok, rw (← c.self.view_is) at c.requires)) (omega (arith, c.self.inside.segments.ok, rw (← c.self.view_is) at c.requires)) c.index.ensures)
+    (omega (arith, c.self.inside.segments.ok, rw (← c.self.view_is) at c.requires))
+    (omega (arith, c.self.inside.segments.ok, rw (← c.self.view_is) at c.requires)) c.index.ensures)

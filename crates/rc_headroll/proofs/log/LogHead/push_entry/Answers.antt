@@ -9,22 +9,28 @@ use Rattle.rc_headroll.proofs.log.LogHead.push_entry.Goals as goal
 pub invariant_of-self-2 : goal.invariant_of-self-2
 invariant_of-self-2 c =
     let possible : append_fault (log_of c.args.self.now) ≡ None = c.requires.possible in
-    let last : c.len-last.result - 1 ≡ length c.self.inside.segments.items - 1 = ap (λ (n : ℕ). n - 1) (c.len-last.ensures ∙ c.self.inside.segments.ok.0) in
-    pushed-sound (the_view c.self.inside) (c.len-last.result - 1) c.self.inside.passed c.self.inside.passed_entries c.args.entry c.args.client c.push.new.self c.index_mut.result.now
+    let last : c.len-last.result - 1 ≡ length c.self.inside.segments.items - 1 =
+    ap (λ (n : ℕ). n - 1) (c.len-last.ensures ∙ c.self.inside.segments.ok.0) in
+    pushed-sound (the_view c.self.inside) (c.len-last.result - 1) c.self.inside.passed c.self.inside.passed_entries
+    c.args.entry c.args.client c.push.new.self c.index_mut.result.now
     c.self.invariant (rw (← c.self.view_is) at possible) last c.index_mut.ensures.value c.in_ok-push.ensures.ok
 
 pub returns-clause-state : goal.returns-clause-state
 returns-clause-state c =
     let possible : append_fault (log_of c.args.self.now) ≡ None = c.requires.possible in
-    let last : c.len-last.result - 1 ≡ length c.self.inside.segments.items - 1 = ap (λ (n : ℕ). n - 1) (c.len-last.ensures ∙ c.self.inside.segments.ok.0) in
+    let last : c.len-last.result - 1 ≡ length c.self.inside.segments.items - 1 =
+    ap (λ (n : ℕ). n - 1) (c.len-last.ensures ∙ c.self.inside.segments.ok.0) in
     rw (← c.self.view_is)
-    (appended (the_view c.self.inside) (c.len-last.result - 1) c.self.inside.passed c.self.inside.passed_entries c.args.entry c.args.client c.push.new.self c.index_mut.result.now
+    (appended (the_view c.self.inside) (c.len-last.result - 1) c.self.inside.passed c.self.inside.passed_entries
+    c.args.entry c.args.client c.push.new.self c.index_mut.result.now
     c.self.invariant.now (rw (← c.self.view_is) at possible) last c.index_mut.ensures.value c.in_ok-push.ensures.ok)
 
 pub returns-clause-before : goal.returns-clause-before
 returns-clause-before c =
     let possible : append_fault (log_of c.args.self.now) ≡ None = c.requires.possible in
-    let last : c.len-last.result - 1 ≡ length c.self.inside.segments.items - 1 = ap (λ (n : ℕ). n - 1) (c.len-last.ensures ∙ c.self.inside.segments.ok.0) in
+    let last : c.len-last.result - 1 ≡ length c.self.inside.segments.items - 1 =
+    ap (λ (n : ℕ). n - 1) (c.len-last.ensures ∙ c.self.inside.segments.ok.0) in
     rw (← c.self.view_is)
-    (pushed-before (the_view c.self.inside) (c.len-last.result - 1) c.self.inside.passed c.self.inside.passed_entries c.args.entry c.args.client c.push.new.self c.index_mut.result.now
+    (pushed-before (the_view c.self.inside) (c.len-last.result - 1) c.self.inside.passed c.self.inside.passed_entries
+    c.args.entry c.args.client c.push.new.self c.index_mut.result.now
     c.self.invariant (rw (← c.self.view_is) at possible) last c.index_mut.ensures.value c.in_ok-push.ensures.ok)

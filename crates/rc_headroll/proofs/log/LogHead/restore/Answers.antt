@@ -10,36 +10,47 @@ use Rattle.rc_headroll.proofs.log.LogHead.restore.Goals as goal
 pub invariant_of-self : goal.invariant_of-self
 invariant_of-self c =
     let cut = c.truncate.ensures.items ∙ ap (λ (head : ℕ). take head c.self.inside.segments.items) c.head.ensures in
-    let len : length c.put_back.new.segments ≡ length c.truncate.new.self.items = c.put_back.auto.segments ∙ ap length c.as_mut_slice.ensures.value in
-    let table = c.put_back.ensures ∙ ap (λ (ss : List Segment). segments_before c.self.inside.before (segment_at ss)) c.as_mut_slice.ensures.value in
+    let len : length c.put_back.new.segments ≡ length c.truncate.new.self.items =
+    c.put_back.auto.segments ∙ ap length c.as_mut_slice.ensures.value in
+    let table = c.put_back.ensures ∙ ap (λ (ss : List Segment). segments_before c.self.inside.before (segment_at ss))
+    c.as_mut_slice.ensures.value in
     let all = with_items_is c.truncate.new.self c.put_back.new.segments (len ∙ sym c.truncate.new.self.ok.0) in
-    restored-sound (the_view c.self.inside) c.truncate.new.self.items c.put_back.new.segments _ c.phase-self-inside.result c.durable-self-inside.result
+    restored-sound (the_view c.self.inside) c.truncate.new.self.items c.put_back.new.segments _
+    c.phase-self-inside.result c.durable-self-inside.result
     c.passed-self-inside.result c.passed_entries-self-inside.result c.begin.new.self c.self.invariant.back.known cut len table all
     c.phase-self-inside.ensures c.durable-self-inside.ensures c.passed-self-inside.ensures c.passed_entries-self-inside.ensures
     c.self.inside.passed c.self.inside.passed_entries c.self.invariant
-    (c.begin.ensures ∙ ap (λ (ss : List Segment). mark_of ss c.phase-self-inside.result c.durable-self-inside.result c.passed-self-inside.result c.passed_entries-self-inside.result)
+    (c.begin.ensures ∙ ap (λ (ss : List Segment). mark_of ss c.phase-self-inside.result c.durable-self-inside.result
+    c.passed-self-inside.result c.passed_entries-self-inside.result)
     c.as_slice.ensures.value)
 
 pub returns-clause-log : goal.returns-clause-log
 returns-clause-log c =
     let cut = c.truncate.ensures.items ∙ ap (λ (head : ℕ). take head c.self.inside.segments.items) c.head.ensures in
-    let len : length c.put_back.new.segments ≡ length c.truncate.new.self.items = c.put_back.auto.segments ∙ ap length c.as_mut_slice.ensures.value in
-    let table = c.put_back.ensures ∙ ap (λ (ss : List Segment). segments_before c.self.inside.before (segment_at ss)) c.as_mut_slice.ensures.value in
+    let len : length c.put_back.new.segments ≡ length c.truncate.new.self.items =
+    c.put_back.auto.segments ∙ ap length c.as_mut_slice.ensures.value in
+    let table = c.put_back.ensures ∙ ap (λ (ss : List Segment). segments_before c.self.inside.before (segment_at ss))
+    c.as_mut_slice.ensures.value in
     let all = with_items_is c.truncate.new.self c.put_back.new.segments (len ∙ sym c.truncate.new.self.ok.0) in
     rw (← c.self.view_is)
-    (restored-log (the_view c.self.inside) c.truncate.new.self.items c.put_back.new.segments _ c.phase-self-inside.result c.durable-self-inside.result
+    (restored-log (the_view c.self.inside) c.truncate.new.self.items c.put_back.new.segments _
+    c.phase-self-inside.result c.durable-self-inside.result
     c.passed-self-inside.result c.passed_entries-self-inside.result c.begin.new.self c.self.invariant.back.known cut len table all
     c.phase-self-inside.ensures c.durable-self-inside.ensures c.passed-self-inside.ensures c.passed_entries-self-inside.ensures)
 
 pub returns-clause-before : goal.returns-clause-before
 returns-clause-before c =
     let cut = c.truncate.ensures.items ∙ ap (λ (head : ℕ). take head c.self.inside.segments.items) c.head.ensures in
-    let len : length c.put_back.new.segments ≡ length c.truncate.new.self.items = c.put_back.auto.segments ∙ ap length c.as_mut_slice.ensures.value in
-    let table = c.put_back.ensures ∙ ap (λ (ss : List Segment). segments_before c.self.inside.before (segment_at ss)) c.as_mut_slice.ensures.value in
+    let len : length c.put_back.new.segments ≡ length c.truncate.new.self.items =
+    c.put_back.auto.segments ∙ ap length c.as_mut_slice.ensures.value in
+    let table = c.put_back.ensures ∙ ap (λ (ss : List Segment). segments_before c.self.inside.before (segment_at ss))
+    c.as_mut_slice.ensures.value in
     let all = with_items_is c.truncate.new.self c.put_back.new.segments (len ∙ sym c.truncate.new.self.ok.0) in
     rw (← c.self.view_is)
-    (restored-before (the_view c.self.inside) c.truncate.new.self.items c.put_back.new.segments _ c.phase-self-inside.result c.durable-self-inside.result
+    (restored-before (the_view c.self.inside) c.truncate.new.self.items c.put_back.new.segments _
+    c.phase-self-inside.result c.durable-self-inside.result
     c.passed-self-inside.result c.passed_entries-self-inside.result c.begin.new.self c.self.invariant.back.known cut len table all
     c.phase-self-inside.ensures c.durable-self-inside.ensures c.passed-self-inside.ensures c.passed_entries-self-inside.ensures
-    (c.begin.ensures ∙ ap (λ (ss : List Segment). mark_of ss c.phase-self-inside.result c.durable-self-inside.result c.passed-self-inside.result c.passed_entries-self-inside.result)
+    (c.begin.ensures ∙ ap (λ (ss : List Segment). mark_of ss c.phase-self-inside.result c.durable-self-inside.result
+    c.passed-self-inside.result c.passed_entries-self-inside.result)
     c.as_slice.ensures.value))

@@ -9,4 +9,5 @@ pub returns : goal.returns
 returns c =
     let has : true ≡ has_segment (log_of c.args.self.now) c.args.seg = c.if-not-has.ensures in
     rw (← c.self.view_is)
-    (segment-read (the_view c.self.inside) c.args.seg c.from.result c.index.result.now (rw (← c.self.view_is) at has) c.from.ensures c.index.ensures)
+    (segment-read (the_view c.self.inside) c.args.seg c.from.result c.index.result.now (rw (← c.self.view_is) at has)
+    c.from.ensures c.index.ensures)

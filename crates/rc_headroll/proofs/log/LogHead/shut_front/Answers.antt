@@ -11,7 +11,8 @@ use Rattle.rc_headroll.proofs.log.LogHead.shut_front.Goals as goal
 pub returns-then-not-is_shut-clause-ends : goal.returns-then-not-is_shut-clause-ends
 returns-then-not-is_shut-clause-ends c =
     let place : ℕ = c.loop-place.place in
-    let below : place < length c.self.inside.segments.items = omega (arith, c.loop-place-test.true, c.len-place-end.ensures, c.self.inside.segments.ok.0) in
+    let below : place < length c.self.inside.segments.items =
+    omega (arith, c.loop-place-test.true, c.len-place-end.ensures, c.self.inside.segments.ok.0) in
     let is : c.index-segment.result.now ≡ segment_at c.self.inside.segments.items (place + 1) =
     segment_at-read c.self.inside.segments.items (place + 1) place c.index-segment.result.now (omega arith) below c.index-segment.ensures in
     let stays : false ≡ c.index-segment.result.now.shut = c.if-not-is_shut.ensures in
@@ -20,30 +21,41 @@ returns-then-not-is_shut-clause-ends c =
 pub returns-then-not-is_shut-clause-few : goal.returns-then-not-is_shut-clause-few
 returns-then-not-is_shut-clause-few c =
     let place : ℕ = c.loop-place.place in
-    let below : place < length c.self.inside.segments.items = omega (arith, c.loop-place-test.true, c.len-place-end.ensures, c.self.inside.segments.ok.0) in
+    let below : place < length c.self.inside.segments.items =
+    omega (arith, c.loop-place-test.true, c.len-place-end.ensures, c.self.inside.segments.ok.0) in
     let is : c.loop-place.entries ≡ entries_to (segment_at c.args.self.now.segments) place = c.loop-place.invariant.entries in
     let is' : c.loop-place.entries ≡ entries_to (segment_at c.self.inside.segments.items) place = rw (← c.self.view_is) at is in
-    omega (arith, is', entries_to-small (log_of (the_view c.self.inside)) c.self.inside.passed c.self.inside.passed_entries place c.self.invariant.now (omega arith))
+    omega (
+      arith,
+      is',
+      entries_to-small (log_of (the_view c.self.inside)) c.self.inside.passed
+          c.self.inside.passed_entries place c.self.invariant.now (omega arith),
+    )
 
 pub overflow_add-entries : goal.overflow_add-entries
 overflow_add-entries c =
     let place : ℕ = c.loop-place.place in
-    let below : place < length c.self.inside.segments.items = omega (arith, c.loop-place-test.true, c.len-place-end.ensures, c.self.inside.segments.ok.0) in
+    let below : place < length c.self.inside.segments.items =
+    omega (arith, c.loop-place-test.true, c.len-place-end.ensures, c.self.inside.segments.ok.0) in
     let is : c.loop-place.entries ≡ entries_to (segment_at c.args.self.now.segments) place = c.loop-place.invariant.entries in
     let is' : c.loop-place.entries ≡ entries_to (segment_at c.self.inside.segments.items) place = rw (← c.self.view_is) at is in
     let small : entries_to (segment_at c.self.inside.segments.items) place ≤ MAX_SEGMENT * place =
-    entries_to-small (log_of (the_view c.self.inside)) c.self.inside.passed c.self.inside.passed_entries place c.self.invariant.now (omega arith) in
+    entries_to-small (log_of (the_view c.self.inside)) c.self.inside.passed c.self.inside.passed_entries place
+    c.self.invariant.now (omega arith) in
     let fits : length c.index-segment.result.now.entries ≤ c.self.inside.size =
-    (sound_segment-read (the_view c.self.inside) c.self.inside.passed c.self.inside.passed_entries place c.index-segment.result.now c.self.invariant.now below c.index-segment.ensures).fits in
+    (sound_segment-read (the_view c.self.inside) c.self.inside.passed c.self.inside.passed_entries place
+    c.index-segment.result.now c.self.invariant.now below c.index-segment.ensures).fits in
     omega (arith, is', small, fits, c.len-entries.ensures, c.self.invariant.now.size, c.self.invariant.now.few, below)
 
 pub loop-place-preserved : goal.loop-place-preserved
 loop-place-preserved c =
     let place : ℕ = c.loop-place.place in
-    let below : place < length c.self.inside.segments.items = omega (arith, c.loop-place-test.true, c.len-place-end.ensures, c.self.inside.segments.ok.0) in
+    let below : place < length c.self.inside.segments.items =
+    omega (arith, c.loop-place-test.true, c.len-place-end.ensures, c.self.inside.segments.ok.0) in
     let is : c.index-segment.result.now ≡ segment_at c.self.inside.segments.items (place + 1) =
     segment_at-read c.self.inside.segments.items (place + 1) place c.index-segment.result.now (omega arith) below c.index-segment.ensures in
-    let is' : c.index-segment.result.now ≡ segment_at c.args.self.now.segments (place + 1) = rw (data-segments (the_view c.self.inside) c.args.self.now c.self.view_is) at is in
+    let is' : c.index-segment.result.now ≡ segment_at c.args.self.now.segments (place + 1) =
+    rw (data-segments (the_view c.self.inside) c.args.self.now c.self.view_is) at is in
     let here : true ≡ c.index-segment.result.now.shut = c.if-not-is_shut.ensures in
     let shut : (seg : ℕ) → 0 < seg → seg ≤ place → (segment_at c.args.self.now.segments seg).shut ≡ true = c.loop-place.invariant.shut in
     let entries : c.loop-place.entries ≡ entries_to (segment_at c.args.self.now.segments) place = c.loop-place.invariant.entries in
@@ -52,5 +64,6 @@ loop-place-preserved c =
     record {
       shut = shut-more (segment_at c.args.self.now.segments) place shut (ap (λ (s : Segment). s.shut) (sym is') ∙ sym here);
       entries = ap (λ (n : ℕ). n + c.len-entries.result) entries
-          ∙ ap (λ (n : ℕ). entries_to (segment_at c.args.self.now.segments) place + n) (len ∙ ap (λ (s : Segment). length s.entries) is') ∙ sym more;
+          ∙ ap (λ (n : ℕ). entries_to (segment_at c.args.self.now.segments) place + n)
+          (len ∙ ap (λ (s : Segment). length s.entries) is') ∙ sym more;
     }

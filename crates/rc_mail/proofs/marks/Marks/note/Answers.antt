@@ -15,7 +15,8 @@ loop-number-preserved c =
       kept = λ events fits.
           let at : slice_get c.args.sent.now (length before.delivered.items) ≡ Some message =
           rw noted (slice_get-get_or c.args.sent.now c.loop-number.number c.index-sent-number.result within) in
-          noted_more events c.args.sent.now before.delivered.items before.waiting.items _ _ message (c.loop-number.invariant.kept events fits) at marks c.in_ok-note_one.ensures.waiting;
+          noted_more events c.args.sent.now before.delivered.items before.waiting.items _ _ message
+          (c.loop-number.invariant.kept events fits) at marks c.in_ok-note_one.ensures.waiting;
     }
 
 pub returns-in_err-note_one-clause-kept : goal.returns-in_err-note_one-clause-kept

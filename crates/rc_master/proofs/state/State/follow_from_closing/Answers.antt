@@ -7,16 +7,21 @@ use Rattle.rc_master.proofs.state.State.follow_from_closing.Goals as goal
 
 pub returns-clause-applied : goal.returns-clause-applied
 returns-clause-applied c =
-    or-else-applied (state_view c.args.self.now) (state_view c.follow_closing.new.self) (follows_closing (state_view c.args.self.now)) from_shut c.follow_from_shut.result
+    or-else-applied (state_view c.args.self.now) (state_view c.follow_closing.new.self)
+    (follows_closing (state_view c.args.self.now)) from_shut c.follow_from_shut.result
     (sym c.if-branch.false ∙ c.in_ok-follow_closing.ensures.applied) c.in_ok-follow_closing.ensures.state c.follow_from_shut.ensures.applied
 
 pub returns-clause-state : goal.returns-clause-state
 returns-clause-state c =
-    or-else-state (state_view c.args.self.now) (state_view c.follow_closing.new.self) (state_view c.follow_from_shut.new.self) (follows_closing (state_view c.args.self.now)) from_shut c.follow_from_shut.result
+    or-else-state (state_view c.args.self.now) (state_view c.follow_closing.new.self)
+    (state_view c.follow_from_shut.new.self) (follows_closing (state_view c.args.self.now)) from_shut
+    c.follow_from_shut.result
     (sym c.if-branch.false ∙ c.in_ok-follow_closing.ensures.applied) c.in_ok-follow_closing.ensures.state c.follow_from_shut.ensures.state
 
 pub returns-clause-sends : goal.returns-clause-sends
 returns-clause-sends c =
-    or-else-sends (state_view c.args.self.now) (state_view c.follow_closing.new.self) c.args.sent.now.items c.follow_closing.new.sent.items c.follow_from_shut.new.sent.items
+    or-else-sends (state_view c.args.self.now) (state_view c.follow_closing.new.self) c.args.sent.now.items
+    c.follow_closing.new.sent.items c.follow_from_shut.new.sent.items
     (follows_closing (state_view c.args.self.now)) from_shut c.follow_from_shut.result
-    (sym c.if-branch.false ∙ c.in_ok-follow_closing.ensures.applied) c.in_ok-follow_closing.ensures.state c.in_ok-follow_closing.ensures.sends c.follow_from_shut.ensures.sends
+    (sym c.if-branch.false ∙ c.in_ok-follow_closing.ensures.applied) c.in_ok-follow_closing.ensures.state
+    c.in_ok-follow_closing.ensures.sends c.follow_from_shut.ensures.sends

@@ -15,7 +15,8 @@ returns-in_default-clause-state c =
     let s = c.args.self.now in
     let none : None ≡ to_answer (durable_of s.ownership) s.ownership.own = sym c.in_default.is ∙ c.in_ok-term.ensures.term in
     let same : c.complete.new.self ≡ s.ownership =
-    c.in_ok-term.ensures.answered ∙ ap (λ (own : Ownership). record s.ownership { own = own }) (answer-none (durable_of s.ownership) s.ownership.own none) in
+    c.in_ok-term.ensures.answered ∙ ap (λ (own : Ownership). record s.ownership { own = own })
+    (answer-none (durable_of s.ownership) s.ownership.own none) in
     let still : to_answer (durable_entries (state_view s)) s.ownership.own ≡ None =
     ap (λ (d : List Entry). to_answer d s.ownership.own) (sym (durable-same _ _ _ c.requires.noted)) ∙ sym none in
     ap (λ (o : Owner). record (state_view s) { ownership = o.own }) same

@@ -13,5 +13,6 @@ returns-clause-quiet c =
     let old : Master = state_view c.args.self.now in
     on_ok-then c.settle.result
     (λ (e : state_view c.settle.new.self ≡ (settled old).0).
-    subst IsQuiet (sym (e ∙ ap (λ (r : Master × List Message). r.0) (sym (goes_on-up old c.if-self.false)))) (quiet-after old c.requires.noted.replicas))
+    subst IsQuiet (sym (e ∙ ap (λ (r : Master × List Message). r.0) (sym (goes_on-up old c.if-self.false))))
+    (quiet-after old c.requires.noted.replicas))
     c.settle.ensures.state

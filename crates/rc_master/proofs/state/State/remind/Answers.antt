@@ -16,5 +16,6 @@ pub returns-clause-sends : goal.returns-clause-sends
 returns-clause-sends c =
     let s = c.args.self.now in
     c.in_ok-add_reminders.ensures.ok
-    ∙ (ap (λ (tasks : List Task). c.args.sent.now.items ++ (reminds (before_of s.log) (sender (log_of s.log) s.ownership.own tasks)).1) c.as_slice.ensures.value
+    ∙ (ap (λ (tasks : List Task). c.args.sent.now.items ++
+    (reminds (before_of s.log) (sender (log_of s.log) s.ownership.own tasks)).1) c.as_slice.ensures.value
     ∙ ap (λ (more : List Message). c.args.sent.now.items ++ more) (sym (reminds-sender (before_of s.log) (state_view s))))

@@ -10,25 +10,32 @@ use Rattle.rc_master.proofs.state.State.replace_lost.Goals as goal
 
 pub returns-in_ok-add_places-in-Ok-clause-noted : goal.returns-in_ok-add_places-in-Ok-clause-noted
 returns-in_ok-add_places-in-Ok-clause-noted c =
-    notes-same _ _ _ _ (loses-same c.args.self.now.known c.args.seg (log_of c.args.self.now.log) (log_of c.lose.new.self) _ c.in-Ok.ensures.ok).0 c.requires.noted
+    notes-same _ _ _ _ (loses-same c.args.self.now.known c.args.seg (log_of c.args.self.now.log)
+    (log_of c.lose.new.self) _ c.in-Ok.ensures.ok).0 c.requires.noted
 
 pub returns-in_ok-unless_memory-in-Err-clause-state : goal.returns-in_ok-unless_memory-in-Err-clause-state
 returns-in_ok-unless_memory-in-Err-clause-state c =
     ap (λ (r : Master × List Message). r.0)
-    (sym (lost-refused (state_view c.args.self.now) c.args.seg (log_of c.lose.new.self) _ _ (sym (c.is_freed.ensures) ∙ c.if-is_freed.false) c.in-Err.ensures.err c.in_ok-unless_memory-in-Err.ensures.other))
+    (sym (lost-refused (state_view c.args.self.now) c.args.seg (log_of c.lose.new.self) _ _
+    (sym (c.is_freed.ensures) ∙ c.if-is_freed.false) c.in-Err.ensures.err
+    c.in_ok-unless_memory-in-Err.ensures.other))
 
 pub returns-in_ok-unless_memory-in-Err-clause-sends : goal.returns-in_ok-unless_memory-in-Err-clause-sends
 returns-in_ok-unless_memory-in-Err-clause-sends c =
     sym (append-nil c.args.sent.now.items)
     ∙ ap (λ (r : Master × List Message). c.args.sent.now.items ++ r.1)
-    (sym (lost-refused (state_view c.args.self.now) c.args.seg (log_of c.lose.new.self) _ _ (sym (c.is_freed.ensures) ∙ c.if-is_freed.false) c.in-Err.ensures.err c.in_ok-unless_memory-in-Err.ensures.other))
+    (sym (lost-refused (state_view c.args.self.now) c.args.seg (log_of c.lose.new.self) _ _
+    (sym (c.is_freed.ensures) ∙ c.if-is_freed.false) c.in-Err.ensures.err
+    c.in_ok-unless_memory-in-Err.ensures.other))
 
 pub returns-in_ok-unless_memory-in-Err-clause-noted : goal.returns-in_ok-unless_memory-in-Err-clause-noted
 returns-in_ok-unless_memory-in-Err-clause-noted c =
     notes-same _ _ _ _ (loses-same c.args.self.now.known c.args.seg (log_of c.args.self.now.log) (log_of c.lose.new.self) _
-    (lost-in (state_view c.args.self.now) c.args.seg (log_of c.lose.new.self) _ _ c.in-Err.ensures.err c.in_ok-unless_memory-in-Err.ensures.other)).0 c.requires.noted
+    (lost-in (state_view c.args.self.now) c.args.seg (log_of c.lose.new.self) _ _ c.in-Err.ensures.err
+    c.in_ok-unless_memory-in-Err.ensures.other)).0 c.requires.noted
 
 pub returns-in_ok-unless_memory-in-Err-clause-head : goal.returns-in_ok-unless_memory-in-Err-clause-head
 returns-in_ok-unless_memory-in-Err-clause-head c =
     (loses-same c.args.self.now.known c.args.seg (log_of c.args.self.now.log) (log_of c.lose.new.self) _
-    (lost-in (state_view c.args.self.now) c.args.seg (log_of c.lose.new.self) _ _ c.in-Err.ensures.err c.in_ok-unless_memory-in-Err.ensures.other)).1
+    (lost-in (state_view c.args.self.now) c.args.seg (log_of c.lose.new.self) _ _ c.in-Err.ensures.err
+    c.in_ok-unless_memory-in-Err.ensures.other)).1

@@ -12,23 +12,31 @@ rules-init c = record {
 
 pub rules-smaller : goal.rules-smaller
 rules-smaller c =
-    (round-on (state_view c.args.self.now) (state_view c.rules.self) (state_view c.follow_up.new.self) c.args.sent.now.items c.rules.sent.items c.follow_up.new.sent.items
-    c.rules.invariant.way (sym c.if-branch.true ∙ c.in_ok-follow_up.ensures.applied) c.in_ok-follow_up.ensures.state c.in_ok-follow_up.ensures.sends).1
+    (round-on (state_view c.args.self.now) (state_view c.rules.self) (state_view c.follow_up.new.self)
+    c.args.sent.now.items c.rules.sent.items c.follow_up.new.sent.items
+    c.rules.invariant.way (sym c.if-branch.true ∙ c.in_ok-follow_up.ensures.applied) c.in_ok-follow_up.ensures.state
+    c.in_ok-follow_up.ensures.sends).1
 
 pub rules-preserved : goal.rules-preserved
 rules-preserved c = record {
   noted = c.in_ok-follow_up.ensures.noted;
   before = c.in_ok-follow_up.ensures.before ∙ c.rules.invariant.before;
-  way = (round-on (state_view c.args.self.now) (state_view c.rules.self) (state_view c.follow_up.new.self) c.args.sent.now.items c.rules.sent.items c.follow_up.new.sent.items
-      c.rules.invariant.way (sym c.if-branch.true ∙ c.in_ok-follow_up.ensures.applied) c.in_ok-follow_up.ensures.state c.in_ok-follow_up.ensures.sends).0;
+  way = (round-on (state_view c.args.self.now) (state_view c.rules.self) (state_view c.follow_up.new.self)
+      c.args.sent.now.items c.rules.sent.items c.follow_up.new.sent.items
+      c.rules.invariant.way (sym c.if-branch.true ∙ c.in_ok-follow_up.ensures.applied) c.in_ok-follow_up.ensures.state
+      c.in_ok-follow_up.ensures.sends).0;
 }
 
 pub returns-clause-state : goal.returns-clause-state
 returns-clause-state c =
-    (round-end (state_view c.args.self.now) (state_view c.rules.self) (state_view c.follow_up.new.self) c.args.sent.now.items c.rules.sent.items c.follow_up.new.sent.items
-    c.rules.invariant.way (sym c.if-branch.false ∙ c.in_ok-follow_up.ensures.applied) c.in_ok-follow_up.ensures.state c.in_ok-follow_up.ensures.sends).0
+    (round-end (state_view c.args.self.now) (state_view c.rules.self) (state_view c.follow_up.new.self)
+    c.args.sent.now.items c.rules.sent.items c.follow_up.new.sent.items
+    c.rules.invariant.way (sym c.if-branch.false ∙ c.in_ok-follow_up.ensures.applied) c.in_ok-follow_up.ensures.state
+    c.in_ok-follow_up.ensures.sends).0
 
 pub returns-clause-sends : goal.returns-clause-sends
 returns-clause-sends c =
-    (round-end (state_view c.args.self.now) (state_view c.rules.self) (state_view c.follow_up.new.self) c.args.sent.now.items c.rules.sent.items c.follow_up.new.sent.items
-    c.rules.invariant.way (sym c.if-branch.false ∙ c.in_ok-follow_up.ensures.applied) c.in_ok-follow_up.ensures.state c.in_ok-follow_up.ensures.sends).1
+    (round-end (state_view c.args.self.now) (state_view c.rules.self) (state_view c.follow_up.new.self)
+    c.args.sent.now.items c.rules.sent.items c.follow_up.new.sent.items
+    c.rules.invariant.way (sym c.if-branch.false ∙ c.in_ok-follow_up.ensures.applied) c.in_ok-follow_up.ensures.state
+    c.in_ok-follow_up.ensures.sends).1

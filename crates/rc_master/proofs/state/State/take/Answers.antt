@@ -14,7 +14,8 @@ returns-then-is_quiet_message-clause-state c =
     on_ok-then c.take_quiet.result
     (λ (e : state_view c.take_quiet.new.self ≡ (master_takes_first old c.args.from c.args.body.now).0).
     e ∙ ap (λ (r : Master × List Message). r.0)
-    (sym (takes-quiet old c.args.from c.args.body.now c.if-self.false (subst IsQuiet e c.take_quiet.ensures.quiet) c.take_quiet.ensures.silent)))
+    (sym (takes-quiet old c.args.from c.args.body.now c.if-self.false (subst IsQuiet e c.take_quiet.ensures.quiet)
+    c.take_quiet.ensures.silent)))
     c.take_quiet.ensures.state
 
 pub returns-then-is_quiet_message-clause-sends : goal.returns-then-is_quiet_message-clause-sends
@@ -23,5 +24,6 @@ returns-then-is_quiet_message-clause-sends c =
     on_ok-then c.take_quiet.result
     (λ (e : state_view c.take_quiet.new.self ≡ (master_takes_first old c.args.from c.args.body.now).0).
     sym (append-nil c.args.sent.now.items) ∙ ap (λ (r : Master × List Message). c.args.sent.now.items ++ r.1)
-    (sym (takes-quiet old c.args.from c.args.body.now c.if-self.false (subst IsQuiet e c.take_quiet.ensures.quiet) c.take_quiet.ensures.silent)))
+    (sym (takes-quiet old c.args.from c.args.body.now c.if-self.false (subst IsQuiet e c.take_quiet.ensures.quiet)
+    c.take_quiet.ensures.silent)))
     c.take_quiet.ensures.state

@@ -30,14 +30,16 @@ invariant_of-self-2 c =
     let end = c.point_of-end.result + 1 in
     let unowned : owns_term (owner_of grants) c.args.term ≡ false =
     ap (λ held. owns_term (owner_of held) c.args.term) c.self.view_is ∙ sym c.owns_term.ensures ∙ c.if-owns_term.false in
-    let after_is = grants_in-insert c.self.inside.ranges c.insert.new.self c.args.term c.args.range unowned c.in_ok-insert.ensures.entries in
+    let after_is = grants_in-insert c.self.inside.ranges c.insert.new.self c.args.term c.args.range unowned
+    c.in_ok-insert.ensures.entries in
     Say-given (get nat_cmp c.cut_at-2.new.bounds) (get nat_cmp c.give_from.new.bounds) first end c.args.term
     (some_unless (get nat_cmp c.cut_at-2.new.bounds first) (c.cut_at-2.ensures.kept first c.in_ok-cut_at.ensures.there))
     (some_unless (get nat_cmp c.cut_at-2.new.bounds end) c.in_ok-cut_at-2.ensures.there)
     c.give_from.ensures terms (terms_of (grants_in c.insert.new.self.entries))
     (λ point. ap (λ held. terms_of held point) after_is
     ∙ terms_of-push grants c.args.range c.args.term (omega arith) (omega arith) point
-    ∙ ap (λ from. cond (is_within from (point_of c.args.range.table c.args.range.hi + 1) point) (or_term c.args.term (terms point)) (terms point)) (sym c.point_of-first.ensures.value)
+    ∙ ap (λ from. cond (is_within from (point_of c.args.range.table c.args.range.hi + 1) point)
+    (or_term c.args.term (terms point)) (terms point)) (sym c.point_of-first.ensures.value)
     ∙ ap (λ to. cond (is_within first (to + 1) point) (or_term c.args.term (terms point)) (terms point)) (sym c.point_of-end.ensures.value))
     (c.cut_at-2.ensures.same terms (c.cut_at.ensures.same terms c.self.invariant))
 

@@ -6,7 +6,8 @@ use Rattle.rc_ownership.proofs.NoteTables.{tables-drop, highs_rise}
 use Rattle.rc_ownership.proofs.notes.Notes.drop_last.Goals as goal
 
 pub drop_from-requires : goal.drop_from-requires
-drop_from-requires c = highs_rise c.self.inside.noted.items c.self.inside.durable c.self.inside.highs c.self.inside.counts c.slot_of-slot.result c.self.invariant.tables
+drop_from-requires c = highs_rise c.self.inside.noted.items c.self.inside.durable c.self.inside.highs
+    c.self.inside.counts c.slot_of-slot.result c.self.invariant.tables
 
 pub invariant_of-self-2 : goal.invariant_of-self-2
 invariant_of-self-2 c =
@@ -18,10 +19,14 @@ invariant_of-self-2 c =
     omega (arith, c.requires.undurable, ap (λ notes. notes.durable) c.self.view_is, ap (λ notes. length notes.noted) c.self.view_is) in
     record {
       tables =
-          tables-drop before.noted.items rest c.in-Some.entry before.durable before.highs c.drop_from.new.highs before.counts c.self.invariant.tables popped there
+          tables-drop before.noted.items rest c.in-Some.entry before.durable before.highs c.drop_from.new.highs
+          before.counts c.self.invariant.tables popped there
           (λ other. c.drop_from.ensures other
-          ∙ ap (λ slot. cond (same_slot slot other) (filter (λ high. nat_lt high.0 c.len.result) (highs_in before.highs other)) (highs_in before.highs other)) c.slot_of-slot.ensures
-          ∙ ap (λ n. cond (same_slot (slot_of c.in-Some.entry) other) (filter (λ high. nat_lt high.0 n) (highs_in before.highs other)) (highs_in before.highs other)) count);
+          ∙ ap (λ slot. cond (same_slot slot other)
+          (filter (λ high. nat_lt high.0 c.len.result) (highs_in before.highs other)) (highs_in before.highs other))
+          c.slot_of-slot.ensures
+          ∙ ap (λ n. cond (same_slot (slot_of c.in-Some.entry) other)
+          (filter (λ high. nat_lt high.0 n) (highs_in before.highs other)) (highs_in before.highs other)) count);
       kept_within = omega (
         arith,
         c.requires.noted,

@@ -9,5 +9,6 @@ returns c =
     let entry = c.args.entry.now in
     let durable = take c.args.self.now.durable c.args.self.now.noted in
     ap (nat_lt entry.version)
-    (c.last_version.ensures ∙ ap last_version c.durable_highs-highs.ensures ∙ last_version-greatest entry.term entry.table entry.key durable)
+    (c.last_version.ensures ∙ ap last_version c.durable_highs-highs.ensures ∙ last_version-greatest entry.term
+    entry.table entry.key durable)
     ∙ sym (list_any-greatest entry.term entry.table entry.key entry.version durable)

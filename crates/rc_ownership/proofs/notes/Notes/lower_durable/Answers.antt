@@ -8,9 +8,11 @@ pub invariant_of-self : goal.invariant_of-self
 invariant_of-self c =
     let durable_is : c.self.inside.durable ≡ c.args.self.now.durable = ap (λ notes. notes.durable) c.self.view_is in
     let tables =
-    tables-undurable c.self.inside.noted.items c.self.inside.durable c.args.count c.self.inside.highs c.self.inside.counts c.count_down.new.counts
+    tables-undurable c.self.inside.noted.items c.self.inside.durable c.args.count c.self.inside.highs
+    c.self.inside.counts c.count_down.new.counts
     c.self.invariant.tables (omega arith)
     (λ term. c.count_down.ensures.counted term
-    ∙ ap (λ entries. count_in c.self.inside.counts term - count_under term (take (c.self.inside.durable - c.args.count) (drop c.args.count entries))) c.as_slice.ensures.value)
+    ∙ ap (λ entries. count_in c.self.inside.counts term - count_under term
+    (take (c.self.inside.durable - c.args.count) (drop c.args.count entries))) c.as_slice.ensures.value)
     c.count_down.ensures.kept in
     record { tables = tables; kept_within = c.self.invariant.kept_within; durable_within = c.self.invariant.durable_within }

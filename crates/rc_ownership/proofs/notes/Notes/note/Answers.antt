@@ -13,10 +13,18 @@ invariant_of-self-2 c =
     let after_is : c.push.new.self.items ≡ before.noted.items ++ entry ∷ [] = grind (arith, common_steps) in
     let place_is : c.len.result ≡ length before.noted.items = grind (arith, common_steps) in
     let tables = subst (λ items. AreTablesOf items before.durable c.add_high.new.highs c.know_term.new.counts) (sym after_is)
-    (tables-push before.noted.items before.durable before.highs c.add_high.new.highs before.counts c.know_term.new.counts entry c.self.invariant.tables
+    (tables-push before.noted.items before.durable before.highs c.add_high.new.highs before.counts
+    c.know_term.new.counts entry c.self.invariant.tables
     (λ other. c.in_ok-add_high.ensures.ok other
-    ∙ ap (λ slot. cond (same_slot slot other) (with_high c.len.result entry.version (highs_in before.highs other)) (highs_in before.highs other)) c.slot_of-slot.ensures
-    ∙ ap (λ place. cond (same_slot (slot_of entry) other) (with_high place entry.version (highs_in before.highs other)) (highs_in before.highs other)) place_is)
+    ∙ ap (λ slot. cond (same_slot slot other) (with_high c.len.result entry.version (highs_in before.highs other))
+    (highs_in before.highs other)) c.slot_of-slot.ensures
+    ∙ ap (λ place. cond (same_slot (slot_of entry) other) (with_high place entry.version (highs_in before.highs other))
+    (highs_in before.highs other)) place_is)
     c.in_ok-know_term.ensures.known c.know_term.ensures.same c.know_term.ensures.kept) in
-    let counted : length c.push.new.self.items ≡ length before.noted.items + 1 = ap length after_is ∙ length-append before.noted.items (entry ∷ []) in
-    record { tables = tables; kept_within = omega (arith, counted, c.self.invariant.kept_within); durable_within = c.self.invariant.durable_within }
+    let counted : length c.push.new.self.items ≡ length before.noted.items + 1 =
+    ap length after_is ∙ length-append before.noted.items (entry ∷ []) in
+    record {
+      tables = tables;
+      kept_within = omega (arith, counted, c.self.invariant.kept_within);
+      durable_within = c.self.invariant.durable_within;
+    }

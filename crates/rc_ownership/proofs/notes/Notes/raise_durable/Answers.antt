@@ -9,7 +9,8 @@ count_up-requires-clause-room c =
     let durable_is : c.self.inside.durable ≡ c.args.self.now.durable = ap (λ notes. notes.durable) c.self.view_is in
     λ term. omega (
       arith,
-      counts_fit c.self.inside.noted.items c.self.inside.durable c.args.count c.self.inside.highs c.self.inside.counts c.self.invariant.tables (omega arith) term,
+      counts_fit c.self.inside.noted.items c.self.inside.durable c.args.count c.self.inside.highs c.self.inside.counts
+          c.self.invariant.tables (omega arith) term,
       ap (λ entries. length (take (c.args.count - c.self.inside.durable) (drop c.self.inside.durable entries))) c.as_slice.ensures.value,
     )
 
@@ -18,9 +19,11 @@ invariant_of-self c =
     let durable_is : c.self.inside.durable ≡ c.args.self.now.durable = ap (λ notes. notes.durable) c.self.view_is in
     let noted_is : length c.self.inside.noted.items ≡ length c.args.self.now.noted = ap (λ notes. length notes.noted) c.self.view_is in
     let tables =
-    tables-durable c.self.inside.noted.items c.self.inside.durable c.args.count c.self.inside.highs c.self.inside.counts c.count_up.new.counts
+    tables-durable c.self.inside.noted.items c.self.inside.durable c.args.count c.self.inside.highs c.self.inside.counts
+    c.count_up.new.counts
     c.self.invariant.tables (omega arith) (omega arith)
     (λ term. c.count_up.ensures.counted term
-    ∙ ap (λ entries. count_in c.self.inside.counts term + count_under term (take (c.args.count - c.self.inside.durable) (drop c.self.inside.durable entries))) c.as_slice.ensures.value)
+    ∙ ap (λ entries. count_in c.self.inside.counts term + count_under term
+    (take (c.args.count - c.self.inside.durable) (drop c.self.inside.durable entries))) c.as_slice.ensures.value)
     c.count_up.ensures.kept in
     record { tables = tables; kept_within = c.self.invariant.kept_within; durable_within = c.self.invariant.durable_within }

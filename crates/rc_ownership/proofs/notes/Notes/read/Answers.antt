@@ -10,11 +10,14 @@ returns-in_default-clause-ok c =
 
 pub returns-in_default-durable_entry-clause-ok : goal.returns-in_default-durable_entry-clause-ok
 returns-in_default-durable_entry-clause-ok c =
-    read-nothing c.args.term c.args.table c.args.key (take c.args.self.now.durable c.args.self.now.noted) c.durable_highs.result.now c.in-Some.field-0.now
+    read-nothing c.args.term c.args.table c.args.key (take c.args.self.now.durable c.args.self.now.noted)
+    c.durable_highs.result.now c.in-Some.field-0.now
     c.durable_highs.ensures (sym c.in-Some.ensures.value) (sym c.in_default-durable_entry.ensures)
 
 pub returns-clause-ok : goal.returns-clause-ok
 returns-clause-ok c =
-    read-some c.args.term c.args.table c.args.key (take c.args.self.now.durable c.args.self.now.noted) c.durable_highs.result.now c.in-Some.field-0.now
+    read-some c.args.term c.args.table c.args.key (take c.args.self.now.durable c.args.self.now.noted)
+    c.durable_highs.result.now c.in-Some.field-0.now
     c.in-Some-durable_entry.entry.now c.durable_highs.ensures (sym c.in-Some.ensures.value) (sym c.in-Some-durable_entry.ensures)
-    ∙ ap (λ value. let found : Found = record { version = c.in-Some.field-0.now.1; value = value } in found) (sym c.in_ok-value.ensures.copy)
+    ∙ ap (λ value. let found : Found = record { version = c.in-Some.field-0.now.1; value = value } in found)
+    (sym c.in_ok-value.ensures.copy)

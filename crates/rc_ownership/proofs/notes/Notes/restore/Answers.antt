@@ -56,5 +56,10 @@ returns c =
     ∙ ap (λ notes. notes.noted_before) c.self.view_is
     ∙ c.loop-self.invariant.noted_before in
     same_notes c.loop-self.self
-    (record { noted = c.args.self.now.noted_before; durable = c.args.self.now.durable_before; noted_before = c.args.self.now.noted_before; durable_before = c.args.self.now.durable_before })
+    (record {
+      noted = c.args.self.now.noted_before;
+      durable = c.args.self.now.durable_before;
+      noted_before = c.args.self.now.noted_before;
+      durable_before = c.args.self.now.durable_before;
+    })
     noted_is c.loop-self.invariant.durable c.loop-self.invariant.noted_before c.loop-self.invariant.durable_before

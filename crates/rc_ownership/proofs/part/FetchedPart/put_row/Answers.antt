@@ -13,14 +13,17 @@ returns-in_default-clause-ok c =
 
 pub overflow_sub-self : goal.overflow_sub-self
 overflow_sub-self c =
-    let some = any-place (is_awaited c.args.seg c.args.from) c.self.inside.rows.items c.awaited_place.result c.in-Some.place c.awaited_place.ensures c.in-Some.is in
+    let some = any-place (is_awaited c.args.seg c.args.from) c.self.inside.rows.items c.awaited_place.result
+    c.in-Some.place c.awaited_place.ensures c.in-Some.is in
     omega (arith, c.self.invariant.missing_are, missing-with_row c.args.seg c.args.from c.args.entries.now c.self.inside.rows.items some)
 
 pub invariant_of-self : goal.invariant_of-self
 invariant_of-self c =
     let rows = c.self.inside.rows.items in
-    let some = any-place (is_awaited c.args.seg c.args.from) rows c.awaited_place.result c.in-Some.place c.awaited_place.ensures c.in-Some.is in
-    let put = put_at c.args.seg c.args.from c.args.entries.now c.in_ok-came.came rows c.awaited_place.result c.in-Some.place c.index_mut.result.now c.fill.new.self
+    let some = any-place (is_awaited c.args.seg c.args.from) rows c.awaited_place.result c.in-Some.place
+    c.awaited_place.ensures c.in-Some.is in
+    let put = put_at c.args.seg c.args.from c.args.entries.now c.in_ok-came.came rows c.awaited_place.result
+    c.in-Some.place c.index_mut.result.now c.fill.new.self
     c.awaited_place.ensures c.in-Some.is c.index_mut.ensures.value c.fill.ensures c.in_ok-came.ensures.ok in
     subst (λ after. AreCounted after (c.self.inside.missing - 1) c.in-Some-checked_add.count) (sym put)
     (subst (AreCounted _ (c.self.inside.missing - 1)) (sym c.in-Some-checked_add.ensures.1)
@@ -29,8 +32,11 @@ invariant_of-self c =
 pub returns-clause-ok : goal.returns-clause-ok
 returns-clause-ok c =
     let rows = c.self.inside.rows.items in
-    let some = any-place (is_awaited c.args.seg c.args.from) rows c.awaited_place.result c.in-Some.place c.awaited_place.ensures c.in-Some.is in
-    let put = put_at c.args.seg c.args.from c.args.entries.now c.in_ok-came.came rows c.awaited_place.result c.in-Some.place c.index_mut.result.now c.fill.new.self
+    let some = any-place (is_awaited c.args.seg c.args.from) rows c.awaited_place.result c.in-Some.place
+    c.awaited_place.ensures c.in-Some.is in
+    let put = put_at c.args.seg c.args.from c.args.entries.now c.in_ok-came.came rows c.awaited_place.result
+    c.in-Some.place c.index_mut.result.now c.fill.new.self
     c.awaited_place.ensures c.in-Some.is c.index_mut.ensures.value c.fill.ensures c.in_ok-came.ensures.ok in
-    part_put c.args.seg c.args.from c.args.entries.now c.self.inside.part rows _ c.self.inside.count c.in-Some-checked_add.count c.self.inside.answered c.args.self.now
+    part_put c.args.seg c.args.from c.args.entries.now c.self.inside.part rows _ c.self.inside.count
+    c.in-Some-checked_add.count c.self.inside.answered c.args.self.now
     c.self.view_is put some

@@ -16,7 +16,8 @@ returns-clause-ok c =
     let begun = c.self.inside.begun in
     let fresh = ap (λ fetched. has_part (who_fetched fetched) c.args.part.term) c.self.view_is ∙ c.requires in
     same_fetched _ _
-    (parts_in-insert begun c.insert.new.self c.args.part.term c.in_ok-begun.begun c.self.invariant.under_terms fresh c.in_ok-insert.ensures.entries
+    (parts_in-insert begun c.insert.new.self c.args.part.term c.in_ok-begun.begun c.self.invariant.under_terms fresh
+    c.in_ok-insert.ensures.entries
     ∙ ap (λ state. parts_in begun.entries ++ state ∷ []) c.in_ok-begun.ensures
     ∙ ap (λ fetched. fetched.parts ++ new_part c.args.part c.args.rows.now ∷ []) c.self.view_is)
     (ap (λ fetched. fetched.replay) c.self.view_is)

@@ -5,7 +5,8 @@ use Rattle.rc_ownership.proofs.parts.Parts.restore.Goals as goal
 
 pub invariant_of-self : goal.invariant_of-self
 invariant_of-self c =
-    table-restored c.self.inside.begun.entries c.self.inside.touched.items c.truncate.new.self.entries c.undo.new.touched.items c.self.inside.kept c.self.invariant
+    table-restored c.self.inside.begun.entries c.self.inside.touched.items c.truncate.new.self.entries
+    c.undo.new.touched.items c.self.inside.kept c.self.invariant
     (c.truncate.ensures.entries ∙ ap (take c.self.inside.kept) c.undo.ensures.entries) c.undo.ensures.none
 
 pub returns : goal.returns
@@ -13,9 +14,11 @@ returns c =
     let entries = c.self.inside.begun.entries in
     let touched = c.self.inside.touched.items in
     let kept = c.self.inside.kept in
-    let now : c.truncate.new.self.entries ≡ take kept (undone touched entries) = c.truncate.ensures.entries ∙ ap (take kept) c.undo.ensures.entries in
+    let now : c.truncate.new.self.entries ≡ take kept (undone touched entries) =
+    c.truncate.ensures.entries ∙ ap (take kept) c.undo.ensures.entries in
     same_fetched _ _
     (ap parts_in (now ∙ undone-take touched entries kept) ∙ ap (λ fetched. fetched.parts_before) c.self.view_is)
     (ap (λ waiting. waiting.entries) c.restore.ensures ∙ ap (λ fetched. fetched.replay_before) c.self.view_is)
-    (undone-restored entries touched c.truncate.new.self.entries c.undo.new.touched.items kept now c.undo.ensures.none ∙ ap (λ fetched. fetched.parts_before) c.self.view_is)
+    (undone-restored entries touched c.truncate.new.self.entries c.undo.new.touched.items kept now c.undo.ensures.none ∙
+    ap (λ fetched. fetched.parts_before) c.self.view_is)
     (ap (λ waiting. waiting.before) c.restore.ensures ∙ ap (λ fetched. fetched.replay_before) c.self.view_is)

@@ -10,7 +10,8 @@ loop-self-preserved c =
     let row = c.loop-self.self-inside.row in
     let place = c.loop-self.self-inside.place in
     let there : 0 < row = omega (arith, c.loop-self-test.true) in
-    let same : drop (row - 1) c.pop_front.new.self.items ≡ drop row rows = ap (drop (row - 1)) c.pop_front.ensures.rest ∙ passed rows row there in
+    let same : drop (row - 1) c.pop_front.new.self.items ≡ drop row rows =
+    ap (drop (row - 1)) c.pop_front.ensures.rest ∙ passed rows row there in
     record {
       entries = ap (waiting_from place) same ∙ c.loop-self.invariant.entries;
       none_empty = subst NoneIsEmpty (sym c.pop_front.ensures.rest) (none_empty-drop rows 1 c.loop-self.invariant.none_empty);

@@ -8,5 +8,6 @@ pub invariant_of-self-2 : goal.invariant_of-self-2
 invariant_of-self-2 c =
     let appended : c.append.new.self.items ≡ c.self.inside.rows.items ++ c.in_ok-joined.joined.items = grind (arith, common_steps) in
     subst (λ rows. IsReplay rows c.self.inside.kept c.self.inside.first c.self.inside.row c.self.inside.place) (sym appended)
-    (replay-joined c.self.inside.rows.items c.in_ok-joined.joined.items c.self.inside.kept c.self.inside.first c.self.inside.row c.self.inside.place
+    (replay-joined c.self.inside.rows.items c.in_ok-joined.joined.items c.self.inside.kept c.self.inside.first
+    c.self.inside.row c.self.inside.place
     c.self.invariant c.in_ok-joined.ensures.none_empty)

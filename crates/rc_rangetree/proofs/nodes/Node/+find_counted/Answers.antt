@@ -10,13 +10,15 @@ use Rattle.rc_rangetree.proofs.nodes.Node.+find_counted.Goals.{then-is_before, e
 pub find_counted-requires : goal.find_counted-requires
 find_counted-requires g t c κs within =
     let tree : IsSearchTree c.deref.result.now = left_tree c.requires.tree c.in-Fork.is _ c.deref.ensures in
-    let shallow : node_depth c.deref.result.now ≤ MAX_FORKS = omega (arith, c.requires.shallow, ap node_depth c.in-Fork.is, ap node_depth c.deref.ensures) in
+    let shallow : node_depth c.deref.result.now ≤ MAX_FORKS =
+    omega (arith, c.requires.shallow, ap node_depth c.in-Fork.is, ap node_depth c.deref.ensures) in
     search (rules, the_lemmas)
 
 pub find_counted-requires-else-is_before : goal.find_counted-requires-else-is_before
 find_counted-requires-else-is_before g t c κs within =
     let tree : IsSearchTree c.deref-else-is_before.result.now = right_tree c.requires.tree c.in-Fork.is _ c.deref-else-is_before.ensures in
-    let shallow : node_depth c.deref-else-is_before.result.now ≤ MAX_FORKS = omega (arith, c.requires.shallow, ap node_depth c.in-Fork.is, ap node_depth c.deref-else-is_before.ensures) in
+    let shallow : node_depth c.deref-else-is_before.result.now ≤ MAX_FORKS =
+    omega (arith, c.requires.shallow, ap node_depth c.in-Fork.is, ap node_depth c.deref-else-is_before.ensures) in
     search (rules, the_lemmas)
 
 pub returns-after-is_before-clause-found : goal.returns-after-is_before-clause-found
@@ -33,5 +35,8 @@ returns-after-is_before-clause-counted g t c =
       | then-is_before w ↦
           cc (passed_left c.requires.tree c.in-Fork.is w.if-is_before.ensures _ w.deref.ensures, w.find_counted.ensures.counted)
       | else-is_before w ↦
-          cc (passed_right c.requires.tree c.in-Fork.is w.if-is_before.ensures _ w.deref-else-is_before.ensures, w.find_counted-else-is_before.ensures.counted)
+          cc (
+            passed_right c.requires.tree c.in-Fork.is w.if-is_before.ensures _ w.deref-else-is_before.ensures,
+            w.find_counted-else-is_before.ensures.counted,
+          )
     ]

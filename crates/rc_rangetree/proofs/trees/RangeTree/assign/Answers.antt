@@ -11,7 +11,8 @@ assign-requires g c = searchable c.self.invariant
 
 pub invariant_of-self : goal.invariant_of-self
 invariant_of-self g c =
-    tree_assigned c.args.range c.args.owner c.args.term c.self.invariant c.assign.ensures.list c.assign.ensures.bounds (omega (arith, c.assign.ensures.depth, c.self.invariant.shallow))
+    tree_assigned c.args.range c.args.owner c.args.term c.self.invariant c.assign.ensures.list c.assign.ensures.bounds
+    (omega (arith, c.assign.ensures.depth, c.self.invariant.shallow))
 
 pub returns-clause-err : goal.returns-clause-err
 returns-clause-err g c =

@@ -12,4 +12,5 @@ pub invariant_of-self-2 : goal.invariant_of-self-2
 invariant_of-self-2 g c =
     let list : leaves c.self.inside.root ≡ c.args.self.now.tablets = ap (λ (tree : Tree). tree.tablets) c.self.view_is in
     let absent : has_table (leaves c.self.inside.root) c.args.table ≡ false = cc in
-    tree_created c.args.table c.args.owner c.args.term c.self.invariant absent c.if-self-eq-MAX_TABLETS.false c.in_ok-insert.ensures.list c.in_ok-insert.ensures.bounds c.in_ok-insert.ensures.depth
+    tree_created c.args.table c.args.owner c.args.term c.self.invariant absent c.if-self-eq-MAX_TABLETS.false
+    c.in_ok-insert.ensures.list c.in_ok-insert.ensures.bounds c.in_ok-insert.ensures.depth

@@ -14,5 +14,6 @@ returns-in-Err-clause-err g c =
     let most = room_at c.in-Err.fault c.play.new.self in
     let room = room_enough c.in-Err.fault c.play.new.self made.fault c.play.ensures.few in
     c.loop-place.invariant.reached most (omega (arith, room, c.play.ensures.more))
-    ∙ scene_stops most place (replayed c.loop-place.self) (replayed c.play.new.self) c.index-events-place.result (drop place events) (drop (place + 1) events)
+    ∙ scene_stops most place (replayed c.loop-place.self) (replayed c.play.new.self) c.index-events-place.result
+    (drop place events) (drop (place + 1) events)
     (dropped_at events place c.index-events-place.result within c.index-events-place.is) c.in-Err.ensures.err

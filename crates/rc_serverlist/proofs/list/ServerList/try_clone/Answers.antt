@@ -8,6 +8,7 @@ use Rattle.rc_serverlist.proofs.list.ServerList.try_clone.Goals as goal
 pub returns-clause-ok : goal.returns-clause-ok
 returns-clause-ok c =
     let all : c.in_ok-copy.copy.entries ≡ insert_all same_id [] c.self.inside.rows.entries = search rules in
-    let same : c.in_ok-copy.copy.entries ≡ c.self.inside.rows.entries = all ∙ insert_all-rows c.self.inside.rows.entries c.iter.ensures.unique in
+    let same : c.in_ok-copy.copy.entries ≡ c.self.inside.rows.entries =
+    all ∙ insert_all-rows c.self.inside.rows.entries c.iter.ensures.unique in
     let list : Rows → ServerList = λ rows. record { version = c.self.inside.version; rows = rows } in
     ap list same ∙ c.self.view_is

@@ -6,7 +6,8 @@ use Rattle.rc_world.proofs.nodes.Nodes.reach.Goals as goal
 pub returns-in-Some-clause-hosts : goal.returns-in-Some-clause-hosts
 returns-in-Some-clause-hosts g c =
     OnOk-then c.take.result
-    (stepped (λ h. (takes_if_running h h.master c.args.message.now).0) c.args.self.now.setup c.args.self.now.hosts (c.get_mut.follows.lender c.take.new.self) c.args.id.index
+    (stepped (λ h. (takes_if_running h h.master c.args.message.now).0) c.args.self.now.setup c.args.self.now.hosts
+    (c.get_mut.follows.lender c.take.new.self) c.args.id.index
     c.in-Some.host.now c.take.new.self (sym c.in-Some.ensures.value) (c.get_mut.follows.holds c.take.new.self).3)
     c.take.ensures.state
 

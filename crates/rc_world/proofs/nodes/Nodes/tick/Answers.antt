@@ -6,7 +6,8 @@ use Rattle.rc_world.proofs.nodes.Nodes.tick.Goals as goal
 pub returns-in-Some-clause-hosts : goal.returns-in-Some-clause-hosts
 returns-in-Some-clause-hosts g c =
     OnOk-then c.tick.result
-    (stepped (λ h. (ticks_if_running h h.master).0) c.args.self.now.setup c.args.self.now.hosts (c.get_mut.follows.lender c.tick.new.self) c.args.id.index
+    (stepped (λ h. (ticks_if_running h h.master).0) c.args.self.now.setup c.args.self.now.hosts
+    (c.get_mut.follows.lender c.tick.new.self) c.args.id.index
     c.in-Some.host.now c.tick.new.self (sym c.in-Some.ensures.value) (c.get_mut.follows.holds c.tick.new.self).3)
     c.tick.ensures.state
 

@@ -3,8 +3,8 @@ use Rattle.rc_types.specs.declared.messages.Message.{Message}
 use Rattle.rc_model.specs.World.{replay}
 use Rattle.rc_model.specs.Breach.{breach}
 use Rattle.rc_model.specs.Headline.{NothingIsDropped}
-use Rattle.rc_log_words.proofs.KeptWorlds.{nothing-is-dropped}
-use Rattle.rc_version_safety.proofs.Replays.{there-is-no-breach}
+use Rattle.rc_log_laws.proofs.KeptWorlds.{nothing-is-dropped}
+use Rattle.rc_owner_laws.proofs.VersionReplays.{there-is-no-breach}
 use Rattle.rc_world.specs.Happened.{Happened}
 use Rattle.rc_world.specs.Served.{IsServed}
 use Rattle.rc_world.proofs.Serving.{is-served}

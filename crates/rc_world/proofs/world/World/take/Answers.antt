@@ -16,6 +16,7 @@ invariant_of-self-2 g c =
     let pushed : c.push.new.self.items ≡ c.self.inside.events.items ++ c.args.event.now ∷ [] =
     rw (c.push.ensures.items, c.unwrap.ensures, c.in_ok-reserve.ensures.items, c.in_ok-copy.ensures.copy) refl in
     rw pushed
-    (holds_on c.self.inside.nodes c.take.new.self c.self.inside.sent.items c.as_slice.result.now c.take.new.sent.items c.self.inside.events.items c.args.event.now
+    (holds_on c.self.inside.nodes c.take.new.self c.self.inside.sent.items c.as_slice.result.now c.take.new.sent.items
+    c.self.inside.events.items c.args.event.now
     c.self.invariant few c.as_slice.ensures.value (sym c.is_possible.ensures ∙ c.if-not-is_possible.false)
     c.in_ok-take.ensures.setup c.in_ok-take.ensures.hosts c.in_ok-take.ensures.coordinator c.in_ok-take.ensures.sends)

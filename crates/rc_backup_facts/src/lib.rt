@@ -1,5 +1,0 @@
-//! Backups keep the facts. Nothing here runs: the functions have empty bodies, and their contracts
-//! are theorems on the definitions.
-#![tactic(auto)]
-
-pub mod steps;

@@ -1,3 +1,0 @@
-pub mod Servers
-pub mod Attempting
-pub mod Steps

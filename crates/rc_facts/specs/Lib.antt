@@ -1,4 +1,0 @@
-pub mod Words
-pub mod Facts
-pub mod Later
-pub mod Moves

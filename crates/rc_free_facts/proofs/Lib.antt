@@ -1,4 +1,0 @@
-pub mod Silent
-pub mod Stays
-pub mod Walk
-mod Worlds

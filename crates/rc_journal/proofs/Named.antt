@@ -1,0 +1,27 @@
+-- Numbers of seats and names of nodes.
+use Rattle.std.proofs.Common.{◌≡◌, ◌≢◌, ℕ, zero, suc, true, false, refl, sym, ap, ◌∙◌}
+use Rattle.std.proofs.lemmas.Bool.{eq-eqb}
+use Rattle.rc_model.specs.World.{NodeName, TheOutside, TheCoordinator, TheHost, same_node}
+use Rattle.rc_ledger.specs.Views.{name_at}
+use Rattle.rc_ledger.proofs.Names.{other-names}
+use Rattle.rc_journal.specs.Names.{number_at}
+
+-- the name of a node's number is its own
+pub named : (name : NodeName) → name_at (number_at name) ≡ name
+named TheOutside = refl
+named TheCoordinator = refl
+named (TheHost index) = refl
+
+pub same_node-same : (name : NodeName) → same_node name name ≡ true
+same_node-same TheOutside = refl
+same_node-same TheCoordinator = refl
+same_node-same (TheHost index) = eq-eqb index index refl
+
+-- a node is that of its number
+pub same_node-number : (name : NodeName) → same_node name (name_at (number_at name)) ≡ true
+same_node-number name = ap (same_node name) (named name) ∙ same_node-same name
+
+-- and of no other number
+pub same_node-other : (name : NodeName) (number : ℕ) → number_at name ≢ number → same_node name (name_at number) ≡ false
+same_node-other name number differ =
+    ap (λ n. same_node n (name_at number)) (sym (named name)) ∙ other-names (number_at name) number differ

@@ -1,0 +1,7 @@
+pub mod Names
+pub mod Numbers
+pub mod Index
+pub mod Pages
+pub mod Tokens
+pub mod Sound
+pub mod Calls

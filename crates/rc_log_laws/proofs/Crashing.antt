@@ -1,0 +1,65 @@
+-- Who has crashed stays so.
+use Rattle.std.proofs.Common.{◌≡◌, ◌⊎◌, ℕ, true, false, List, [], ◌∷◌, sym, ◌∙◌, subst, inl, inr}
+use Rattle.rc_types.specs.declared.ids.ServerId.{ServerId}
+use Rattle.rc_types.specs.declared.events.Event.{Event}
+use Rattle.rc_model.specs.ServerList.{is_up, has_crashed}
+use Rattle.rc_model.specs.World.{World, opening, step, replay_from, replay}
+use Rattle.rc_step_laws.proofs.Servers.{crashed-not-up}
+use Rattle.rc_step_laws.proofs.Lists.{true_false}
+use Rattle.rc_model.proofs.Replays.{replay_from-push}
+use Rattle.rc_model.specs.Nodes.{Ask, Take, Tick, Stop, Start, Suspect, Decide, Create, Split}
+use Rattle.rc_log_laws.proofs.Granted.{grants-takes, grants-ticks, grants-suspects, grants-decides, grants-creates, grants-splits}
+use Rattle.rc_log_laws.proofs.Replays.{GoodWorld, GoodStep, led-step, good-world}
+use Rattle.rc_log_laws.specs.CommitClaims.{CrashedIsNeverUp, IsGrantedTo, EachGrantGoesToTheUp, GrantsGoToTheUp, CrashedAreGrantedNoMore}
+use Rattle.rc_log_laws.proofs.Since.{replay_from-append}
+
+crashed-from : (world : World) (more : List Event) (m : ServerId) → GoodWorld world →
+    has_crashed world.coordinator.servers m ≡ true → has_crashed (replay_from world more).coordinator.servers m ≡ true
+crashed-from world [] m good e = e
+crashed-from world (one ∷ more) m good e = crashed-from (step world one) more m led.good (led.onward.c_later.crashed m e)
+  where
+    led : GoodStep world (step world one)
+    led = led-step world one good
+
+pub crashed-is-never-up : CrashedIsNeverUp
+crashed-is-never-up setup events more m e =
+    subst (λ (world : World). is_up world.coordinator.servers m ≡ false) (sym (replay_from-append (opening setup) events more))
+    (crashed-not-up (replay_from (replay setup events) more).coordinator.servers m
+    (crashed-from (replay setup events) more m (good-world setup events) e))
+
+-- Grants
+
+pub each-grant-goes-to-the-up : EachGrantGoesToTheUp
+each-grant-goes-to-the-up c (Take message) m s e at = grants-takes c message.from message.body m s e at
+each-grant-goes-to-the-up c (Tick addr) m s e at = grants-ticks c m s e at
+each-grant-goes-to-the-up c (Suspect id) m s e at = grants-suspects c id m s e at
+each-grant-goes-to-the-up c (Decide id) m s e at = grants-decides c id m s e at
+each-grant-goes-to-the-up c (Create table owner) m s e at = grants-creates c table owner m s e at
+each-grant-goes-to-the-up c (Split table key) m s e at = grants-splits c table key m s e at
+each-grant-goes-to-the-up c (Ask to asked) m s e at = absurd at
+each-grant-goes-to-the-up c (Stop id) m s e at = absurd at
+each-grant-goes-to-the-up c (Start kept) m s e at = absurd at
+
+pub grants-go-to-the-up : GrantsGoToTheUp
+grants-go-to-the-up setup events one m s e at =
+    (led-step (replay setup events) one (good-world setup events)).onward.granted m s e
+    (subst (λ (world : World). IsGrantedTo world.sent m s e) (replay_from-push (opening setup) events one) at)
+
+granted-from : (world : World) (more : List Event) (m : ServerId) (s e : ℕ) → GoodWorld world →
+    has_crashed world.coordinator.servers m ≡ true → IsGrantedTo (replay_from world more).sent m s e →
+    IsGrantedTo world.sent m s e
+granted-from world [] m s e good has at = at
+granted-from world (one ∷ more) m s e good has at =
+    by (led.onward.granted m s e (granted-from (step world one) more m s e led.good (led.onward.c_later.crashed m has) at))
+  where
+    led : GoodStep world (step world one)
+    led = led-step world one good
+
+    by : IsGrantedTo world.sent m s e ⊎ (is_up world.coordinator.servers m ≡ true) → IsGrantedTo world.sent m s e
+    by (inl there) = there
+    by (inr up) = true_false (sym up ∙ crashed-not-up world.coordinator.servers m has)
+
+pub crashed-are-granted-no-more : CrashedAreGrantedNoMore
+crashed-are-granted-no-more setup events more m s e has at =
+    granted-from (replay setup events) more m s e (good-world setup events) has
+    (subst (λ (world : World). IsGrantedTo world.sent m s e) (replay_from-append (opening setup) events more) at)

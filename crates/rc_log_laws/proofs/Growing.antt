@@ -1,0 +1,94 @@
+-- Logs and their replicas.
+use Rattle.std.proofs.Common.{◌≡◌, ℕ, ◌<◌, Bool, true, List, ◌++◌, length, Some, slice_get, inl, arith}
+use Rattle.std.proofs.lemmas.List.{length-map}
+use Rattle.rc_types.specs.declared.ids.ServerId.{ServerId}
+use Rattle.rc_types.specs.declared.entries.Entry.{Entry}
+use Rattle.rc_types.specs.declared.messages.Message.{Message}
+use Rattle.rc_model.specs.Log.{LogPlace}
+use Rattle.rc_model.specs.Master.{Master}
+use Rattle.rc_model.specs.World.{replay}
+use Rattle.rc_step_laws.specs.Words.{log_in}
+use Rattle.rc_step_laws.specs.Facts.{IsSafe, GoodMaster, GoodReplica}
+use Rattle.rc_step_laws.specs.Moves.{OwnFine}
+use Rattle.rc_step_laws.proofs.Lists.{get-below}
+use Rattle.rc_step_laws.proofs.Copies.{grows-log, final-log}
+use Rattle.rc_step_laws.proofs.Safe.{covered-safe}
+use Rattle.rc_step_laws.proofs.MasterSteps.{view-of}
+use Rattle.rc_step_laws.proofs.Backups.{own-fine}
+use Rattle.rc_step_laws.proofs.Replicas.{begins-whole}
+use Rattle.rc_log_laws.proofs.Clauses.{made-is, accepted-is, held-made}
+use Rattle.rc_log_laws.proofs.Replays.{good-world}
+use Rattle.rc_log_laws.specs.LogClaims.{OneEntryAtAPlace, LogsGrow, ShutIsFinal, ShutIsSafe, ReplicasAreBeginnings, RecoveredIsMade}
+use Rattle.rc_log_laws.proofs.Since.{Since, since-more}
+
+pub one-entry : OneEntryAtAPlace
+one-entry setup events m s o one other p q =
+    let first : slice_get (log_in ((replay setup events).masters m).log s) o ≡ Some one =
+    made-is (replay setup events).sent (replay setup events).masters (replay setup events).hosts
+    (replay setup events).coordinator (good-world setup events) m s o one p in
+    let second : slice_get (log_in ((replay setup events).masters m).log s) o ≡ Some other =
+    made-is (replay setup events).sent (replay setup events).masters (replay setup events).hosts
+    (replay setup events).coordinator (good-world setup events) m s o other q in
+    cc
+
+pub logs-grow : LogsGrow
+logs-grow setup events more m s =
+    grows-log (replay setup (events ++ more)).sent m ((replay setup events).masters m).log
+    ((replay setup (events ++ more)).masters m).log (since-more setup events more m).later s
+
+pub shut-is-final : ShutIsFinal
+shut-is-final setup events more m s shut = record {
+  shut = (later.later.shut s shut).0;
+  same = final-log (replay setup (events ++ more)).sent m ((replay setup events).masters m).log
+      ((replay setup (events ++ more)).masters m).log later.later s
+      (((good-world setup events).masters_are m).shut_below s shut).1;
+}
+  where
+    later : Since m (replay setup events) (replay setup (events ++ more))
+    later = since-more setup events more m
+
+-- each place of a shut segment is safe
+shut-safe : (sent : List Message) (m : ServerId) (master : Master) (s o : ℕ) → GoodMaster sent m master →
+    OwnFine sent m master.log → (master.log.segments s).shut ≡ true →
+    o < length (log_in master.log s) → IsSafe sent m master.log s o
+shut-safe sent m master s o good fine shut less =
+    covered-safe sent m master.log place (view-of sent m master good fine).log fine
+    (record { above = stands.0; upto = omega (arith, stands.1); holds = at.1 })
+    (record { reason = inl shut; below = λ t above under. good.old_shut t above (omega (arith, under, stands.1)) })
+  where
+    stands : (0 < s) × (s < master.log.head)
+    stands = good.shut_below s shut
+
+    within : o < length (master.log.segments s).entries
+    within = let same : length (log_in master.log s) ≡ length (master.log.segments s).entries =
+        length-map (master.log.segments s).entries (λ (one : Entry × Bool). one.0) in omega arith
+
+    at : (one : Entry × Bool) × (slice_get (master.log.segments s).entries o ≡ Some one)
+    at = get-below (master.log.segments s).entries o within
+
+    place : LogPlace
+    place = record { seg = s; offset = o; entry = at.0.0; client = at.0.1 }
+
+pub shut-is-safe : ShutIsSafe
+shut-is-safe setup events m s o shut less =
+    shut-safe (replay setup events).sent m ((replay setup events).masters m) s o ((good-world setup events).masters_are m)
+    (own-fine (replay setup events).sent (replay setup events).masters (replay setup events).hosts
+    (replay setup events).coordinator (good-world setup events) m) shut less
+
+pub replicas-are-beginnings : ReplicasAreBeginnings
+replicas-are-beginnings setup events i m s replica kept = record {
+  begins = one.begins;
+  whole = λ closed. begins-whole replica.entries (log_in ((replay setup events).masters m).log s) one.begins (one.copy.whole closed).1;
+  made = λ o less. one.copy.made o less;
+}
+  where
+    one : GoodReplica (replay setup events).sent m ((replay setup events).masters m).log i
+        ((replay setup events).hosts i).generation s replica
+    one = (((good-world setup events).hosts_are i).held m).each s replica kept
+
+pub recovered-is-made : RecoveredIsMade
+recovered-is-made setup events plan s o accepted held =
+    held-made (replay setup events).sent (replay setup events).masters (replay setup events).hosts
+    (replay setup events).coordinator plan.master plan.rows
+    (accepted-is (replay setup events).sent (replay setup events).masters (replay setup events).hosts
+    (replay setup events).coordinator (good-world setup events) plan accepted) s o held

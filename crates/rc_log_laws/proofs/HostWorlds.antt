@@ -1,0 +1,245 @@
+-- A host's backup moves, or the host starts or stops, and the world stays good.
+use Rattle.std.proofs.Common.{◌≡◌, ◌⊎◌, ℕ, ◌≤◌, Bool, true, false, List, ◌++◌, refl, sym, ap, ◌∙◌, subst, inl, inr, arith}
+use Rattle.rc_types.specs.declared.ids.ServerId.{ServerId}
+use Rattle.rc_types.specs.declared.ids.Addr.{Addr}
+use Rattle.rc_types.specs.declared.ids.Addr.TheVariants.{Server, Coordinator as AtCoordinator, Outside}
+use Rattle.rc_types.specs.declared.messages.Message.{Message}
+use Rattle.rc_types.specs.declared.messages.Body.{Body}
+use Rattle.rc_types.specs.declared.messages.Body.TheVariants as body
+use Rattle.rc_model.specs.Tables.{put}
+use Rattle.rc_model.specs.Messages.{between, from_coordinator}
+use Rattle.rc_model.specs.ServerList.{is_up}
+use Rattle.rc_model.specs.Backup.{Backup}
+use Rattle.rc_model.specs.Master.{Master}
+use Rattle.rc_model.specs.Coordinator.{Coordinator}
+use Rattle.rc_model.specs.Nodes.{HostNode, server_of}
+use Rattle.rc_model.specs.Headline.{In}
+use Rattle.rc_model.proofs.Members.{In-left, In-append}
+use Rattle.rc_step_laws.specs.Words.{held_at}
+use Rattle.rc_step_laws.specs.Facts.{GoodHeld, GoodHost, GoodCoordinator, Good, IsTold, StillStands, IsStored, body_fine, Fine}
+use Rattle.rc_step_laws.specs.Later.{HostLater, IsNewStored}
+use Rattle.rc_step_laws.specs.Moves.{BackupMoved, backup_body_said}
+use Rattle.rc_step_laws.proofs.Lists.{put_each, put_same}
+use Rattle.rc_step_laws.proofs.Copies.{More}
+use Rattle.rc_step_laws.proofs.Attempting.{kept-refl, attempt-kept}
+use Rattle.rc_step_laws.proofs.Backups.{Quiet, own-fine}
+use Rattle.rc_log_laws.proofs.Granted.{GrantsUp}
+use Rattle.rc_log_laws.proofs.Lasting.{Onward}
+use Rattle.rc_log_laws.proofs.Unmoved.{NoNewPlaceOf, NewlyToldFits, unmoved-grown, unmoved-good, unmoved-own}
+use Rattle.rc_log_laws.proofs.Worlds.{Led, good-onward, host-still, host_later-refl, coordinator_later-refl}
+use Rattle.rc_log_laws.proofs.MasterWorlds.{server-same, put-cases}
+
+-- the coordinator stays good where more is sent
+pub coordinator-still : (sent messages : List Message) (c : Coordinator) → GoodCoordinator sent c → GoodCoordinator (sent ++ messages) c
+coordinator-still sent messages c good = record {
+  attempts = λ number attempt numbered. attempt-kept sent messages c c number attempt (kept-refl c) (good.attempts number attempt numbered);
+  servers = good.servers;
+  current_numbered = good.current_numbered;
+  current_master = good.current_master;
+}
+
+-- The backup of host i moves
+
+module _ (sent : List Message) (masters : ServerId → Master) (hosts : ℕ → HostNode) (c : Coordinator)
+    (good : Good sent masters hosts c) (i : ℕ) (after : Backup) (messages : List Message)
+    (moved : BackupMoved sent masters (put hosts i (record (hosts i) { backup = after })) c (hosts i) (after, messages)) where
+  abbrev hosts_now : ℕ → HostNode
+  hosts_now = put hosts i (record (hosts i) { backup = after })
+
+  was : GoodHost sent masters i (hosts i)
+  was = good.hosts_are i
+
+  more : More sent (sent ++ messages)
+  more message at = In-left message sent messages at
+
+  back : (m : ServerId) → NoNewPlaceOf sent (sent ++ messages) m
+  back m x s e digest entries closed at = by (In-append (between m x (body.Place s e digest entries closed)) sent messages at)
+    where
+      by : In (between m x (body.Place s e digest entries closed)) sent ⊎
+          In (between m x (body.Place s e digest entries closed)) messages →
+          In (between m x (body.Place s e digest entries closed)) sent
+      by (inl there) = there
+      by (inr new) = absurd (moved.says (between m x (body.Place s e digest entries closed)) new)
+
+  -- who newly tells is the host's server
+  teller : (x m : ServerId) (s e len : ℕ) (closed : Bool) → In (between x m (body.Stored s e len closed)) messages → x ≡ server_of (hosts i)
+  teller x m s e len closed at = server-same x (server_of (hosts i)) (moved.from (between x m (body.Stored s e len closed)) at)
+
+  fits : (m : ServerId) → NewlyToldFits sent (sent ++ messages) m (masters m).log
+  fits m x s e len closed at = by (In-append (between x m (body.Stored s e len closed)) sent messages at)
+    where
+      by : In (between x m (body.Stored s e len closed)) sent ⊎ In (between x m (body.Stored s e len closed)) messages →
+          In (between x m (body.Stored s e len closed)) sent ⊎ IsTold (sent ++ messages) m (masters m).log x s e len
+          closed
+      by (inl there) = inl there
+      by (inr new) = inr (subst (λ (y : ServerId). IsTold (sent ++ messages) m (masters m).log y s e len closed)
+          (sym (teller x m s e len closed new)) (moved.says (between x m (body.Stored s e len closed)) new).0)
+
+  new-stored : (x m : ServerId) (s e len : ℕ) (closed : Bool) →
+      In (between x m (body.Stored s e len closed)) (sent ++ messages) →
+      In (between x m (body.Stored s e len closed)) sent ⊎ IsNewStored hosts x m
+  new-stored x m s e len closed at = by (In-append (between x m (body.Stored s e len closed)) sent messages at)
+    where
+      by_server : ((hosts i).backup.held m).fenced ≡ false → IsNewStored hosts (server_of (hosts i)) m
+      by_server unfenced = record {
+        since = subst (λ n. (hosts n).generation ≤ (hosts i).generation) (sym was.index) (omega arith);
+        unfenced = λ _. subst (λ n. (held_at hosts n m).fenced ≡ false) (sym was.index) unfenced;
+      }
+
+      by : In (between x m (body.Stored s e len closed)) sent ⊎ In (between x m (body.Stored s e len closed)) messages →
+          In (between x m (body.Stored s e len closed)) sent ⊎ IsNewStored hosts x m
+      by (inl there) = inl there
+      by (inr new) = inr (subst (λ (y : ServerId). IsNewStored hosts y m) (sym (teller x m s e len closed new))
+          (by_server (moved.says (between x m (body.Stored s e len closed)) new).1.1))
+
+  granted-back : (m : ServerId) (s e : ℕ) → In (from_coordinator m (body.CommitOk s e)) (sent ++ messages) →
+      In (from_coordinator m (body.CommitOk s e)) sent ⊎ (is_up c.servers m ≡ true)
+  granted-back m s e at = by (In-append (from_coordinator m (body.CommitOk s e)) sent messages at)
+    where
+      by : In (from_coordinator m (body.CommitOk s e)) sent ⊎ In (from_coordinator m (body.CommitOk s e)) messages →
+          In (from_coordinator m (body.CommitOk s e)) sent ⊎ (is_up c.servers m ≡ true)
+      by (inl there) = inl there
+      by (inr new) = absurd (moved.says (from_coordinator m (body.CommitOk s e)) new)
+
+  onward : Onward sent masters hosts c (sent ++ messages) masters (put hosts i (record (hosts i) { backup = after })) c
+  onward = record {
+    more = more;
+    grown = λ m. unmoved-grown sent (sent ++ messages) m (masters m) (good.masters_are m) more (back m);
+    masters_are = λ m. unmoved-good sent (sent ++ messages) m (masters m) (good.masters_are m) more (back m);
+    own = λ m. unmoved-own sent (sent ++ messages) m (masters m) (good.masters_are m)
+        (own-fine sent masters hosts c good m) more (back m) (fits m);
+    hosts_later = λ j. put_each (λ k host. HostLater (hosts k) host) hosts i (record (hosts i) { backup = after })
+        (record { generation = omega arith; held = λ same m. moved.later m }) (λ k. host_later-refl (hosts k)) j;
+    c_later = coordinator_later-refl c;
+    stored = new-stored;
+    granted = granted-back;
+  }
+
+  mine : GoodHost (sent ++ messages) masters i (record (hosts i) { backup = after })
+  mine = record {
+    index = was.index;
+    own = moved.own ∙ was.own;
+    runs = was.runs;
+    unstarted = was.unstarted;
+    held = λ m. subst (λ n. GoodHeld (sent ++ messages) m (masters m).log n (hosts i).generation (after.held m)) was.index (moved.held m);
+  }
+
+  other : (j : ℕ) → (i ≡ j → ⊥) → GoodHost (sent ++ messages) masters j (hosts j)
+  other j differs =
+      host-still sent masters hosts c (sent ++ messages) masters (put hosts i (record (hosts i) { backup = after })) c
+      good onward j (λ g. refl) nothing
+    where
+      nothing : (m x : ServerId) (s e len : ℕ) (closed : Bool) → x.index ≡ j →
+          In (between x m (body.Stored s e len closed)) (sent ++ messages) →
+          In (between x m (body.Stored s e len closed)) sent
+      nothing m x s e len closed on at = by (In-append (between x m (body.Stored s e len closed)) sent messages at)
+        where
+          by : In (between x m (body.Stored s e len closed)) sent ⊎ In (between x m (body.Stored s e len closed))
+              messages → In (between x m (body.Stored s e len closed)) sent
+          by (inl there) = there
+          by (inr new) = absurd (differs (sym was.index ∙ (sym (ap (λ (id : ServerId). id.index) (teller x m s e len closed new)) ∙ on)))
+
+  stored-now : (m : ServerId) (s e len : ℕ) (closed : Bool) →
+      IsTold (sent ++ messages) m (masters m).log (server_of (hosts i)) s e len closed →
+      StillStands (after.held m) s e len closed →
+      IsStored (sent ++ messages) (put hosts i (record (hosts i) { backup = after })) m (masters m).log (server_of (hosts i)) s e len closed
+  stored-now m s e len closed told stands = record {
+    told = told;
+    since = subst (λ (host : HostNode). (hosts i).generation ≤ host.generation) (sym here) (omega arith);
+    stands = λ _. inl (subst (λ (host : HostNode). StillStands (host.backup.held m) s e len closed) (sym here) stands);
+  }
+    where
+      here : put hosts i (record (hosts i) { backup = after }) (hosts i).index ≡ record (hosts i) { backup = after }
+      here = ap (put hosts i (record (hosts i) { backup = after })) was.index ∙ put_same hosts i (record (hosts i) { backup = after })
+
+  said-fine : (to : Addr) (says : Body) →
+      backup_body_said (sent ++ messages) masters (put hosts i (record (hosts i) { backup = after })) c (hosts i) after
+      to says →
+      body_fine (sent ++ messages) masters (put hosts i (record (hosts i) { backup = after })) c (Server (server_of (hosts i))) to says
+  said-fine (Server m) (body.Stored s e len closed) said = stored-now m s e len closed said.0 said.1.0
+  said-fine AtCoordinator (body.Stored s e len closed) said = absurd said
+  said-fine Outside (body.Stored s e len closed) said = absurd said
+  said-fine to (body.Replicas number rows) said = said
+  said-fine to (body.Data attempt s term entries) said = tt
+  said-fine to _ said = absurd said
+
+  pub good-backup : Led sent masters hosts c (sent ++ messages) masters (put hosts i (record (hosts i) { backup = after })) c
+  good-backup =
+      good-onward sent masters hosts c (sent ++ messages) masters (put hosts i (record (hosts i) { backup = after })) c good onward
+      (λ j. put-cases (λ k host. GoodHost (sent ++ messages) masters k host) hosts i (record (hosts i) { backup = after }) mine other j)
+      (coordinator-still sent messages c good.coordinator) (λ message at. by message (In-append message sent messages at))
+    where
+      by : (message : Message) → In message sent ⊎ In message messages →
+          In message sent ⊎ Fine (sent ++ messages) masters (put hosts i (record (hosts i) { backup = after })) c
+          message
+      by message (inl there) = inl there
+      by message (inr new) = inr
+          (subst (λ (from : Addr). body_fine (sent ++ messages) masters
+          (put hosts i (record (hosts i) { backup = after })) c from message.to message.body)
+          (sym (moved.from message new))
+          (said-fine message.to message.body (moved.says message new)))
+
+-- The host changes otherwise: it starts, or it stops
+
+module _ (sent messages : List Message) (masters : ServerId → Master) (hosts : ℕ → HostNode) (c : Coordinator)
+    (good : Good sent masters hosts c) (i : ℕ) (host : HostNode) (quiet : Quiet messages) (grants : GrantsUp c messages)
+    (later : HostLater (hosts i) host) (mine_now : GoodHost (sent ++ messages) masters i host)
+    (fine_now : (message : Message) → In message messages →
+    Fine (sent ++ messages) masters (put hosts i host) c message) where
+  moved_more : More sent (sent ++ messages)
+  moved_more message at = In-left message sent messages at
+
+  moved_back : (m : ServerId) → NoNewPlaceOf sent (sent ++ messages) m
+  moved_back m x s e digest entries closed at = by (In-append (between m x (body.Place s e digest entries closed)) sent messages at)
+    where
+      by : In (between m x (body.Place s e digest entries closed)) sent ⊎
+          In (between m x (body.Place s e digest entries closed)) messages →
+          In (between m x (body.Place s e digest entries closed)) sent
+      by (inl there) = there
+      by (inr new) = absurd (quiet.places m x s e digest entries closed new)
+
+  moved_told : (x m : ServerId) (s e len : ℕ) (closed : Bool) →
+      In (between x m (body.Stored s e len closed)) (sent ++ messages) →
+      In (between x m (body.Stored s e len closed)) sent
+  moved_told x m s e len closed at = by (In-append (between x m (body.Stored s e len closed)) sent messages at)
+    where
+      by : In (between x m (body.Stored s e len closed)) sent ⊎ In (between x m (body.Stored s e len closed)) messages →
+          In (between x m (body.Stored s e len closed)) sent
+      by (inl there) = there
+      by (inr new) = absurd (quiet.told x m s e len closed new)
+
+  granted-moved : (m : ServerId) (s e : ℕ) → In (from_coordinator m (body.CommitOk s e)) (sent ++ messages) →
+      In (from_coordinator m (body.CommitOk s e)) sent ⊎ (is_up c.servers m ≡ true)
+  granted-moved m s e at = by (In-append (from_coordinator m (body.CommitOk s e)) sent messages at)
+    where
+      by : In (from_coordinator m (body.CommitOk s e)) sent ⊎ In (from_coordinator m (body.CommitOk s e)) messages →
+          In (from_coordinator m (body.CommitOk s e)) sent ⊎ (is_up c.servers m ≡ true)
+      by (inl there) = inl there
+      by (inr new) = inr (grants m s e new)
+
+  moved_onward : Onward sent masters hosts c (sent ++ messages) masters (put hosts i host) c
+  moved_onward = record {
+    more = moved_more;
+    grown = λ m. unmoved-grown sent (sent ++ messages) m (masters m) (good.masters_are m) moved_more (moved_back m);
+    masters_are = λ m. unmoved-good sent (sent ++ messages) m (masters m) (good.masters_are m) moved_more (moved_back m);
+    own = λ m. unmoved-own sent (sent ++ messages) m (masters m) (good.masters_are m)
+        (own-fine sent masters hosts c good m) moved_more (moved_back m)
+        (λ x s e len closed at. inl (moved_told x m s e len closed at));
+    hosts_later = λ j. put_each (λ k one. HostLater (hosts k) one) hosts i host later (λ k. host_later-refl (hosts k)) j;
+    c_later = coordinator_later-refl c;
+    stored = λ x m s e len closed at. inl (moved_told x m s e len closed at);
+    granted = granted-moved;
+  }
+
+  pub good-host : Led sent masters hosts c (sent ++ messages) masters (put hosts i host) c
+  good-host =
+      good-onward sent masters hosts c (sent ++ messages) masters (put hosts i host) c good moved_onward
+      (λ j. put-cases (λ k one. GoodHost (sent ++ messages) masters k one) hosts i host mine_now
+      (λ k differs. host-still sent masters hosts c (sent ++ messages) masters (put hosts i host) c good moved_onward k
+      (λ g. refl) (λ m x s e len closed on at. moved_told x m s e len closed at)) j)
+      (coordinator-still sent messages c good.coordinator) (λ message at. by message (In-append message sent messages at))
+    where
+      by : (message : Message) → In message sent ⊎ In message messages →
+          In message sent ⊎ Fine (sent ++ messages) masters (put hosts i host) c message
+      by message (inl there) = inl there
+      by message (inr new) = inr (fine_now message new)

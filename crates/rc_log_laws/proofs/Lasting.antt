@@ -1,0 +1,231 @@
+-- What holds of a message, of a host and of a master in a good world holds of it in a later one.
+use Rattle.std.proofs.Common.{◌≡◌, ◌⊎◌, ℕ, ◌≤◌, Bool, true, false, List, length, Some, None, sym, ◌∙◌, subst, inl, inr, arith}
+use Rattle.rc_types.specs.declared.ids.ServerId.{ServerId}
+use Rattle.rc_types.specs.declared.ids.Addr.{Addr}
+use Rattle.rc_types.specs.declared.ids.Addr.TheVariants.{Server, Coordinator as AtCoordinator, Outside}
+use Rattle.rc_types.specs.declared.rows.Row.{Row}
+use Rattle.rc_types.specs.declared.rows.PlanRow.{PlanRow}
+use Rattle.rc_types.specs.declared.messages.Message.{Message}
+use Rattle.rc_types.specs.declared.messages.Body.{Body}
+use Rattle.rc_types.specs.declared.messages.Body.TheVariants as body
+use Rattle.rc_model.specs.Messages.{between, from_coordinator}
+use Rattle.rc_model.specs.ServerList.{is_up}
+use Rattle.rc_model.specs.Replica.{Replica}
+use Rattle.rc_model.specs.Backup.{Held, is_freed}
+use Rattle.rc_model.specs.Master.{Master}
+use Rattle.rc_model.specs.Coordinator.{Coordinator}
+use Rattle.rc_model.specs.Nodes.{HostNode}
+use Rattle.rc_model.specs.Headline.{In}
+use Rattle.rc_step_laws.specs.Words.{held_at, IsOf}
+use Rattle.rc_step_laws.specs.Facts.{GoodMaster, IsStored, StillStands, IsAnswer, IsPlan, GoodReplica, GoodHeld, Good, body_fine}
+use Rattle.rc_step_laws.specs.Later.{HeldLater, HostLater, AttemptLater, IsNewStored}
+use Rattle.rc_step_laws.specs.Moves.{OwnFine, CoordinatorLater}
+use Rattle.rc_step_laws.proofs.Lists.{true_false, begins-trans}
+use Rattle.rc_step_laws.proofs.Copies.{More, CopyLives, NoneNewUpTo, copy-later, grows-log}
+use Rattle.rc_step_laws.proofs.Logs.{Grown, append-grown, close-grown, write_ok-grown}
+use Rattle.rc_step_laws.proofs.Attempting.{below-trans}
+use Rattle.rc_step_laws.proofs.Backups.{own-fine}
+
+-- A later world
+
+-- the facts of a world's masters, and what has been added since an earlier one
+pub record Onward (sent : List Message) (masters : ServerId → Master) (hosts : ℕ → HostNode) (c : Coordinator)
+    (sent_now : List Message) (masters_now : ServerId → Master) (hosts_now : ℕ → HostNode) (c_now : Coordinator) : Type
+    0 where
+  pub more : More sent sent_now
+  pub grown : (m : ServerId) → Grown sent sent_now m (masters m).log (masters_now m).log
+  pub masters_are : (m : ServerId) → GoodMaster sent_now m (masters_now m)
+  pub own : (m : ServerId) → OwnFine sent_now m (masters_now m).log
+  pub hosts_later : (i : ℕ) → HostLater (hosts i) (hosts_now i)
+  pub c_later : CoordinatorLater c c_now
+  pub stored : (x m : ServerId) (s e len : ℕ) (closed : Bool) → In (between x m (body.Stored s e len closed)) sent_now →
+      In (between x m (body.Stored s e len closed)) sent ⊎ IsNewStored hosts x m
+  -- what is newly granted goes to a server that is up
+  pub granted : (m : ServerId) (s e : ℕ) → In (from_coordinator m (body.CommitOk s e)) sent_now →
+      In (from_coordinator m (body.CommitOk s e)) sent ⊎ (is_up c.servers m ≡ true)
+
+-- what was told and stands, stands
+stands-later : (old new : Held) (s e len : ℕ) (closed : Bool) → HeldLater old new →
+    StillStands old s e len closed ⊎ (is_freed s old ≡ true) → StillStands new s e len closed ⊎ (is_freed s new ≡ true)
+stands-later old new s e len closed later (inr freed) = inr (later.freed s freed)
+stands-later old new s e len closed later (inl p) = by (later.replicas s p.replica p.kept)
+  where
+    by : StillStands new s p.replica.epoch (length p.replica.entries) p.replica.closed ⊎ (is_freed s new ≡ true) →
+        StillStands new s e len closed ⊎ (is_freed s new ≡ true)
+    by (inr freed) = inr freed
+    by (inl q) = inl (record {
+      replica = q.replica;
+      kept = q.kept;
+      epoch = omega (arith, p.epoch, q.epoch);
+      enough = omega (arith, p.enough, q.enough);
+      closed_too = λ shut_so. q.closed_too (p.closed_too shut_so);
+    })
+
+-- an attempt is for its master, for good
+of-later : (c c_now : Coordinator) (number : ℕ) (m : ServerId) → CoordinatorLater c c_now → IsOf c.attempts number m →
+    IsOf c_now.attempts number m
+of-later c c_now number m later p =
+    let l : AttemptLater c_now.attempts number p.attempt = later.attempts number p.attempt p.numbered in
+    record { attempt = l.now; numbered = l.numbered; master_is = l.master ∙ p.master_is }
+
+plan-later : (c c_now : Coordinator) (number : ℕ) (m : ServerId) (head : ℕ) (rows : List PlanRow) →
+    CoordinatorLater c c_now → IsPlan c number m head rows → IsPlan c_now number m head rows
+plan-later c c_now number m head rows later p = record {
+  attempt = l.now;
+  numbered = l.numbered;
+  master_is = l.master ∙ p.master_is;
+  decision = p.decision;
+  decided = by l.decided;
+  plan_is = p.plan_is;
+}
+  where
+    l : AttemptLater c_now.attempts number p.attempt
+    l = later.attempts number p.attempt p.numbered
+
+    by : (p.attempt.decided ≡ (later.attempts number p.attempt p.numbered).now.decided) ⊎ (p.attempt.decided ≡ None) →
+        (later.attempts number p.attempt p.numbered).now.decided ≡ Some p.decision
+    by (inl same) = sym same ∙ p.decided
+    by (inr none) = absurd (none_some (sym none ∙ p.decided))
+      where
+        none_some : None ≡ Some p.decision → ⊥
+        none_some never = cc
+
+module _ (sent : List Message) (masters : ServerId → Master) (hosts : ℕ → HostNode) (c : Coordinator)
+    (sent_now : List Message) (masters_now : ServerId → Master) (hosts_now : ℕ → HostNode) (c_now : Coordinator)
+    (good : Good sent masters hosts c) (w : Onward sent masters hosts c sent_now masters_now hosts_now c_now) where
+  -- copies of a host of which no more is told, up to this generation
+  pub lives : (m : ServerId) (index generation : ℕ) → NoneNewUpTo sent sent_now m index generation →
+      CopyLives sent sent_now m (masters m).log (masters_now m).log index generation
+  lives m index generation none = record {
+    more = w.more;
+    later = (w.grown m).later;
+    old_fine = own-fine sent masters hosts c good m;
+    new_fine = w.own m;
+    places = (w.grown m).places;
+    one_a_host = (w.masters_are m).one_a_host;
+    none = none;
+  }
+
+  -- who has answered about a master tells it no more
+  silent : (y : ServerId) (number : ℕ) (rows : List Row) → (answer : IsAnswer sent masters hosts c y number rows) →
+      NoneNewUpTo sent sent_now answer.master y.index y.generation
+  silent y number rows answer x s e len closed on at = by (w.stored x answer.master s e len closed at)
+    where
+      by : In (between x answer.master (body.Stored s e len closed)) sent ⊎ IsNewStored hosts x answer.master →
+          In (between x answer.master (body.Stored s e len closed)) sent ⊎ (x.generation ≤ y.generation → ⊥)
+      by (inl there) = inl there
+      by (inr new) = inr (λ upto. never new upto)
+        where
+          never : IsNewStored hosts x answer.master → x.generation ≤ y.generation → ⊥
+          never fresh upto =
+              let here : (hosts y.index).generation ≤ x.generation = subst (λ i. (hosts i).generation ≤ x.generation) on fresh.since in
+              let same_y : y.generation ≡ (hosts y.index).generation = omega (arith, answer.since, here, upto) in
+              let same_x : x.generation ≡ (hosts x.index).generation =
+              subst (λ i. x.generation ≡ (hosts i).generation) (sym on) (omega (arith, answer.since, here, upto)) in
+              let unfenced : (held_at hosts y.index answer.master).fenced ≡ false =
+              subst (λ i. (held_at hosts i answer.master).fenced ≡ false) on (fresh.unfenced same_x) in
+              true_false (sym (answer.fenced same_y) ∙ unfenced)
+
+  answer-later : (y : ServerId) (number : ℕ) (rows : List Row) → IsAnswer sent masters hosts c y number rows →
+      IsAnswer sent_now masters_now hosts_now c_now y number rows
+  answer-later y number rows answer = record {
+    master = answer.master;
+    attempt = of-later c c_now number answer.master w.c_later answer.attempt;
+    since = omega (arith, answer.since, (w.hosts_later y.index).generation);
+    fenced = λ same. fenced same;
+    rows_are = λ row at. copy-later sent sent_now answer.master (masters answer.master).log
+        (masters_now answer.master).log y.index y.generation row.seg row.epoch row.closed row.len row.digest
+        (lives answer.master y.index y.generation (silent y number rows answer)) (answer.rows_are row at);
+  }
+    where
+      fenced : y.generation ≡ (hosts_now y.index).generation → (held_at hosts_now y.index answer.master).fenced ≡ true
+      fenced same =
+          let up : (hosts y.index).generation ≤ (hosts_now y.index).generation = (w.hosts_later y.index).generation in
+          let stays : (hosts y.index).generation ≡ (hosts_now y.index).generation = omega (arith, answer.since, up, same) in
+          let was : y.generation ≡ (hosts y.index).generation = omega (arith, answer.since, up, same) in
+          ((w.hosts_later y.index).held stays answer.master).fenced (answer.fenced was)
+
+  stored-later : (x m : ServerId) (s e len : ℕ) (closed : Bool) → In (between x m (body.Stored s e len closed)) sent →
+      IsStored sent hosts m (masters m).log x s e len closed →
+      IsStored sent_now hosts_now m (masters_now m).log x s e len closed
+  stored-later x m s e len closed at stored = record {
+    told = (w.own m).told x s e len closed (w.more (between x m (body.Stored s e len closed)) at);
+    since = omega (arith, stored.since, (w.hosts_later x.index).generation);
+    stands = λ same. stands same;
+  }
+    where
+      stands : x.generation ≡ (hosts_now x.index).generation →
+          StillStands (held_at hosts_now x.index m) s e len closed ⊎ (is_freed s (held_at hosts_now x.index m) ≡ true)
+      stands same =
+          let up : (hosts x.index).generation ≤ (hosts_now x.index).generation = (w.hosts_later x.index).generation in
+          let stays : (hosts x.index).generation ≡ (hosts_now x.index).generation = omega (arith, stored.since, up, same) in
+          let was : x.generation ≡ (hosts x.index).generation = omega (arith, stored.since, up, same) in
+          stands-later (held_at hosts x.index m) (held_at hosts_now x.index m) s e len closed
+          ((w.hosts_later x.index).held stays m) (stored.stands was)
+
+  -- each message, by what it says
+  pub fine-later : (from to : Addr) (says : Body) → In (record { from = from; to = to; body = says }) sent →
+      body_fine sent masters hosts c from to says → body_fine sent_now masters_now hosts_now c_now from to says
+  fine-later (Server m) (Server x) (body.Place s e digest entries closed) at fine =
+      (w.own m).places x s e digest entries closed (w.more (between m x (body.Place s e digest entries closed)) at)
+  fine-later (Server m) AtCoordinator (body.Place s e digest entries closed) at fine = absurd fine
+  fine-later (Server m) Outside (body.Place s e digest entries closed) at fine = absurd fine
+  fine-later AtCoordinator to (body.Place s e digest entries closed) at fine = absurd fine
+  fine-later Outside to (body.Place s e digest entries closed) at fine = absurd fine
+  fine-later (Server m) to (body.Append s offset entries) at fine =
+      append-grown sent sent_now m (masters m).log (masters_now m).log s offset entries (w.grown m) fine
+  fine-later AtCoordinator to (body.Append s offset entries) at fine = absurd fine
+  fine-later Outside to (body.Append s offset entries) at fine = absurd fine
+  fine-later (Server m) to (body.Close s len) at fine =
+      close-grown sent sent_now m (masters m).log (masters_now m).log s len (w.grown m) fine
+  fine-later AtCoordinator to (body.Close s len) at fine = absurd fine
+  fine-later Outside to (body.Close s len) at fine = absurd fine
+  fine-later (Server m) to (body.WriteOk s o term table key version) at fine =
+      write_ok-grown sent sent_now m (masters m).log (masters_now m).log s o term table key version (w.grown m) fine
+  fine-later AtCoordinator to (body.WriteOk s o term table key version) at fine = absurd fine
+  fine-later Outside to (body.WriteOk s o term table key version) at fine = absurd fine
+  fine-later (Server x) (Server m) (body.Stored s e len closed) at fine = stored-later x m s e len closed at fine
+  fine-later (Server x) AtCoordinator (body.Stored s e len closed) at fine = absurd fine
+  fine-later (Server x) Outside (body.Stored s e len closed) at fine = absurd fine
+  fine-later AtCoordinator to (body.Stored s e len closed) at fine = absurd fine
+  fine-later Outside to (body.Stored s e len closed) at fine = absurd fine
+  fine-later (Server y) to (body.Replicas number rows) at fine = answer-later y number rows fine
+  fine-later AtCoordinator to (body.Replicas number rows) at fine = absurd fine
+  fine-later Outside to (body.Replicas number rows) at fine = absurd fine
+  fine-later AtCoordinator (Server m) (body.CommitOk s e) at fine =
+      below-trans (record { seg = s; epoch = e }) (c.least m) (c_now.least m) fine (w.c_later.least m)
+  fine-later AtCoordinator AtCoordinator (body.CommitOk s e) at fine = absurd fine
+  fine-later AtCoordinator Outside (body.CommitOk s e) at fine = absurd fine
+  fine-later (Server m) to (body.CommitOk s e) at fine = absurd fine
+  fine-later Outside to (body.CommitOk s e) at fine = absurd fine
+  fine-later from to (body.Gather number master) at fine = of-later c c_now number master w.c_later fine
+  fine-later from to (body.Plan number master head rows parts) at fine = plan-later c c_now number master head rows w.c_later fine
+  fine-later from to (body.List version rows) at fine = fine
+  fine-later from to (body.Write table key value) at fine = tt
+  fine-later from to (body.Read table key) at fine = tt
+  fine-later from to (body.ReadOk table key version value) at fine = tt
+  fine-later from to (body.Refused reason) at fine = tt
+  fine-later from to (body.Commit s e) at fine = tt
+  fine-later from to body.Enlist at fine = tt
+  fine-later from to body.Ready at fine = tt
+  fine-later from to (body.Fetch attempt master s len part) at fine = tt
+  fine-later from to (body.Data attempt s term entries) at fine = tt
+  fine-later from to (body.Recovered attempt term) at fine = tt
+  fine-later from to (body.Own table lo hi term previous attempt) at fine = tt
+  fine-later from to (body.SplitOk table key) at fine = tt
+  fine-later from to (body.Free s) at fine = tt
+
+  -- what a host keeps of a master, where it tells nothing new
+  pub held-later : (m : ServerId) (index generation : ℕ) (held : Held) → NoneNewUpTo sent sent_now m index generation →
+      GoodHeld sent m (masters m).log index generation held →
+      GoodHeld sent_now m (masters_now m).log index generation held
+  held-later m index generation held none p =
+      record { ascending = p.ascending; each = λ s replica at. each s replica (p.each s replica at) }
+    where
+      each : (s : ℕ) (replica : Replica) → GoodReplica sent m (masters m).log index generation s replica →
+          GoodReplica sent_now m (masters_now m).log index generation s replica
+      each s replica q = record {
+        begins = begins-trans replica.entries _ _ q.begins (grows-log sent_now m (masters m).log (masters_now m).log (w.grown m).later s);
+        copy = copy-later sent sent_now m (masters m).log (masters_now m).log index generation s replica.epoch
+            replica.closed (length replica.entries) replica.digest (lives m index generation none) q.copy;
+      }

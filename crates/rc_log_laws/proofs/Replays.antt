@@ -1,0 +1,531 @@
+-- Every world that a list of events leads to is good.
+use Rattle.std.proofs.Common.{◌≡◌, ℕ, ◌+◌, Bool, true, nat_eq, List, [], ◌∷◌, ◌++◌, Option, Some, None, slice_get}
+use Rattle.std.proofs.Common.{refl, sym, ap, ◌∙◌, subst, inl, inr, arith}
+use Rattle.std.proofs.lemmas.Bool.{and_parts, eqb-true}
+use Rattle.std.proofs.Math.Path.{fun_ext}
+use Rattle.rc_types.specs.declared.ids.ServerId.{ServerId}
+use Rattle.rc_types.specs.declared.ids.Addr.{Addr}
+use Rattle.rc_types.specs.declared.ids.Addr.TheVariants.{Server, Coordinator as AtCoordinator, Outside}
+use Rattle.rc_types.specs.declared.entries.Entry.{Entry}
+use Rattle.rc_types.specs.declared.events.Setup.{Setup}
+use Rattle.rc_types.specs.declared.events.Event.{Event}
+use Rattle.rc_types.specs.declared.events.Event.TheVariants as event
+use Rattle.rc_types.specs.declared.messages.Message.{Message}
+use Rattle.rc_types.specs.declared.messages.Body.{Body}
+use Rattle.rc_types.specs.declared.messages.Body.TheVariants as body
+use Rattle.rc_model.specs.Ids.{same_id, is_server}
+use Rattle.rc_model.specs.Tables.{put, put_id}
+use Rattle.rc_model.specs.Messages.{between, to_coordinator}
+use Rattle.rc_model.specs.Backup.{Backup, backup_takes}
+use Rattle.rc_model.specs.Master.{Master, new_master}
+use Rattle.rc_model.specs.MasterStep.{master_takes, master_ticks}
+use Rattle.rc_model.specs.Coordinator.{Coordinator, suspects}
+use Rattle.rc_model.specs.Deciding.{decides}
+use Rattle.rc_model.specs.CoordinatorStep.{creates, splits, coordinator_ticks, coordinator_takes}
+use Rattle.rc_model.specs.Nodes.{Work, Ask, Take, Tick, Stop, Start, Suspect, Decide, Create, Split, HostNode}
+use Rattle.rc_model.specs.Nodes.{master_setup, is_for_clients, outside_can, coordinator_can, server_of, host_can}
+use Rattle.rc_model.specs.Nodes.{is_for_backup, with_backup, with_master, server_takes, takes_if_running}
+use Rattle.rc_model.specs.Nodes.{ticks_if_running, next_server, starts_host}
+use Rattle.rc_model.specs.World.{World, opening, NodeName, TheOutside, TheCoordinator, TheHost, Job, node_of, delivery}
+use Rattle.rc_model.specs.World.{work_of, node_can, is_possible_job, is_possible, with_last_view, host_done, node_done}
+use Rattle.rc_model.specs.World.{job_done, step, replay_from, replay}
+use Rattle.rc_model.specs.Headline.{In, NothingIsMissing, NothingIsInvented}
+use Rattle.rc_model.proofs.Members.{either, In-get}
+use Rattle.rc_step_laws.specs.Facts.{GoodMaster, GoodHost, Good, body_fine, Fine}
+use Rattle.rc_step_laws.specs.Moves.{OwnFine, MasterMoved, MayHear, CoordinatorMayHear, BackupMoved}
+use Rattle.rc_step_laws.proofs.Lists.{true_false, same_id-true, put_same}
+use Rattle.rc_step_laws.proofs.MasterSteps.{master_takes_keeps, master_ticks_keeps, new_master_is_good}
+use Rattle.rc_step_laws.proofs.Attempting.{new-good}
+use Rattle.rc_step_laws.proofs.CoordinatorSteps.{moved-takes, moved-suspects, moved-decides, moved-creates, moved-splits, moved-ticks}
+use Rattle.rc_step_laws.proofs.Backups.{Quiet, quiet-none, own-fine, moved-backup, moved-restart}
+use Rattle.rc_log_laws.proofs.Clauses.{nothing-missing, nothing-invented}
+use Rattle.rc_log_laws.proofs.Granted.{GrantsUp, grants-takes, grants-ticks, grants-suspects, grants-decides}
+use Rattle.rc_log_laws.proofs.Granted.{grants-creates, grants-splits}
+use Rattle.rc_log_laws.proofs.Unmoved.{unmoved-grown}
+use Rattle.rc_log_laws.proofs.Worlds.{Led, host_later-refl, coordinator_later-refl, good-quiet, good-coordinator}
+use Rattle.rc_log_laws.proofs.MasterWorlds.{good-master}
+use Rattle.rc_log_laws.proofs.HostWorlds.{coordinator-still, good-backup, good-host}
+
+-- all facts, of a world
+abbrev pub GoodWorld : World → Type 0
+GoodWorld world = Good world.sent world.masters world.hosts world.coordinator
+
+-- a good world after another, and what it has more
+abbrev pub GoodStep : World → World → Type 0
+GoodStep world after = Led world.sent world.masters world.hosts world.coordinator after.sent after.masters after.hosts after.coordinator
+
+-- The outside
+
+-- what a client asks places nothing and tells nothing, and nothing is claimed of it
+good-asked : (sent : List Message) (masters : ServerId → Master) (hosts : ℕ → HostNode) (c : Coordinator)
+    (to : ServerId) (asked : Body) → Good sent masters hosts c → is_for_clients asked ≡ true →
+    Led sent masters hosts c (sent ++ record { from = Outside; to = Server to; body = asked } ∷ []) masters hosts c
+good-asked sent masters hosts c to asked good clients =
+    good-quiet sent (record { from = Outside; to = Server to; body = asked } ∷ []) masters hosts c c good quiet
+    (coordinator_later-refl c) no_grant
+    (coordinator-still sent (record { from = Outside; to = Server to; body = asked } ∷ []) c good.coordinator)
+    (λ message at. fine message at)
+  where
+    no_grant : GrantsUp c (record { from = Outside; to = Server to; body = asked } ∷ [])
+    no_grant m s e (inl same) = (let froms : AtCoordinator ≡ Outside = ap (λ (one : Message). one.from) same in cc)
+    no_grant m s e (inr never) = absurd never
+
+    not_outside : {P : Type 0} (x : ServerId) → Server x ≡ Outside → P
+    not_outside x never = cc
+
+    quiet : Quiet (record { from = Outside; to = Server to; body = asked } ∷ [])
+    quiet = record {
+      places = λ m x s e digest entries closed at. places m x s e digest entries closed at;
+      told = λ x m s e len closed at. told x m s e len closed at;
+    }
+      where
+        places : (m x : ServerId) (s e : ℕ) (digest : List ℕ) (entries : List Entry) (closed : Bool) →
+            In (between m x (body.Place s e digest entries closed))
+            (record { from = Outside; to = Server to; body = asked } ∷ []) → ⊥
+        places m x s e digest entries closed (inl same) = not_outside m (ap (λ (one : Message). one.from) same)
+        places m x s e digest entries closed (inr never) = never
+
+        told : (x m : ServerId) (s e len : ℕ) (closed : Bool) →
+            In (between x m (body.Stored s e len closed)) (record { from = Outside; to = Server to; body = asked } ∷ [])
+            → ⊥
+        told x m s e len closed (inl same) = not_outside x (ap (λ (one : Message). one.from) same)
+        told x m s e len closed (inr never) = never
+
+    by_body : (says : Body) → is_for_clients says ≡ true →
+        body_fine (sent ++ record { from = Outside; to = Server to; body = asked } ∷ []) masters hosts c Outside
+        (Server to) says
+    by_body (body.Write table key value) e = tt
+    by_body (body.Read table key) e = tt
+    by_body _ e = true_false (sym e)
+
+    fine : (message : Message) → In message (record { from = Outside; to = Server to; body = asked } ∷ []) →
+        Fine (sent ++ record { from = Outside; to = Server to; body = asked } ∷ []) masters hosts c message
+    fine message (inl same) =
+        subst (λ (one : Message). Fine (sent ++ record { from = Outside; to = Server to; body = asked } ∷ []) masters
+        hosts c one) (sym same) (by_body asked clients)
+    fine message (inr never) = absurd never
+
+-- nothing is sent
+good-none : (sent : List Message) (masters : ServerId → Master) (hosts : ℕ → HostNode) (c : Coordinator) →
+    Good sent masters hosts c → Led sent masters hosts c (sent ++ []) masters hosts c
+good-none sent masters hosts c good = good-quiet sent [] masters hosts c c good quiet-none (coordinator_later-refl c)
+    (λ m s e at. absurd at) (coordinator-still sent [] c good.coordinator) (λ message at. absurd at)
+
+good-outside : (world : World) (one : Event) (work : Work) → GoodWorld world → outside_can work ≡ true →
+    GoodStep world (node_done world one TheOutside work)
+good-outside world one (Ask to asked) good can = good-asked world.sent world.masters world.hosts world.coordinator to
+    asked good (and_parts (is_for_clients asked) _ can).0
+good-outside world one (Take message) good can = good-none world.sent world.masters world.hosts world.coordinator good
+good-outside world one (Tick addr) good can = true_false (sym can)
+good-outside world one (Stop id) good can = true_false (sym can)
+good-outside world one (Start kept) good can = true_false (sym can)
+good-outside world one (Suspect id) good can = true_false (sym can)
+good-outside world one (Decide id) good can = true_false (sym can)
+good-outside world one (Create table owner) good can = true_false (sym can)
+good-outside world one (Split table at) good can = true_false (sym can)
+
+-- The coordinator
+
+-- what reaches the coordinator was sent to it
+pub may-hear : (sent : List Message) (masters : ServerId → Master) (hosts : ℕ → HostNode) (c : Coordinator) →
+    Good sent masters hosts c → (from : Addr) (says : Body) →
+    In (record { from = from; to = AtCoordinator; body = says }) sent → CoordinatorMayHear sent from says
+may-hear sent masters hosts c good (Server y) (body.Replicas number rows) at = at
+may-hear sent masters hosts c good from _ at = tt
+
+-- what a node is given was sent to it
+abbrev pub IsGiven : List Message → NodeName → Work → Type 0
+IsGiven sent node (Take message) = In message sent × (node_of message.to ≡ node)
+IsGiven sent node _ = Unit {0}
+
+-- an address of the coordinator, and one of a host's server
+pub to-coordinator-is : (to : Addr) → node_of to ≡ TheCoordinator → to ≡ AtCoordinator
+to-coordinator-is (Server id) e = cc
+to-coordinator-is AtCoordinator e = refl
+to-coordinator-is Outside e = cc
+
+good-coordinator-node : (world : World) (one : Event) (work : Work) → GoodWorld world →
+    IsGiven world.sent TheCoordinator work → coordinator_can work ≡ true →
+    GoodStep world (node_done world one TheCoordinator work)
+good-coordinator-node world one (Take message) good given can =
+    good-coordinator world.sent world.masters world.hosts world.coordinator
+    (coordinator_takes world.coordinator message.from message.body) good
+    (moved-takes world.sent world.coordinator good.coordinator message.from message.body
+    (may-hear world.sent world.masters world.hosts world.coordinator good message.from message.body
+    (subst (λ (to : Addr). In (record { from = message.from; to = to; body = message.body }) world.sent)
+    (to-coordinator-is message.to given.1) given.0)))
+    (grants-takes world.coordinator message.from message.body)
+good-coordinator-node world one (Tick addr) good given can =
+    good-coordinator world.sent world.masters world.hosts world.coordinator
+    (world.coordinator, coordinator_ticks world.coordinator) good
+    (moved-ticks world.sent world.coordinator good.coordinator) (grants-ticks world.coordinator)
+good-coordinator-node world one (Suspect id) good given can =
+    good-coordinator world.sent world.masters world.hosts world.coordinator (suspects world.coordinator id) good
+    (moved-suspects world.sent world.coordinator good.coordinator id) (grants-suspects world.coordinator id)
+good-coordinator-node world one (Decide id) good given can =
+    good-coordinator world.sent world.masters world.hosts world.coordinator (decides world.coordinator id) good
+    (moved-decides world.sent world.coordinator good.coordinator id) (grants-decides world.coordinator id)
+good-coordinator-node world one (Create table owner) good given can =
+    good-coordinator world.sent world.masters world.hosts world.coordinator (creates world.coordinator table owner) good
+    (moved-creates world.sent world.coordinator good.coordinator table owner)
+    (grants-creates world.coordinator table owner)
+good-coordinator-node world one (Split table at) good given can =
+    good-coordinator world.sent world.masters world.hosts world.coordinator (splits world.coordinator table at) good
+    (moved-splits world.sent world.coordinator good.coordinator table at) (grants-splits world.coordinator table at)
+good-coordinator-node world one (Ask to asked) good given can = true_false (sym can)
+good-coordinator-node world one (Stop id) good given can = true_false (sym can)
+good-coordinator-node world one (Start kept) good given can = true_false (sym can)
+
+-- Hosts
+
+-- the same world, said otherwise
+good-same : (world : World) (sent : List Message) (masters masters_now : ServerId → Master) (hosts hosts_now : ℕ →
+    HostNode) (c : Coordinator) → masters_now ≡ masters → hosts_now ≡ hosts →
+    Led world.sent world.masters world.hosts world.coordinator sent masters hosts c →
+    Led world.sent world.masters world.hosts world.coordinator sent masters_now hosts_now c
+good-same world sent masters masters_now hosts hosts_now c same_masters same_hosts led =
+    subst (λ (ms : ServerId → Master). Led world.sent world.masters world.hosts world.coordinator sent ms hosts_now c) (sym same_masters)
+    (subst (λ (hs : ℕ → HostNode). Led world.sent world.masters world.hosts world.coordinator sent masters hs c) (sym same_hosts) led)
+
+put-found : (hosts : ℕ → HostNode) (i : ℕ) → put hosts i (hosts i) ≡ hosts
+put-found hosts i = fun_ext (λ j. either (λ (host : HostNode). host ≡ hosts j) (nat_eq i j) (hosts i) (hosts j)
+    (λ e. ap hosts (eqb-true i j e)) (λ _. refl))
+
+put_id-found : (masters : ServerId → Master) (key : ServerId) (master : Master) → masters key ≡ master → put_id masters key master ≡ masters
+put_id-found masters key master is =
+    fun_ext (λ other. either (λ (one : Master). one ≡ masters other) (same_id key other) master (masters other)
+    (λ e. sym is ∙ ap masters (same_id-true key other e)) (λ _. refl))
+
+-- the server of a host by the host's place
+server-here : (sent : List Message) (masters : ServerId → Master) (i : ℕ) (host : HostNode) →
+    GoodHost sent masters i host → server_of host ≡ record { index = i; generation = host.generation }
+server-here sent masters i host good = ap (λ n. record { index = n; generation = host.generation }) good.index
+
+-- the last view of a running master is the one that the world keeps
+last-view : (sent : List Message) (masters : ServerId → Master) (hosts : ℕ → HostNode) (c : Coordinator) →
+    Good sent masters hosts c → (i : ℕ) (found : Option Master) → (hosts i).master ≡ found →
+    with_last_view masters found ≡ masters
+last-view sent masters hosts c good i None e = refl
+last-view sent masters hosts c good i (Some master) e =
+    let is : masters (server_of (hosts i)) ≡ master = (good.hosts_are i).runs master e in
+    let own : master.log.own ≡ server_of (hosts i) =
+    ap (λ (one : Master). one.log.own) (sym is) ∙ (good.masters_are (server_of (hosts i))).own in
+    put_id-found masters master.log.own master (ap masters own ∙ is)
+
+module _ (world : World) (one : Event) (i : ℕ) (good : GoodWorld world) where
+  -- nothing happens
+  good-still : GoodStep world (host_done world one i (world.hosts i, []))
+  good-still =
+      good-same world (world.sent ++ []) world.masters (with_last_view world.masters (world.hosts i).master) world.hosts
+      (put world.hosts i (world.hosts i)) world.coordinator
+      (last-view world.sent world.masters world.hosts world.coordinator good i (world.hosts i).master refl) (put-found world.hosts i)
+      (good-none world.sent world.masters world.hosts world.coordinator good)
+
+  -- the master moves
+  good-moved : (master : Master) → (world.hosts i).master ≡ Some master → (after : Master × List Message) →
+      MasterMoved world.sent (server_of (world.hosts i)) master after →
+      GoodStep world (host_done world one i (with_master (world.hosts i) after))
+  good-moved master e after moved =
+      good-same world (world.sent ++ after.1) (put_id world.masters (server_of (world.hosts i)) after.0)
+      (put_id world.masters after.0.log.own after.0)
+      (put world.hosts i (record (world.hosts i) { master = Some after.0 }))
+      (put world.hosts i (record (world.hosts i) { master = Some after.0 })) world.coordinator
+      (ap (λ (key : ServerId). put_id world.masters key after.0) moved.good.own) refl
+      (good-master world.sent world.masters world.hosts world.coordinator good i (server_of (world.hosts i))
+      (server-here world.sent world.masters i (world.hosts i) (good.hosts_are i)) after.0 after.1
+      (subst (λ (old : Master). MasterMoved world.sent (server_of (world.hosts i)) old after)
+      (sym ((good.hosts_are i).runs master e)) moved))
+
+  -- the master of a host, with what is known of it
+  pub is-good : (master : Master) → (world.hosts i).master ≡ Some master → GoodMaster world.sent (server_of (world.hosts i)) master
+  is-good master e = subst (GoodMaster world.sent (server_of (world.hosts i))) ((good.hosts_are i).runs master e)
+      (good.masters_are (server_of (world.hosts i)))
+
+  pub is-fine : (master : Master) → (world.hosts i).master ≡ Some master → OwnFine world.sent (server_of (world.hosts i)) master.log
+  is-fine master e = subst (λ (one : Master). OwnFine world.sent (server_of (world.hosts i)) one.log)
+      ((good.hosts_are i).runs master e) (own-fine world.sent world.masters world.hosts world.coordinator good
+      (server_of (world.hosts i)))
+
+  -- what a master hears was sent to it
+  pub hears : (from : Addr) (says : Body) →
+      In (record { from = from; to = Server (server_of (world.hosts i)); body = says }) world.sent →
+      MayHear world.sent (server_of (world.hosts i)) from says
+  hears (Server x) (body.Stored s e len closed) at = at
+  hears AtCoordinator (body.CommitOk s e) at = at
+  hears (Server x) (body.CommitOk s e) at =
+      absurd (good.messages (record {
+        from = Server x;
+        to = Server (server_of (world.hosts i));
+        body = body.CommitOk s e;
+      }) at)
+  hears Outside (body.CommitOk s e) at =
+      absurd (good.messages (record {
+        from = Outside;
+        to = Server (server_of (world.hosts i));
+        body = body.CommitOk s e;
+      }) at)
+  hears from (body.List version rows) at =
+      good.messages (record { from = from; to = Server (server_of (world.hosts i)); body = body.List version rows }) at
+  hears from _ at = tt
+
+  -- a message to the running server
+  good-server : (master : Master) → (world.hosts i).master ≡ Some master → (message : Message) →
+      In (record { from = message.from; to = Server (server_of (world.hosts i)); body = message.body }) world.sent →
+      GoodStep world (host_done world one i (server_takes (world.hosts i) master message))
+  good-server master e message at =
+      either (λ (after : HostNode × List Message). GoodStep world (host_done world one i after))
+      (is_for_backup message.body)
+      (with_backup (world.hosts i) (backup_takes (world.hosts i).backup message.from message.body))
+      (with_master (world.hosts i) (master_takes master message.from message.body))
+      (λ _. as_backup (backup_takes (world.hosts i).backup message.from message.body)
+      (moved-backup world.sent world.masters world.hosts
+      (put world.hosts i (record (world.hosts i)
+      { backup = (backup_takes (world.hosts i).backup message.from message.body).0 })) world.coordinator i
+      message.from message.body good at
+      (ap (put world.hosts i (record (world.hosts i)
+      { backup = (backup_takes (world.hosts i).backup message.from message.body).0 })) (good.hosts_are i).index ∙
+      put_same world.hosts i (record (world.hosts i)
+      { backup = (backup_takes (world.hosts i).backup message.from message.body).0 }))))
+      (λ _. good-moved master e (master_takes master message.from message.body)
+      (master_takes_keeps world.sent (server_of (world.hosts i)) master message.from message.body (is-good master e)
+      (is-fine master e) (hears message.from message.body at)))
+    where
+      as_backup : (after : Backup × List Message) →
+          BackupMoved world.sent world.masters (put world.hosts i (record (world.hosts i) { backup = after.0 }))
+          world.coordinator (world.hosts i) after →
+          GoodStep world (host_done world one i (with_backup (world.hosts i) after))
+      as_backup after moved =
+          good-same world (world.sent ++ after.1) world.masters (with_last_view world.masters (world.hosts i).master)
+          (put world.hosts i (record (world.hosts i) { backup = after.0 }))
+          (put world.hosts i (record (world.hosts i) { backup = after.0 })) world.coordinator
+          (last-view world.sent world.masters world.hosts world.coordinator good i (world.hosts i).master refl) refl
+          (good-backup world.sent world.masters world.hosts world.coordinator good i after.0 after.1 moved)
+
+  -- the test of an address
+  pub is_server-true : (id : ServerId) (to : Addr) → is_server id to ≡ true → to ≡ Server id
+  is_server-true id (Server other) e = ap Server (sym (same_id-true id other e))
+  is_server-true id AtCoordinator e = true_false (sym e)
+  is_server-true id Outside e = true_false (sym e)
+
+  -- a message to the host, by whether its master runs
+  good-takes : (found : Option Master) → (world.hosts i).master ≡ found → (message : Message) → In message world.sent →
+      GoodStep world (host_done world one i (takes_if_running (world.hosts i) found message))
+  good-takes None e message at = good-still
+  good-takes (Some master) e message at =
+      either (λ (after : HostNode × List Message). GoodStep world (host_done world one i after))
+      (is_server (server_of (world.hosts i)) message.to) (server_takes (world.hosts i) master message)
+      (world.hosts i, [])
+      (λ is. good-server master e message
+      (subst (λ (to : Addr). In (record { from = message.from; to = to; body = message.body }) world.sent)
+      (is_server-true (server_of (world.hosts i)) message.to is) at))
+      (λ _. good-still)
+
+  good-ticks : (found : Option Master) → (world.hosts i).master ≡ found →
+      GoodStep world (host_done world one i (ticks_if_running (world.hosts i) found))
+  good-ticks None e = good-still
+  good-ticks (Some master) e = good-moved master e (master_ticks master)
+      (master_ticks_keeps world.sent (server_of (world.hosts i)) master (is-good master e) (is-fine master e))
+
+  -- a stop
+  good-stops : GoodStep world (host_done world one i (record (world.hosts i) { master = None }, []))
+  good-stops =
+      good-host world.sent [] world.masters world.hosts world.coordinator good i
+      (record (world.hosts i) { master = None }) quiet-none (λ m s e at. absurd at)
+      (record { generation = (host_later-refl (world.hosts i)).generation; held = (host_later-refl (world.hosts i)).held }) (record {
+        index = was.index;
+        own = was.own;
+        runs = λ master never. absurd (none_some master never);
+        unstarted = was.unstarted;
+        held = same_held.held;
+      }) (λ message at. absurd at)
+    where
+      was : GoodHost world.sent world.masters i (world.hosts i)
+      was = good.hosts_are i
+
+      same_held : GoodHost (world.sent ++ []) world.masters i (world.hosts i)
+      same_held = (good-none world.sent world.masters world.hosts world.coordinator good).good.hosts_are i
+
+      none_some : (master : Master) → None ≡ Some master → ⊥
+      none_some master never = cc
+
+  -- a start
+  good-starts : (kept : List (ServerId × ℕ)) →
+      GoodStep world (host_done world one i (starts_host (world.hosts i) (next_server (world.hosts i)) kept))
+  good-starts kept =
+      good-same world (world.sent ++ to_coordinator (next_server (world.hosts i)) body.Enlist ∷ []) world.masters
+      (put_id world.masters (next_server (world.hosts i))
+      (new_master (next_server (world.hosts i)) (world.hosts i).setup))
+      (put world.hosts i (starts_host (world.hosts i) (next_server (world.hosts i)) kept).0)
+      (put world.hosts i (starts_host (world.hosts i) (next_server (world.hosts i)) kept).0) world.coordinator
+      (put_id-found world.masters (next_server (world.hosts i))
+      (new_master (next_server (world.hosts i)) (world.hosts i).setup) started) refl
+      (good-host world.sent (to_coordinator (next_server (world.hosts i)) body.Enlist ∷ []) world.masters world.hosts
+      world.coordinator good i (starts_host (world.hosts i) (next_server (world.hosts i)) kept).0 quiet no_grant
+      (record { generation = omega arith; held = λ same m. absurd (omega arith) }) (record {
+        index = was.index;
+        own = refl;
+        runs = λ master e. (let is : new_master (next_server (world.hosts i)) (world.hosts i).setup ≡ master = cc in started ∙ is);
+        unstarted = λ g above. was.unstarted g (omega arith);
+        held = λ m. moved-restart world.sent (to_coordinator (next_server (world.hosts i)) body.Enlist ∷ [])
+            world.masters m i (world.hosts i).generation ((world.hosts i).generation + 1) kept
+            ((world.hosts i).backup.held m) quiet (omega arith) (was.held m);
+      }) (λ message at. fine message at))
+    where
+      was : GoodHost world.sent world.masters i (world.hosts i)
+      was = good.hosts_are i
+
+      started : world.masters (next_server (world.hosts i)) ≡ new_master (next_server (world.hosts i)) (world.hosts i).setup
+      started = subst (λ n. world.masters (record { index = n; generation = (world.hosts i).generation + 1 }) ≡
+          new_master (record { index = n; generation = (world.hosts i).generation + 1 }) (world.hosts i).setup)
+          (sym was.index)
+          (was.unstarted ((world.hosts i).generation + 1) (omega arith))
+
+      no_grant : GrantsUp world.coordinator (to_coordinator (next_server (world.hosts i)) body.Enlist ∷ [])
+      no_grant m s e (inl same) = (let bodies : body.CommitOk s e ≡ body.Enlist = ap (λ (one : Message). one.body) same in cc)
+      no_grant m s e (inr never) = absurd never
+
+      quiet : Quiet (to_coordinator (next_server (world.hosts i)) body.Enlist ∷ [])
+      quiet = record {
+        places = λ m x s e digest entries closed at. places m x s e digest entries closed at;
+        told = λ x m s e len closed at. told x m s e len closed at;
+      }
+        where
+          places : (m x : ServerId) (s e : ℕ) (digest : List ℕ) (entries : List Entry) (closed : Bool) →
+              In (between m x (body.Place s e digest entries closed))
+              (to_coordinator (next_server (world.hosts i)) body.Enlist ∷ []) → ⊥
+          places m x s e digest entries closed (inl same) = let bodies : body.Place s e digest entries
+              closed ≡ body.Enlist = ap (λ (message : Message). message.body) same in cc
+          places m x s e digest entries closed (inr never) = never
+
+          told : (x m : ServerId) (s e len : ℕ) (closed : Bool) →
+              In (between x m (body.Stored s e len closed))
+              (to_coordinator (next_server (world.hosts i)) body.Enlist ∷ []) → ⊥
+          told x m s e len closed (inl same) = let bodies : body.Stored s e len closed ≡ body.Enlist =
+              ap (λ (message : Message). message.body) same in cc
+          told x m s e len closed (inr never) = never
+
+      fine : (message : Message) → In message (to_coordinator (next_server (world.hosts i)) body.Enlist ∷ []) →
+          Fine (world.sent ++ to_coordinator (next_server (world.hosts i)) body.Enlist ∷ []) world.masters
+          (put world.hosts i (starts_host (world.hosts i) (next_server (world.hosts i)) kept).0) world.coordinator
+          message
+      fine message (inl same) =
+          subst (λ (one : Message). Fine (world.sent ++ to_coordinator (next_server (world.hosts i)) body.Enlist ∷ [])
+          world.masters (put world.hosts i (starts_host (world.hosts i) (next_server (world.hosts i)) kept).0)
+          world.coordinator one) (sym same) tt
+      fine message (inr never) = absurd never
+
+  good-host-node : (work : Work) → IsGiven world.sent (TheHost i) work → host_can (world.hosts i) work ≡ true →
+      GoodStep world (node_done world one (TheHost i) work)
+  good-host-node (Take message) given can = good-takes (world.hosts i).master refl message given.0
+  good-host-node (Tick addr) given can = good-ticks (world.hosts i).master refl
+  good-host-node (Stop id) given can = good-stops
+  good-host-node (Start kept) given can = good-starts kept
+  good-host-node (Ask to asked) given can = good-still
+  good-host-node (Suspect id) given can = good-still
+  good-host-node (Decide id) given can = good-still
+  good-host-node (Create table owner) given can = good-still
+  good-host-node (Split table at) given can = good-still
+
+-- Events
+
+-- the world stays as it is
+led-still : (world : World) → GoodWorld world → GoodStep world world
+led-still world good = record {
+  good = good;
+  onward = record {
+    more = λ message at. at;
+    grown = λ m. unmoved-grown world.sent world.sent m (world.masters m) (good.masters_are m) (λ message at. at)
+        (λ x s e digest entries closed at. at);
+    masters_are = good.masters_are;
+    own = λ m. own-fine world.sent world.masters world.hosts world.coordinator good m;
+    hosts_later = λ i. host_later-refl (world.hosts i);
+    c_later = coordinator_later-refl world.coordinator;
+    stored = λ x m s e len closed at. inl at;
+    granted = λ m s e at. inl at;
+  };
+}
+
+-- a delivered message was sent
+delivery-given : (sent : List Message) (found : Option Message) (job : Job) →
+    ((message : Message) → found ≡ Some message → In message sent) → delivery found ≡ Some job →
+    IsGiven sent job.node job.work
+delivery-given sent None job was e = cc
+delivery-given sent (Some message) job was e =
+    let same : record { node = node_of message.to; work = Take message } ≡ job = cc in
+    subst (λ (some : Job). IsGiven sent some.node some.work) same (was message refl, refl)
+
+of-job : (sent : List Message) (this job : Job) → IsGiven sent this.node this.work → Some this ≡ Some job → IsGiven sent job.node job.work
+of-job sent this job given e = let same : this ≡ job = cc in subst (λ (some : Job). IsGiven sent some.node some.work) same given
+
+pub work_of-given : (sent : List Message) (one : Event) (job : Job) → work_of sent one ≡ Some job → IsGiven sent job.node job.work
+work_of-given sent (event.Deliver number) job e =
+    delivery-given sent (slice_get sent number) job (λ message at. In-get sent number message at) e
+work_of-given sent (event.Ask to asked) job e = of-job sent _ job tt e
+work_of-given sent (event.Tick addr) job e = of-job sent _ job tt e
+work_of-given sent (event.Stop id) job e = of-job sent _ job tt e
+work_of-given sent (event.Start index kept) job e = of-job sent _ job tt e
+work_of-given sent (event.Suspect id) job e = of-job sent _ job tt e
+work_of-given sent (event.Decide id) job e = of-job sent _ job tt e
+work_of-given sent (event.Create table owner) job e = of-job sent _ job tt e
+work_of-given sent (event.Split table at) job e = of-job sent _ job tt e
+
+good-node : (world : World) (one : Event) (node : NodeName) (work : Work) → GoodWorld world →
+    IsGiven world.sent node work → node_can world node work ≡ true → GoodStep world (node_done world one node work)
+good-node world one TheOutside work good given can = good-outside world one work good can
+good-node world one TheCoordinator work good given can = good-coordinator-node world one work good given can
+good-node world one (TheHost i) work good given can = good-host-node world one i good work given can
+
+good-job : (world : World) (one : Event) (found : Option Job) → work_of world.sent one ≡ found → GoodWorld world →
+    is_possible_job world found ≡ true → GoodStep world (job_done world one found)
+good-job world one None is good can = led-still world good
+good-job world one (Some job) is good can = good-node world one job.node job.work good (work_of-given world.sent one job is) can
+
+-- each step keeps all facts, and only adds
+pub led-step : (world : World) (one : Event) → GoodWorld world → GoodStep world (step world one)
+led-step world one good =
+    either (GoodStep world) (is_possible world one) (job_done world one (work_of world.sent one)) world
+    (λ can. good-job world one (work_of world.sent one) refl good can) (λ _. led-still world good)
+
+pub good-step : (world : World) (one : Event) → GoodWorld world → GoodWorld (step world one)
+good-step world one good = (led-step world one good).good
+
+pub good-replay_from : (world : World) (events : List Event) → GoodWorld world → GoodWorld (replay_from world events)
+good-replay_from world [] good = good
+good-replay_from world (one ∷ events) good = good-replay_from (step world one) events (good-step world one good)
+
+-- before the first event they hold
+pub good-opening : (setup : Setup) → GoodWorld (opening setup)
+good-opening setup = record {
+  messages = λ message at. absurd at;
+  masters_are = λ m. new_master_is_good m (master_setup setup m.index);
+  hosts_are = λ i. record {
+    index = refl;
+    own = refl;
+    runs = λ master never. absurd (none_some master never);
+    unstarted = λ g above. refl;
+    held = λ m. record { ascending = tt; each = λ s replica never. absurd (none_replica replica never) };
+  };
+  coordinator = new-good;
+}
+  where
+    none_some : (master : Master) → None ≡ Some master → ⊥
+    none_some master never = cc
+
+    none_replica : {X : Type 0} (x : X) → None ≡ Some x → ⊥
+    none_replica x never = cc
+
+-- so they hold of every world
+pub good-world : (setup : Setup) (events : List Event) → GoodWorld (replay setup events)
+good-world setup events = good-replay_from (opening setup) events (good-opening setup)
+
+-- The first two clauses
+
+pub nothing-is-missing : (setup : Setup) (events : List Event) → NothingIsMissing (replay setup events).sent
+nothing-is-missing setup events =
+    nothing-missing (replay setup events).sent (replay setup events).masters (replay setup events).hosts
+    (replay setup events).coordinator (good-world setup events)
+
+pub nothing-is-invented : (setup : Setup) (events : List Event) → NothingIsInvented (replay setup events).sent
+nothing-is-invented setup events =
+    nothing-invented (replay setup events).sent (replay setup events).masters (replay setup events).hosts
+    (replay setup events).coordinator (good-world setup events)

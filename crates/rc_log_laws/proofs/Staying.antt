@@ -1,0 +1,129 @@
+-- What a server keeps of a master that it has fenced stays as it is.
+use Rattle.std.proofs.Common.{◌≡◌, ℕ, ◌≤◌, true, List, [], ◌∷◌, Option, Some, None, refl, sym, ◌∙◌, subst, arith}
+use Rattle.rc_types.specs.declared.ids.ServerId.{ServerId}
+use Rattle.rc_types.specs.declared.events.Event.{Event}
+use Rattle.rc_types.specs.declared.messages.Message.{Message}
+use Rattle.rc_model.specs.Ids.{is_server}
+use Rattle.rc_model.specs.Backup.{Backup, backup_takes}
+use Rattle.rc_model.specs.Master.{Master}
+use Rattle.rc_model.specs.MasterStep.{master_takes, master_ticks}
+use Rattle.rc_model.specs.Nodes.{Work, Take, Tick, Stop, Start, HostNode, server_of, host_step, is_for_backup}
+use Rattle.rc_model.specs.Nodes.{with_backup, with_master, server_takes, takes_if_running, ticks_if_running}
+use Rattle.rc_model.specs.World.{World, opening, NodeName, TheOutside, TheCoordinator, TheHost, Job, work_of}
+use Rattle.rc_model.specs.World.{is_possible, node_done, job_done, step, replay_from, replay}
+use Rattle.rc_model.proofs.Members.{either}
+use Rattle.rc_model.proofs.Storing.{AllFencedStay, fenced-stay}
+use Rattle.rc_step_laws.proofs.Lists.{put_each}
+use Rattle.rc_log_laws.proofs.Replays.{good-world}
+use Rattle.rc_log_laws.specs.LogClaims.{FencedReplicasStay}
+use Rattle.rc_log_laws.proofs.Since.{replay_from-append}
+use Rattle.rc_log_laws.proofs.Fencing.{answer-about}
+
+-- a host later: as long as its generation stays, what it has fenced stays
+record StaysFenced (old new : HostNode) : Type 0 where
+  generation : old.generation ≤ new.generation
+  kept : new.generation ≡ old.generation → AllFencedStay old.backup new.backup
+
+stays-same : (old new : HostNode) → new.generation ≡ old.generation → new.backup ≡ old.backup → StaysFenced old new
+stays-same old new generation backup =
+    record {
+      generation = omega (arith, generation);
+      kept = λ _. subst (λ (one : Backup). AllFencedStay old.backup one)
+          (sym backup) (λ m fenced. (fenced, refl));
+    }
+
+stays-still : (host : HostNode) → StaysFenced host host
+stays-still host = stays-same host host refl refl
+
+stays-then : (old middle new : HostNode) → StaysFenced old middle → StaysFenced middle new → StaysFenced old new
+stays-then old middle new p q = record {
+  generation = omega (arith, p.generation, q.generation);
+  kept = λ same m fenced.
+      let first : middle.generation ≡ old.generation = omega (arith, p.generation, q.generation, same) in
+      let second : new.generation ≡ middle.generation = omega (arith, p.generation, q.generation, same) in
+      after m (p.kept first m fenced) (q.kept second m);
+}
+  where
+    after : (m : ServerId) → ((middle.backup.held m).fenced ≡ true) × ((middle.backup.held m).replicas ≡ (old.backup.held m).replicas) →
+        ((middle.backup.held m).fenced ≡ true → ((new.backup.held m).fenced ≡ true) ×
+        ((new.backup.held m).replicas ≡ (middle.backup.held m).replicas)) →
+        ((new.backup.held m).fenced ≡ true) × ((new.backup.held m).replicas ≡ (old.backup.held m).replicas)
+    after m one rest = let two = rest one.0 in (two.0, two.1 ∙ one.1)
+
+-- A host's step
+
+stays-backup : (host : HostNode) (after : Backup × List Message) → AllFencedStay host.backup after.0 →
+    StaysFenced host (with_backup host after).0
+stays-backup host (backup, messages) p = record { generation = omega arith; kept = λ _. p }
+
+stays-master : (host : HostNode) (after : Master × List Message) → StaysFenced host (with_master host after).0
+stays-master host (master, messages) = stays-same host (record host { master = Some master }) refl refl
+
+stays-takes : (host : HostNode) (found : Option Master) (message : Message) → StaysFenced host (takes_if_running host found message).0
+stays-takes host None message = stays-still host
+stays-takes host (Some master) message =
+    either (λ (after : HostNode × List Message). StaysFenced host after.0) (is_server (server_of host) message.to)
+    (server_takes host master message) (host, [])
+    (λ _. either (λ (after : HostNode × List Message). StaysFenced host after.0) (is_for_backup message.body)
+    (with_backup host (backup_takes host.backup message.from message.body))
+    (with_master host (master_takes master message.from message.body))
+    (λ _. stays-backup host (backup_takes host.backup message.from message.body) (fenced-stay host.backup message.from message.body))
+    (λ _. stays-master host (master_takes master message.from message.body)))
+    (λ _. stays-still host)
+
+stays-ticks : (host : HostNode) (found : Option Master) → StaysFenced host (ticks_if_running host found).0
+stays-ticks host None = stays-still host
+stays-ticks host (Some master) = stays-master host (master_ticks master)
+
+stays-host : (host : HostNode) (work : Work) → StaysFenced host (host_step host work).0
+stays-host host (Take message) = stays-takes host host.master message
+stays-host host (Tick addr) = stays-ticks host host.master
+stays-host host (Stop id) = stays-same host (record host { master = None }) refl refl
+stays-host host (Start kept) = record { generation = omega arith; kept = λ same. absurd (omega (arith, same)) }
+stays-host host _ = stays-still host
+
+-- A world
+
+stays-node : (world : World) (one : Event) (node : NodeName) (work : Work) (i : ℕ) →
+    StaysFenced (world.hosts i) ((node_done world one node work).hosts i)
+stays-node world one TheOutside work i = stays-still (world.hosts i)
+stays-node world one TheCoordinator work i = stays-still (world.hosts i)
+stays-node world one (TheHost index) work i =
+    put_each (λ k (host : HostNode). StaysFenced (world.hosts k) host) world.hosts index
+    (host_step (world.hosts index) work).0 (stays-host (world.hosts index) work) (λ k. stays-still (world.hosts k))
+    i
+
+stays-job : (world : World) (one : Event) (found : Option Job) (i : ℕ) → StaysFenced (world.hosts i) ((job_done world one found).hosts i)
+stays-job world one None i = stays-still (world.hosts i)
+stays-job world one (Some job) i = stays-node world one job.node job.work i
+
+stays-step : (world : World) (one : Event) (i : ℕ) → StaysFenced (world.hosts i) ((step world one).hosts i)
+stays-step world one i =
+    either (λ (after : World). StaysFenced (world.hosts i) (after.hosts i)) (is_possible world one)
+    (job_done world one (work_of world.sent one)) world
+    (λ _. stays-job world one (work_of world.sent one) i) (λ _. stays-still (world.hosts i))
+
+stays-from : (world : World) (events : List Event) (i : ℕ) → StaysFenced (world.hosts i) ((replay_from world events).hosts i)
+stays-from world [] i = stays-still (world.hosts i)
+stays-from world (one ∷ events) i =
+    stays-then (world.hosts i) ((step world one).hosts i) ((replay_from world (one ∷ events)).hosts i)
+    (stays-step world one i) (stays-from (step world one) events i)
+
+-- what it keeps of a master stays once it has answered
+pub fenced-replicas-stay : FencedReplicasStay
+fenced-replicas-stay setup events more y m number rows asked at same =
+    subst (λ (world : World).
+    ((world.hosts y.index).backup.held m).replicas ≡ (((replay setup events).hosts y.index).backup.held m).replicas)
+    (sym (replay_from-append (opening setup) events more))
+    (later.kept (omega (arith, now, known.0, later.generation)) m (known.1 (omega (arith, now, known.0, later.generation)))).1
+  where
+    known : (y.generation ≤ ((replay setup events).hosts y.index).generation)
+        × (y.generation ≡ ((replay setup events).hosts y.index).generation →
+        (((replay setup events).hosts y.index).backup.held m).fenced ≡ true)
+    known = answer-about (replay setup events) y m number rows (good-world setup events) asked at
+
+    later : StaysFenced ((replay setup events).hosts y.index) ((replay_from (replay setup events) more).hosts y.index)
+    later = stays-from (replay setup events) more y.index
+
+    now : y.generation ≡ ((replay_from (replay setup events) more).hosts y.index).generation
+    now = subst (λ (world : World). y.generation ≡ (world.hosts y.index).generation) (replay_from-append (opening setup) events more) same

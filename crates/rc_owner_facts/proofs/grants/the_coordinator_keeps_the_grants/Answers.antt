@@ -1,5 +1,0 @@
-use Rattle.rc_owner_facts.proofs.Steps.{moved, new-grants}
-use Rattle.rc_owner_facts.proofs.grants.the_coordinator_keeps_the_grants.Goals as goal
-
-pub returns : goal.returns
-returns c = record { steps = moved; new = new-grants }

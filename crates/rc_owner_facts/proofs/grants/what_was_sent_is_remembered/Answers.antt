@@ -1,5 +1,0 @@
-use Rattle.rc_owner_facts.proofs.Ordered.{kept-step, kept-others, kept-none}
-use Rattle.rc_owner_facts.proofs.grants.what_was_sent_is_remembered.Goals as goal
-
-pub returns : goal.returns
-returns c = record { coordinator = kept-step; others = kept-others; new = kept-none }

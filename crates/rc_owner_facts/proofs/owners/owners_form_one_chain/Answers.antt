@@ -1,5 +1,0 @@
-use Rattle.rc_owner_facts.proofs.Chained.{points-have-one-chain, terms-rise, points-are-granted-once}
-use Rattle.rc_owner_facts.proofs.owners.owners_form_one_chain.Goals as goal
-
-pub returns : goal.returns
-returns c = record { chain = points-have-one-chain; less = terms-rise; once = points-are-granted-once }

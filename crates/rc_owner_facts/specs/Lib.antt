@@ -1,5 +1,0 @@
-pub mod Grants
-pub mod Claims
-pub mod Headline
-pub mod Waiting
-pub mod Recoveries

@@ -1,0 +1,388 @@
+-- More places are durable, and an entry is appended: a client's, or the first that waits.
+use Rattle.std.proofs.Common.{◌≡◌, ◌⊎◌, ℕ, ◌+◌, ◌<◌, ◌≤◌, Bool, true, false, ◌&&◌, List, [], ◌∷◌, ◌++◌, length, map}
+use Rattle.std.proofs.Common.{take, nat_eq, find, Option, Some, None, option_map, refl, sym, ap, ◌∙◌, subst, inl, inr}
+use Rattle.std.proofs.Common.{arith}
+use Rattle.std.proofs.lemmas.Bool.{eqb-true, eq-eqb}
+use Rattle.std.proofs.lemmas.List.{append_assoc, length-append, length-map}
+use Rattle.rc_types.specs.declared.ids.ServerId.{ServerId}
+use Rattle.rc_types.specs.declared.entries.Entry.{Entry}
+use Rattle.rc_types.specs.declared.kept.GrantedRange.{GrantedRange}
+use Rattle.rc_types.specs.declared.messages.Message.{Message}
+use Rattle.rc_model.specs.Log.{LogPlace}
+use Rattle.rc_model.specs.Ownership.{PartState, Ownership, in_range, term_of, owns_term, has_part, knows_term, under_term, count_under}
+use Rattle.rc_model.specs.Versions.{is_of, greatest_version, next_version}
+use Rattle.rc_model.specs.Master.{Task}
+use Rattle.rc_model.specs.Headline.{In}
+use Rattle.rc_model.proofs.Members.{In-append, place_of}
+use Rattle.rc_model.proofs.Numbering.{greatest-above}
+use Rattle.rc_step_laws.specs.Words.{Begins}
+use Rattle.rc_step_laws.proofs.Lists.{true_false}
+use Rattle.rc_step_laws.proofs.Tests.{any-one, any-here, find-one}
+use Rattle.rc_owner_laws.specs.Parts.{PartView, logged, under, durable_under, IsWaiting, HasJoined, IsClients, IsReplayed, GoodParts}
+use Rattle.rc_owner_laws.proofs.PartLists.{under-append, under-here, under-none, count-take, count-grows, logged-append}
+use Rattle.rc_owner_laws.proofs.PartLists.{begins-more, IsLast, IsBefore, last-or-before}
+
+-- More is durable
+
+abbrev pub with_durable : ℕ → PartView → PartView
+with_durable n v = record v { durable = n }
+
+durable-more : (v : PartView) (n term : ℕ) → v.durable ≤ n → durable_under term v ≤ durable_under term (with_durable n v)
+durable-more v n term less =
+    subst (λ entries. durable_under term v ≤ count_under term (take n entries)) (append-none (logged v.places))
+    (count-grows term v.durable n (logged v.places) [] less)
+  where
+    append-none : (xs : List Entry) → xs ++ [] ≡ xs
+    append-none xs = Rattle.rc_owner_laws.proofs.PartLists.append-nil xs
+
+pub good-durable : (sent : List Message) (m : ServerId) (v : PartView) (n : ℕ) → GoodParts sent m v → v.durable ≤ n →
+    GoodParts sent m (with_durable n v)
+good-durable sent m v n good less = record {
+  granted = good.granted;
+  planned = good.planned;
+  task_known = good.task_known;
+  differ = good.differ;
+  parts_are = λ state at. (let p = good.parts_are state at in
+      record { task = p.task; among = p.among; part_is = p.part_is; attempt_is = p.attempt_is; how = how state p.task p.how });
+  logged_known = good.logged_known;
+  waiting_part = good.waiting_part;
+  clients = λ before after place e client. (let p = good.clients before after place e client in
+      record { grant = p.grant; among = p.among; term_is = p.term_is; holds = p.holds; rises = p.rises; after = p.after });
+  replays = λ before after place e client. (let p = good.replays before after place e client in
+      record { state = p.state; among = p.among; term_is = p.term_is; rows = p.rows; first = p.first });
+}
+  where
+    how : (state : PartState) (task : Task) → IsWaiting sent m v task state ⊎ HasJoined sent m v task state →
+        IsWaiting sent m (with_durable n v) task state ⊎ HasJoined sent m (with_durable n v) task state
+    how state task (inl p) = inl
+        (record {
+          rows = p.rows;
+          some = p.some;
+          none_logged = p.none_logged;
+          none_waits = p.none_waits;
+          unowned = p.unowned;
+        })
+    how state task (inr p) = inr (record {
+      rows = p.rows;
+      entries = p.entries;
+      came = p.came;
+      size = p.size;
+      fresh = p.fresh;
+      owned = λ e. (let q = p.owned e in (q.0, q.1, let a = q.2 in let b = durable-more v n state.part.term less in omega arith));
+    })
+
+-- An entry is appended
+
+abbrev pub with_place : LogPlace → PartView → PartView
+with_place place v = record v { places = v.places ++ place ∷ [] }
+
+logged-place : (places : List LogPlace) (place : LogPlace) → logged (places ++ place ∷ []) ≡ logged places ++ place.entry ∷ []
+logged-place places place = logged-append places (place ∷ [])
+
+-- what is under a term then
+under-place : (term : ℕ) (places : List LogPlace) (place : LogPlace) →
+    under term (logged (places ++ place ∷ [])) ≡ under term (logged places) ++ under term (place.entry ∷ [])
+under-place term places place = ap (under term) (logged-place places place) ∙ under-append term (logged places) (place.entry ∷ [])
+
+under-one-other : (term : ℕ) (entry : Entry) → (entry.term ≡ term → ⊥) → under term (entry ∷ []) ≡ []
+under-one-other term entry differs = under-none term (entry ∷ []) none
+  where
+    none : (x : Entry) → (x ≡ entry) ⊎ ⊥ → x.term ≡ term → ⊥
+    none x (inl same) e = differs (ap (λ (one : Entry). one.term) (sym same) ∙ e)
+    none x (inr never) e = never
+
+under-place-other : (term : ℕ) (places : List LogPlace) (place : LogPlace) → (place.entry.term ≡ term → ⊥) →
+    under term (logged (places ++ place ∷ [])) ≡ under term (logged places)
+under-place-other term places place differs =
+    under-place term places place ∙ ap (λ rest. under term (logged places) ++ rest)
+    (under-one-other term place.entry differs) ∙ Rattle.rc_owner_laws.proofs.PartLists.append-nil
+    (under term (logged places))
+
+durable-place : (v : PartView) (place : LogPlace) (term : ℕ) →
+    durable_under term v ≤ count_under term (take v.durable (logged (v.places ++ place ∷ [])))
+durable-place v place term =
+    subst (λ entries. durable_under term v ≤ count_under term (take v.durable entries)) (sym (logged-place v.places place))
+    (count-grows term v.durable v.durable (logged v.places) (place.entry ∷ []) (omega arith))
+
+begins-place : (term : ℕ) (places : List LogPlace) (place : LogPlace) (base : List Entry) →
+    Begins base (under term (logged places)) → Begins base (under term (logged (places ++ place ∷ [])))
+begins-place term places place base p =
+    subst (Begins base) (sym (under-place term places place))
+    (begins-more base (under term (logged places)) (under term (place.entry ∷ [])) p)
+
+-- Terms that are owned
+
+-- the grant of a point
+pub record OwnsPoint (own : Ownership) (term table key : ℕ) : Type 0 where
+  pub grant : GrantedRange
+  pub among : In grant own.grants
+  pub term_is : grant.term ≡ term
+  pub holds : in_range grant.range table key ≡ true
+
+pub owns-point : (own : Ownership) (table key term : ℕ) → term_of own table key ≡ Some term → OwnsPoint own term table key
+owns-point own table key term e = by (find (λ (grant : GrantedRange). in_range grant.range table key) own.grants) refl e
+  where
+    by : (found : Option GrantedRange) → find (λ (grant : GrantedRange). in_range grant.range table key)
+        own.grants ≡ found → option_map (λ (grant : GrantedRange). grant.term) found ≡ Some term →
+        OwnsPoint own term table key
+    by None is none = cc
+    by (Some grant) is some = let p = find-one (λ (one : GrantedRange). in_range one.range table key) own.grants grant is in
+        record { grant = grant; among = p.0; term_is = some-same some; holds = p.1 }
+      where
+        some-same : Some grant.term ≡ Some term → grant.term ≡ term
+        some-same same = cc
+
+pub owns-granted : (own : Ownership) (grant : GrantedRange) (term : ℕ) → In grant own.grants → grant.term ≡ term → owns_term own term ≡ true
+owns-granted own grant term at e = any-here (λ (one : GrantedRange). nat_eq one.term term) grant own.grants at (eq-eqb grant.term term e)
+
+or-right : (a b : Bool) → b ≡ true → Rattle.std.specs.Prelude.◌||◌ a b ≡ true
+or-right true b e = refl
+or-right false b e = e
+
+pub knows-owned : (own : Ownership) (term : ℕ) → owns_term own term ≡ true → knows_term own term ≡ true
+knows-owned own term e = or-right (has_part own term) (owns_term own term) e
+
+or-left : (a b : Bool) → a ≡ true → Rattle.std.specs.Prelude.◌||◌ a b ≡ true
+or-left true b e = refl
+or-left false b e = true_false (sym e)
+
+pub knows-part : (own : Ownership) (term : ℕ) → has_part own term ≡ true → knows_term own term ≡ true
+knows-part own term e = or-left (has_part own term) (owns_term own term) e
+
+-- A client's entry
+
+is-of-true : (term table key : ℕ) (entry : Entry) → entry.term ≡ term → entry.table ≡ table → entry.key ≡ key →
+    is_of term table key entry ≡ true
+is-of-true term table key entry a b c =
+    both (nat_eq entry.term term) (nat_eq entry.table table && nat_eq entry.key key) (eq-eqb entry.term term a)
+    (both (nat_eq entry.table table) (nat_eq entry.key key) (eq-eqb entry.table table b) (eq-eqb entry.key key c))
+  where
+    both : (a b : Bool) → a ≡ true → b ≡ true → (a && b) ≡ true
+    both true b p q = q
+    both false b p q = true_false (sym p)
+
+pub good-client : (sent : List Message) (m : ServerId) (v : PartView) (place : LogPlace) → place.client ≡ true →
+    GoodParts sent m v → OwnsPoint v.own place.entry.term place.entry.table place.entry.key →
+    place.entry.version ≡ next_version place.entry.term place.entry.table place.entry.key (logged v.places) →
+    GoodParts sent m (with_place place v)
+good-client sent m v place is_client good owns numbered = record {
+  granted = good.granted;
+  planned = good.planned;
+  task_known = good.task_known;
+  differ = good.differ;
+  parts_are = λ state at. (let p = good.parts_are state at in
+      record { task = p.task; among = p.among; part_is = p.part_is; attempt_is = p.attempt_is; how = how state p.task p.how });
+  logged_known = λ entry at.
+      known entry (In-append entry (logged v.places) (place.entry ∷ [])
+      (subst (In entry) (logged-place v.places place) at));
+  waiting_part = good.waiting_part;
+  clients = λ before after one e client. which before after one client (last-or-before v.places place before one after e);
+  replays = λ before after one e client. old_replay before after one client (last-or-before v.places place before one after e);
+}
+  where
+    owned : owns_term v.own place.entry.term ≡ true
+    owned = owns-granted v.own owns.grant place.entry.term owns.among owns.term_is
+
+    known : (entry : Entry) → In entry (logged v.places) ⊎ ((entry ≡ place.entry) ⊎ ⊥) → knows_term v.own entry.term ≡ true
+    known entry (inl old) = good.logged_known entry old
+    known entry (inr (inl same)) =
+        subst (λ (one : Entry). knows_term v.own one.term ≡ true) (sym same) (knows-owned v.own place.entry.term owned)
+    known entry (inr (inr never)) = absurd never
+
+    other : (state : PartState) → owns_term v.own state.part.term ≡ false → place.entry.term ≡ state.part.term → ⊥
+    other state unowned same = true_false (sym owned ∙ (ap (owns_term v.own) same ∙ unowned))
+
+    how : (state : PartState) (task : Task) → IsWaiting sent m v task state ⊎ HasJoined sent m v task state →
+        IsWaiting sent m (with_place place v) task state ⊎ HasJoined sent m (with_place place v) task state
+    how state task (inl p) = inl (record {
+      rows = p.rows;
+      some = p.some;
+      none_logged = under-place-other state.part.term v.places place (other state p.unowned) ∙ p.none_logged;
+      none_waits = p.none_waits;
+      unowned = p.unowned;
+    })
+    how state task (inr p) = inr (record {
+      rows = p.rows;
+      entries = p.entries;
+      came = p.came;
+      size = p.size;
+      fresh = λ unowned. ap (λ l. l ++ under state.part.term v.own.replay)
+          (under-place-other state.part.term v.places place (other state unowned)) ∙ p.fresh unowned;
+      owned = λ e. (let q = p.owned e in (
+        begins-place state.part.term v.places place (map (under_term state.part.term) p.entries) q.0,
+        q.1,
+        let a = q.2 in let b = durable-place v place state.part.term in omega arith,
+      ));
+    })
+
+    above : (entry : Entry) → In entry (logged v.places) → entry.term ≡ place.entry.term →
+        entry.table ≡ place.entry.table → entry.key ≡ place.entry.key → entry.version < place.entry.version
+    above entry at a b c =
+        let found = place_of (logged v.places) entry at in
+        let most : entry.version ≤ greatest_version place.entry.term place.entry.table place.entry.key (logged v.places) =
+        greatest-above place.entry.term place.entry.table place.entry.key (logged v.places) found.0 entry found.1
+        (is-of-true place.entry.term place.entry.table place.entry.key entry a b c) in
+        omega arith
+
+    joined : (state : PartState) (task : Task) → state.part.term ≡ place.entry.term →
+        IsWaiting sent m v task state ⊎ HasJoined sent m v task state →
+        (state.rows ≡ []) × (state.size ≤ count_under place.entry.term (logged v.places))
+    joined state task same (inl p) = absurd (other state p.unowned (sym same))
+    joined state task same (inr p) =
+        let q = p.owned (ap (owns_term v.own) same ∙ owned) in (
+          p.rows,
+          subst (λ t. state.size ≤ count_under t (logged v.places)) same
+              (let a = q.2 in let b = count-take state.part.term v.durable (logged v.places) in omega arith),
+        )
+
+    which : (before after : List LogPlace) (one : LogPlace) → one.client ≡ true →
+        IsLast v.places place before one after ⊎ IsBefore v.places place before one after →
+        IsClients (with_place place v) before one.entry
+    which before after one client (inl p) =
+        subst (λ (l : List LogPlace). IsClients (with_place place v) l one.entry) (sym p.before_is)
+        (subst (λ (it : LogPlace). IsClients (with_place place v) v.places it.entry) (sym p.is) (record {
+          grant = owns.grant;
+          among = owns.among;
+          term_is = owns.term_is;
+          holds = owns.holds;
+          rises = above;
+          after = λ state at same. (let q = good.parts_are state at in joined state q.task same q.how);
+        }))
+    which before after one client (inr p) =
+        let q = good.clients before p.rest one p.whole client in
+        record { grant = q.grant; among = q.among; term_is = q.term_is; holds = q.holds; rises = q.rises; after = q.after }
+
+    old_replay : (before after : List LogPlace) (one : LogPlace) → one.client ≡ false →
+        IsLast v.places place before one after ⊎ IsBefore v.places place before one after →
+        IsReplayed (with_place place v) before one.entry
+    old_replay before after one client (inl p) = true_false (sym is_client ∙ (ap (λ (it : LogPlace). it.client) (sym p.is) ∙ client))
+    old_replay before after one client (inr p) =
+        let q = good.replays before p.rest one p.whole client in
+        record { state = q.state; among = q.among; term_is = q.term_is; rows = q.rows; first = q.first }
+
+-- The first that waits
+
+abbrev pub replayed : LogPlace → List Entry → PartView → PartView
+replayed place rest v = record v { places = v.places ++ place ∷ []; own = record v.own { replay = rest } }
+
+both-none : {X : Type 0} (xs ys : List X) → xs ++ ys ≡ [] → (xs ≡ []) × (ys ≡ [])
+both-none [] ys e = (refl, e)
+both-none (x ∷ xs) ys e = cc
+
+under-none-one : (term : ℕ) (entry : Entry) (rest : List Entry) → under term (entry ∷ rest) ≡ [] →
+    (entry.term ≡ term → ⊥) × (under term rest ≡ [])
+under-none-one term entry rest e =
+    let parts = both-none (under term (entry ∷ [])) (under term rest) (sym (under-append term (entry ∷ []) rest) ∙ e) in
+    (λ same. never (sym (under-here term entry [] same) ∙ parts.0), parts.1)
+  where
+    never : entry ∷ [] ≡ [] → ⊥
+    never x = cc
+
+pub good-replayed : (sent : List Message) (m : ServerId) (v : PartView) (place : LogPlace) (rest : List Entry) →
+    GoodParts sent m v → v.own.replay ≡ place.entry ∷ rest → place.client ≡ false →
+    GoodParts sent m (replayed place rest v)
+good-replayed sent m v place rest good waits unclient = record {
+  granted = good.granted;
+  planned = good.planned;
+  task_known = good.task_known;
+  differ = good.differ;
+  parts_are = λ state at. (let p = good.parts_are state at in
+      record { task = p.task; among = p.among; part_is = p.part_is; attempt_is = p.attempt_is; how = how state p.task p.how });
+  logged_known = λ entry at.
+      known entry (In-append entry (logged v.places) (place.entry ∷ [])
+      (subst (In entry) (logged-place v.places place) at));
+  waiting_part = λ entry at. good.waiting_part entry (subst (In entry) (sym waits) (inr at));
+  clients = λ before after one e client. which before after one client (last-or-before v.places place before one after e);
+  replays = λ before after one e client. which_replay before after one client (last-or-before v.places place before one after e);
+}
+  where
+    known : (entry : Entry) → In entry (logged v.places) ⊎ ((entry ≡ place.entry) ⊎ ⊥) → knows_term v.own entry.term ≡ true
+    known entry (inl old) = good.logged_known entry old
+    known entry (inr (inl same)) = knows-part v.own entry.term (good.waiting_part entry (subst (In entry) (sym waits) (inl same)))
+    known entry (inr (inr never)) = absurd never
+
+    how : (state : PartState) (task : Task) → IsWaiting sent m v task state ⊎ HasJoined sent m v task state →
+        IsWaiting sent m (replayed place rest v) task state ⊎ HasJoined sent m (replayed place rest v) task state
+    how state task (inl p) =
+        let none = under-none-one state.part.term place.entry rest (sym (ap (under state.part.term) waits) ∙ p.none_waits) in
+        inl (record {
+          rows = p.rows;
+          some = p.some;
+          none_logged = under-place-other state.part.term v.places place none.0 ∙ p.none_logged;
+          none_waits = none.1;
+          unowned = p.unowned;
+        })
+    how state task (inr p) = inr (record {
+      rows = p.rows;
+      entries = p.entries;
+      came = p.came;
+      size = p.size;
+      fresh = λ unowned.
+          ap (λ l. l ++ under state.part.term rest) (under-place state.part.term v.places place)
+          ∙ append_assoc (under state.part.term (logged v.places)) (under state.part.term (place.entry ∷ [])) (under state.part.term rest)
+          ∙ ap (λ l. under state.part.term (logged v.places) ++ l)
+          (sym (under-append state.part.term (place.entry ∷ []) rest) ∙ ap (under state.part.term) (sym waits))
+          ∙ p.fresh unowned;
+      owned = λ e. (let q = p.owned e in (
+        begins-place state.part.term v.places place (map (under_term state.part.term) p.entries) q.0,
+        (under-none-one state.part.term place.entry rest (sym (ap (under state.part.term) waits) ∙ q.1)).1,
+        let a = q.2 in let b = durable-place v place state.part.term in omega arith,
+      ));
+    })
+
+    which : (before after : List LogPlace) (one : LogPlace) → one.client ≡ true →
+        IsLast v.places place before one after ⊎ IsBefore v.places place before one after →
+        IsClients (replayed place rest v) before one.entry
+    which before after one client (inl p) = true_false (sym client ∙ (ap (λ (it : LogPlace). it.client) p.is ∙ unclient))
+    which before after one client (inr p) =
+        let q = good.clients before p.rest one p.whole client in
+        record { grant = q.grant; among = q.among; term_is = q.term_is; holds = q.holds; rises = q.rises; after = q.after }
+
+    -- the part of the entry that waited first
+    first : (state : PartState) → In state v.own.parts → state.part.term ≡ place.entry.term → (task : Task) →
+        IsWaiting sent m v task state ⊎ HasJoined sent m v task state →
+        IsReplayed (replayed place rest v) v.places place.entry
+    first state at same task (inl p) =
+        absurd ((under-none-one state.part.term place.entry rest (sym (ap (under state.part.term) waits) ∙
+        p.none_waits)).0 (sym same))
+    first state at same task (inr p) = by (owns_term v.own state.part.term) refl
+      where
+        by : (b : Bool) → owns_term v.own state.part.term ≡ b → IsReplayed (replayed place rest v) v.places place.entry
+        by true owns = absurd ((under-none-one state.part.term place.entry rest
+            (sym (ap (under state.part.term) waits) ∙ (p.owned owns).1)).0 (sym same))
+        by false owns =
+            let whole : under state.part.term (logged v.places) ++ place.entry ∷ under state.part.term rest ≡ map
+            (under_term state.part.term) p.entries =
+            ap (λ l. under state.part.term (logged v.places) ++ l)
+            (sym (under-here state.part.term place.entry rest (sym same)) ∙ ap (under state.part.term) (sym waits))
+            ∙ p.fresh owns in
+            let long : length (under state.part.term (logged v.places) ++ place.entry ∷ under state.part.term rest) ≡
+            length (under state.part.term (logged v.places)) + length (place.entry ∷ under state.part.term rest) =
+            length-append (under state.part.term (logged v.places)) (place.entry ∷ under state.part.term rest) in
+            let all : length (map (under_term state.part.term) p.entries) ≡ length p.entries =
+            length-map p.entries (under_term state.part.term) in
+            let size : state.size ≡ length p.entries = p.size in
+            let lengths : length (under state.part.term (logged v.places) ++ place.entry ∷ under state.part.term rest) ≡
+            length (map (under_term state.part.term) p.entries) = ap length whole in
+            let less : count_under state.part.term (logged v.places) < state.size = omega arith in
+            record {
+              state = state;
+              among = at;
+              term_is = same;
+              rows = p.rows;
+              first = subst (λ t. count_under t (logged v.places) < state.size) same less;
+            }
+
+    which_replay : (before after : List LogPlace) (one : LogPlace) → one.client ≡ false →
+        IsLast v.places place before one after ⊎ IsBefore v.places place before one after →
+        IsReplayed (replayed place rest v) before one.entry
+    which_replay before after one client (inl p) =
+        let found = any-one (λ (state : PartState). nat_eq state.part.term place.entry.term) v.own.parts
+        (good.waiting_part place.entry (subst (In place.entry) (sym waits) (inl refl))) in
+        let q = good.parts_are found.0 found.1 in
+        subst (λ (l : List LogPlace). IsReplayed (replayed place rest v) l one.entry) (sym p.before_is)
+        (subst (λ (it : LogPlace). IsReplayed (replayed place rest v) v.places it.entry) (sym p.is)
+        (first found.0 found.1 (eqb-true found.0.part.term place.entry.term found.2) q.task q.how))
+    which_replay before after one client (inr p) =
+        let q = good.replays before p.rest one p.whole client in
+        record { state = q.state; among = q.among; term_is = q.term_is; rows = q.rows; first = q.first }

@@ -1,0 +1,207 @@
+-- What holds of data holds of every world that a list of events leads to.
+use Rattle.std.proofs.Common.{◌≡◌, ◌⊎◌, ℕ, true, List, [], ◌∷◌, ◌++◌, Option, Some, None, refl, sym, subst, inl, inr}
+use Rattle.std.proofs.lemmas.Bool.{and_parts}
+use Rattle.rc_types.specs.declared.ids.ServerId.{ServerId}
+use Rattle.rc_types.specs.declared.ids.Addr.{Addr}
+use Rattle.rc_types.specs.declared.ids.Addr.TheVariants.{Server}
+use Rattle.rc_types.specs.declared.events.Setup.{Setup}
+use Rattle.rc_types.specs.declared.events.Event.{Event}
+use Rattle.rc_types.specs.declared.messages.Message.{Message}
+use Rattle.rc_types.specs.declared.messages.Body.{Body}
+use Rattle.rc_types.specs.declared.messages.Body.TheVariants as body
+use Rattle.rc_model.specs.Ids.{is_server}
+use Rattle.rc_model.specs.Backup.{backup_takes}
+use Rattle.rc_model.specs.Log.{Log}
+use Rattle.rc_model.specs.Master.{Master}
+use Rattle.rc_model.specs.MasterStep.{master_takes, master_ticks}
+use Rattle.rc_model.specs.Coordinator.{Coordinator}
+use Rattle.rc_model.specs.Nodes.{Work, Ask, Take, Tick, Start, Suspect, Decide, Create, Split, HostNode}
+use Rattle.rc_model.specs.Nodes.{is_for_clients, outside_can, outside_sends, coordinator_step, server_of, host_step}
+use Rattle.rc_model.specs.Nodes.{is_for_backup, with_backup, with_master, server_takes, takes_if_running}
+use Rattle.rc_model.specs.Nodes.{ticks_if_running}
+use Rattle.rc_model.specs.World.{World, opening, NodeName, TheOutside, TheCoordinator, TheHost, Job, work_of, node_can}
+use Rattle.rc_model.specs.World.{is_possible_job, is_possible, node_done, job_done, step, replay_from, replay}
+use Rattle.rc_model.specs.Headline.{In}
+use Rattle.rc_model.proofs.Members.{either, In-append}
+use Rattle.rc_step_laws.specs.Moves.{MasterMoved, CoordinatorMoved, body_said, coordinator_body_said}
+use Rattle.rc_step_laws.proofs.Lists.{true_false}
+use Rattle.rc_step_laws.proofs.MasterSteps.{master_takes_keeps, master_ticks_keeps}
+use Rattle.rc_step_laws.proofs.CoordinatorSteps as coordinator
+use Rattle.rc_log_laws.proofs.Replays.{GoodWorld, GoodStep, IsGiven, is-good, is-fine, hears, is_server-true}
+use Rattle.rc_log_laws.proofs.Replays.{work_of-given, may-hear, to-coordinator-is, led-step, good-step, good-opening}
+use Rattle.rc_owner_laws.specs.Data.{data_fine, DataAreCuts}
+use Rattle.rc_owner_laws.proofs.DataCuts.{data-later, IsNoData, no-data-fine, backup-fine}
+
+abbrev pub CutsOf : World → Type 0
+CutsOf world = DataAreCuts world.sent world.masters
+
+-- messages that are fine by what was sent before them
+abbrev AllFine : World → List Message → Type 0
+AllFine world messages = (message : Message) → In message messages → data_fine world.sent world.masters message.from message.to message.body
+
+-- Who sends no data
+
+by_master : (sent sent_now : List Message) (m : ServerId) (old log : Log) (to : Addr) (says : Body) →
+    body_said sent sent_now m old log to says → IsNoData says
+by_master sent sent_now m old log to (body.Data attempt seg term entries) said = absurd said
+by_master sent sent_now m old log to _ said = tt
+
+by_coordinator : (c : Coordinator) (to : Addr) (says : Body) → coordinator_body_said c to says → IsNoData says
+by_coordinator c to (body.Data attempt seg term entries) said = absurd said
+by_coordinator c to _ said = tt
+
+by_clients : (says : Body) → is_for_clients says ≡ true → IsNoData says
+by_clients (body.Data attempt seg term entries) e = true_false (sym e)
+by_clients _ e = tt
+
+fine-none : (world : World) → AllFine world []
+fine-none world message at = absurd at
+
+fine-outside : (world : World) (work : Work) → outside_can work ≡ true → AllFine world (outside_sends work)
+fine-outside world (Ask to asked) can message (inl same) =
+    subst (λ (one : Message). data_fine world.sent world.masters one.from one.to one.body) (sym same)
+    (no-data-fine world.sent world.masters Rattle.rc_types.specs.declared.ids.Addr.TheVariants.Outside (Server to) asked
+    (by_clients asked (and_parts (is_for_clients asked) _ can).0))
+fine-outside world (Ask to asked) can message (inr never) = absurd never
+fine-outside world _ can message at = absurd at
+
+fine-moved : (world : World) (after : Coordinator × List Message) →
+    CoordinatorMoved world.sent world.coordinator after → AllFine world after.1
+fine-moved world after is message at = no-data-fine world.sent world.masters message.from message.to message.body
+    (by_coordinator after.0 message.to message.body (is.says message at))
+
+fine-coordinator : (world : World) (work : Work) → GoodWorld world → IsGiven world.sent TheCoordinator work →
+    AllFine world (coordinator_step world.coordinator work).1
+fine-coordinator world (Take message) good given =
+    fine-moved world (coordinator_step world.coordinator (Take message))
+    (coordinator.moved-takes world.sent world.coordinator good.coordinator message.from message.body
+    (may-hear world.sent world.masters world.hosts world.coordinator good message.from message.body
+    (subst (λ (to : Addr). In (record { from = message.from; to = to; body = message.body }) world.sent)
+    (to-coordinator-is message.to given.1) given.0)))
+fine-coordinator world (Suspect id) good given = fine-moved world (coordinator_step world.coordinator (Suspect id))
+    (coordinator.moved-suspects world.sent world.coordinator good.coordinator id)
+fine-coordinator world (Decide id) good given = fine-moved world (coordinator_step world.coordinator (Decide id))
+    (coordinator.moved-decides world.sent world.coordinator good.coordinator id)
+fine-coordinator world (Create table owner) good given =
+    fine-moved world (coordinator_step world.coordinator (Create table owner))
+    (coordinator.moved-creates world.sent world.coordinator good.coordinator table owner)
+fine-coordinator world (Split table at) good given =
+    fine-moved world (coordinator_step world.coordinator (Split table at))
+    (coordinator.moved-splits world.sent world.coordinator good.coordinator table at)
+fine-coordinator world (Tick addr) good given = fine-moved world (coordinator_step world.coordinator (Tick addr))
+    (coordinator.moved-ticks world.sent world.coordinator good.coordinator)
+fine-coordinator world _ good given = fine-none world
+
+-- Hosts
+
+module _ (world : World) (one : Event) (i : ℕ) (good : GoodWorld world) where
+  fine-master : (master : Master) (after : Master × List Message) →
+      MasterMoved world.sent (server_of (world.hosts i)) master after → AllFine world after.1
+  fine-master master after is message at =
+      no-data-fine world.sent world.masters message.from message.to message.body
+      (by_master world.sent (world.sent ++ after.1) (server_of (world.hosts i)) master.log after.0.log message.to
+      message.body (is.says message at).says)
+
+  fine-server : (master : Master) → (world.hosts i).master ≡ Some master → (message : Message) →
+      In (record { from = message.from; to = Server (server_of (world.hosts i)); body = message.body }) world.sent →
+      AllFine world (server_takes (world.hosts i) master message).1
+  fine-server master e message at =
+      either (λ (after : HostNode × List Message). AllFine world after.1) (is_for_backup message.body)
+      (with_backup (world.hosts i) (backup_takes (world.hosts i).backup message.from message.body))
+      (with_master (world.hosts i) (master_takes master message.from message.body))
+      (λ _. backup-fine world.sent world.masters i (world.hosts i).generation (world.hosts i).backup
+      (good.hosts_are i).held message.from message.body
+      (subst (λ (id : ServerId). In (record { from = message.from; to = Server id; body = message.body }) world.sent)
+      (sym (good.hosts_are i).own) at))
+      (λ _. fine-master master (master_takes master message.from message.body)
+      (master_takes_keeps world.sent (server_of (world.hosts i)) master message.from message.body
+      (is-good world one i good master e) (is-fine world one i good master e)
+      (hears world one i good message.from message.body at)))
+
+  fine-takes : (found : Option Master) → (world.hosts i).master ≡ found → (message : Message) → In message world.sent →
+      AllFine world (takes_if_running (world.hosts i) found message).1
+  fine-takes None e message at = fine-none world
+  fine-takes (Some master) e message at =
+      either (λ (after : HostNode × List Message). AllFine world after.1)
+      (is_server (server_of (world.hosts i)) message.to) (server_takes (world.hosts i) master message)
+      (world.hosts i, [])
+      (λ is. fine-server master e message
+      (subst (λ (to : Addr). In (record { from = message.from; to = to; body = message.body }) world.sent)
+      (is_server-true world one i good (server_of (world.hosts i)) message.to is) at))
+      (λ _. fine-none world)
+
+  fine-ticks : (found : Option Master) → (world.hosts i).master ≡ found → AllFine world (ticks_if_running (world.hosts i) found).1
+  fine-ticks None e = fine-none world
+  fine-ticks (Some master) e = fine-master master (master_ticks master)
+      (master_ticks_keeps world.sent (server_of (world.hosts i)) master (is-good world one i good master e)
+      (is-fine world one i good master e))
+
+  fine-host : (work : Work) → IsGiven world.sent (TheHost i) work → AllFine world (host_step (world.hosts i) work).1
+  fine-host (Take message) given = fine-takes (world.hosts i).master refl message given.0
+  fine-host (Tick addr) given = fine-ticks (world.hosts i).master refl
+  fine-host (Start kept) given = λ message at. started message at
+    where
+      started : (message : Message) → In message (host_step (world.hosts i) (Start kept)).1 →
+          data_fine world.sent world.masters message.from message.to message.body
+      started message (inl same) = subst (λ (it : Message). data_fine world.sent world.masters it.from it.to it.body) (sym same) tt
+      started message (inr never) = absurd never
+  fine-host _ given = fine-none world
+
+-- Events
+
+-- each message of the next world was sent before, or is fine by what was
+abbrev IsNext : World → World → Type 0
+IsNext world after = (message : Message) → In message after.sent →
+    In message world.sent ⊎ data_fine world.sent world.masters message.from message.to message.body
+
+next-sent : (world : World) (messages : List Message) → AllFine world messages → (message : Message) →
+    In message (world.sent ++ messages) → In message world.sent ⊎ data_fine world.sent world.masters message.from
+    message.to message.body
+next-sent world messages fine message at = by (In-append message world.sent messages at)
+  where
+    by : In message world.sent ⊎ In message messages →
+        In message world.sent ⊎ data_fine world.sent world.masters message.from message.to message.body
+    by (inl old) = inl old
+    by (inr new) = inr (fine message new)
+
+next-node : (world : World) (one : Event) (node : NodeName) (work : Work) → GoodWorld world →
+    IsGiven world.sent node work → node_can world node work ≡ true → IsNext world (node_done world one node work)
+next-node world one TheOutside work good given can = next-sent world (outside_sends work) (fine-outside world work can)
+next-node world one TheCoordinator work good given can =
+    next-sent world (coordinator_step world.coordinator work).1 (fine-coordinator world work good given)
+next-node world one (TheHost i) work good given can =
+    next-sent world (host_step (world.hosts i) work).1 (fine-host world one i good work given)
+
+next-job : (world : World) (one : Event) (found : Option Job) → work_of world.sent one ≡ found → GoodWorld world →
+    is_possible_job world found ≡ true → IsNext world (job_done world one found)
+next-job world one None is good can = λ message at. inl at
+next-job world one (Some job) is good can = next-node world one job.node job.work good (work_of-given world.sent one job is) can
+
+next-step : (world : World) (one : Event) → GoodWorld world → IsNext world (step world one)
+next-step world one good =
+    either (IsNext world) (is_possible world one) (job_done world one (work_of world.sent one)) world
+    (λ can. next-job world one (work_of world.sent one) refl good can) (λ _ message at. inl at)
+
+cuts-step : (world : World) (one : Event) → GoodWorld world → CutsOf world → CutsOf (step world one)
+cuts-step world one good p message at = by (next-step world one good message at)
+  where
+    led : GoodStep world (step world one)
+    led = led-step world one good
+
+    later : data_fine world.sent world.masters message.from message.to message.body →
+        data_fine (step world one).sent (step world one).masters message.from message.to message.body
+    later = data-later world.sent (step world one).sent world.masters (step world one).masters led.onward.more
+        (λ m. (led.onward.grown m).later) message.from message.to message.body
+
+    by : In message world.sent ⊎ data_fine world.sent world.masters message.from message.to message.body →
+        data_fine (step world one).sent (step world one).masters message.from message.to message.body
+    by (inl old) = later (p message old)
+    by (inr new) = later new
+
+cuts-from : (world : World) (events : List Event) → GoodWorld world → CutsOf world → CutsOf (replay_from world events)
+cuts-from world [] good p = p
+cuts-from world (one ∷ events) good p = cuts-from (step world one) events (good-step world one good) (cuts-step world one good p)
+
+-- they hold of every world
+pub data-world : (setup : Setup) (events : List Event) → CutsOf (replay setup events)
+data-world setup events = cuts-from (opening setup) events (good-opening setup) (λ message at. absurd at)

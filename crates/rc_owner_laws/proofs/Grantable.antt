@@ -1,0 +1,337 @@
+-- A recovery that was decided can be granted, in every world.
+use Rattle.std.proofs.Common.{◌≡◌, ◌⊎◌, ℕ, ◌+◌, ◌-◌, true, false, cond, List, [], ◌∷◌, ◌++◌, find, nat_eq, slice_get}
+use Rattle.std.proofs.Common.{Option, Some, None, refl, sym, ap, ◌∙◌, subst, inl, inr, arith}
+use Rattle.std.proofs.lemmas.Bool.{and_parts, eqb-true, eq-eqb}
+use Rattle.std.proofs.lemmas.Bool.Decides.{nat_tests}
+use Rattle.rc_types.specs.declared.ids.ServerId.{ServerId}
+use Rattle.rc_types.specs.declared.ids.Addr.{Addr}
+use Rattle.rc_types.specs.declared.ids.Addr.TheVariants.{Server}
+use Rattle.rc_types.specs.declared.events.Setup.{Setup}
+use Rattle.rc_types.specs.declared.events.Event.{Event}
+use Rattle.rc_types.specs.declared.faults.Fault.TheVariants.{NoTable, Deposed}
+use Rattle.rc_types.specs.declared.rows.Part.{Part}
+use Rattle.rc_types.specs.declared.kept.Grant.{Grant}
+use Rattle.rc_types.specs.declared.messages.Message.{Message}
+use Rattle.rc_types.specs.declared.messages.Body.TheVariants.{Own, Plan as PlanBody}
+use Rattle.rc_model.specs.Tables.{put}
+use Rattle.rc_model.specs.Ids.{same_id, is_server}
+use Rattle.rc_model.specs.Messages.{from_coordinator}
+use Rattle.rc_model.specs.ServerList.{is_up}
+use Rattle.rc_model.specs.Backup.{Backup, backup_takes}
+use Rattle.rc_model.specs.Tablets.{has_range, assigned}
+use Rattle.rc_model.specs.Master.{Master}
+use Rattle.rc_model.specs.MasterStep.{master_takes, master_ticks}
+use Rattle.rc_model.specs.Attempts.{Attempt, GivenPart, parts_of}
+use Rattle.rc_model.specs.Coordinator.{Coordinator, refuses_server, attempt_at}
+use Rattle.rc_model.specs.Deciding.{is_current, own_body, range_of, grant_of, is_grant_to, grant_to, part_in}
+use Rattle.rc_model.specs.Deciding.{part_if_current, part_of_sender, grants_if_given, grants_or_repeats}
+use Rattle.rc_model.specs.Deciding.{takes_recovered}
+use Rattle.rc_model.specs.Nodes.{Work, Ask, Take, Tick, Start, HostNode, coordinator_step, outside_sends, server_of}
+use Rattle.rc_model.specs.Nodes.{host_step, is_for_backup, with_backup, with_master, server_takes, takes_if_running}
+use Rattle.rc_model.specs.Nodes.{ticks_if_running, next_server}
+use Rattle.rc_model.specs.World.{World, opening, NodeName, TheOutside, TheCoordinator, TheHost, Job, work_of}
+use Rattle.rc_model.specs.World.{is_possible, node_done, job_done, step, replay_from, replay}
+use Rattle.rc_model.specs.Headline.{In}
+use Rattle.rc_model.proofs.Members.{either, In-append}
+use Rattle.rc_step_laws.specs.Words.{IsNumbered}
+use Rattle.rc_step_laws.specs.Moves.{MasterMoved, BackupMoved}
+use Rattle.rc_step_laws.proofs.Lists.{true_false, put_same, same_id-refl, same_id-true}
+use Rattle.rc_step_laws.proofs.Attempting.{numbered-at}
+use Rattle.rc_step_laws.proofs.MasterSteps.{master_takes_keeps, master_ticks_keeps}
+use Rattle.rc_step_laws.proofs.Backups.{moved-backup}
+use Rattle.rc_log_laws.proofs.Replays.{GoodWorld, IsGiven as IsGivenWork, is-good, is-fine, hears, is_server-true}
+use Rattle.rc_log_laws.proofs.Replays.{work_of-given, good-step, good-opening, good-world}
+use Rattle.rc_owner_laws.specs.Grants.{IsGiven, IsPlanOf}
+use Rattle.rc_owner_laws.specs.Waiting.{IsTablet, GoodTablets, lacks_tablet, NoneLacksTablet}
+use Rattle.rc_owner_laws.specs.Recoveries.{IsPlanned, IsOwned, IsAnsweredByOwn, PlannedPartsAreTablets}
+use Rattle.rc_owner_laws.specs.Recoveries.{PlannedPartsCanBeGranted, NoServerLacksATablet}
+use Rattle.rc_owner_laws.proofs.OwnerSteps.{find-some, find-none, gives, IsSenders, senders}
+use Rattle.rc_owner_laws.proofs.Marks.{ranged}
+use Rattle.rc_owner_laws.proofs.Waiting.{sender-waits, tablets-moved, new-tablets}
+use Rattle.rc_owner_laws.proofs.OwnerReplays.{OfWorld, grants-step, grants-opening, grants-world}
+
+-- Each world keeps the tablets, and refuses no server for want of one
+
+record TabletsWorld (world : World) : Type 0 where
+  good : GoodTablets world.coordinator
+  says : NoneLacksTablet world.sent
+
+-- these are sent by servers
+abbrev FromServers : List Message → Type 0
+FromServers messages = (message : Message) → In message messages → (id : ServerId) × (message.from ≡ Server id)
+
+more-says : (sent messages : List Message) → NoneLacksTablet sent → NoneLacksTablet messages → NoneLacksTablet (sent ++ messages)
+more-says sent messages old new message at = by (In-append message sent messages at)
+  where
+    by : In message sent ⊎ In message messages → lacks_tablet message.from message.to message.body ≡ false
+    by (inl was) = old message was
+    by (inr is) = new message is
+
+servers-say : (messages : List Message) → FromServers messages → NoneLacksTablet messages
+servers-say messages from message at = ap (λ (one : Addr). lacks_tablet one message.to message.body) (from message at).1
+
+outside-says : (work : Work) → NoneLacksTablet (outside_sends work)
+outside-says (Ask to body) message (inl same) = ap (λ (one : Message). lacks_tablet one.from one.to one.body) same
+outside-says (Ask to body) message (inr never) = absurd never
+outside-says _ message at = absurd at
+
+module _ (world : World) (one : Event) (i : ℕ) (good : GoodWorld world) where
+  from-none : FromServers []
+  from-none message at = absurd at
+
+  from-master : (master : Master) (after : Master × List Message) →
+      MasterMoved world.sent (server_of (world.hosts i)) master after → FromServers after.1
+  from-master master after is message at = (server_of (world.hosts i), (is.says message at).from)
+
+  from-server : (master : Master) → (world.hosts i).master ≡ Some master → (message : Message) →
+      In (record { from = message.from; to = Server (server_of (world.hosts i)); body = message.body }) world.sent →
+      FromServers (server_takes (world.hosts i) master message).1
+  from-server master e message at =
+      either (λ (after : HostNode × List Message). FromServers after.1) (is_for_backup message.body)
+      (with_backup (world.hosts i) (backup_takes (world.hosts i).backup message.from message.body))
+      (with_master (world.hosts i) (master_takes master message.from message.body))
+      (λ _. as_backup (backup_takes (world.hosts i).backup message.from message.body)
+      (moved-backup world.sent world.masters world.hosts
+      (put world.hosts i (record (world.hosts i)
+      { backup = (backup_takes (world.hosts i).backup message.from message.body).0 })) world.coordinator i
+      message.from message.body good at
+      (ap (put world.hosts i (record (world.hosts i)
+      { backup = (backup_takes (world.hosts i).backup message.from message.body).0 })) (good.hosts_are i).index ∙
+      put_same world.hosts i (record (world.hosts i)
+      { backup = (backup_takes (world.hosts i).backup message.from message.body).0 }))))
+      (λ _. from-master master (master_takes master message.from message.body)
+      (master_takes_keeps world.sent (server_of (world.hosts i)) master message.from message.body
+      (is-good world one i good master e) (is-fine world one i good master e)
+      (hears world one i good message.from message.body at)))
+    where
+      as_backup : (after : Backup × List Message) →
+          BackupMoved world.sent world.masters (put world.hosts i (record (world.hosts i) { backup = after.0 }))
+          world.coordinator (world.hosts i) after → FromServers after.1
+      as_backup after is other there = (server_of (world.hosts i), is.from other there)
+
+  from-takes : (found : Option Master) → (world.hosts i).master ≡ found → (message : Message) → In message world.sent →
+      FromServers (takes_if_running (world.hosts i) found message).1
+  from-takes None e message at = from-none
+  from-takes (Some master) e message at =
+      either (λ (after : HostNode × List Message). FromServers after.1)
+      (is_server (server_of (world.hosts i)) message.to) (server_takes (world.hosts i) master message)
+      (world.hosts i, [])
+      (λ is. from-server master e message
+      (subst (λ (to : Addr). In (record { from = message.from; to = to; body = message.body }) world.sent)
+      (is_server-true world one i good (server_of (world.hosts i)) message.to is) at))
+      (λ _. from-none)
+
+  from-ticks : (found : Option Master) → (world.hosts i).master ≡ found → FromServers (ticks_if_running (world.hosts i) found).1
+  from-ticks None e = from-none
+  from-ticks (Some master) e = from-master master (master_ticks master)
+      (master_ticks_keeps world.sent (server_of (world.hosts i)) master (is-good world one i good master e)
+      (is-fine world one i good master e))
+
+  from-host : (work : Work) → IsGivenWork world.sent (TheHost i) work → FromServers (host_step (world.hosts i) work).1
+  from-host (Take message) given = from-takes (world.hosts i).master refl message given.0
+  from-host (Tick addr) given = from-ticks (world.hosts i).master refl
+  from-host (Start kept) given = λ message at. started message at
+    where
+      started : FromServers (host_step (world.hosts i) (Start kept)).1
+      started message (inl same) = (next_server (world.hosts i), ap (λ (some : Message). some.from) same)
+      started message (inr never) = absurd never
+  from-host _ given = from-none
+
+tablets-node : (world : World) (one : Event) (node : NodeName) (work : Work) → GoodWorld world → OfWorld world →
+    TabletsWorld world → IsGivenWork world.sent node work → TabletsWorld (node_done world one node work)
+tablets-node world one TheOutside work good grants p given =
+    record { good = p.good; says = more-says world.sent (outside_sends work) p.says (outside-says work) }
+tablets-node world one TheCoordinator work good grants p given = record {
+  good = (tablets-moved world.sent world.coordinator good.coordinator grants.good p.good work).good;
+  says = more-says world.sent (coordinator_step world.coordinator work).1 p.says
+      (tablets-moved world.sent world.coordinator good.coordinator grants.good p.good work).says;
+}
+tablets-node world one (TheHost i) work good grants p given = record {
+  good = p.good;
+  says = more-says world.sent (host_step (world.hosts i) work).1 p.says
+      (servers-say (host_step (world.hosts i) work).1 (from-host world one i good work given));
+}
+
+tablets-job : (world : World) (one : Event) (found : Option Job) → work_of world.sent one ≡ found → GoodWorld world →
+    OfWorld world → TabletsWorld world → TabletsWorld (job_done world one found)
+tablets-job world one None is good grants p = p
+tablets-job world one (Some job) is good grants p =
+    tablets-node world one job.node job.work good grants p (work_of-given world.sent one job is)
+
+tablets-step : (world : World) (one : Event) → GoodWorld world → OfWorld world → TabletsWorld world → TabletsWorld (step world one)
+tablets-step world one good grants p =
+    either TabletsWorld (is_possible world one) (job_done world one (work_of world.sent one)) world
+    (λ _. tablets-job world one (work_of world.sent one) refl good grants p) (λ _. p)
+
+tablets-from : (world : World) (events : List Event) → GoodWorld world → OfWorld world → TabletsWorld world →
+    TabletsWorld (replay_from world events)
+tablets-from world [] good grants p = p
+tablets-from world (one ∷ events) good grants p =
+    tablets-from (step world one) events (good-step world one good) (grants-step world one good grants)
+    (tablets-step world one good grants p)
+
+tablets-world : (setup : Setup) (events : List Event) → TabletsWorld (replay setup events)
+tablets-world setup events = tablets-from (opening setup) events (good-opening setup) (grants-opening setup)
+    (record { good = new-tablets; says = λ message at. absurd at })
+
+-- What the messages say of it
+
+pub no-server-lacks : NoServerLacksATablet
+no-server-lacks setup events id at = true_false ((tablets-world setup events).says (refuses_server id NoTable) at)
+
+-- an attempt is found by its number
+found-by : (c : Coordinator) (number : ℕ) (attempt : Attempt) → IsNumbered c.attempts number attempt → attempt_at c number ≡ Some attempt
+found-by c number attempt is = ap (attempt_at c) is.number_is ∙
+    (ap (λ b. cond b None (slice_get c.attempts (is.place + 1 - 1))) (above is.place) ∙
+    (ap (slice_get c.attempts) (back is.place) ∙ is.attempt_is))
+  where
+    above : (n : ℕ) → nat_eq (n + 1) 0 ≡ false
+    above n = grind (arith, nat_tests)
+
+    back : (n : ℕ) → n + 1 - 1 ≡ n
+    back n = omega arith
+
+parts-in : (id : ServerId) (parts : List GivenPart) (part : Part) → In (gives id part) parts → In part (parts_of id parts)
+parts-in id [] part at = absurd at
+parts-in id (first ∷ parts) part (inl same) =
+    either (In part) (same_id id first.to) (first.part ∷ parts_of id parts) (parts_of id parts)
+    (λ _. inl (ap (λ (one : GivenPart). one.part) same))
+    (λ differs. true_false (sym (ap (λ (one : GivenPart). same_id id one.to) (sym same) ∙ same_id-refl id) ∙ differs))
+parts-in id (first ∷ parts) part (inr rest) =
+    either (In part) (same_id id first.to) (first.part ∷ parts_of id parts) (parts_of id parts)
+    (λ _. inr (parts-in id parts part rest)) (λ _. parts-in id parts part rest)
+
+module _ (setup : Setup) (events : List Event) (id : ServerId) (number : ℕ) (master : ServerId) (part : Part)
+    (planned : IsPlanned (replay setup events).sent id number master part) where
+  grants : OfWorld (replay setup events)
+  grants = grants-world setup events
+
+  tablets : GoodTablets (replay setup events).coordinator
+  tablets = (tablets-world setup events).good
+
+  of : IsPlanOf (replay setup events).coordinator (Server id) number master planned.rows planned.parts
+  of = grants.kept.known (from_coordinator id (PlanBody number master planned.head planned.rows planned.parts)) planned.planned
+
+  given : In (gives id part) of.decision.parts
+  given = subst (λ (m : ServerId). In (gives m part) of.decision.parts) (one of.id id (sym of.to_is)) (of.given part planned.among)
+    where
+      one : (a b : ServerId) → Server a ≡ Server b → a ≡ b
+      one a b e = cc
+
+  -- what was granted was sent
+  owned : IsGiven (replay setup events).coordinator.grants (gives id part) → IsOwned (replay setup events).sent id part
+  owned is = record {
+    table = is.grant.range.table;
+    lo = is.grant.range.lo;
+    hi = is.grant.range.hi;
+    previous = is.grant.previous;
+    attempt = is.grant.attempt;
+    owned = subst (λ n. In (from_coordinator id (Own is.grant.range.table is.grant.range.lo is.grant.range.hi n
+        is.grant.previous is.grant.attempt)) (replay setup events).sent) is.term
+        (subst (λ (m : ServerId). In (from_coordinator m (own_body is.grant)) (replay setup events).sent) is.owner
+        (grants.kept.told is.grant is.among));
+  }
+
+  pub planned-is-tablet : (replay setup events).coordinator.current master ≡ number →
+      (IsOwned (replay setup events).sent id part → ⊥) → IsTablet (replay setup events).coordinator.tablets master part
+  planned-is-tablet current unowned =
+      tablets.waiting number master of.decision of.decided current (gives id part) given (λ is. unowned (owned is))
+
+  -- the part, or another of its term, is found for whom it was given to
+  found-part : (replay setup events).coordinator.current master ≡ number →
+      part_of_sender (replay setup events).coordinator id number part.term ≡ None → ⊥
+  found-part current none = find-none (λ (p : Part). nat_eq p.term part.term) (parts_of id of.decision.parts) part found
+      (parts-in id of.decision.parts part given) (eq-eqb part.term part.term refl)
+    where
+      is_now : is_current (replay setup events).coordinator number of.decided.attempt ≡ true
+      is_now = eq-eqb ((replay setup events).coordinator.current of.decided.attempt.master) number
+          (ap (replay setup events).coordinator.current of.decided.master_is ∙ current)
+
+      found : find (λ (p : Part). nat_eq p.term part.term) (parts_of id of.decision.parts) ≡ None
+      found = sym (ap (part_if_current (replay setup events).coordinator id number part.term)
+          (found-by (replay setup events).coordinator number of.decided.attempt of.decided.numbered)
+          ∙ (ap (λ b. cond b (part_in id part.term of.decided.attempt.decided) None) is_now ∙
+          ap (part_in id part.term) of.decided.decided)) ∙ none
+
+  -- what a Recovered of one that is up is answered by
+  answer-is : is_up (replay setup events).coordinator.servers id ≡ true →
+      (takes_recovered (replay setup events).coordinator id number part.term).1
+      ≡ (grants_or_repeats (replay setup events).coordinator id number part.term
+      (grant_to (replay setup events).coordinator id part.term)).1
+  answer-is up = ap (λ b. (cond b (grants_or_repeats (replay setup events).coordinator id number part.term
+      (grant_to (replay setup events).coordinator id part.term))
+      ((replay setup events).coordinator, refuses_server id Deposed ∷ [])).1) up
+
+  granted-before : is_up (replay setup events).coordinator.servers id ≡ true → (grant : Grant) →
+      grant_to (replay setup events).coordinator id part.term ≡ Some grant →
+      IsAnsweredByOwn (replay setup events).coordinator id number part.term
+  granted-before up grant is = record {
+    grant = grant;
+    term_is = eqb-true grant.term part.term tests.0;
+    owner = same_id-true grant.owner id tests.1;
+    answer = answer-is up ∙ ap
+        (λ (found : Option Grant). (grants_or_repeats (replay setup events).coordinator id number part.term found).1)
+        is;
+  }
+    where
+      tests : (nat_eq grant.term part.term ≡ true) × (same_id grant.owner id ≡ true)
+      tests = and_parts (nat_eq grant.term part.term) (same_id grant.owner id)
+          (find-some (is_grant_to id part.term) (replay setup events).coordinator.grants grant is).1
+
+  granted-now : is_up (replay setup events).coordinator.servers id ≡ true →
+      grant_to (replay setup events).coordinator id part.term ≡ None → (mine : Part) →
+      part_of_sender (replay setup events).coordinator id number part.term ≡ Some mine →
+      IsAnsweredByOwn (replay setup events).coordinator id number part.term
+  granted-now up none mine is = record {
+    grant = grant_of number id mine;
+    term_is = sender.term_is;
+    owner = refl;
+    answer = answer-is up ∙ (ap
+        (λ (found : Option Grant). (grants_or_repeats (replay setup events).coordinator id number part.term found).1)
+        none
+        ∙ (ap (λ (found : Option Part). (grants_if_given (replay setup events).coordinator id number found).1) is
+        ∙ ap (λ b. (cond {A = Coordinator × List Message} b (
+          record (replay setup events).coordinator {
+            tablets = assigned (range_of mine) id mine.term (replay setup events).coordinator.tablets;
+            grants = (replay setup events).coordinator.grants ++ grant_of number id mine ∷ [];
+          },
+          from_coordinator id (own_body (grant_of number id mine)) ∷ [],
+        ) ((replay setup events).coordinator, refuses_server id NoTable ∷ [])).1) has));
+  }
+    where
+      good : GoodWorld (replay setup events)
+      good = good-world setup events
+
+      sender : IsSenders (replay setup events).sent (replay setup events).coordinator good.coordinator grants.good id number part.term mine
+      sender = senders (replay setup events).sent (replay setup events).coordinator good.coordinator grants.good id
+          number part.term mine (attempt_at (replay setup events).coordinator number)
+          (numbered-at (replay setup events).coordinator number) is
+
+      has : has_range (range_of mine) (replay setup events).coordinator.tablets ≡ true
+      has = ranged (replay setup events).coordinator.tablets sender.attempt.master mine
+          (sender-waits (replay setup events).sent (replay setup events).coordinator good.coordinator grants.good
+          tablets id number part.term mine sender none)
+
+  pub planned-is-granted : (replay setup events).coordinator.current master ≡ number →
+      is_up (replay setup events).coordinator.servers id ≡ true →
+      IsAnsweredByOwn (replay setup events).coordinator id number part.term
+  planned-is-granted current up = by (grant_to (replay setup events).coordinator id part.term) refl
+    where
+      by_part : grant_to (replay setup events).coordinator id part.term ≡ None → (found : Option Part) →
+          part_of_sender (replay setup events).coordinator id number part.term ≡ found →
+          IsAnsweredByOwn (replay setup events).coordinator id number part.term
+      by_part none None is = absurd (found-part current is)
+      by_part none (Some mine) is = granted-now up none mine is
+
+      by : (found : Option Grant) → grant_to (replay setup events).coordinator id part.term ≡ found →
+          IsAnsweredByOwn (replay setup events).coordinator id number part.term
+      by (Some grant) is = granted-before up grant is
+      by None is = by_part is (part_of_sender (replay setup events).coordinator id number part.term) refl
+
+pub planned-parts-are-tablets : PlannedPartsAreTablets
+planned-parts-are-tablets setup events id number master part planned current unowned =
+    planned-is-tablet setup events id number master part planned current unowned
+
+pub planned-parts-can-be-granted : PlannedPartsCanBeGranted
+planned-parts-can-be-granted setup events id number master part planned current up =
+    planned-is-granted setup events id number master part planned current up

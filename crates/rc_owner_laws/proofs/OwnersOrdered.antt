@@ -1,0 +1,279 @@
+-- What was sent of the grants stays so, and the owners of a point form one chain.
+use Rattle.std.proofs.Common.{◌≡◌, ◌⊎◌, ℕ, ◌<◌, Bool, true, List, [], ◌∷◌, ◌++◌, filter, slice_get, Some, None, refl}
+use Rattle.std.proofs.Common.{sym, ap, ◌∙◌, subst, inl, inr, arith}
+use Rattle.rc_types.specs.declared.ids.ServerId.{ServerId}
+use Rattle.rc_types.specs.declared.ids.Addr.{Addr}
+use Rattle.rc_types.specs.declared.ids.Addr.TheVariants.{Server}
+use Rattle.rc_types.specs.declared.kept.Grant.{Grant}
+use Rattle.rc_types.specs.declared.messages.Message.{Message}
+use Rattle.rc_types.specs.declared.messages.Body.{Body}
+use Rattle.rc_types.specs.declared.messages.Body.TheVariants.{Own, Plan as PlanBody}
+use Rattle.rc_model.specs.Messages.{from_coordinator}
+use Rattle.rc_model.specs.Attempts.{Decision}
+use Rattle.rc_model.specs.Coordinator.{Coordinator, new_coordinator}
+use Rattle.rc_model.specs.Deciding.{own_body}
+use Rattle.rc_model.specs.Ownership.{in_range}
+use Rattle.rc_model.specs.Owners.{Granted, grant_in, granted, IsGranted, covers, grants_of, IsBefore, previous, onward, IsEarlier}
+use Rattle.rc_model.specs.Headline.{In}
+use Rattle.rc_model.proofs.Members.{either, In-left, In-right, In-append, In-get, place_of}
+use Rattle.rc_model.proofs.Befores.{before-through}
+use Rattle.rc_step_laws.specs.Later.{AttemptLater}
+use Rattle.rc_step_laws.specs.Moves.{CoordinatorLater}
+use Rattle.rc_step_laws.proofs.Lists.{true_false, In-filter}
+use Rattle.rc_owner_laws.specs.Grants.{grants_at, term_at, IsChain, NoneTo, OwnersDiffer, IsDecided, own_said}
+use Rattle.rc_owner_laws.specs.Grants.{GoodGrants, GrantsMoved, GrantsKept}
+
+-- What was sent
+
+-- a decision is for good
+decided-later : (old new : Coordinator) → CoordinatorLater old new →
+    (number : ℕ) (master : ServerId) (decision : Decision) → IsDecided old.attempts number master decision →
+    IsDecided new.attempts number master decision
+decided-later old new later number master decision d = by (later.attempts number d.attempt d.numbered)
+  where
+    by : AttemptLater new.attempts number d.attempt → IsDecided new.attempts number master decision
+    by now = record {
+      attempt = now.now;
+      numbered = now.numbered;
+      master_is = now.master ∙ d.master_is;
+      decided = which now.decided;
+    }
+      where
+        which : (d.attempt.decided ≡ now.now.decided) ⊎ (d.attempt.decided ≡ None) → now.now.decided ≡ Some decision
+        which (inl same) = sym same ∙ d.decided
+        which (inr none) = absurd (never (sym none ∙ d.decided))
+          where
+            never : None ≡ Some decision → ⊥
+            never e = cc
+
+said-later : (old new : Coordinator) → CoordinatorLater old new →
+    ((grant : Grant) → In grant old.grants → In grant new.grants) → (to : Addr) (body : Body) → own_said old to body →
+    own_said new to body
+said-later old new later more to (Own table lo hi term before attempt) is =
+    record { grant = is.grant; among = more is.grant is.among; to_is = is.to_is; body_is = is.body_is }
+said-later old new later more to (PlanBody number master head rows parts) is = record {
+  id = is.id;
+  to_is = is.to_is;
+  decision = is.decision;
+  decided = decided-later old new later number master is.decision is.decided;
+  rows_are = is.rows_are;
+  given = is.given;
+}
+said-later old new later more to _ is = tt
+
+pub kept-step : (sent : List Message) (c : Coordinator) → GrantsKept sent c → (after : Coordinator × List Message) →
+    CoordinatorLater c after.0 → GrantsMoved c after → GrantsKept (sent ++ after.1) after.0
+kept-step sent c kept after later moved = record {
+  told = λ grant at. told grant (moved.told grant at);
+  known = λ message at. known message (In-append message sent after.1 at);
+}
+  where
+    told : (grant : Grant) → In grant c.grants ⊎ In (from_coordinator grant.owner (own_body grant)) after.1 →
+        In (from_coordinator grant.owner (own_body grant)) (sent ++ after.1)
+    told grant (inl old) = In-left (from_coordinator grant.owner (own_body grant)) sent after.1 (kept.told grant old)
+    told grant (inr new) = In-right (from_coordinator grant.owner (own_body grant)) sent after.1 new
+
+    known : (message : Message) → In message sent ⊎ In message after.1 → own_said after.0 message.to message.body
+    known message (inl old) = said-later c after.0 later moved.remembers message.to message.body (kept.known message old)
+    known message (inr new) = moved.says message new
+
+pub kept-others : (sent : List Message) (c : Coordinator) → GrantsKept sent c → (messages : List Message) →
+    ((message : Message) → In message messages → own_said c message.to message.body) → GrantsKept (sent ++ messages) c
+kept-others sent c kept messages says = record {
+  told = λ grant at. In-left (from_coordinator grant.owner (own_body grant)) sent messages (kept.told grant at);
+  known = λ message at. known message (In-append message sent messages at);
+}
+  where
+    known : (message : Message) → In message sent ⊎ In message messages → own_said c message.to message.body
+    known message (inl old) = kept.known message old
+    known message (inr new) = says message new
+
+pub kept-none : GrantsKept [] new_coordinator
+kept-none = record { told = λ grant at. absurd at; known = λ message at. absurd at }
+
+-- The grants of the messages are those that are remembered
+
+abbrev pub granted_of : Grant → Granted
+granted_of grant = record {
+  owner = Server grant.owner;
+  table = grant.range.table;
+  lo = grant.range.lo;
+  hi = grant.range.hi;
+  term = grant.term;
+  previous = grant.previous;
+  attempt = grant.attempt;
+}
+
+-- a grant among those sent is one that is remembered
+record IsRemembered (c : Coordinator) (one : Granted) : Type 0 where
+  grant : Grant
+  among : In grant c.grants
+  is : one ≡ granted_of grant
+
+remembered-in : (c : Coordinator) (to : Addr) (body : Body) (one : Granted) → own_said c to body →
+    In one (grant_in to body) → IsRemembered c one
+remembered-in c to (Own table lo hi term before attempt) one own at =
+    by (subst (λ (body : Body). In one (grant_in (Server own.grant.owner) body)) own.body_is
+    (subst (λ (addr : Addr). In one (grant_in addr (Own table lo hi term before attempt))) own.to_is at))
+  where
+    by : (one ≡ granted_of own.grant) ⊎ ⊥ → IsRemembered c one
+    by (inl e) = record { grant = own.grant; among = own.among; is = e }
+    by (inr never) = absurd never
+remembered-in c to _ one own at = absurd at
+
+remembered : (c : Coordinator) (sent : List Message) →
+    ((message : Message) → In message sent → own_said c message.to message.body) → (one : Granted) →
+    In one (granted sent) → IsRemembered c one
+remembered c [] known one at = absurd at
+remembered c (message ∷ sent) known one at = by (In-append one (grant_in message.to message.body) (granted sent) at)
+    (λ rest. remembered c sent (λ other there. known other (inr there)) one rest)
+  where
+    by : In one (grant_in message.to message.body) ⊎ In one (granted sent) →
+        (In one (granted sent) → IsRemembered c one) → IsRemembered c one
+    by (inl here) rec = remembered-in c message.to message.body one (known message (inl refl)) here
+    by (inr rest) rec = rec rest
+
+-- and each that is remembered is among those sent
+granted-in : (sent : List Message) (message : Message) (one : Granted) → In message sent →
+    In one (grant_in message.to message.body) → In one (granted sent)
+granted-in [] message one at here = absurd at
+granted-in (first ∷ sent) message one (inl same) here =
+    In-left one (grant_in first.to first.body) (granted sent) (subst (λ (m : Message). In one (grant_in m.to m.body)) same here)
+granted-in (first ∷ sent) message one (inr rest) here =
+    In-right one (grant_in first.to first.body) (granted sent) (granted-in sent message one rest here)
+
+filter-in : {X : Type 0} (test : X → Bool) (x : X) (xs : List X) → In x xs → test x ≡ true → In x (filter test xs)
+filter-in test x [] at e = absurd at
+filter-in test x (y ∷ xs) (inl same) e = either (λ l. In x l) (test y) (y ∷ filter test xs) (filter test xs)
+    (λ _. inl same) (λ no. true_false (sym e ∙ (ap test same ∙ no)))
+filter-in test x (y ∷ xs) (inr rest) e = either (λ l. In x l) (test y) (y ∷ filter test xs) (filter test xs)
+    (λ _. inr (filter-in test x xs rest e)) (λ _. filter-in test x xs rest e)
+
+-- Chains
+
+-- these grants are all among those
+abbrev pub AllAmong : List Grant → List Granted → Type 0
+AllAmong grants all = (grant : Grant) → In grant grants → In (granted_of grant) all
+
+-- the start of a chain is before each term in it
+reached : (all : List Granted) (start last : ℕ) (grants : List Grant) → IsChain start grants last →
+    AllAmong grants all → (grant : Grant) → In grant grants → IsBefore all start grant.term
+reached all start last [] chain among grant at = absurd at
+reached all start last (first ∷ grants) chain among grant at =
+    by at (λ rest. reached all first.term last grants chain.2 (λ one there. among one (inr there)) grant rest)
+  where
+    step : IsBefore all start first.term
+    step = (let found : (k : ℕ) × (slice_get all k ≡ Some (granted_of first)) = place_of all (granted_of first) (among first (inl refl)) in
+        subst (λ n. IsBefore all n first.term) chain.0 (previous found.0 (granted_of first) found.1))
+
+    by : (grant ≡ first) ⊎ In grant grants → (In grant grants → IsBefore all first.term grant.term) → IsBefore all start grant.term
+    by (inl same) rec = subst (λ (one : Grant). IsBefore all start one.term) (sym same) step
+    by (inr rest) rec = before-through all start first.term grant.term step (rec rest)
+
+-- of two grants of a chain one's term is before the other's
+ordered : (all : List Granted) (start last : ℕ) (grants : List Grant) → IsChain start grants last →
+    AllAmong grants all → (one other : Grant) → In one grants → In other grants →
+    (one.term ≡ other.term) ⊎ (IsBefore all one.term other.term ⊎ IsBefore all other.term one.term)
+ordered all start last [] chain among one other at there = absurd at
+ordered all start last (first ∷ grants) chain among one other (inl a) (inl b) = inl (ap (λ (g : Grant). g.term) (a ∙ sym b))
+ordered all start last (first ∷ grants) chain among one other (inl a) (inr rest) =
+    inr (inl (subst (λ (g : Grant). IsBefore all g.term other.term) (sym a)
+    (reached all first.term last grants chain.2 (λ g at. among g (inr at)) other rest)))
+ordered all start last (first ∷ grants) chain among one other (inr rest) (inl b) =
+    inr (inr (subst (λ (g : Grant). IsBefore all g.term one.term) (sym b)
+    (reached all first.term last grants chain.2 (λ g at. among g (inr at)) one rest)))
+ordered all start last (first ∷ grants) chain among one other (inr here) (inr there) =
+    ordered all first.term last grants chain.2 (λ g at. among g (inr at)) one other here there
+
+-- each grant of a chain has a greater term than its previous one
+chain-rises : (start last : ℕ) (grants : List Grant) → IsChain start grants last → (grant : Grant) → In grant grants →
+    grant.previous < grant.term
+chain-rises start last [] chain grant at = absurd at
+chain-rises start last (first ∷ grants) chain grant (inl same) =
+    subst (λ (g : Grant). g.previous < g.term) (sym same) (subst (λ n. n < first.term) (sym chain.0) chain.1)
+chain-rises start last (first ∷ grants) chain grant (inr rest) = chain-rises first.term last grants chain.2 grant rest
+
+before-less : (all : List Granted) → ((one : Granted) → In one all → one.previous < one.term) → (earlier later : ℕ) →
+    IsBefore all earlier later → earlier < later
+before-less all rises earlier later (previous k grant at) = rises grant (In-get all k grant at)
+before-less all rises earlier later (onward from k grant at way) =
+    (let one : earlier < grant.previous = before-less all rises earlier grant.previous way in
+    let two : grant.previous < grant.term = rises grant (In-get all k grant at) in omega (arith, one, two))
+
+-- two grants to one owner are one
+none-to : (owner : ServerId) (grants : List Grant) (grant : Grant) → NoneTo owner grants → In grant grants → grant.owner ≡ owner → ⊥
+none-to owner [] grant none at same = absurd at
+none-to owner (first ∷ grants) grant none (inl e) same = none.0 (ap (λ (g : Grant). g.owner) (sym e) ∙ same)
+none-to owner (first ∷ grants) grant none (inr rest) same = none-to owner grants grant none.1 rest same
+
+same-owner : (grants : List Grant) → OwnersDiffer grants → (one other : Grant) → In one grants → In other grants →
+    one.owner ≡ other.owner → one ≡ other
+same-owner [] differ one other at there same = absurd at
+same-owner (first ∷ grants) differ one other (inl a) (inl b) same = a ∙ sym b
+same-owner (first ∷ grants) differ one other (inl a) (inr rest) same =
+    absurd (none-to first.owner grants other differ.0 rest (sym same ∙ ap (λ (g : Grant). g.owner) a))
+same-owner (first ∷ grants) differ one other (inr rest) (inl b) same =
+    absurd (none-to first.owner grants one differ.0 rest (same ∙ ap (λ (g : Grant). g.owner) b))
+same-owner (first ∷ grants) differ one other (inr here) (inr there) same = same-owner grants differ.1 one other here there same
+
+-- The owners of a point
+
+module _ (sent : List Message) (c : Coordinator) (good : GoodGrants c) (kept : GrantsKept sent c) (table key : ℕ) where
+  -- a grant of the point is remembered as one of the point
+  record IsAt (one : Granted) : Type 0 where
+    grant : Grant
+    among : In grant (grants_at c.grants table key)
+    is : one ≡ granted_of grant
+
+  at-point : (one : Granted) → In one (granted sent) → covers table key one ≡ true → IsAt one
+  at-point one at on =
+      let was : IsRemembered c one = remembered c sent kept.known one at in
+      record {
+        grant = was.grant;
+        among = filter-in (λ (g : Grant). in_range g.range table key) was.grant c.grants was.among
+            (sym (ap (covers table key) was.is) ∙ on);
+        is = was.is;
+      }
+
+  all-among : AllAmong (grants_at c.grants table key) (grants_of sent table key)
+  all-among grant at =
+      let was : In grant c.grants × (in_range grant.range table key ≡ true) =
+      In-filter (λ (g : Grant). in_range g.range table key) grant c.grants at in
+      filter-in (covers table key) (granted_of grant) (granted sent)
+      (granted-in sent (from_coordinator grant.owner (own_body grant)) (granted_of grant) (kept.told grant was.0) (inl refl)) was.1
+
+  pub one-chain : (one other : Granted) → IsGranted sent one → covers table key one ≡ true → IsGranted sent other →
+      covers table key other ≡ true →
+      (one.term ≡ other.term) ⊎ (IsEarlier sent table key one.term other.term ⊎ IsEarlier sent table key other.term one.term)
+  one-chain one other p on q of =
+      let a : IsAt one = at-point one (In-get (granted sent) p.0 one p.1) on in
+      let b : IsAt other = at-point other (In-get (granted sent) q.0 other q.1) of in
+      subst (λ (g : Granted). (g.term ≡ other.term) ⊎
+      (IsEarlier sent table key g.term other.term ⊎ IsEarlier sent table key other.term g.term)) (sym a.is)
+      (subst (λ (g : Granted). (a.grant.term ≡ g.term) ⊎
+      (IsEarlier sent table key a.grant.term g.term ⊎ IsEarlier sent table key g.term a.grant.term)) (sym b.is)
+      (ordered (grants_of sent table key) 0 (term_at c.tablets table key) (grants_at c.grants table key)
+      (good.chains table key) all-among a.grant b.grant a.among b.among))
+
+  pub earlier-less : (earlier later : ℕ) → IsEarlier sent table key earlier later → earlier < later
+  earlier-less earlier later before = before-less (grants_of sent table key) rises earlier later before
+    where
+      rises : (one : Granted) → In one (grants_of sent table key) → one.previous < one.term
+      rises one at =
+          let was : In one (granted sent) × (covers table key one ≡ true) = In-filter (covers table key) one (granted sent) at in
+          let a : IsAt one = at-point one was.0 was.1 in
+          subst (λ (g : Granted). g.previous < g.term) (sym a.is)
+          (chain-rises 0 (term_at c.tablets table key) (grants_at c.grants table key) (good.chains table key)
+          a.grant a.among)
+
+  pub granted-once : (one other : Granted) → IsGranted sent one → covers table key one ≡ true → IsGranted sent other →
+      covers table key other ≡ true → one.owner ≡ other.owner → one ≡ other
+  granted-once one other p on q of same =
+      let a : IsAt one = at-point one (In-get (granted sent) p.0 one p.1) on in
+      let b : IsAt other = at-point other (In-get (granted sent) q.0 other q.1) of in
+      a.is ∙ (ap granted_of (same-owner (grants_at c.grants table key) (good.once table key) a.grant b.grant a.among b.among
+      (server_same a.grant.owner b.grant.owner (sym (ap (λ (g : Granted). g.owner) a.is) ∙
+      (same ∙ ap (λ (g : Granted). g.owner) b.is)))) ∙ sym b.is)
+    where
+      server_same : (a b : ServerId) → Server a ≡ Server b → a ≡ b
+      server_same a b e = cc

@@ -1,0 +1,90 @@
+-- What holds of terms holds of every world that a list of events leads to.
+use Rattle.std.proofs.Common.{◌≡◌, List, [], ◌∷◌, ◌++◌, Option, Some, None, refl, sym, subst}
+use Rattle.rc_types.specs.declared.ids.Addr.{Addr}
+use Rattle.rc_types.specs.declared.ids.Addr.TheVariants.{Coordinator as AtCoordinator}
+use Rattle.rc_types.specs.declared.events.Setup.{Setup}
+use Rattle.rc_types.specs.declared.events.Event.{Event}
+use Rattle.rc_types.specs.declared.messages.Message.{Message}
+use Rattle.rc_model.specs.Nodes.{Work, Take, Suspect, Decide, Create, Split, outside_sends, coordinator_step, host_step}
+use Rattle.rc_model.specs.World.{World, opening, NodeName, TheOutside, TheCoordinator, TheHost, Job, work_of}
+use Rattle.rc_model.specs.World.{is_possible, node_done, job_done, step, replay_from, replay}
+use Rattle.rc_model.specs.Headline.{In}
+use Rattle.rc_model.proofs.Members.{either, In-left}
+use Rattle.rc_step_laws.specs.Moves.{CoordinatorLater}
+use Rattle.rc_step_laws.proofs.Copies.{More}
+use Rattle.rc_step_laws.proofs.CoordinatorSteps as coordinator
+use Rattle.rc_log_laws.proofs.Replays.{GoodWorld, IsGiven, work_of-given, may-hear, to-coordinator-is, good-world}
+use Rattle.rc_owner_laws.proofs.OwnerReplays.{OfWorld, grants-world}
+use Rattle.rc_owner_laws.specs.Terms.{GoodTerms}
+use Rattle.rc_owner_laws.proofs.Keeping.{terms-more}
+use Rattle.rc_owner_laws.proofs.TermSteps.{keeps-work, new-terms}
+
+abbrev pub TermsOf : World → Type 0
+TermsOf world = GoodTerms world.sent world.coordinator
+
+heard : (world : World) (message : Message) → IsGiven world.sent TheCoordinator (Take message) →
+    In (record { from = message.from; to = AtCoordinator; body = message.body }) world.sent
+heard world message given =
+    subst (λ (to : Addr). In (record { from = message.from; to = to; body = message.body }) world.sent)
+    (to-coordinator-is message.to given.1) given.0
+
+later-coordinator : (world : World) (work : Work) → GoodWorld world → IsGiven world.sent TheCoordinator work →
+    CoordinatorLater world.coordinator (coordinator_step world.coordinator work).0
+later-coordinator world (Take message) good given =
+    (coordinator.moved-takes world.sent world.coordinator good.coordinator message.from message.body
+    (may-hear world.sent world.masters world.hosts world.coordinator good message.from message.body (heard world message given))).later
+later-coordinator world (Suspect id) good given = (coordinator.moved-suspects world.sent world.coordinator good.coordinator id).later
+later-coordinator world (Decide id) good given = (coordinator.moved-decides world.sent world.coordinator good.coordinator id).later
+later-coordinator world (Create table owner) good given =
+    (coordinator.moved-creates world.sent world.coordinator good.coordinator table owner).later
+later-coordinator world (Split table at) good given =
+    (coordinator.moved-splits world.sent world.coordinator good.coordinator table at).later
+later-coordinator world _ good given = (coordinator.moved-ticks world.sent world.coordinator good.coordinator).later
+
+more-left : (sent messages : List Message) → More sent (sent ++ messages)
+more-left sent messages message at = In-left message sent messages at
+
+terms-node : (world : World) (one : Event) (node : NodeName) (work : Work) → GoodWorld world → OfWorld world →
+    TermsOf world → IsGiven world.sent node work → TermsOf (node_done world one node work)
+terms-node world one TheOutside work good grants terms given = terms-more world.sent (world.sent ++ outside_sends work)
+    world.coordinator (more-left world.sent (outside_sends work)) terms
+terms-node world one TheCoordinator work good grants terms given =
+    terms-more world.sent (world.sent ++ (coordinator_step world.coordinator work).1)
+    (coordinator_step world.coordinator work).0 (more-left world.sent (coordinator_step world.coordinator work).1)
+    (keeps-work world.sent world.coordinator grants.good terms work
+    (λ message is. heard world message (subst (IsGiven world.sent TheCoordinator) is given))
+    (later-coordinator world work good given))
+terms-node world one (TheHost i) work good grants terms given =
+    terms-more world.sent (world.sent ++ (host_step (world.hosts i) work).1) world.coordinator
+    (more-left world.sent (host_step (world.hosts i) work).1) terms
+
+terms-job : (world : World) (one : Event) (found : Option Job) → work_of world.sent one ≡ found → GoodWorld world →
+    OfWorld world → TermsOf world → TermsOf (job_done world one found)
+terms-job world one None is good grants terms = terms
+terms-job world one (Some job) is good grants terms =
+    terms-node world one job.node job.work good grants terms (work_of-given world.sent one job is)
+
+terms-step : (world : World) (one : Event) → GoodWorld world → OfWorld world → TermsOf world → TermsOf (step world one)
+terms-step world one good grants terms =
+    either TermsOf (is_possible world one) (job_done world one (work_of world.sent one)) world
+    (λ can. terms-job world one (work_of world.sent one) refl good grants terms) (λ _. terms)
+
+-- the events one after another
+replay-one : (world : World) (events : List Event) (one : Event) →
+    replay_from world (events ++ one ∷ []) ≡ step (replay_from world events) one
+replay-one world [] one = refl
+replay-one world (first ∷ events) one = replay-one (step world first) events one
+
+terms-from : (setup : Setup) (before events : List Event) → TermsOf (replay setup before) →
+    TermsOf (replay_from (replay setup before) events)
+terms-from setup before [] terms = terms
+terms-from setup before (one ∷ events) terms =
+    let same : replay setup (before ++ one ∷ []) ≡ step (replay setup before) one = replay-one (opening setup) before one in
+    subst (λ (world : World). TermsOf (replay_from world events)) same
+    (terms-from setup (before ++ one ∷ []) events
+    (subst TermsOf (sym same) (terms-step (replay setup before) one (good-world setup before)
+    (grants-world setup before) terms)))
+
+-- they hold of every world
+pub terms-world : (setup : Setup) (events : List Event) → TermsOf (replay setup events)
+terms-world setup events = terms-from setup [] events new-terms

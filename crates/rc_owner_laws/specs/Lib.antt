@@ -1,0 +1,15 @@
+pub mod Grants
+pub mod OwnerClaims
+pub mod Headline
+pub mod Waiting
+pub mod Recoveries
+pub mod Terms
+pub mod TermClaims
+pub mod Parts
+pub mod PartMoves
+pub mod PartClaims
+pub mod Data
+pub mod DataClaims
+pub mod Worlds
+pub mod Words
+pub mod VersionClaims

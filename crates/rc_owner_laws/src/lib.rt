@@ -1,0 +1,21 @@
+//! Owners, terms and versions, over every list of events: each point has one chain of owners (`owners`, `grants`,
+//! `recoveries`), each term is issued once (`terms`), each part holds what it took over (`parts`), each Data is the
+//! log cut to its part (`data`, `recovered`), a grant starts from its base (`granted`), a handover keeps what was
+//! acknowledged (`handovers`), and versions rise over owners (`versions`): the headline's third clause; all facts
+//! together (`facts`). Nothing here runs: the functions have empty bodies, and their contracts are theorems on the
+//! definitions.
+//!
+//! It stands on `rc_step_laws`, `rc_log_laws`, and what `rc_digestpick` proves of the choice of the log.
+#![tactic(auto)]
+
+pub mod data;
+pub mod facts;
+pub mod granted;
+pub mod grants;
+pub mod handovers;
+pub mod owners;
+pub mod parts;
+pub mod recovered;
+pub mod recoveries;
+pub mod terms;
+pub mod versions;

@@ -1,0 +1,16 @@
+//! What is claimed of a master's parts.
+
+ghost use Rattle.rc_owner_laws.specs.PartClaims.{TakesKeepParts, TicksKeepParts, NewHasGoodParts};
+
+/// Each step of a master keeps what holds of its parts: what it owns was granted to it, and what it
+/// recovers was given to it by a plan. A part that waits for a row has nothing in the log or in the
+/// replay; from then on until its term is owned, what the log and the replay have under its term is
+/// what was sent for its rows, in order, under that term; and once it is owned, these are the first
+/// entries of that term in the log, all of them durable, and none waits. A client's entry comes after
+/// them and after its grant, with a version above all earlier ones of its key. The end of a part is
+/// told only when all of it is durable, and rows are asked for as the plan says.
+pub fn masters_keep_their_parts()
+    ensures takes { TakesKeepParts }
+    ensures ticks { TicksKeepParts }
+    ensures start { NewHasGoodParts }
+{}

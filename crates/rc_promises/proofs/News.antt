@@ -1,0 +1,461 @@
+-- What each event newly sends: a Write is sent by the outside alone, and a ReadOk is what its master read just then.
+use Rattle.std.proofs.Common.{◌≡◌, ◌⊎◌, ℕ, false, List, [], ◌∷◌, ◌++◌, Option, Some, None, refl, sym, ap, ◌∙◌, subst, inl, inr}
+use Rattle.std.proofs.lemmas.List.{append-nil, append_assoc}
+use Rattle.rc_types.specs.declared.ids.ServerId.{ServerId}
+use Rattle.rc_types.specs.declared.ids.Addr.{Addr}
+use Rattle.rc_types.specs.declared.ids.Addr.TheVariants.{Server, Coordinator as AtCoordinator, Outside}
+use Rattle.rc_types.specs.declared.events.Setup.{Setup}
+use Rattle.rc_types.specs.declared.events.Event.{Event}
+use Rattle.rc_types.specs.declared.messages.Message.{Message}
+use Rattle.rc_types.specs.declared.messages.Body.{Body}
+use Rattle.rc_types.specs.declared.messages.Body.TheVariants.{Write, Read, ReadOk, Enlist}
+use Rattle.rc_model.specs.Ids.{is_server}
+use Rattle.rc_model.specs.Tables.{put}
+use Rattle.rc_model.specs.Messages.{to_coordinator, to_outside}
+use Rattle.rc_model.specs.Versions.{Found, read_of}
+use Rattle.rc_model.specs.Backup.{Backup, backup_takes}
+use Rattle.rc_model.specs.Ownership.{term_of}
+use Rattle.rc_model.specs.Master.{Master, durable_entries}
+use Rattle.rc_model.specs.Coordinator.{Coordinator}
+use Rattle.rc_model.specs.ListRules.{then_does}
+use Rattle.rc_model.specs.Writing.{reads_if_owned}
+use Rattle.rc_model.specs.FollowUps.{goes_on}
+use Rattle.rc_model.specs.MasterStep.{master_takes_first, deposed_takes, master_takes, master_ticks}
+use Rattle.rc_model.specs.Nodes.{Work, Ask, Take, Tick, Start, Suspect, Decide, Create, Split, HostNode, outside_sends}
+use Rattle.rc_model.specs.Nodes.{coordinator_step, server_of, host_step, is_for_backup, with_backup, with_master}
+use Rattle.rc_model.specs.Nodes.{server_takes, takes_if_running, ticks_if_running, starts_host, next_server}
+use Rattle.rc_model.specs.World.{World, opening, NodeName, TheOutside, TheCoordinator, TheHost, Job, work_of}
+use Rattle.rc_model.specs.World.{is_possible, node_done, job_done, step, replay}
+use Rattle.rc_model.specs.Headline.{In}
+use Rattle.rc_model.proofs.Members.{either, In-right, In-append}
+use Rattle.rc_step_laws.specs.Moves.{MasterMoved, body_said, BackupMoved, backup_body_said, CoordinatorMoved, coordinator_body_said}
+use Rattle.rc_step_laws.proofs.Lists.{put_same, true_false}
+use Rattle.rc_step_laws.proofs.MasterSteps.{master_takes_keeps, master_ticks_keeps}
+use Rattle.rc_step_laws.proofs.Backups.{moved-backup}
+use Rattle.rc_step_laws.proofs.CoordinatorSteps as coordinator
+use Rattle.rc_log_laws.proofs.Replays.{GoodWorld, IsGiven, is-good, is-fine, hears, is_server-true, work_of-given}
+use Rattle.rc_log_laws.proofs.Replays.{may-hear, to-coordinator-is, good-world}
+use Rattle.rc_log_laws.proofs.Since.{replay_from-append}
+use Rattle.rc_write_laws.proofs.Frame.{All-In}
+use Rattle.rc_promises.proofs.Hushed.{is_read_ok, Hushed, Hush, hush-then, hush-takes_first, hush-deposed, hush-goes, hush-master_ticks}
+
+-- Lists
+
+-- in two lists one after the other a member stands in the first one, or in the second
+pub record StandsFirst {X : Type 0} (xs before : List X) (x : X) : Type 0 where
+  pub after : List X
+  pub whole : xs ≡ before ++ x ∷ after
+
+pub record StandsSecond {X : Type 0} (xs ys before : List X) (x : X) (after : List X) : Type 0 where
+  pub between : List X
+  pub before_is : before ≡ xs ++ between
+  pub whole : ys ≡ between ++ x ∷ after
+
+pub stands-where : {X : Type 0} (xs ys before : List X) (x : X) (after : List X) → xs ++ ys ≡ before ++ x ∷ after → StandsFirst xs before x
+    ⊎ StandsSecond xs ys before x after
+stands-where [] ys before x after e = inr (record { between = before; before_is = refl; whole = e })
+stands-where {X} (z ∷ xs) ys [] x after e = inl (record { after = xs; whole = ap (λ (one : X). one ∷ xs) heads })
+  where
+    heads : z ≡ x
+    heads = cc
+stands-where {X} (z ∷ xs) ys (y ∷ before) x after e = by
+    (stands-where xs ys before x after (let tails : xs ++ ys ≡ before ++ x ∷ after = cc in tails))
+  where
+    heads : z ≡ y
+    heads = cc
+
+    by : StandsFirst xs before x ⊎ StandsSecond xs ys before x after → StandsFirst (z ∷ xs) (y ∷ before) x
+        ⊎ StandsSecond (z ∷ xs) ys (y ∷ before) x after
+    by (inl p) = inl (record { after = p.after; whole = ap (λ l. z ∷ l) p.whole ∙ ap (λ (one : X). one ∷ before ++ x ∷ p.after) heads })
+    by (inr p) = inr (record {
+      between = p.between;
+      before_is = ap (λ l. y ∷ l) p.before_is
+          ∙ ap (λ (one : X). one ∷ xs ++ p.between) (sym heads);
+      whole = p.whole;
+    })
+
+-- A read
+
+-- the first message is the answer to a read of the master
+pub record Reads (master : Master) (before : List Message) (table key version : ℕ) (value : Option (List ℕ)) : Type 0 where
+  pub first : before ≡ []
+  pub term : ℕ
+  pub owned : term_of master.ownership table key ≡ Some term
+  pub found : ◌≡◌ {A = Found} (read_of term table key (durable_entries master)) (record { version = version; value = value })
+
+hushed-no : {P : Type 0} (messages before : List Message) (message : Message) (after : List Message) → Hushed messages →
+    messages ≡ before ++ message ∷ after → (table key version : ℕ) (value : Option (List ℕ)) →
+    message.body ≡ ReadOk table key version value → P
+hushed-no messages before message after hushed e table key version value says =
+    true_false (sym (ap is_read_ok says) ∙ All-In (λ (one : Message). is_read_ok one.body ≡ false) messages message hushed
+    (subst (In message) (sym e) (In-right message before (message ∷ after) (inl refl))))
+
+abbrev ReadsBy : Master → Master × List Message → Type 0
+ReadsBy master done = (before : List Message) (message : Message) (after : List Message) → done.1 ≡ before ++ message ∷ after →
+    (table key version : ℕ) (value : Option (List ℕ)) → message.body ≡ ReadOk table key version value →
+    Reads master before table key version value
+
+reads-hushed : (master : Master) (done : Master × List Message) → Hush done → ReadsBy master done
+reads-hushed master done hushed before message after e table key version value says = hushed-no done.1 before message after hushed e table
+    key version value says
+
+-- the answer, and what follows up
+answer-first : (master : Master) (term table key : ℕ) → term_of master.ownership table key ≡ Some term → (rest : List Message) →
+    Hushed rest →
+    (before : List Message) (message : Message) (after : List Message) →
+    to_outside master.log.own
+    (ReadOk table key (read_of term table key (durable_entries master)).version (read_of term table key (durable_entries master)).value)
+    ∷ rest ≡ before ++ message ∷ after →
+    (t k version : ℕ) (value : Option (List ℕ)) → message.body ≡ ReadOk t k version value → Reads master before t k version value
+answer-first master term table key owned rest hushed (one ∷ before) message after e t k version value says =
+    hushed-no rest before message after hushed (let tails : rest ≡ before ++ message ∷ after = cc in tails) t k version value says
+answer-first master term table key owned rest hushed [] message after e t k version value says = record {
+  first = refl;
+  term = term;
+  owned = subst (λ n. term_of master.ownership n k ≡ Some term) tables
+      (subst (λ n. term_of master.ownership table n ≡ Some term) keys owned);
+  found = subst (λ n. ◌≡◌ {A = Found} (read_of term n k (durable_entries master)) (record { version = version; value = value })) tables
+      (subst (λ n. ◌≡◌ {A = Found} (read_of term table n (durable_entries master)) (record { version = version; value = value })) keys
+      (λ i. record { version = versions i; value = values i }));
+}
+  where
+    found : Found
+    found = read_of term table key (durable_entries master)
+
+    heads : to_outside master.log.own
+        (ReadOk table key (read_of term table key (durable_entries master)).version (read_of term table key (durable_entries master)).value)
+        ≡ message
+    heads = cc
+
+    bodies : ReadOk table key (read_of term table key (durable_entries master)).version
+        (read_of term table key (durable_entries master)).value ≡ ReadOk t k version value
+    bodies = ap (λ (one : Message). one.body) heads ∙ says
+
+    tables : table ≡ t
+    tables = cc
+
+    keys : key ≡ k
+    keys = cc
+
+    versions : (read_of term table key (durable_entries master)).version ≡ version
+    versions = cc
+
+    values : (read_of term table key (durable_entries master)).value ≡ value
+    values = cc
+
+reads-answered : (master : Master) (found : Option ℕ) (table key : ℕ) → term_of master.ownership table key ≡ found →
+    ReadsBy master (then_does (reads_if_owned master found table key) goes_on)
+reads-answered master None table key e before message after same t k version value says = refusal before same
+  where
+    refusal : (before : List Message) → (then_does (reads_if_owned master None table key) goes_on).1 ≡ before ++ message ∷ after →
+        Reads master before t k version value
+    refusal [] whole =
+        let heads : Rattle.rc_model.specs.Messages.refuses master.log.own Rattle.rc_types.specs.declared.faults.Fault.TheVariants.NotOwner ≡
+        message = cc in
+        true_false (sym (ap is_read_ok says) ∙ ap (λ (one : Message). is_read_ok one.body) (sym heads))
+    refusal (one ∷ rest) whole =
+        hushed-no (goes_on master).1 rest message after (hush-goes master)
+        (let tails : (goes_on master).1 ≡ rest ++ message ∷ after = cc in tails) t k version value says
+reads-answered master (Some term) table key e before message after same t k version value says =
+    answer-first master term table key e (goes_on master).1 (hush-goes master) before message after same t k version value says
+
+takes-first : (master : Master) (from : Addr) (body : Body) → ReadsBy master (then_does (master_takes_first master from body) goes_on)
+takes-first master from (Read table key) = reads-answered master (term_of master.ownership table key) table key refl
+takes-first master from body = reads-hushed master (then_does (master_takes_first master from body) goes_on)
+    (hush-then (master_takes_first master from body) goes_on (hush-takes_first master from body refl) hush-goes)
+
+reads-takes : (master : Master) (from : Addr) (body : Body) → ReadsBy master (master_takes master from body)
+reads-takes master from body =
+    either (ReadsBy master) master.deposed (deposed_takes master body) (then_does (master_takes_first master from body) goes_on)
+    (λ e. reads-hushed master (deposed_takes master body) (hush-deposed master body)) (λ e. takes-first master from body)
+
+-- What an event newly sends
+
+pub record IsNews (world : World) (messages : List Message) : Type 0 where
+  pub asked : (message : Message) → In message messages → (table key : ℕ) (value : Option (List ℕ)) → message.body ≡ Write table key value →
+      message.from ≡ Outside
+  pub reads : (m : ServerId) (before : List Message) (message : Message) (after : List Message) → messages ≡ before ++ message ∷ after →
+      message.from ≡ Server m →
+      (table key version : ℕ) (value : Option (List ℕ)) → message.body ≡ ReadOk table key version value →
+      Reads (world.masters m) before table key version value
+
+among : {X : Type 0} (x : X) (xs before after : List X) → xs ≡ before ++ x ∷ after → In x xs
+among x xs before after e = subst (In x) (sym e) (In-right x before (x ∷ after) (inl refl))
+
+-- what answers no read
+news-quiet : (world : World) (messages : List Message) →
+    ((message : Message) → In message messages → (table key : ℕ) (value : Option (List ℕ)) → message.body ≡ Write table key value →
+    message.from ≡ Outside) →
+    ((message : Message) → In message messages → (m : ServerId) → message.from ≡ Server m → is_read_ok message.body ≡ false) →
+    IsNews world messages
+news-quiet world messages asked quiet = record {
+  asked = asked;
+  reads = λ m before message after e from table key version value says.
+      true_false (sym (ap is_read_ok says) ∙ quiet message (among message messages before after e) m from);
+}
+
+news-none : (world : World) → IsNews world []
+news-none world = news-quiet world [] (λ message at. absurd at) (λ message at. absurd at)
+
+news-outside : (world : World) (work : Work) → IsNews world (outside_sends work)
+news-outside world (Ask to body) = news-quiet world (outside_sends (Ask to body)) (λ message at table key value says. from message at)
+    (λ message at m server. not_server m (sym (from message at) ∙ server))
+  where
+    from : (message : Message) → In message (outside_sends (Ask to body)) → message.from ≡ Outside
+    from message (inl same) = ap (λ (one : Message). one.from) same
+    from message (inr never) = absurd never
+
+    not_server : {P : Type 0} (m : ServerId) → Outside ≡ Server m → P
+    not_server m e = cc
+news-outside world _ = news-none world
+
+news-coordinator : (world : World) (after : Coordinator × List Message) → CoordinatorMoved world.sent world.coordinator after →
+    IsNews world after.1
+news-coordinator world after moved = news-quiet world after.1
+    (λ message at table key value says. absurd
+    (never table key value message.to
+    (subst (λ (body : Body). coordinator_body_said after.0 message.to body) says (moved.says message at))))
+    (λ message at m server. not_server m (sym (moved.from message at) ∙ server))
+  where
+    never : (table key : ℕ) (value : Option (List ℕ)) (to : Addr) → coordinator_body_said after.0 to (Write table key value) → ⊥
+    never table key value to p = p
+
+    not_server : {P : Type 0} (m : ServerId) → AtCoordinator ≡ Server m → P
+    not_server m e = cc
+
+coordinator-moved : (world : World) (work : Work) → GoodWorld world → IsGiven world.sent TheCoordinator work →
+    IsNews world (coordinator_step world.coordinator work).1
+coordinator-moved world (Take taken) good given = news-coordinator world (coordinator_step world.coordinator (Take taken))
+    (coordinator.moved-takes world.sent world.coordinator good.coordinator taken.from taken.body
+    (may-hear world.sent world.masters world.hosts world.coordinator good taken.from taken.body
+    (subst (λ (to : Addr). In (record { from = taken.from; to = to; body = taken.body }) world.sent) (to-coordinator-is taken.to given.1)
+    given.0)))
+coordinator-moved world (Tick addr) good given = news-coordinator world (coordinator_step world.coordinator (Tick addr))
+    (coordinator.moved-ticks world.sent world.coordinator good.coordinator)
+coordinator-moved world (Suspect id) good given = news-coordinator world (coordinator_step world.coordinator (Suspect id))
+    (coordinator.moved-suspects world.sent world.coordinator good.coordinator id)
+coordinator-moved world (Decide id) good given = news-coordinator world (coordinator_step world.coordinator (Decide id))
+    (coordinator.moved-decides world.sent world.coordinator good.coordinator id)
+coordinator-moved world (Create table owner) good given = news-coordinator world (coordinator_step world.coordinator (Create table owner))
+    (coordinator.moved-creates world.sent world.coordinator good.coordinator table owner)
+coordinator-moved world (Split table at) good given = news-coordinator world (coordinator_step world.coordinator (Split table at))
+    (coordinator.moved-splits world.sent world.coordinator good.coordinator table at)
+coordinator-moved world _ good given = news-none world
+
+one-server : (a b : ServerId) → Server a ≡ Server b → a ≡ b
+one-server a b e = cc
+
+module _ (world : World) (one : Event) (i : ℕ) (good : GoodWorld world) where
+  news-backup : (after : Backup × List Message) →
+      BackupMoved world.sent world.masters (put world.hosts i (record (world.hosts i) { backup = after.0 })) world.coordinator
+      (world.hosts i) after → IsNews world after.1
+  news-backup after moved = news-quiet world after.1
+      (λ message at table key value says. absurd
+      (no-write table key value message.to
+      (subst (λ (body : Body). backup_body_said (world.sent ++ after.1) world.masters
+      (put world.hosts i (record (world.hosts i) { backup = after.0 })) world.coordinator (world.hosts i) after.0 message.to body) says
+      (moved.says message at))))
+      (λ message at m server. no-read message.to message.body (moved.says message at))
+    where
+      no-write : (table key : ℕ) (value : Option (List ℕ)) (to : Addr) →
+          backup_body_said (world.sent ++ after.1) world.masters (put world.hosts i (record (world.hosts i) { backup = after.0 }))
+          world.coordinator (world.hosts i) after.0 to (Write table key value) → ⊥
+      no-write table key value to p = p
+
+      no-read : (to : Addr) (body : Body) →
+          backup_body_said (world.sent ++ after.1) world.masters (put world.hosts i (record (world.hosts i) { backup = after.0 }))
+          world.coordinator (world.hosts i) after.0 to body → is_read_ok body ≡ false
+      no-read to (ReadOk table key version value) p = absurd p
+      no-read to _ p = refl
+
+  news-master : (master : Master) → (world.hosts i).master ≡ Some master → (after : Master × List Message) →
+      MasterMoved world.sent (server_of (world.hosts i)) master after → ReadsBy master after → IsNews world after.1
+  news-master master e after moved reads = record {
+    asked = λ message at table key value says. absurd (no-write table key value message.to
+        (subst (λ (body : Body). body_said world.sent (world.sent ++ after.1) (server_of (world.hosts i)) master.log after.0.log message.to
+        body) says (moved.says message at).says));
+    reads = λ m before message rest whole from table key version value says.
+        subst (λ (view : Master). Reads view before table key version value)
+        (sym ((good.hosts_are i).runs master e)
+        ∙ ap world.masters
+        (one-server (server_of (world.hosts i)) m (sym (moved.says message (among message after.1 before rest whole)).from ∙ from)))
+        (reads before message rest whole table key version value says);
+  }
+    where
+      no-write : (table key : ℕ) (value : Option (List ℕ)) (to : Addr) →
+          body_said world.sent (world.sent ++ after.1) (server_of (world.hosts i)) master.log after.0.log to (Write table key value) → ⊥
+      no-write table key value to p = p
+
+  abbrev News : HostNode × List Message → Type 0
+  News after = IsNews world after.1
+
+  news-server : (master : Master) → (world.hosts i).master ≡ Some master → (message : Message) →
+      In (record { from = message.from; to = Server (server_of (world.hosts i)); body = message.body }) world.sent →
+      News (server_takes (world.hosts i) master message)
+  news-server master e message at =
+      either News (is_for_backup message.body) (with_backup (world.hosts i) (backup_takes (world.hosts i).backup message.from message.body))
+      (with_master (world.hosts i) (master_takes master message.from message.body))
+      (λ _. news-backup (backup_takes (world.hosts i).backup message.from message.body)
+      (moved-backup world.sent world.masters world.hosts
+      (put world.hosts i (record (world.hosts i) { backup = (backup_takes (world.hosts i).backup message.from message.body).0 }))
+      world.coordinator i message.from message.body good at
+      (ap (put world.hosts i (record (world.hosts i) { backup = (backup_takes (world.hosts i).backup message.from message.body).0 }))
+      (good.hosts_are i).index
+      ∙ put_same world.hosts i
+      (record (world.hosts i) { backup = (backup_takes (world.hosts i).backup message.from message.body).0 }))))
+      (λ _. news-master master e (master_takes master message.from message.body)
+      (master_takes_keeps world.sent (server_of (world.hosts i)) master message.from message.body (is-good world one i good master e)
+      (is-fine world one i good master e) (hears world one i good message.from message.body at))
+      (reads-takes master message.from message.body))
+
+  news-takes : (found : Option Master) → (world.hosts i).master ≡ found → (message : Message) → In message world.sent →
+      News (takes_if_running (world.hosts i) found message)
+  news-takes None e message at = news-none world
+  news-takes (Some master) e message at =
+      either News (is_server (server_of (world.hosts i)) message.to) (server_takes (world.hosts i) master message) (world.hosts i, [])
+      (λ is. news-server master e message
+      (subst (λ (to : Addr). In (record { from = message.from; to = to; body = message.body }) world.sent)
+      (is_server-true world one i good (server_of (world.hosts i)) message.to is) at))
+      (λ _. news-none world)
+
+  news-ticks : (found : Option Master) → (world.hosts i).master ≡ found → News (ticks_if_running (world.hosts i) found)
+  news-ticks None e = news-none world
+  news-ticks (Some master) e = news-master master e (master_ticks master)
+      (master_ticks_keeps world.sent (server_of (world.hosts i)) master (is-good world one i good master e)
+      (is-fine world one i good master e)) (reads-hushed master (master_ticks master) (hush-master_ticks master))
+
+  news-starts : (kept : List (ServerId × ℕ)) → News (starts_host (world.hosts i) (next_server (world.hosts i)) kept)
+  news-starts kept = news-quiet world (to_coordinator (next_server (world.hosts i)) Enlist ∷ []) asked quiet
+    where
+      asked : (message : Message) → In message (to_coordinator (next_server (world.hosts i)) Enlist ∷ []) →
+          (table key : ℕ) (value : Option (List ℕ)) → message.body ≡ Write table key value → message.from ≡ Outside
+      asked message (inl same) table key value says = let e : Enlist ≡ Write table key value = sym (ap (λ (it : Message). it.body) same)
+          ∙ says in cc
+      asked message (inr never) table key value says = absurd never
+
+      quiet : (message : Message) → In message (to_coordinator (next_server (world.hosts i)) Enlist ∷ []) → (m : ServerId) →
+          message.from ≡ Server m → is_read_ok message.body ≡ false
+      quiet message (inl same) m from = ap (λ (it : Message). is_read_ok it.body) same
+      quiet message (inr never) m from = absurd never
+
+  news-host : (work : Work) → IsGiven world.sent (TheHost i) work → News (host_step (world.hosts i) work)
+  news-host (Take message) given = news-takes (world.hosts i).master refl message given.0
+  news-host (Tick addr) given = news-ticks (world.hosts i).master refl
+  news-host (Start kept) given = news-starts kept
+  news-host _ given = news-none world
+
+-- Events
+
+-- an event adds these messages to those sent
+pub record Adds (world after : World) : Type 0 where
+  pub messages : List Message
+  pub grows : after.sent ≡ world.sent ++ messages
+  pub news : IsNews world messages
+
+adds-node : (world : World) (one : Event) (node : NodeName) (work : Work) → GoodWorld world → IsGiven world.sent node work →
+    Adds world (node_done world one node work)
+adds-node world one TheOutside work good given = record { messages = outside_sends work; grows = refl; news = news-outside world work }
+adds-node world one TheCoordinator work good given = record
+    { messages = (coordinator_step world.coordinator work).1; grows = refl; news = coordinator-moved world work good given }
+adds-node world one (TheHost i) work good given = record
+    { messages = (host_step (world.hosts i) work).1; grows = refl; news = news-host world one i good work given }
+
+adds-none : (world : World) → Adds world world
+adds-none world = record { messages = []; grows = sym (append-nil world.sent); news = news-none world }
+
+adds-job : (world : World) (one : Event) (found : Option Job) → work_of world.sent one ≡ found → GoodWorld world →
+    Adds world (job_done world one found)
+adds-job world one None is good = adds-none world
+adds-job world one (Some job) is good = adds-node world one job.node job.work good (work_of-given world.sent one job is)
+
+pub adds-step : (world : World) (one : Event) → GoodWorld world → Adds world (step world one)
+adds-step world one good =
+    either (Adds world) (is_possible world one) (job_done world one (work_of world.sent one)) world
+    (λ _. adds-job world one (work_of world.sent one) refl good) (λ _. adds-none world)
+
+-- In every world
+
+-- the master read so at some moment, when these messages had been sent
+pub record WasRead (setup : Setup) (events : List Event) (m : ServerId) (before : List Message) (table key version : ℕ)
+    (value : Option (List ℕ)) : Type 0 where
+  pub past : List Event
+  pub rest : List Event
+  pub whole : past ++ rest ≡ events
+  pub sent_is : before ≡ (replay setup past).sent
+  pub term : ℕ
+  pub owned : term_of ((replay setup past).masters m).ownership table key ≡ Some term
+  pub found : ◌≡◌ {A = Found} (read_of term table key (durable_entries ((replay setup past).masters m)))
+      (record { version = version; value = value })
+
+pub record ClientsAreHeard (setup : Setup) (events : List Event) : Type 0 where
+  pub asked : (message : Message) → In message (replay setup events).sent → (table key : ℕ) (value : Option (List ℕ)) →
+      message.body ≡ Write table key value → message.from ≡ Outside
+  pub reads : (m : ServerId) (before : List Message) (message : Message) (after : List Message) →
+      (replay setup events).sent ≡ before ++ message ∷ after → message.from ≡ Server m →
+      (table key version : ℕ) (value : Option (List ℕ)) → message.body ≡ ReadOk table key version value →
+      WasRead setup events m before table key version value
+
+heard-none : (setup : Setup) → ClientsAreHeard setup []
+heard-none setup = record {
+  asked = λ message at. absurd at;
+  reads = λ m before message after e. absurd (among message [] before after e);
+}
+
+heard-one : (setup : Setup) (past : List Event) (one : Event) → ClientsAreHeard setup past → ClientsAreHeard setup (past ++ one ∷ [])
+heard-one setup past one p = record {
+  asked = λ message at table key value says. asked message
+      (In-append message (replay setup past).sent new.messages (subst (In message) grows at)) table key value says;
+  reads = λ m before message after e from table key version value says.
+      reads m before message after (stands-where (replay setup past).sent new.messages before message after (sym grows ∙ e)) from table key
+      version value says;
+}
+  where
+    new : Adds (replay setup past) (step (replay setup past) one)
+    new = adds-step (replay setup past) one (good-world setup past)
+
+    grows : (replay setup (past ++ one ∷ [])).sent ≡ (replay setup past).sent ++ new.messages
+    grows = ap (λ (world : World). world.sent) (replay_from-append (opening setup) past (one ∷ [])) ∙ new.grows
+
+    asked : (message : Message) → In message (replay setup past).sent ⊎ In message new.messages →
+        (table key : ℕ) (value : Option (List ℕ)) → message.body ≡ Write table key value → message.from ≡ Outside
+    asked message (inl old) table key value says = p.asked message old table key value says
+    asked message (inr there) table key value says = new.news.asked message there table key value says
+
+    reads : (m : ServerId) (before : List Message) (message : Message) (after : List Message) →
+        StandsFirst (replay setup past).sent before message ⊎ StandsSecond (replay setup past).sent new.messages before message after →
+        message.from ≡ Server m →
+        (table key version : ℕ) (value : Option (List ℕ)) → message.body ≡ ReadOk table key version value →
+        WasRead setup (past ++ one ∷ []) m before table key version value
+    reads m before message after (inl s) from table key version value says =
+        let was : WasRead setup past m before table key version value = p.reads m before message s.after s.whole from table key version
+        value says in
+        record {
+          past = was.past;
+          rest = was.rest ++ one ∷ [];
+          whole = sym (append_assoc was.past was.rest (one ∷ [])) ∙ ap (λ l. l ++ one ∷ []) was.whole;
+          sent_is = was.sent_is;
+          term = was.term;
+          owned = was.owned;
+          found = was.found;
+        }
+    reads m before message after (inr s) from table key version value says =
+        let was : Reads ((replay setup past).masters m) s.between table key version value = new.news.reads m s.between message after s.whole
+        from table key version value says in
+        record {
+          past = past;
+          rest = one ∷ [];
+          whole = refl;
+          sent_is = s.before_is ∙ ap (λ l. (replay setup past).sent ++ l) was.first ∙ append-nil (replay setup past).sent;
+          term = was.term;
+          owned = was.owned;
+          found = was.found;
+        }
+
+heard-more : (setup : Setup) (past events : List Event) → ClientsAreHeard setup past → ClientsAreHeard setup (past ++ events)
+heard-more setup past [] p = subst (ClientsAreHeard setup) (sym (append-nil past)) p
+heard-more setup past (one ∷ events) p =
+    subst (ClientsAreHeard setup) (append_assoc past (one ∷ []) events)
+    (heard-more setup (past ++ one ∷ []) events (heard-one setup past one p))
+
+pub clients-are-heard : (setup : Setup) (events : List Event) → ClientsAreHeard setup events
+clients-are-heard setup events = heard-more setup [] events (heard-none setup)

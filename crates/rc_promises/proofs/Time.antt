@@ -1,0 +1,347 @@
+-- Writes are ordered as time orders them.
+use Rattle.std.proofs.Common.{◌≡◌, ◌⊎◌, ℕ, ◌<◌, true, List, [], ◌∷◌, ◌++◌, Some, slice_get, refl, sym, ap, ◌∙◌, subst, inl, inr, arith}
+use Rattle.rc_types.specs.declared.ids.ServerId.{ServerId}
+use Rattle.rc_types.specs.declared.ids.Addr.{Addr}
+use Rattle.rc_types.specs.declared.ids.Addr.TheVariants.{Server}
+use Rattle.rc_types.specs.declared.entries.Entry.{Entry}
+use Rattle.rc_types.specs.declared.events.Setup.{Setup}
+use Rattle.rc_types.specs.declared.events.Event.{Event}
+use Rattle.rc_types.specs.declared.kept.Grant.{Grant}
+use Rattle.rc_model.specs.Recovered.{Ack, Accepted}
+use Rattle.rc_model.specs.Owners.{Granted, grants_of, IsBefore, previous, onward, IsEarlier}
+use Rattle.rc_model.specs.Messages.{from_coordinator}
+use Rattle.rc_model.specs.Log.{places_of}
+use Rattle.rc_model.specs.Ownership.{in_range}
+use Rattle.rc_model.specs.Deciding.{own_body}
+use Rattle.rc_model.specs.World.{World, replay}
+use Rattle.rc_model.specs.Headline.{In, HasAcknowledged, WasAccepted}
+use Rattle.rc_model.proofs.Members.{In-left, In-get, place_of}
+use Rattle.rc_step_laws.specs.Words.{Begins, log_in}
+use Rattle.rc_step_laws.specs.Facts.{IsWriteOk}
+use Rattle.rc_step_laws.proofs.Logs.{get-log}
+use Rattle.rc_step_laws.proofs.Places.{IsOf, places_to-are, place-logged, places-later}
+use Rattle.rc_log_laws.proofs.Clauses.{made-is, accepted-is}
+use Rattle.rc_log_laws.proofs.Covers.{IsCovered, covered}
+use Rattle.rc_log_laws.proofs.Replays.{good-world}
+use Rattle.rc_log_laws.proofs.Growing.{recovered-is-made}
+use Rattle.rc_log_laws.proofs.Since.{Since, since-more}
+use Rattle.rc_owner_laws.specs.Grants.{IsOwn}
+use Rattle.rc_owner_laws.proofs.OwnersOrdered.{one-chain, earlier-less}
+use Rattle.rc_owner_laws.specs.Terms.{IsGrantedTo, IsGivenBy}
+use Rattle.rc_owner_laws.specs.Parts.{part_view, logged, IsClients}
+use Rattle.rc_owner_laws.proofs.PartLists.{logged-append}
+use Rattle.rc_write_laws.specs.AckClaims.{WasAsked}
+use Rattle.rc_owner_laws.specs.Worlds.{AllHold}
+use Rattle.rc_owner_laws.specs.VersionClaims.{MayFree}
+use Rattle.rc_owner_laws.proofs.Bases.{IsTaskOf, task-of, IsStarted, started}
+use Rattle.rc_owner_laws.proofs.Rising.{Stands, granted_of, covers-anyhow, at-point, IsAcked, acked, written-at}
+use Rattle.rc_owner_laws.proofs.Rising.{clients, IsOwned, owner, versions-rise}
+use Rattle.rc_owner_laws.proofs.Kept.{In-places, safe-logged, was-granted}
+use Rattle.rc_owner_laws.proofs.VersionsOrdered.{opened}
+use Rattle.rc_owner_laws.proofs.VersionReplays.{all-world}
+use Rattle.rc_promises.specs.Service.{IsOfKey, IsWritten, WritesFollowTime}
+use Rattle.rc_promises.proofs.Asked.{clients-asked, client-asked}
+use Rattle.rc_promises.proofs.Once.{by-anyone, one-owner}
+
+-- Lists
+
+-- a member is among the first ones, or comes after all of them
+within-or_after : {X : Type 0} (x : X) (xs rest before after : List X) → xs ++ rest ≡ before ++ x ∷ after → In x xs ⊎ Begins xs before
+within-or_after x [] rest before after e = inr (before, refl)
+within-or_after x (y ∷ xs) rest [] after e = inl (inl (let same : y ≡ x = cc in sym same))
+within-or_after {X} x (y ∷ xs) rest (z ∷ before) after e = by
+    (within-or_after x xs rest before after (let tails : xs ++ rest ≡ before ++ x ∷ after = cc in tails))
+  where
+    heads : y ≡ z
+    heads = cc
+
+    by : In x xs ⊎ Begins xs before → (◌⊎◌ (x ≡ y) (In x xs)) ⊎ Begins (y ∷ xs) (z ∷ before)
+    by (inl at) = inl (inr at)
+    by (inr begins) = inr (begins.0, ap (λ l. y ∷ l) begins.1 ∙ ap (λ (one : X). one ∷ before) heads)
+
+module _ (setup : Setup) (events more : List Event) where
+  abbrev old : World
+  old = replay setup events
+
+  abbrev new : World
+  new = replay setup (events ++ more)
+
+  all_old : AllHold old.sent old.masters old.hosts old.coordinator
+  all_old = all-world setup events
+
+  all_new : AllHold new.sent new.masters new.hosts new.coordinator
+  all_new = all-world setup (events ++ more)
+
+  later-of : (m : ServerId) → Since m old new
+  later-of m = since-more setup events more m
+
+  -- What was asked only afterwards stands above all that its key had before
+
+  module _ (x : ServerId) (later : Ack) (entry : Entry) (written : IsWritten new.sent x later entry)
+      (unasked : WasAsked old.sent x later.table later.key entry.value → ⊥) where
+    is : IsAcked new.sent new.masters new.hosts new.coordinator all_new x later
+    is = acked new.sent new.masters new.hosts new.coordinator all_new x later written.acknowledged
+
+    abbrev at : Stands is.written.place (places_of (new.masters x).log)
+    at = written-at new.sent new.masters new.hosts new.coordinator all_new x later is
+
+    client : IsClients (part_view (new.masters x)) at.before is.written.place.entry
+    client = clients new.sent new.masters new.hosts new.coordinator all_new x later is
+
+    -- what was sent for the place stands there
+    same : is.written.place.entry ≡ entry
+    same =
+        let here : slice_get (log_in (new.masters x).log later.seg) later.offset ≡ Some entry =
+        made-is new.sent new.masters new.hosts new.coordinator
+        (good-world setup (events ++ more)) x later.seg later.offset entry written.made in
+        let there : slice_get (log_in (new.masters x).log later.seg) later.offset ≡ Some is.written.place.entry =
+        subst (λ s. slice_get (log_in (new.masters x).log s) later.offset ≡ Some is.written.place.entry) is.written.seg_is
+        (subst (λ o. slice_get (log_in (new.masters x).log is.written.place.seg) o ≡ Some is.written.place.entry) is.written.offset_is
+        (place-logged (new.masters x).log is.written.place found)) in
+        cc
+      where
+        found : IsOf (new.masters x).log.segments (new.masters x).log.head is.written.place
+        found = (let k = place_of (places_of (new.masters x).log) is.written.place is.written.among in
+            places_to-are (new.masters x).log.segments (new.masters x).log.head k.0 is.written.place k.1)
+
+    -- so its place comes after all of the log before
+    after-all : Begins (places_of (old.masters x).log) at.before
+    after-all = by (within-or_after is.written.place (places_of (old.masters x).log) begins.0 at.before at.after (begins.1 ∙ at.whole))
+      where
+        begins : Begins (places_of (old.masters x).log) (places_of (new.masters x).log)
+        begins = places-later new.sent x (old.masters x).log (new.masters x).log (later-of x).later
+
+        by : In is.written.place (places_of (old.masters x).log) ⊎ Begins (places_of (old.masters x).log) at.before →
+            Begins (places_of (old.masters x).log) at.before
+        by (inr p) = p
+        by (inl there) = absurd (unasked
+            (subst (λ (value : _). WasAsked old.sent x later.table later.key value) (ap (λ (one : Entry). one.value) same)
+            (subst (λ k. WasAsked old.sent x later.table k is.written.place.entry.value) is.written.key_is
+            (subst (λ t. WasAsked old.sent x t is.written.place.entry.key is.written.place.entry.value) is.written.table_is
+            (clients-asked setup events x is.written.place there is.written.client)))))
+
+    pub is-above : (other : Entry) → In other (logged (places_of (old.masters x).log)) → other.term ≡ later.term →
+        other.table ≡ later.table → other.key ≡ later.key → other.version < later.version
+    is-above other there term table key =
+        subst (λ n. other.version < n) is.written.version_is
+        (client.rises other (subst (λ places. In other (logged places)) after-all.1
+        (subst (In other) (sym (logged-append (places_of (old.masters x).log) after-all.0))
+        (In-left other (logged (places_of (old.masters x).log)) (logged after-all.0) there)))
+        (term ∙ sym is.written.term_is) (table ∙ sym is.written.table_is) (key ∙ sym is.written.key_is))
+
+  -- Grants
+
+  pub still-granted : (was : Grant) → In was old.coordinator.grants → In was new.coordinator.grants
+  still-granted was among = subst (λ (g : Grant). In g new.coordinator.grants) (same was own.grant own.to_is own.body_is) own.among
+    where
+      own : IsOwn new.coordinator (Server was.owner) (own_body was)
+      own = all_new.kept.known (from_coordinator was.owner (own_body was))
+          ((later-of was.owner).more (from_coordinator was.owner (own_body was)) (all_old.kept.told was among))
+
+      same : (one other : Grant) → ◌≡◌ {A = Addr} (Server one.owner) (Server other.owner) → own_body one ≡ own_body other → other ≡ one
+      same one other to says =
+          let owners : other.owner ≡ one.owner = cc in
+          let tables : other.range.table ≡ one.range.table = cc in
+          let los : other.range.lo ≡ one.range.lo = cc in
+          let his : other.range.hi ≡ one.range.hi = cc in
+          let terms : other.term ≡ one.term = cc in
+          let befores : other.previous ≡ one.previous = cc in
+          let attempts : other.attempt ≡ one.attempt = cc in
+          λ i. record {
+            range = record { table = tables i; lo = los i; hi = his i };
+            term = terms i;
+            previous = befores i;
+            attempt = attempts i;
+            owner = owners i;
+          }
+
+  -- the owner of a term was left by an accepted recovery, within the first events
+  record IsLeft (term table key : ℕ) : Type 0 where
+    owner : ServerId
+    granted : IsGrantedTo old.coordinator.grants owner term table key
+    plan : Accepted
+    accepted : WasAccepted old.sent plan
+    of_owner : plan.master ≡ owner
+
+  -- so the one before a grant that was sent within them
+  left-before : (grant : Grant) (table key : ℕ) → In grant old.coordinator.grants → in_range grant.range table key ≡ true →
+      0 < grant.previous → IsLeft grant.previous table key
+  left-before grant table key among holds above = by (all_old.terms.origin grant among)
+    where
+      by : ((grant.attempt ≡ 0) × (grant.previous ≡ 0)) ⊎ IsGivenBy old.sent old.coordinator grant → IsLeft grant.previous table key
+      by (inl created) = let none : grant.previous ≡ 0 = created.1 in absurd (omega arith)
+      by (inr given) =
+          let s : IsStarted old.sent old.masters old.hosts old.coordinator all_old grant given =
+          started old.sent old.masters old.hosts old.coordinator all_old grant given in
+          let task : IsTaskOf old.sent old.coordinator grant.owner s.task =
+          task-of old.sent old.masters old.hosts old.coordinator all_old grant.owner s.task s.task_among in
+          record {
+            owner = given.master;
+            granted = given.after table key holds;
+            plan = record { attempt = s.task.attempt; master = s.task.master; rows = s.task.rows };
+            accepted = task.accepted;
+            of_owner = s.master_is;
+          }
+
+  -- and so each owner before it
+  previous-same : (grant : Grant) → In grant old.coordinator.grants → (table key k : ℕ) (one : Granted) →
+      slice_get (grants_of new.sent table key) k ≡ Some one → grant.term ≡ one.term →
+      grant.previous ≡ one.previous
+  previous-same grant among table key k one e same =
+      let p = at-point new.sent new.masters new.hosts new.coordinator all_new MayFree
+      (covers-anyhow new.sent new.masters new.hosts new.coordinator all_new) table key k one e in
+      let it : grant ≡ p.0 = all_new.terms.grant_once grant p.0 (still-granted grant among) p.1 (same ∙ ap (λ (g : Granted). g.term) p.2) in
+      ap (λ (g : Grant). g.previous) it ∙ sym (ap (λ (g : Granted). g.previous) p.2)
+
+  left : (table key earlier last : ℕ) → IsBefore (grants_of new.sent table key) earlier last → 0 < earlier → (grant : Grant) →
+      In grant old.coordinator.grants → grant.term ≡ last →
+      in_range grant.range table key ≡ true → IsLeft earlier table key
+  left table key earlier last (previous k one e) above grant among same holds =
+      let before : grant.previous ≡ one.previous = previous-same grant among table key k one e same in
+      subst (λ n. IsLeft n table key) before (left-before grant table key among holds (subst (λ n. 0 < n) (sym before) above))
+  left table key earlier last (onward from k one e way) above grant among same holds =
+      let before : grant.previous ≡ one.previous = previous-same grant among table key k one e same in
+      let less : from < one.previous = earlier-less new.sent new.coordinator all_new.grants all_new.kept table key from one.previous way in
+      let rest : IsLeft grant.previous table key = left-before grant table key among holds (omega arith) in
+      left table key from one.previous way above rest.granted.grant rest.granted.among (rest.granted.term_is ∙ before) rest.granted.holds
+
+  -- Who acknowledges under an earlier term what was asked only afterwards: nobody
+
+  module _ (m x : ServerId) (first later : Ack) (entry : Entry) (acked_first : HasAcknowledged old.sent m first)
+      (written : IsWritten new.sent x later entry)
+      (keys : IsOfKey first.table first.key later) (unasked : WasAsked old.sent x later.table later.key entry.value → ⊥) where
+    first_old : IsAcked old.sent old.masters old.hosts old.coordinator all_old m first
+    first_old = acked old.sent old.masters old.hosts old.coordinator all_old m first acked_first
+
+    first_new : HasAcknowledged new.sent m first
+    first_new = record {
+      message = acked_first.message;
+      among = (later-of m).more acked_first.message acked_first.among;
+      from
+          = acked_first.from;
+      says = acked_first.says;
+    }
+
+    owned : IsOwned new.sent new.masters new.hosts new.coordinator all_new x later.term later.table later.key
+    owned = owner new.sent new.masters new.hosts new.coordinator all_new x later
+        (is x later entry written unasked)
+
+    owned_first : IsOwned new.sent new.masters new.hosts new.coordinator all_new m first.term first.table first.key
+    owned_first = owner new.sent new.masters new.hosts new.coordinator all_new m first
+        (acked new.sent new.masters new.hosts new.coordinator all_new m first first_new)
+
+    under-one-term : first.term ≡ later.term → first.version < later.version
+    under-one-term same =
+        let w : IsWriteOk old.sent m (old.masters m).log first.seg first.offset first.term first.table first.key first.version
+        = first_old.write in
+        let here : m ≡ x = one-owner new.sent new.masters new.hosts new.coordinator all_new
+        x m later first written.acknowledged first_new same in
+        let there : In w.entry (logged (places_of (old.masters m).log)) =
+        safe-logged old.sent old.masters old.hosts old.coordinator all_old m first.seg first.offset w.entry w.safe w.holds in
+        subst (λ n. n < later.version) w.version_is
+        (is-above x later entry written unasked w.entry
+        (subst (λ (k : ServerId). In w.entry (logged (places_of (old.masters k).log))) here there)
+        (w.term_is ∙ same) (w.table_is ∙ sym keys.table_is) (w.key_is ∙ sym keys.key_is))
+
+    -- a recovery of its master was accepted by then, and has its place or a greater version
+    under-earlier-term : IsEarlier new.sent later.table later.key later.term first.term → first.version < later.version
+    under-earlier-term before = absurd (by there.is_it)
+      where
+        term_above : 0 < later.term
+        term_above = subst (λ n. 0 < n) owned.term_is (all_new.terms.issued owned.grant owned.among).0
+
+        own : IsOwned old.sent old.masters old.hosts old.coordinator all_old m first.term first.table first.key
+        own = owner old.sent old.masters old.hosts old.coordinator all_old m first first_old
+
+        gone : IsLeft later.term later.table later.key
+        gone = left later.table later.key later.term first.term before term_above own.grant own.among own.term_is
+            (subst (λ k. in_range own.grant.range later.table k ≡ true) (sym keys.key_is)
+            (subst (λ t. in_range own.grant.range t first.key ≡ true) (sym keys.table_is) own.holds))
+
+        of_x : gone.plan.master ≡ x
+        of_x = gone.of_owner ∙ sym gone.granted.owner_is ∙ ap (λ (g : Grant). g.owner)
+            (all_new.terms.grant_once gone.granted.grant owned.grant (still-granted gone.granted.grant gone.granted.among) owned.among
+            (gone.granted.term_is ∙ sym owned.term_is)) ∙ sym owned.owner_is
+
+        plan : Accepted
+        plan = gone.plan
+
+        accepted : WasAccepted new.sent gone.plan
+        accepted = record {
+          message = gone.accepted.message;
+          among = (later-of x).more gone.accepted.message gone.accepted.among;
+          head = gone.accepted.head;
+          parts = gone.accepted.parts;
+          says = gone.accepted.says;
+        }
+
+        w : IsWriteOk new.sent x (new.masters x).log later.seg later.offset later.term later.table later.key later.version
+        w = (is x later entry written unasked).write
+
+        there : IsCovered x (new.masters x).log gone.plan.rows later.seg later.offset w.entry
+        there = covered new.sent new.masters new.hosts new.coordinator all_new.good x gone.plan.rows
+            (subst (λ (k : ServerId). Rattle.rc_log_laws.proofs.Covers.PlanIs new.sent new.masters new.coordinator k gone.plan.rows) of_x
+            (accepted-is new.sent new.masters new.hosts new.coordinator all_new.good gone.plan accepted))
+            later.seg later.offset w.entry w.safe w.holds
+
+        -- what the recovery has there was in the log by then
+        stood : (one : Entry) × (slice_get (log_in (old.masters x).log there.seg) there.offset ≡ Some one)
+        stood = subst (λ (k : ServerId). (one : Entry) × (slice_get (log_in (old.masters k).log there.seg) there.offset ≡ Some one)) of_x
+            (let made = recovered-is-made setup events gone.plan there.seg there.offset gone.accepted there.held in (made.0, made.1))
+
+        same_entry : stood.0 ≡ there.other
+        same_entry =
+            let one : slice_get (log_in (new.masters x).log there.seg) there.offset ≡ Some stood.0 =
+            get-log new.sent x (old.masters x).log (new.masters x).log (later-of x).later there.seg there.offset stood.0 stood.1 in
+            let other : slice_get (log_in (new.masters x).log there.seg) there.offset ≡ Some there.other = there.holds in
+            cc
+
+        logged_then : In there.other (logged (places_of (old.masters x).log))
+        logged_then =
+            let within = opened old.sent old.masters old.hosts old.coordinator all_old x there.seg there.offset stood.0 stood.1 in
+            subst (λ (one : Entry). In one (logged (places_of (old.masters x).log))) same_entry
+            (In-places (old.masters x).log.segments (old.masters x).log.head there.seg stood.0 within.0 within.1
+            (In-get (log_in (old.masters x).log there.seg) there.offset stood.0 stood.1))
+
+        less : there.other.version < later.version
+        less = is-above x later entry written unasked there.other logged_then (there.term ∙ w.term_is) (there.table ∙ w.table_is)
+            (there.key ∙ w.key_is)
+
+        by : ((there.seg ≡ later.seg) × (there.offset ≡ later.offset)) ⊎ (w.entry.version < there.other.version) → ⊥
+        by (inr more_than) = (let e : w.entry.version ≡ later.version = w.version_is in let l = less in absurd (omega arith))
+        by (inl (segs, offsets)) =
+            let here : slice_get (log_in (new.masters x).log later.seg) later.offset ≡ Some there.other =
+            subst (λ o. slice_get (log_in (new.masters x).log later.seg) o ≡ Some there.other) offsets
+            (subst (λ t. slice_get (log_in (new.masters x).log t) there.offset ≡ Some there.other) segs there.holds) in
+            let it : slice_get (log_in (new.masters x).log later.seg) later.offset ≡ Some w.entry = w.holds in
+            let same_one : w.entry ≡ there.other = cc in
+            let e : there.other.version ≡ later.version = ap (λ (one : Entry). one.version) (sym same_one) ∙ w.version_is in
+            let l = less in
+            absurd (omega arith)
+
+    later-is-greater : first.version < later.version
+    later-is-greater = by (one-chain new.sent new.coordinator all_new.grants all_new.kept later.table later.key
+        (granted_of owned_first.grant) (granted_of owned.grant)
+        (was-granted new.sent new.masters new.hosts new.coordinator all_new owned_first.grant owned_first.among)
+        (subst (λ k. in_range owned_first.grant.range later.table k ≡ true) (sym keys.key_is)
+        (subst (λ t. in_range owned_first.grant.range t first.key ≡ true) (sym keys.table_is) owned_first.holds))
+        (was-granted new.sent new.masters new.hosts new.coordinator all_new owned.grant owned.among)
+        owned.holds)
+      where
+        by : (owned_first.grant.term ≡ owned.grant.term) ⊎ (IsEarlier new.sent later.table later.key owned_first.grant.term owned.grant.term
+            ⊎ IsEarlier new.sent later.table later.key owned.grant.term owned_first.grant.term) → first.version < later.version
+        by (inl e) = under-one-term (sym owned_first.term_is ∙ e ∙ owned.term_is)
+        by (inr (inl way)) =
+            versions-rise new.sent new.masters new.hosts new.coordinator all_new
+            later (by-anyone new.sent x later written.acknowledged) first (by-anyone new.sent m first first_new) (sym keys.table_is)
+            (sym keys.key_is)
+            (subst (λ n. IsEarlier new.sent later.table later.key first.term n) owned.term_is
+            (subst (λ n. IsEarlier new.sent later.table later.key n owned.grant.term) owned_first.term_is way))
+        by (inr (inr way)) = under-earlier-term
+            (subst (λ n. IsEarlier new.sent later.table later.key later.term n) owned_first.term_is
+            (subst (λ n. IsEarlier new.sent later.table later.key n owned_first.grant.term) owned.term_is way))
+
+pub writes-follow-time : WritesFollowTime
+writes-follow-time setup events more m x first later entry acked_first written keys unasked =
+    later-is-greater setup events more m x first later entry acked_first written keys
+    (λ asked. unasked (client-asked setup events x later.table later.key entry.value asked))

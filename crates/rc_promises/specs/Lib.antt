@@ -1,0 +1,3 @@
+pub mod HeadlineClaims
+pub mod Service
+pub mod Runs

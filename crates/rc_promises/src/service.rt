@@ -1,0 +1,31 @@
+//! The sentences that a client may rely on.
+
+ghost use Rattle.rc_promises.specs.Service.{OneVersionIsOneWrite, AcknowledgedIsWritten, WritesFollowTime};
+ghost use Rattle.rc_promises.specs.Service.{ReadsSeeAcknowledgedWrites};
+
+/// After every list of events: a version of a key that was acknowledged is one write. Its term was granted to its
+/// master for its point, and it is above 0; whoever acknowledges this version of the key is this master, at this place
+/// and under this term; and a client asked this master for it, with the one value that this master has sent for the
+/// place. Where segments have replicas at all, it has sent one.
+pub fn one_version_is_one_write()
+    ensures once { OneVersionIsOneWrite }
+    ensures written { AcknowledgedIsWritten }
+{}
+
+/// Writes are ordered as time orders them: where a write of a key was acknowledged within the first
+/// events, each write of that key that its master was asked for only afterwards has a greater version.
+/// So it is also where one of the two masters was replaced, and does not know it, and where masters free
+/// segments.
+pub fn writes_follow_time()
+    ensures { WritesFollowTime }
+{}
+
+/// Reads see every acknowledged write: what a master answers to a read, under a term that had been granted to it by
+/// then, has at least the version of each write of the key that was acknowledged under an earlier term, then or since,
+/// of each that it had itself acknowledged by then under this term, and of each that anyone had acknowledged by then,
+/// but under a later term: those a master that was replaced, and does not know it, may miss. The value is that of the
+/// one write of its version, and stands at a durable place. Versions begin at 1, so 0 is shown only where there is no
+/// such write.
+pub fn reads_see_acknowledged_writes()
+    ensures { ReadsSeeAcknowledgedWrites }
+{}

@@ -1,0 +1,6 @@
+pub mod SeatView
+pub mod Works
+pub mod Steps
+pub mod Given
+pub mod SeatHolds
+pub mod Calls

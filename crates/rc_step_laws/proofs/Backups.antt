@@ -1,0 +1,575 @@
+-- Each step of a backup keeps what holds of it, and says only what it may say.
+use Rattle.std.proofs.Common.{◌≡◌, ◌⊎◌, ℕ, ◌≤◌, Bool, true, false, cond, ◌||◌, List, [], ◌∷◌, ◌++◌, length, take}
+use Rattle.std.proofs.Common.{filter, nat_eq, nat_lt, nat_le, Option, Some, None, refl, sym, ap, ◌∙◌, subst, inl, inr}
+use Rattle.std.proofs.Common.{arith}
+use Rattle.std.proofs.lemmas.Bool.{cases_eq, eq-eqb, or_cases}
+use Rattle.std.specs.List.{list_any}
+use Rattle.rc_types.specs.declared.ids.ServerId.{ServerId}
+use Rattle.rc_types.specs.declared.ids.Addr.{Addr}
+use Rattle.rc_types.specs.declared.ids.Addr.TheVariants.{Server}
+use Rattle.rc_types.specs.declared.entries.Entry.{Entry}
+use Rattle.rc_types.specs.declared.rows.Row.{Row}
+use Rattle.rc_types.specs.declared.rows.Part.{Part}
+use Rattle.rc_types.specs.declared.messages.Message.{Message}
+use Rattle.rc_types.specs.declared.messages.Body.{Body}
+use Rattle.rc_types.specs.declared.messages.Body.TheVariants.{Place, Append, Close, Free, Gather, Fetch, Stored, Replicas, Data}
+use Rattle.rc_model.specs.Ids.{same_id}
+use Rattle.rc_model.specs.Messages.{between, to_coordinator}
+use Rattle.rc_model.specs.Replica.{Replica}
+use Rattle.rc_model.specs.Backup.{Backup, Held, replica_of, without_replica, replica_after, with_held, is_freed}
+use Rattle.rc_model.specs.Backup.{is_refused, keeps, stores, insert_number, frees, row_of_replica, rows_of_replicas}
+use Rattle.rc_model.specs.Backup.{fences, is_in_part, data_of, answers_fetch, backup_takes, restarted}
+use Rattle.rc_model.specs.Master.{Master}
+use Rattle.rc_model.specs.Coordinator.{Coordinator}
+use Rattle.rc_model.specs.Nodes.{HostNode, server_of}
+use Rattle.rc_model.specs.Headline.{In}
+use Rattle.rc_model.proofs.Members.{either, In-left, In-append}
+use Rattle.rc_step_laws.specs.Words.{IsOf, held_at}
+use Rattle.rc_step_laws.specs.Facts.{IsCopy, IsAnswer, IsStored, StillStands, GoodHeld, GoodReplica, GoodHost, Good}
+use Rattle.rc_step_laws.specs.Later.{HeldLater}
+use Rattle.rc_step_laws.specs.Moves.{OwnFine, BackupMoved, backup_body_said}
+use Rattle.rc_step_laws.proofs.Lists.{same_id-true, put_id_same, true_false}
+use Rattle.rc_step_laws.proofs.ReplicaLists.{replica_of-row, Ascending-filter, replica_of-filter, replica_of-without}
+use Rattle.rc_step_laws.proofs.Replicas.{Changed, Stood, AllStood}
+use Rattle.rc_step_laws.proofs.Changes.{changed-place, changed-append, changed-close}
+use Rattle.rc_step_laws.proofs.BackupTold.{NoNewPlaces, NothingNewlyTold, held-told}
+use Rattle.rc_step_laws.proofs.Storing.{held_later-refl, AllHeld, moved-kept}
+
+-- Messages that neither place nor tell
+
+pub record Quiet (messages : List Message) : Type 0 where
+  pub places : (m x : ServerId) (s e : ℕ) (digest : List ℕ) (entries : List Entry) (closed : Bool) →
+      In (between m x (Place s e digest entries closed)) messages → ⊥
+  pub told : (x m : ServerId) (s e len : ℕ) (closed : Bool) → In (between x m (Stored s e len closed)) messages → ⊥
+
+-- a quiet move: what is held stays good
+pub held-quiet : (sent messages : List Message) (masters : ServerId → Master) (m : ServerId)
+    (index generation generation_now : ℕ) (held : Held) → Quiet messages → generation ≤ generation_now →
+    GoodHeld sent m (masters m).log index generation held → GoodHeld (sent ++ messages) m (masters m).log index generation_now held
+held-quiet sent messages masters m index generation generation_now held quiet up good =
+    held-told sent (sent ++ messages) m (masters m).log index generation generation_now held
+    (λ message at. In-left message sent messages at) back up nothing good
+  where
+    back : NoNewPlaces sent (sent ++ messages)
+    back n x s e digest entries closed at = by (In-append (between n x (Place s e digest entries closed)) sent messages at)
+      where
+        by : In (between n x (Place s e digest entries closed)) sent ⊎
+            In (between n x (Place s e digest entries closed)) messages →
+            In (between n x (Place s e digest entries closed)) sent
+        by (inl there) = there
+        by (inr new) = absurd (quiet.places n x s e digest entries closed new)
+
+    nothing : NothingNewlyTold sent (sent ++ messages) m index
+    nothing x s e len closed on at = by (In-append (between x m (Stored s e len closed)) sent messages at)
+      where
+        by : In (between x m (Stored s e len closed)) sent ⊎ In (between x m (Stored s e len closed)) messages →
+            In (between x m (Stored s e len closed)) sent
+        by (inl there) = there
+        by (inr new) = absurd (quiet.told x m s e len closed new)
+
+pub quiet-none : Quiet []
+quiet-none = record { places = λ m x s e digest entries closed at. at; told = λ x m s e len closed at. at }
+
+-- nothing happens
+moved-still : (sent : List Message) (masters : ServerId → Master) (hosts : ℕ → HostNode) (c : Coordinator)
+    (host : HostNode) → AllHeld sent masters host → BackupMoved sent masters hosts c host (host.backup, [])
+moved-still sent masters hosts c host good = record {
+  own = refl;
+  held = λ m. held-quiet sent [] masters m host.index host.generation host.generation (host.backup.held m) quiet-none
+      (omega arith) (good m);
+  later = λ m. held_later-refl (host.backup.held m);
+  from = λ message at. absurd at;
+  says = λ message at. absurd at;
+}
+
+-- Storing
+
+-- what becomes of a replica is kept, if anything does
+moved-keeps : (sent : List Message) (masters : ServerId → Master) (hosts : ℕ → HostNode) (c : Coordinator)
+    (host : HostNode) (m : ServerId) (seg : ℕ) (found : Option Replica) →
+    host.backup.own ≡ server_of host → AllHeld sent masters host → (host.backup.held m).fenced ≡ false →
+    ((after : Replica) → found ≡ Some after →
+    Changed sent m (masters m).log host.index host.generation seg (replica_of seg (host.backup.held m).replicas)
+    after) →
+    BackupMoved sent masters hosts c host (keeps host.backup m seg found)
+moved-keeps sent masters hosts c host m seg None own good unfenced changed = moved-still sent masters hosts c host good
+moved-keeps sent masters hosts c host m seg (Some after) own good unfenced changed =
+    moved-kept sent masters hosts c host m seg after own good unfenced (changed after refl)
+
+-- neither fenced nor freed
+or-false : (a b : Bool) → (a || b) ≡ false → (a ≡ false) × (b ≡ false)
+or-false true b e = absurd (true_false e)
+or-false false b e = (refl, e)
+
+moved-stores : (sent : List Message) (masters : ServerId → Master) (hosts : ℕ → HostNode) (c : Coordinator)
+    (host : HostNode) (m : ServerId) (seg : ℕ) (body : Body) →
+    host.backup.own ≡ server_of host → AllHeld sent masters host →
+    (is_freed seg (host.backup.held m) ≡ false → (after : Replica) →
+    replica_after (replica_of seg (host.backup.held m).replicas) body ≡ Some after →
+    Changed sent m (masters m).log host.index host.generation seg (replica_of seg (host.backup.held m).replicas) after) →
+    BackupMoved sent masters hosts c host (stores host.backup m seg body)
+moved-stores sent masters hosts c host m seg body own good changed =
+    either (λ (after : Backup × List Message). BackupMoved sent masters hosts c host after)
+    (is_refused seg (host.backup.held m)) (host.backup, [])
+    (keeps host.backup m seg (replica_after (replica_of seg (host.backup.held m).replicas) body))
+    (λ _. moved-still sent masters hosts c host good)
+    (λ takes.
+    let parts : ((host.backup.held m).fenced ≡ false) × (is_freed seg (host.backup.held m) ≡ false) =
+    or-false (host.backup.held m).fenced (is_freed seg (host.backup.held m)) takes in
+    moved-keeps sent masters hosts c host m seg (replica_after (replica_of seg (host.backup.held m).replicas) body) own
+    good parts.0 (changed parts.1))
+
+-- Freeing
+
+any-insert-same : (n : ℕ) (ns : List ℕ) → list_any (nat_eq n) (insert_number n ns) ≡ true
+any-insert-same n [] = ap (λ b. b || false) (eq-eqb n n refl)
+any-insert-same n (k ∷ ns) =
+    either (λ (all : List ℕ). list_any (nat_eq n) all ≡ true) (nat_lt n k) (n ∷ k ∷ ns)
+    (cond (nat_eq n k) (k ∷ ns) (k ∷ insert_number n ns))
+    (λ _. ap (λ b. b || list_any (nat_eq n) (k ∷ ns)) (eq-eqb n n refl))
+    (λ _. either (λ (all : List ℕ). list_any (nat_eq n) all ≡ true) (nat_eq n k) (k ∷ ns) (k ∷ insert_number n ns)
+    (λ e. ap (λ b. b || list_any (nat_eq n) ns) e)
+    (λ e. ap (λ b. b || list_any (nat_eq n) (insert_number n ns)) e ∙ any-insert-same n ns))
+
+any-insert-old : (s n : ℕ) (ns : List ℕ) → list_any (nat_eq s) ns ≡ true → list_any (nat_eq s) (insert_number n ns) ≡ true
+any-insert-old s n [] e = absurd (true_false (sym e))
+any-insert-old s n (k ∷ ns) e =
+    either (λ (all : List ℕ). list_any (nat_eq s) all ≡ true) (nat_lt n k) (n ∷ k ∷ ns)
+    (cond (nat_eq n k) (k ∷ ns) (k ∷ insert_number n ns))
+    (λ _. or-right (nat_eq s n) (list_any (nat_eq s) (k ∷ ns)) e)
+    (λ _. either (λ (all : List ℕ). list_any (nat_eq s) all ≡ true) (nat_eq n k) (k ∷ ns) (k ∷ insert_number n ns)
+    (λ _. e) (λ _. either_part (or_cases (nat_eq s k) (list_any (nat_eq s) ns) e) (any-insert-old s n ns)))
+  where
+    or-right : (a b : Bool) → b ≡ true → (a || b) ≡ true
+    or-right true b at = refl
+    or-right false b at = at
+
+    either_part : (nat_eq s k ≡ true) ⊎ (list_any (nat_eq s) ns ≡ true) →
+        (list_any (nat_eq s) ns ≡ true → list_any (nat_eq s) (insert_number n ns) ≡ true) →
+        (nat_eq s k || list_any (nat_eq s) (insert_number n ns)) ≡ true
+    either_part (inl first) rec = ap (λ b. b || list_any (nat_eq s) (insert_number n ns)) first
+    either_part (inr rest) rec = or-right (nat_eq s k) (list_any (nat_eq s) (insert_number n ns)) (rec rest)
+
+-- what a master has freed
+abbrev pub freed_held : ℕ → Held → Held
+freed_held seg held = record { fenced = false; replicas = without_replica seg held.replicas; freed = insert_number seg held.freed }
+
+freed-good : (sent : List Message) (masters : ServerId → Master) (m : ServerId) (index generation seg : ℕ)
+    (held : Held) → GoodHeld sent m (masters m).log index generation held →
+    GoodHeld sent m (masters m).log index generation (freed_held seg held)
+freed-good sent masters m index generation seg held good = record {
+  ascending = Ascending-filter _ held.replicas good.ascending;
+  each = λ s replica at. good.each s replica (replica_of-filter _ s replica held.replicas good.ascending at);
+}
+
+freed-later : (seg : ℕ) (held : Held) → held.fenced ≡ false → HeldLater held (freed_held seg held)
+freed-later seg held unfenced = record {
+  replicas = λ s replica at. by s replica at (cases_eq s seg);
+  freed = λ s e. any-insert-old s seg held.freed e;
+  fenced = λ e. true_false (sym e ∙ unfenced);
+}
+  where
+    by : (s : ℕ) (replica : Replica) → replica_of s held.replicas ≡ Some replica → (s ≡ seg) ⊎ (s ≡ seg → ⊥) →
+        StillStands (freed_held seg held) s replica.epoch (length replica.entries) replica.closed ⊎
+        (is_freed s (freed_held seg held) ≡ true)
+    by s replica at (inl same) = inr (ap (λ t. list_any (nat_eq t) (insert_number seg held.freed)) same ∙ any-insert-same seg held.freed)
+    by s replica at (inr differs) = inl (record {
+      replica = replica;
+      kept = replica_of-without s seg replica held.replicas differs at;
+      epoch = omega arith;
+      enough = omega arith;
+      closed_too = λ same. same;
+    })
+
+-- what is held of one master changes, quietly
+moved-held : (sent messages : List Message) (masters : ServerId → Master) (hosts : ℕ → HostNode) (c : Coordinator)
+    (host : HostNode) (m : ServerId) (held : Held) → AllHeld sent masters host → Quiet messages →
+    GoodHeld sent m (masters m).log host.index host.generation held → HeldLater (host.backup.held m) held →
+    ((message : Message) → In message messages → message.from ≡ Server (server_of host)) →
+    ((message : Message) → In message messages →
+    backup_body_said (sent ++ messages) masters hosts c host (with_held m held host.backup) message.to message.body)
+    →
+    BackupMoved sent masters hosts c host (with_held m held host.backup, messages)
+moved-held sent messages masters hosts c host m held good quiet new later from says = record {
+  own = refl;
+  held = λ n. either (λ (one : Held). GoodHeld (sent ++ messages) n (masters n).log host.index host.generation one)
+      (same_id m n) held (host.backup.held n)
+      (λ same. subst (λ (k : ServerId). GoodHeld (sent ++ messages) k (masters k).log host.index host.generation held)
+      (same_id-true m n same)
+      (held-quiet sent messages masters m host.index host.generation host.generation held quiet (omega arith) new))
+      (λ _. held-quiet sent messages masters n host.index host.generation host.generation (host.backup.held n) quiet
+      (omega arith) (good n));
+  later = λ n. either (λ (one : Held). HeldLater (host.backup.held n) one) (same_id m n) held (host.backup.held n)
+      (λ same. subst (λ (k : ServerId). HeldLater (host.backup.held k) held) (same_id-true m n same) later)
+      (λ _. held_later-refl (host.backup.held n));
+  from = from;
+  says = says;
+}
+
+moved-frees : (sent : List Message) (masters : ServerId → Master) (hosts : ℕ → HostNode) (c : Coordinator)
+    (host : HostNode) (m : ServerId) (seg : ℕ) → AllHeld sent masters host →
+    BackupMoved sent masters hosts c host (frees host.backup m seg, [])
+moved-frees sent masters hosts c host m seg good =
+    either (λ (after : Backup). BackupMoved sent masters hosts c host (after, [])) (host.backup.held m).fenced
+    host.backup (with_held m (freed_held seg (host.backup.held m)) host.backup)
+    (λ _. moved-still sent masters hosts c host good)
+    (λ unfenced. moved-held sent [] masters hosts c host m (freed_held seg (host.backup.held m)) good quiet-none
+    (freed-good sent masters m host.index host.generation seg (host.backup.held m) (good m)) (freed-later seg (host.backup.held m) unfenced)
+    (λ message at. absurd at) (λ message at. absurd at))
+
+-- Answering
+
+-- the messages of a fetch
+moved-fetch : (sent : List Message) (masters : ServerId → Master) (hosts : ℕ → HostNode) (c : Coordinator)
+    (host : HostNode) (asker m : ServerId) (attempt seg len : ℕ) (part : Part) →
+    host.backup.own ≡ server_of host → AllHeld sent masters host →
+    BackupMoved sent masters hosts c host (
+      host.backup,
+      answers_fetch host.backup asker m
+          (data_of attempt seg len part (replica_of seg (host.backup.held m).replicas)),
+    )
+moved-fetch sent masters hosts c host asker m attempt seg len part own good = by (replica_of seg (host.backup.held m).replicas)
+  where
+    quiet : (entries : List Entry) → Quiet (between host.backup.own asker (Data attempt seg part.term entries) ∷ [])
+    quiet entries = record {
+      places = λ n x s e digest es closed at. placed n x s e digest es closed at;
+      told = λ x n s e k closed at. tells x n s e k closed at;
+    }
+      where
+        placed : (n x : ServerId) (s e : ℕ) (digest : List ℕ) (es : List Entry) (closed : Bool) →
+            In (between n x (Place s e digest es closed))
+            (between host.backup.own asker (Data attempt seg part.term entries) ∷ []) → ⊥
+        placed n x s e digest es closed (inl same) = let bodies : Place s e digest es closed ≡ Data attempt seg
+            part.term entries = ap (λ (one : Message). one.body) same in cc
+        placed n x s e digest es closed (inr never) = never
+
+        tells : (x n : ServerId) (s e k : ℕ) (closed : Bool) →
+            In (between x n (Stored s e k closed))
+            (between host.backup.own asker (Data attempt seg part.term entries) ∷ []) → ⊥
+        tells x n s e k closed (inl same) = let bodies : Stored s e k closed ≡ Data attempt seg part.term entries =
+            ap (λ (one : Message). one.body) same in cc
+        tells x n s e k closed (inr never) = never
+
+    answered : (entries : List Entry) →
+        BackupMoved sent masters hosts c host
+        (host.backup, between host.backup.own asker (Data attempt seg part.term entries) ∷ [])
+    answered entries = record {
+      own = refl;
+      held = λ n. held-quiet sent (between host.backup.own asker (Data attempt seg part.term entries) ∷ []) masters n
+          host.index host.generation host.generation (host.backup.held n) (quiet entries) (omega arith) (good n);
+      later = λ n. held_later-refl (host.backup.held n);
+      from = λ message at. from message at;
+      says = λ message at. says message at;
+    }
+      where
+        from : (message : Message) →
+            In message (between host.backup.own asker (Data attempt seg part.term entries) ∷ []) →
+            message.from ≡ Server (server_of host)
+        from message (inl same) = ap (λ (one : Message). one.from) same ∙ ap Server own
+        from message (inr never) = absurd never
+
+        says : (message : Message) → In message (between host.backup.own asker (Data attempt seg part.term entries) ∷ []) →
+            backup_body_said (sent ++ between host.backup.own asker (Data attempt seg part.term entries) ∷ []) masters
+            hosts c host host.backup message.to message.body
+        says message (inl same) =
+            subst (λ (one : Message).
+            backup_body_said (sent ++ between host.backup.own asker (Data attempt seg part.term entries) ∷ []) masters
+            hosts c host host.backup one.to one.body) (sym same) tt
+        says message (inr never) = absurd never
+
+    by : (found : Option Replica) →
+        BackupMoved sent masters hosts c host
+        (host.backup, answers_fetch host.backup asker m (data_of attempt seg len part found))
+    by None = moved-still sent masters hosts c host good
+    by (Some replica) =
+        either (λ (bodies : List Body). BackupMoved sent masters hosts c host
+        (host.backup, answers_fetch host.backup asker m bodies)) (nat_le len (length replica.entries))
+        (Data attempt seg part.term (filter (is_in_part part) (take len replica.entries)) ∷ []) []
+        (λ _. either (λ (messages : List Message). BackupMoved sent masters hosts c host (host.backup, messages))
+        (host.backup.held m).fenced
+        (between host.backup.own asker (Data attempt seg part.term (filter (is_in_part part) (take len replica.entries))) ∷ []) []
+        (λ _. answered (filter (is_in_part part) (take len replica.entries))) (λ _. moved-still sent masters hosts c host good))
+        (λ _. moved-still sent masters hosts c host good)
+
+-- a Gather fences, and is answered by the rows of good replicas
+moved-fences : (sent : List Message) (masters : ServerId → Master) (hosts : ℕ → HostNode) (c : Coordinator)
+    (host : HostNode) (attempt : ℕ) (m : ServerId) →
+    host.backup.own ≡ server_of host → AllHeld sent masters host → IsOf c.attempts attempt m →
+    hosts host.index ≡ record host { backup = (fences host.backup attempt m).0 } →
+    BackupMoved sent masters hosts c host (fences host.backup attempt m)
+moved-fences sent masters hosts c host attempt m own good of_attempt placed =
+    moved-held sent (to_coordinator host.backup.own (Replicas attempt (rows_of_replicas (host.backup.held m).replicas))
+    ∷ []) masters hosts c host m (record (host.backup.held m) { fenced = true }) good quiet
+    (record { ascending = (good m).ascending; each = (good m).each }) fenced_later from says
+  where
+    answer : Body
+    answer = Replicas attempt (rows_of_replicas (host.backup.held m).replicas)
+
+    fenced_later : HeldLater (host.backup.held m) (record (host.backup.held m) { fenced = true })
+    fenced_later = record {
+      replicas = λ s replica at.
+          inl (record {
+            replica = replica;
+            kept = at;
+            epoch = omega arith;
+            enough = omega arith;
+            closed_too = λ same.
+                same;
+          });
+      freed = λ s same. same;
+      fenced = λ _. refl;
+    }
+
+    quiet : Quiet (to_coordinator host.backup.own (Replicas attempt (rows_of_replicas (host.backup.held m).replicas)) ∷ [])
+    quiet = record {
+      places = λ n x s e digest es closed at. placed_not n x s e digest es closed at;
+      told = λ x n s e k closed at. tells x n s e k closed at;
+    }
+      where
+        placed_not : (n x : ServerId) (s e : ℕ) (digest : List ℕ) (es : List Entry) (closed : Bool) →
+            In (between n x (Place s e digest es closed))
+            (to_coordinator host.backup.own (Replicas attempt (rows_of_replicas (host.backup.held m).replicas)) ∷ []) →
+            ⊥
+        placed_not n x s e digest es closed (inl same) = let bodies : Place s e digest es closed ≡ Replicas attempt
+            (rows_of_replicas (host.backup.held m).replicas) = ap (λ (one : Message). one.body) same in cc
+        placed_not n x s e digest es closed (inr never) = never
+
+        tells : (x n : ServerId) (s e k : ℕ) (closed : Bool) →
+            In (between x n (Stored s e k closed))
+            (to_coordinator host.backup.own (Replicas attempt (rows_of_replicas (host.backup.held m).replicas)) ∷ []) →
+            ⊥
+        tells x n s e k closed (inl same) = let bodies : Stored s e k closed ≡ Replicas attempt
+            (rows_of_replicas (host.backup.held m).replicas) = ap (λ (one : Message). one.body) same in cc
+        tells x n s e k closed (inr never) = never
+
+    from : (message : Message) →
+        In message (to_coordinator host.backup.own (Replicas attempt (rows_of_replicas (host.backup.held m).replicas)) ∷
+        []) → message.from ≡ Server (server_of host)
+    from message (inl same) = ap (λ (one : Message). one.from) same ∙ ap Server own
+    from message (inr never) = absurd never
+
+    -- each row is of a good replica
+    row-is : (row : Row) → In row (rows_of_replicas (host.backup.held m).replicas) →
+        IsCopy (sent ++ to_coordinator host.backup.own
+        (Replicas attempt (rows_of_replicas (host.backup.held m).replicas)) ∷ []) m (masters m).log host.index
+        host.generation row.seg row.epoch row.closed row.len row.digest
+    row-is row at =
+        let found : (replica : Replica) × (replica_of row.seg (host.backup.held m).replicas ≡ Some replica) ×
+        (row ≡ row_of_replica (row.seg, replica)) =
+        replica_of-row (host.backup.held m).replicas row (good m).ascending at in
+        let held : GoodHeld (sent ++ to_coordinator host.backup.own
+        (Replicas attempt (rows_of_replicas (host.backup.held m).replicas)) ∷ []) m (masters m).log host.index
+        host.generation (host.backup.held m) =
+        held-quiet sent (to_coordinator host.backup.own
+        (Replicas attempt (rows_of_replicas (host.backup.held m).replicas)) ∷ []) masters m host.index
+        host.generation host.generation (host.backup.held m) quiet (omega arith) (good m) in
+        let copy : GoodReplica (sent ++ to_coordinator host.backup.own
+        (Replicas attempt (rows_of_replicas (host.backup.held m).replicas)) ∷ []) m (masters m).log host.index
+        host.generation row.seg found.0 = held.each row.seg found.0 found.1 in
+        as-row row found.0 found.2 copy.copy
+      where
+        as-row : (row : Row) (replica : Replica) → row ≡ row_of_replica (row.seg, replica) →
+            IsCopy (sent ++ to_coordinator host.backup.own
+            (Replicas attempt (rows_of_replicas (host.backup.held m).replicas)) ∷ []) m (masters m).log host.index
+            host.generation row.seg replica.epoch replica.closed (length replica.entries) replica.digest →
+            IsCopy (sent ++ to_coordinator host.backup.own
+            (Replicas attempt (rows_of_replicas (host.backup.held m).replicas)) ∷ []) m (masters m).log host.index
+            host.generation row.seg row.epoch row.closed row.len row.digest
+        as-row row replica is copy =
+            subst (λ (r : Row). IsCopy
+            (sent ++ to_coordinator host.backup.own
+            (Replicas attempt (rows_of_replicas (host.backup.held m).replicas)) ∷ []) m (masters m).log host.index
+            host.generation row.seg r.epoch r.closed r.len r.digest) (sym is) copy
+
+    is_answer : IsAnswer (sent ++ to_coordinator host.backup.own
+        (Replicas attempt (rows_of_replicas (host.backup.held m).replicas)) ∷ []) masters hosts c (server_of host)
+        attempt (rows_of_replicas (host.backup.held m).replicas)
+    is_answer = record {
+      master = m;
+      attempt = of_attempt;
+      since = subst (λ (one : HostNode). host.generation ≤ one.generation) (sym placed) (omega arith);
+      fenced = λ _. subst (λ (one : HostNode). (one.backup.held m).fenced ≡ true) (sym placed)
+          (ap (λ (one : Held). one.fenced) (put_id_same host.backup.held m (record (host.backup.held m) { fenced = true })));
+      rows_are = λ row at. row-is row at;
+    }
+
+    says : (message : Message) →
+        In message (to_coordinator host.backup.own (Replicas attempt (rows_of_replicas (host.backup.held m).replicas)) ∷
+        []) →
+        backup_body_said (sent ++ to_coordinator host.backup.own
+        (Replicas attempt (rows_of_replicas (host.backup.held m).replicas)) ∷ []) masters hosts c host
+        (with_held m (record (host.backup.held m) { fenced = true }) host.backup) message.to message.body
+    says message (inl same) =
+        subst (λ (one : Message).
+        backup_body_said (sent ++ to_coordinator host.backup.own
+        (Replicas attempt (rows_of_replicas (host.backup.held m).replicas)) ∷ []) masters hosts c host
+        (with_held m (record (host.backup.held m) { fenced = true }) host.backup) one.to one.body) (sym same) is_answer
+    says message (inr never) = absurd never
+
+-- A world's facts, as they are needed here
+
+pub own-fine : (sent : List Message) (masters : ServerId → Master) (hosts : ℕ → HostNode) (c : Coordinator) →
+    Good sent masters hosts c → (m : ServerId) → OwnFine sent m (masters m).log
+own-fine sent masters hosts c good m = record {
+  places = λ x s e digest entries closed at. good.messages (between m x (Place s e digest entries closed)) at;
+  told = λ x s e len closed at.
+      (let stored : IsStored sent hosts m (masters m).log x s e len closed = good.messages
+      (between x m (Stored s e len closed)) at in stored.told);
+}
+
+-- what the running server of a host has told of a segment that isn't freed stands in its replica
+all-stood : (sent : List Message) (masters : ServerId → Master) (hosts : ℕ → HostNode) (c : Coordinator) →
+    Good sent masters hosts c → (i : ℕ) (m : ServerId) (s : ℕ) →
+    is_freed s ((hosts i).backup.held m) ≡ false →
+    AllStood sent (record { index = i; generation = (hosts i).generation }) m s
+    (replica_of s ((hosts i).backup.held m).replicas)
+all-stood sent masters hosts c good i m s unfreed e len closed at = by (stored.stands refl)
+  where
+    stored : IsStored sent hosts m (masters m).log (record { index = i; generation = (hosts i).generation }) s e len closed
+    stored = good.messages (between (record { index = i; generation = (hosts i).generation }) m (Stored s e len closed)) at
+
+    by : StillStands (held_at hosts i m) s e len closed ⊎ (is_freed s (held_at hosts i m) ≡ true) →
+        Stood (replica_of s ((hosts i).backup.held m).replicas) e len closed
+    by (inl p) = record { replica = p.replica; is = p.kept; epoch = p.epoch; enough = p.enough; closed_too = p.closed_too }
+    by (inr freed) = true_false (sym freed ∙ unfreed)
+
+-- the same as the host says its own index
+at-own-index : (sent : List Message) (masters : ServerId → Master) (i : ℕ) (host : HostNode) →
+    GoodHost sent masters i host → AllHeld sent masters host
+at-own-index sent masters i host good m =
+    subst (λ n. GoodHeld sent m (masters m).log n host.generation (host.backup.held m)) (sym good.index) (good.held m)
+
+-- The step
+
+-- the server of a host, by the index that the host stands at
+server-is : (sent : List Message) (masters : ServerId → Master) (i : ℕ) (host : HostNode) →
+    GoodHost sent masters i host → server_of host ≡ record { index = i; generation = host.generation }
+server-is sent masters i host good = ap (λ n. record { index = n; generation = host.generation }) good.index
+
+-- by what was sent to this server
+
+moved-place : (sent : List Message) (masters : ServerId → Master) (hosts hosts_now : ℕ → HostNode) (c : Coordinator)
+    (i : ℕ) (m : ServerId) (seg epoch : ℕ) (digest : List ℕ) (entries : List Entry) (closed : Bool) →
+    Good sent masters hosts c →
+    In (between m (server_of (hosts i)) (Place seg epoch digest entries closed)) sent →
+    BackupMoved sent masters hosts_now c (hosts i) (stores (hosts i).backup m seg (Place seg epoch digest entries closed))
+moved-place sent masters hosts hosts_now c i m seg epoch digest entries closed good at =
+    moved-stores sent masters hosts_now c (hosts i) m seg (Place seg epoch digest entries closed) host.own
+    (at-own-index sent masters i (hosts i) host)
+    (λ unfreed after is. subst (λ (z : ServerId). Changed sent m (masters m).log z.index (hosts i).generation seg
+    (replica_of seg ((hosts i).backup.held m).replicas) after) (sym same) (changed unfreed after is))
+  where
+    host : GoodHost sent masters i (hosts i)
+    host = good.hosts_are i
+
+    z : ServerId
+    z = record { index = i; generation = (hosts i).generation }
+
+    same : server_of (hosts i) ≡ record { index = i; generation = (hosts i).generation }
+    same = server-is sent masters i (hosts i) (good.hosts_are i)
+
+    there : In (between m (record { index = i; generation = (hosts i).generation }) (Place seg epoch digest entries closed)) sent
+    there = subst (λ (x : ServerId). In (between m x (Place seg epoch digest entries closed)) sent) same at
+
+    changed : is_freed seg ((hosts i).backup.held m) ≡ false → (after : Replica) →
+        replica_after (replica_of seg ((hosts i).backup.held m).replicas) (Place seg epoch digest entries closed) ≡ Some
+        after →
+        Changed sent m (masters m).log i (hosts i).generation seg (replica_of seg ((hosts i).backup.held m).replicas) after
+    changed unfreed after is =
+        changed-place sent m (masters m) (record { index = i; generation = (hosts i).generation }) seg epoch digest
+        entries closed (replica_of seg ((hosts i).backup.held m).replicas) after
+        (record {
+          good = good.masters_are m;
+          fine = own-fine sent masters hosts c good m;
+          at = there;
+          place = good.messages (between m (record { index = i; generation = (hosts i).generation })
+              (Place seg epoch digest entries closed)) there;
+        })
+        (all-stood sent masters hosts c good i m seg unfreed) (λ old e. (host.held m).each seg old e) is
+
+moved-append : (sent : List Message) (masters : ServerId → Master) (hosts hosts_now : ℕ → HostNode) (c : Coordinator)
+    (i : ℕ) (m : ServerId) (seg offset : ℕ) (entries : List Entry) → Good sent masters hosts c →
+    In (between m (server_of (hosts i)) (Append seg offset entries)) sent →
+    BackupMoved sent masters hosts_now c (hosts i) (stores (hosts i).backup m seg (Append seg offset entries))
+moved-append sent masters hosts hosts_now c i m seg offset entries good at =
+    moved-stores sent masters hosts_now c (hosts i) m seg (Append seg offset entries) host.own (at-own-index sent masters i (hosts i) host)
+    (λ unfreed after is. subst (λ (z : ServerId). Changed sent m (masters m).log z.index (hosts i).generation seg
+    (replica_of seg ((hosts i).backup.held m).replicas) after) (sym same) (changed after is))
+  where
+    host : GoodHost sent masters i (hosts i)
+    host = good.hosts_are i
+
+    same : server_of (hosts i) ≡ record { index = i; generation = (hosts i).generation }
+    same = server-is sent masters i (hosts i) (good.hosts_are i)
+
+    there : In (between m (record { index = i; generation = (hosts i).generation }) (Append seg offset entries)) sent
+    there = subst (λ (x : ServerId). In (between m x (Append seg offset entries)) sent) same at
+
+    changed : (after : Replica) → replica_after (replica_of seg ((hosts i).backup.held m).replicas)
+        (Append seg offset entries) ≡ Some after →
+        Changed sent m (masters m).log i (hosts i).generation seg (replica_of seg ((hosts i).backup.held m).replicas) after
+    changed after is =
+        changed-append sent m (masters m) (record { index = i; generation = (hosts i).generation }) seg offset entries
+        (replica_of seg ((hosts i).backup.held m).replicas) after there
+        (good.messages (between m (record { index = i; generation = (hosts i).generation }) (Append seg offset entries))
+        there) (λ old e. (host.held m).each seg old e) is
+
+moved-close : (sent : List Message) (masters : ServerId → Master) (hosts hosts_now : ℕ → HostNode) (c : Coordinator)
+    (i : ℕ) (m : ServerId) (seg len : ℕ) → Good sent masters hosts c →
+    In (between m (server_of (hosts i)) (Close seg len)) sent →
+    BackupMoved sent masters hosts_now c (hosts i) (stores (hosts i).backup m seg (Close seg len))
+moved-close sent masters hosts hosts_now c i m seg len good at =
+    moved-stores sent masters hosts_now c (hosts i) m seg (Close seg len) host.own (at-own-index sent masters i (hosts i) host)
+    (λ unfreed after is. subst (λ (z : ServerId). Changed sent m (masters m).log z.index (hosts i).generation seg
+    (replica_of seg ((hosts i).backup.held m).replicas) after) (sym same) (changed after is))
+  where
+    host : GoodHost sent masters i (hosts i)
+    host = good.hosts_are i
+
+    same : server_of (hosts i) ≡ record { index = i; generation = (hosts i).generation }
+    same = server-is sent masters i (hosts i) (good.hosts_are i)
+
+    changed : (after : Replica) → replica_after (replica_of seg ((hosts i).backup.held m).replicas) (Close seg len) ≡ Some after →
+        Changed sent m (masters m).log i (hosts i).generation seg (replica_of seg ((hosts i).backup.held m).replicas) after
+    changed after is =
+        changed-close sent m (masters m) (record { index = i; generation = (hosts i).generation }) seg len
+        (replica_of seg ((hosts i).backup.held m).replicas) after
+        (good.messages (between m (server_of (hosts i)) (Close seg len)) at) (λ old e. (host.held m).each seg old e) is
+
+-- every step on a message that was sent to the host's server
+pub moved-backup : (sent : List Message) (masters : ServerId → Master) (hosts hosts_now : ℕ → HostNode)
+    (c : Coordinator) (i : ℕ) (from : Addr) (body : Body) → Good sent masters hosts c →
+    In (record { from = from; to = Server (server_of (hosts i)); body = body }) sent →
+    hosts_now (hosts i).index ≡ record (hosts i) { backup = (backup_takes (hosts i).backup from body).0 } →
+    BackupMoved sent masters hosts_now c (hosts i) (backup_takes (hosts i).backup from body)
+moved-backup sent masters hosts hosts_now c i (Server m) (Place seg epoch digest entries closed) good at placed =
+    moved-place sent masters hosts hosts_now c i m seg epoch digest entries closed good at
+moved-backup sent masters hosts hosts_now c i (Server m) (Append seg offset entries) good at placed =
+    moved-append sent masters hosts hosts_now c i m seg offset entries good at
+moved-backup sent masters hosts hosts_now c i (Server m) (Close seg len) good at placed =
+    moved-close sent masters hosts hosts_now c i m seg len good at
+moved-backup sent masters hosts hosts_now c i (Server m) (Free seg) good at placed =
+    moved-frees sent masters hosts_now c (hosts i) m seg (at-own-index sent masters i (hosts i) (good.hosts_are i))
+moved-backup sent masters hosts hosts_now c i (Server asker) (Fetch attempt m seg len part) good at placed =
+    moved-fetch sent masters hosts_now c (hosts i) asker m attempt seg len part (good.hosts_are i).own
+    (at-own-index sent masters i (hosts i) (good.hosts_are i))
+moved-backup sent masters hosts hosts_now c i from (Gather attempt m) good at placed =
+    moved-fences sent masters hosts_now c (hosts i) attempt m (good.hosts_are i).own
+    (at-own-index sent masters i (hosts i) (good.hosts_are i))
+    (good.messages (record { from = from; to = Server (server_of (hosts i)); body = Gather attempt m }) at) placed
+moved-backup sent masters hosts hosts_now c i from _ good at placed =
+    moved-still sent masters hosts_now c (hosts i) (at-own-index sent masters i (hosts i) (good.hosts_are i))
+
+-- A restart
+
+-- what a restarted backup keeps is a part of what it had
+pub moved-restart : (sent messages : List Message) (masters : ServerId → Master) (m : ServerId)
+    (index generation generation_now : ℕ) (kept : List (ServerId × ℕ)) (held : Held) → Quiet messages →
+    generation ≤ generation_now →
+    GoodHeld sent m (masters m).log index generation held →
+    GoodHeld (sent ++ messages) m (masters m).log index generation_now (restarted kept m held)
+moved-restart sent messages masters m index generation generation_now kept held quiet up good =
+    held-quiet sent messages masters m index generation generation_now (restarted kept m held) quiet up (record {
+      ascending = Ascending-filter _ held.replicas good.ascending;
+      each = λ s replica at. good.each s replica (replica_of-filter _ s replica held.replicas good.ascending at);
+    })

@@ -1,0 +1,533 @@
+-- The rules that follow up an input, one by one, and then until none applies.
+use Rattle.std.proofs.Common.{◌≡◌, ◌⊎◌, ℕ, zero, suc, ◌+◌, ◌-◌, ◌<◌, Bool, true, false, not, nat_eq, nat_lt, ◌&&◌}
+use Rattle.std.proofs.Common.{List, [], ◌∷◌, ◌++◌, length, take, map, filter, slice_get, Option, Some, None, refl, sym}
+use Rattle.std.proofs.Common.{ap, ◌∙◌, subst, inl, inr, arith}
+use Rattle.std.proofs.lemmas.Bool.{and_parts, eqb-true, ltb-true}
+use Rattle.std.specs.List.{list_any}
+use Rattle.std.proofs.lemmas.List.{length-map}
+use Rattle.rc_types.specs.declared.ids.ServerId.{ServerId}
+use Rattle.rc_types.specs.declared.ids.Addr.TheVariants.{Server}
+use Rattle.rc_types.specs.declared.entries.Entry.{Entry}
+use Rattle.rc_types.specs.declared.kept.Member.{Member}
+use Rattle.rc_types.specs.declared.kept.Phase.{Phase}
+use Rattle.rc_types.specs.declared.kept.Phase.TheVariants.{Opening, Closing, Writing}
+use Rattle.rc_types.specs.declared.messages.Message.{Message}
+use Rattle.rc_types.specs.declared.messages.Body.{Body}
+use Rattle.rc_types.specs.declared.messages.Body.TheVariants.{Place, WriteOk, Close, Commit, Free, Ready, Recovered}
+use Rattle.rc_model.specs.Messages.{between, to_coordinator, to_outside}
+use Rattle.rc_model.specs.Config.{told_closed, is_closed, all_placed, all_closed}
+use Rattle.rc_model.specs.Segment.{Segment, is_ready, is_all_closed, is_unclosed, has_unclosed, with_closes_sent}
+use Rattle.rc_model.specs.Log.{Log, LogPlace, places_of, head_of, old_head_of, has_old_head, with_segment, numbers_to}
+use Rattle.rc_model.specs.Log.{is_opening, is_closing, is_writing, durable_now}
+use Rattle.rc_model.specs.Heads.{is_full, begin_roll, shuts, may_start, may_close, may_write, left_out, with_freed}
+use Rattle.rc_model.specs.Heads.{starts, closes_old, writes_on}
+use Rattle.rc_model.specs.Ownership.{after_replay, to_answer, after_answer}
+use Rattle.rc_model.specs.Master.{Master, with_log, durable_entries, to_ids, ids_of, not_lost, to_unlost, appends_entry, dead_segments}
+use Rattle.rc_model.specs.FollowUps.{when, follows_start, follows_placed, close_is_due, close_marked, follows_closing}
+use Rattle.rc_model.specs.FollowUps.{frees_segments, follows_shut, first_open, wants_commit, commits, commits_open}
+use Rattle.rc_model.specs.FollowUps.{follows_change, write_oks, new_durable, follows_stored, rolls_for_replay, replays}
+use Rattle.rc_model.specs.FollowUps.{follows_data, attempt_of, answers_part, or_rule, follow_up, marks_shut, further}
+use Rattle.rc_model.specs.FollowUps.{followed, measure, goes_on}
+use Rattle.rc_model.specs.Headline.{In}
+use Rattle.rc_model.proofs.Members.{either, In-append, In-get}
+use Rattle.rc_step_laws.specs.Words.{log_in, IsOpened, HasToldClosed}
+use Rattle.rc_step_laws.specs.Facts.{IsSafe}
+use Rattle.rc_step_laws.specs.Later.{LogLater}
+use Rattle.rc_step_laws.specs.Moves.{OwnFine, MasterSays}
+use Rattle.rc_step_laws.proofs.Lists.{put_same, begins-refl, true_false, get-drop, get-take, In-filter}
+use Rattle.rc_step_laws.proofs.Logs.{Grown, safe-grown, told_closed-more}
+use Rattle.rc_step_laws.proofs.Tests.{all-each, find-one, In-map}
+use Rattle.rc_step_laws.proofs.LogMoves.{GoodSegment, GoodLog, LogMoved, more-left, segment-more, moved-log, log_moved-then}
+use Rattle.rc_step_laws.proofs.Places.{numbers-In, places_to-are, place-logged, durable-within}
+use Rattle.rc_step_laws.proofs.Safe.{durable-safe}
+use Rattle.rc_step_laws.proofs.Segments.{log-later, later-refl, counted-still, within-still, put-moved, marked-moved}
+use Rattle.rc_step_laws.proofs.Views.{GoodView, Moved, moved-then, moved-quiet, view-after, still, AllQuiet}
+use Rattle.rc_step_laws.proofs.Views.{IsQuietOf, quiet-none, quiet-one, quiet-both, quiet-says, quiet-no_place}
+use Rattle.rc_step_laws.proofs.Views.{quiet-moved, each-to_ids}
+use Rattle.rc_step_laws.proofs.Rolling.{roll-cases, writing-is}
+use Rattle.rc_step_laws.proofs.Writing.{moved-appends, moved-opens_roll}
+
+-- what a rule does, where it applies, is a move
+abbrev pub Does : List Message → ServerId → Master → Option (Master × List Message) → Type 0
+Does sent m master None = Unit {0}
+Does sent m master (Some done) = Moved sent m master done
+
+does-when : (sent : List Message) (m : ServerId) (master : Master) (b : Bool) (done : Master × List Message) →
+    (b ≡ true → Moved sent m master done) → Does sent m master (when b done)
+does-when sent m master true done moved = moved refl
+does-when sent m master false done moved = tt
+
+does-or : (sent : List Message) (m : ServerId) (master : Master) (one other : Option (Master × List Message)) →
+    Does sent m master one → Does sent m master other → Does sent m master (or_rule one other)
+does-or sent m master None other p q = q
+does-or sent m master (Some done) other p q = p
+
+-- The phase
+
+opening-is : (phase : Phase) → is_opening phase ≡ true → phase ≡ Opening
+opening-is Opening e = refl
+opening-is Closing e = true_false (sym e)
+opening-is Writing e = true_false (sym e)
+
+closing-is : (phase : Phase) → is_closing phase ≡ true → phase ≡ Closing
+closing-is Closing e = refl
+closing-is Opening e = true_false (sym e)
+closing-is Writing e = true_false (sym e)
+
+-- a change of phase: to Writing where all but the head are shut, or to another from one in which the head was empty
+phase-moved : (sent : List Message) (m : ServerId) (log : Log) (phase : Phase) → GoodLog sent m log → OwnFine sent m log
+    → (phase ≡ Writing → 0 < log.head) → (phase ≡ Writing → (s : ℕ) → 0 < s → s < log.head → (log.segments s).shut ≡ true)
+    → ((phase ≡ Writing → ⊥) → log_in log log.head ≡ [])
+    → LogMoved sent m log (record log { phase = phase }) []
+phase-moved sent m log phase good fine opened shut empty = moved-log sent m log (record log { phase = phase }) [] good fine (record {
+  later = later;
+  says = λ message at. absurd at;
+  own = good.own;
+  none_below = good.none_below;
+  none_above = good.none_above;
+  writing_opened = opened;
+  empty = empty;
+  each = λ s. each s (segment-more (more-left sent []) (good.each s));
+  news = λ x s e digest entries at. absurd at;
+  counted = counted-still sent (sent ++ []) m log (record log { phase = phase }) good later refl;
+  digests = λ s over upto. absurd (omega arith);
+  durable_within = within-still sent (sent ++ []) m log (record log { phase = phase }) good later refl;
+})
+  where
+    later : LogLater (sent ++ []) m log (record log { phase = phase })
+    later = log-later (sent ++ []) m log (record log { phase = phase }) (omega arith)
+        (λ s. later-refl (sent ++ []) m log.head s (log.segments s))
+
+    each : (s : ℕ) → GoodSegment (sent ++ []) m log.phase log.head s (log.segments s) →
+        GoodSegment (sent ++ []) m phase log.head s (log.segments s)
+    each s p = record {
+      old_shut = p.old_shut;
+      writing_shut = λ writing above less. shut writing s above less;
+      shut_below = p.shut_below;
+      shut_committed = p.shut_committed;
+      complete = p.complete;
+      apart = p.apart;
+      noted = p.noted;
+      noted_closed = p.noted_closed;
+      committed = p.committed;
+    }
+
+-- quiet messages after a move that sends nothing
+then-quiet : (sent : List Message) (m : ServerId) (old new : Log) (messages : List Message) → GoodLog sent m old →
+    LogMoved sent m old new [] → AllQuiet m messages → LogMoved sent m old new messages
+then-quiet sent m old new messages good moved all =
+    log_moved-then sent m old new new [] messages good moved (quiet-moved (sent ++ []) m new messages moved.good moved.fine all)
+
+ready-quiet : (m own : ServerId) → own ≡ m → AllQuiet m (to_coordinator own Ready ∷ [])
+ready-quiet m own is = quiet-one m (to_coordinator own Ready) (record { from = ap Server is; quiet = tt })
+
+does-start : (sent : List Message) (m : ServerId) (master : Master) → GoodView sent m master → Does sent m master (follows_start master)
+does-start sent m master view = does-when sent m master (may_start master.log) (
+  with_log master (starts master.log),
+  to_coordinator master.log.own Ready ∷ [],
+)
+    (λ e. (
+    let both = and_parts (is_opening master.log.phase) (nat_eq master.log.head 1 && is_ready (head_of master.log)) e in
+    let first : master.log.head ≡ 1 =
+    eqb-true master.log.head 1 (and_parts (nat_eq master.log.head 1) (is_ready (head_of master.log)) both.1).0 in
+    record {
+      log = then-quiet sent m master.log (starts master.log) (to_coordinator master.log.own Ready ∷ []) view.log
+          (phase-moved sent m master.log Writing view.log view.fine (λ _. omega arith)
+          (λ _ s above less. absurd (omega arith)) (λ quiet. absurd (quiet refl)))
+          (ready-quiet m master.log.own view.log.own);
+      known = view.known;
+    }))
+
+does-placed : (sent : List Message) (m : ServerId) (master : Master) → GoodView sent m master → Does sent m master (follows_placed master)
+does-placed sent m master view = does-when sent m master (may_close master.log) (with_log master (closes_old master.log), [])
+    (λ e. (
+    let was : master.log.phase ≡ Opening =
+    opening-is master.log.phase
+    (and_parts (is_opening master.log.phase) (has_old_head master.log && all_placed (head_of master.log).config)
+    e).0 in
+    record {
+      log = phase-moved sent m master.log Closing view.log view.fine (λ writing. closing_writing writing)
+          (λ writing. closing_writing writing) (λ _. view.log.empty (λ writing. opening_writing (sym was ∙ writing)));
+      known = view.known;
+    }))
+  where
+    closing_writing : {P : Type 0} → Closing ≡ Writing → P
+    closing_writing e = cc
+
+    opening_writing : {P : Type 0} → Opening ≡ Writing → P
+    opening_writing e = cc
+
+-- the old head
+old_head-opened : (log : Log) → has_old_head log ≡ true → (0 < log.head - 1) × (log.head - 1 < log.head)
+old_head-opened log e = (let over : 1 < log.head = ltb-true 1 log.head e in (omega arith, omega arith))
+
+-- no Place is a Close
+close-no_place : {P : Type 0} (m own : ServerId) (ids : List ServerId) (x : ServerId) (s e t len : ℕ) (digest : List ℕ)
+    (entries : List Entry) (closed : Bool)
+    → In (between m x (Place s e digest entries closed)) (to_ids own ids (Close t len)) → P
+close-no_place m own ids x s e t len digest entries closed at =
+    let found = In-map (λ (id : ServerId). between own id (Close t len)) (between m x (Place s e digest entries closed)) ids at in
+    let body : ◌≡◌ {A = Body} (Place s e digest entries closed) (Close t len) = ap (λ (message : Message). message.body) found.2 in cc
+
+does-closing : (sent : List Message) (m : ServerId) (master : Master) → GoodView sent m master → Does sent m master (follows_closing master)
+does-closing sent m master view = does-when sent m master (close_is_due log)
+    (with_log master (close_marked log), messages)
+    (λ e. (
+    let second = and_parts (is_closing log.phase)
+    (has_old_head log && ((old_head_of log).config.committed && has_unclosed (old_head_of log))) e in
+    let over = old_head-opened log
+    (and_parts (has_old_head log) ((old_head_of log).config.committed && has_unclosed (old_head_of log)) second.1).0
+    in
+    record {
+      log = marked-moved sent m log (log.head - 1) (with_closes_sent (old_head_of log)) messages view.log view.fine
+          (record { above = over.0; below = omega arith }) (record { entries = refl; digest = refl; shut = refl; config = refl })
+          (each-to_ids (MasterSays sent (sent ++ messages) m log (close_marked log)) log.own ids
+          (Close (log.head - 1) (length (old_head_of log).entries)) (λ x at. record {
+            from = ap Server view.log.own;
+            says = record {
+              above = over.0;
+              final = over.1;
+              whole = sym (length-map (old_head_of log).entries (λ (one : Entry × Bool). one.0))
+                  ∙ sym (ap (λ (segment : Segment). length (map (λ (one : Entry × Bool). one.0) segment.entries))
+                  (put_same log.segments (log.head - 1) (with_closes_sent (old_head_of log))));
+            };
+          }))
+          (λ x t f digest entries at. close-no_place m log.own ids x t f (log.head - 1)
+          (length (old_head_of log).entries) digest entries false at);
+      known = view.known;
+    }))
+  where
+    log : Log
+    log = master.log
+
+    ids : List ServerId
+    ids = ids_of (filter (is_unclosed (old_head_of log)) (old_head_of log).config.members)
+
+    messages : List Message
+    messages = to_ids log.own ids (Close (log.head - 1) (length (old_head_of log).entries))
+
+-- Writing in the new head
+
+freed-moved : (segs : List ℕ) (sent : List Message) (m : ServerId) (log : Log) → GoodLog sent m log →
+    OwnFine sent m log → ((s : ℕ) → In s segs → IsOpened log s) → LogMoved sent m log (with_freed segs log) []
+freed-moved [] sent m log good fine opened = quiet-moved sent m log [] good fine (quiet-none m)
+freed-moved (s ∷ segs) sent m log good fine opened =
+    let next : Log = with_segment s (record (log.segments s) { freed = true }) log in
+    let first : LogMoved sent m log next [] =
+    marked-moved sent m log s (record (log.segments s) { freed = true }) [] good fine (opened s (inl refl))
+    (record { entries = refl; digest = refl; shut = refl; config = refl }) (λ message at. absurd at)
+    (λ x t e digest entries at. absurd at) in
+    log_moved-then sent m log next (with_freed segs next) [] [] good first
+    (freed-moved segs (sent ++ []) m next first.good first.fine
+    (λ t at. (let was = opened t (inr at) in record { above = was.above; below = was.below })))
+
+frees-quiet : (m : ServerId) (log : Log) (segs : List ℕ) → log.own ≡ m → AllQuiet m (frees_segments log segs)
+frees-quiet m log [] own = quiet-none m
+frees-quiet m log (s ∷ segs) own = quiet-both m (to_unlost log s (Free s)) (frees_segments log segs)
+    (each-to_ids (IsQuietOf m) log.own (ids_of (not_lost (log.segments s).config.members)) (Free s)
+    (λ x at. record { from = ap Server own; quiet = tt }))
+    (frees-quiet m log segs own)
+
+does-shut : (sent : List Message) (m : ServerId) (master : Master) → GoodView sent m master → Does sent m master (follows_shut master)
+does-shut sent m master view = does-when sent m master (may_write log) (with_log master (writes_on log), frees_segments log (left_out log))
+    (λ e. (
+    let second = and_parts (is_closing log.phase) (has_old_head log && ((old_head_of log).shut && is_ready (head_of log))) e in
+    let third = and_parts (has_old_head log) ((old_head_of log).shut && is_ready (head_of log)) second.1 in
+    let over = old_head-opened log third.0 in
+    let shut : (log.segments (log.head - 1)).shut ≡ true = (and_parts (old_head_of log).shut (is_ready (head_of log)) third.1).0 in
+    let first : LogMoved sent m log (starts log) [] = phase-moved sent m log Writing view.log view.fine
+    (λ _. omega arith) (λ _ s above less. all_shut shut s above less) (λ quiet. absurd (quiet refl)) in
+    let freed : LogMoved (sent ++ []) m (starts log) (writes_on log) [] =
+    freed-moved (left_out log) (sent ++ []) m (starts log) first.good first.fine
+    (λ s at. (
+    let there = (In-filter (λ seg. not (list_any (nat_eq seg) (head_of log).digest)) s (old_head_of log).digest at).0 in
+    let p = (view.log.digests (log.head - 1) (record { above = over.0; below = omega arith })).upto s there in
+    record { above = p.0; below = omega (arith, p.1) })) in
+    record {
+      log = then-quiet sent m log (writes_on log) (frees_segments log (left_out log)) view.log
+          (log_moved-then sent m log (starts log) (writes_on log) [] [] view.log first freed)
+          (frees-quiet m log (left_out log) view.log.own);
+      known = view.known;
+    }))
+  where
+    log : Log
+    log = master.log
+
+    all_shut : (log.segments (log.head - 1)).shut ≡ true → (s : ℕ) → 0 < s → s < log.head → (log.segments s).shut ≡ true
+    all_shut shut s above less = by (last_or s log.head less)
+      where
+        last_or : (a b : ℕ) → a < b → (a ≡ b - 1) ⊎ (a + 1 < b)
+        last_or a b less = grind arith
+
+        by : (s ≡ log.head - 1) ⊎ (s + 1 < log.head) → (log.segments s).shut ≡ true
+        by (inl same) = subst (λ n. (log.segments n).shut ≡ true) (sym same) shut
+        by (inr under) = (view.log.each s).old_shut above under
+
+-- Commits
+
+does-commits : (sent : List Message) (m : ServerId) (master : Master) (s : ℕ) → GoodView sent m master →
+    IsOpened master.log s → Moved sent m master (commits master s)
+does-commits sent m master s view opened =
+    let log : Log = master.log in
+    let one : Message = to_coordinator log.own (Commit s (log.segments s).config.epoch) in
+    let quiet : AllQuiet m (one ∷ []) = quiet-one m one (record { from = ap Server view.log.own; quiet = tt }) in
+    let new : Segment = record (log.segments s) { commit_sent = true } in
+    record {
+      log = marked-moved sent m log s new (one ∷ []) view.log view.fine opened
+          (record { entries = refl; digest = refl; shut = refl; config = refl })
+          (λ message at. quiet-says sent (sent ++ one ∷ []) m log (with_segment s new log) message (quiet message at))
+          (λ x t e digest entries at. quiet-no_place m x t e digest entries false (one ∷ []) quiet at);
+      known = view.known;
+    }
+
+does-change : (sent : List Message) (m : ServerId) (master : Master) → GoodView sent m master → Does sent m master (follows_change master)
+does-change sent m master view = by (first_open master.log) refl
+  where
+    by : (found : Option ℕ) → first_open master.log ≡ found → Does sent m master (commits_open master found)
+    by None e = tt
+    by (Some s) e =
+        let there = (find-one (λ seg. not (master.log.segments seg).shut) (numbers_to master.log.head) s e).0 in
+        let p = numbers-In s master.log.head there in
+        does-when sent m master (wants_commit (master.log.segments s)) (commits master s)
+        (λ _. does-commits sent m master s view (record { above = p.0; below = p.1 }))
+
+-- Acknowledging
+
+each-write_oks : (P : Message → Type 0) (own : ServerId) (places : List LogPlace)
+    → ((place : LogPlace) → In place places →
+    P (to_outside own (WriteOk place.seg place.offset place.entry.term place.entry.table place.entry.key
+    place.entry.version)))
+    → (message : Message) → In message (write_oks own places) → P message
+each-write_oks P own [] holds message at = absurd at
+each-write_oks P own (place ∷ places) holds message at =
+    either (λ messages. In message messages → P message) place.client
+    (to_outside own (WriteOk place.seg place.offset place.entry.term place.entry.table place.entry.key
+    place.entry.version) ∷ write_oks own places) (write_oks own places)
+    (λ _ all. by (each-write_oks P own places (λ other there. holds other (inr there)) message) all)
+    (λ _ rest. each-write_oks P own places (λ other there. holds other (inr there)) message rest) at
+  where
+    by : (In message (write_oks own places) → P message)
+        → (message ≡ to_outside own (WriteOk place.seg place.offset place.entry.term place.entry.table place.entry.key
+        place.entry.version)) ⊎ In message (write_oks own places) → P message
+    by rec (inl e) = subst P (sym e) (holds place (inl refl))
+    by rec (inr rest) = rec rest
+
+-- no Place is a WriteOk
+write_ok-no_place : {P : Type 0} (m x own : ServerId) (s e : ℕ) (digest : List ℕ) (entries : List Entry) (closed : Bool)
+    (places : List LogPlace)
+    → In (between m x (Place s e digest entries closed)) (write_oks own places) → P
+write_ok-no_place {P} m x own s e digest entries closed places at =
+    each-write_oks (λ message. message ≡ between m x (Place s e digest entries closed) → P) own places
+    (λ place there same. differ (ap (λ (message : Message). message.body) same)) (between m x (Place s e digest entries closed)) at refl
+  where
+    differ : {t o term table key version : ℕ} → ◌≡◌ {A = Body} (WriteOk t o term table key version) (Place s e digest entries closed) → P
+    differ same = cc
+
+stored-moved : (sent : List Message) (m : ServerId) (log : Log) → GoodLog sent m log → OwnFine sent m log →
+    LogMoved sent m log (record log { durable = durable_now log }) (write_oks log.own (new_durable log))
+stored-moved sent m log good fine = moved-log sent m log new messages good fine (record {
+  later = later;
+  says = says;
+  own = good.own;
+  none_below = good.none_below;
+  none_above = good.none_above;
+  writing_opened = good.writing_opened;
+  empty = good.empty;
+  each = λ s. segment-more (more-left sent messages) (good.each s);
+  news = λ x s e digest entries at. write_ok-no_place m x log.own s e digest entries false (new_durable log) at;
+  counted = λ k place less at. durable-safe sent m log k place good fine less at;
+  digests = λ s over upto. absurd (omega arith);
+  durable_within = durable-within log;
+})
+  where
+    new : Log
+    new = record log { durable = durable_now log }
+
+    messages : List Message
+    messages = write_oks log.own (new_durable log)
+
+    later : LogLater (sent ++ messages) m log new
+    later = log-later (sent ++ messages) m log new (omega arith) (λ s. later-refl (sent ++ messages) m log.head s (log.segments s))
+
+    -- each of these is among the places that are durable now
+    among : (place : LogPlace) → In place (new_durable log) → (k : ℕ) × (k < durable_now log) × (slice_get (places_of log) k ≡ Some place)
+    among place at =
+        let found = Rattle.rc_model.proofs.Members.place_of (new_durable log) place at in
+        let taken = get-take (durable_now log) (places_of log) (log.durable + found.0) place
+        (sym (get-drop log.durable (take (durable_now log) (places_of log)) found.0) ∙ found.1) in
+        (log.durable + found.0, taken.0, taken.1)
+
+    no_place : {P : Type 0} (x : ServerId) (s e : ℕ) (digest : List ℕ) (entries : List Entry) (closed : Bool) →
+        In (between m x (Place s e digest entries closed)) messages → P
+    no_place x s e digest entries closed at = write_ok-no_place m x log.own s e digest entries closed (new_durable log) at
+
+    grown : Grown sent (sent ++ messages) m log new
+    grown = record {
+      more = more-left sent messages;
+      later = later;
+      places = λ x s e digest entries closed at. either_place x s e digest entries closed
+          (In-append (between m x (Place s e digest entries closed)) sent messages at);
+      below = λ s is. (good.each s).shut_below is;
+    }
+      where
+        either_place : (x : ServerId) (s e : ℕ) (digest : List ℕ) (entries : List Entry) (closed : Bool)
+            → In (between m x (Place s e digest entries closed)) sent ⊎ In (between m x (Place s e digest entries closed)) messages
+            → In (between m x (Place s e digest entries closed)) sent ⊎ Rattle.rc_step_laws.specs.Later.IsNewPlace sent m
+            log x s e entries closed
+        either_place x s e digest entries closed (inl there) = inl there
+        either_place x s e digest entries closed (inr now) = no_place x s e digest entries closed now
+
+    says : (message : Message) → In message messages → MasterSays sent (sent ++ messages) m log new message
+    says = each-write_oks (MasterSays sent (sent ++ messages) m log new) log.own (new_durable log) (λ place at. (
+        let p = among place at in
+        let safe : IsSafe sent m log place.seg place.offset = durable-safe sent m log p.0 place good fine p.1 p.2 in
+        record {
+          from = ap Server good.own;
+          says = record {
+            safe = safe-grown sent (sent ++ messages) m log new place.seg place.offset grown safe;
+            entry = place.entry;
+            holds = place-logged log place (places_to-are log.segments log.head p.0 place p.2);
+            term_is = refl;
+            table_is = refl;
+            key_is = refl;
+            version_is = refl;
+          };
+        }))
+
+does-stored : (sent : List Message) (m : ServerId) (master : Master) → GoodView sent m master → Does sent m master (follows_stored master)
+does-stored sent m master view = does-when sent m master (nat_lt master.log.durable (durable_now master.log))
+    (with_log master (record master.log { durable = durable_now master.log }), write_oks master.log.own (new_durable master.log))
+    (λ _. record { log = stored-moved sent m master.log view.log view.fine; known = view.known })
+
+-- Replaying
+
+does-replays : (sent : List Message) (m : ServerId) (master : Master) (entries : List Entry) → GoodView sent m master →
+    master.log.phase ≡ Writing → Does sent m master (replays master entries)
+does-replays sent m master [] view writing = tt
+does-replays sent m master (entry ∷ entries) view writing =
+    either (Does sent m master) (is_full master.log) (rolls_for_replay master (begin_roll master.known (dead_segments master) master.log))
+    (Some (appends_entry (record master { ownership = after_replay master.ownership }) entry false))
+    (λ _. roll-cases (λ result. Does sent m master (rolls_for_replay master result)) master.known (dead_segments master) master.log
+    (λ fault. tt) (λ ids chosen. moved-opens_roll sent m master ids view writing chosen))
+    (λ _. (
+    let next : Master = record master { ownership = after_replay master.ownership } in
+    let done : Moved sent m next (appends_entry next entry false) = moved-appends sent m next entry false
+    (record { log = view.log; fine = view.fine; known = view.known }) writing in
+    record { log = done.log; known = done.known }))
+
+does-data : (sent : List Message) (m : ServerId) (master : Master) → GoodView sent m master → Does sent m master (follows_data master)
+does-data sent m master view =
+    either (Does sent m master) (is_writing master.log.phase) (replays master master.ownership.replay) None
+    (λ e. does-replays sent m master master.ownership.replay view (writing-is master.log.phase e)) (λ _. tt)
+
+does-answers : (sent : List Message) (m : ServerId) (master : Master) (found : Option ℕ) → GoodView sent m master →
+    Does sent m master (answers_part master found)
+does-answers sent m master None view = tt
+does-answers sent m master (Some term) view =
+    let one : Message = to_coordinator master.log.own (Recovered (attempt_of term master.tasks) term) in
+    moved-quiet sent m master (record master { ownership = after_answer (durable_entries master) master.ownership })
+    (one ∷ []) view refl refl
+    (quiet-one m one (record { from = ap Server view.log.own; quiet = tt }))
+
+-- The first that applies
+
+does-follow_up : (sent : List Message) (m : ServerId) (master : Master) → GoodView sent m master → Does sent m master (follow_up master)
+does-follow_up sent m master view =
+    does-or sent m master (follows_start master) _ (does-start sent m master view)
+    (does-or sent m master (follows_placed master) _ (does-placed sent m master view)
+    (does-or sent m master (follows_closing master) _ (does-closing sent m master view)
+    (does-or sent m master (follows_shut master) _ (does-shut sent m master view)
+    (does-or sent m master (follows_change master) _ (does-change sent m master view)
+    (does-or sent m master (follows_stored master) _ (does-stored sent m master view)
+    (does-or sent m master (follows_data master) _ (does-data sent m master view)
+    (does-answers sent m master (to_answer (durable_entries master) master.ownership) view)))))))
+
+-- A segment that has become shut
+
+shut-moved : (sent : List Message) (m : ServerId) (log : Log) → GoodLog sent m log → OwnFine sent m log → shuts log ≡ true
+    → LogMoved sent m log (with_segment (log.head - 1) (record (old_head_of log) { shut = true }) log) []
+shut-moved sent m log good fine e = put-moved sent m log s (record (old_head_of log) { shut = true }) [] good fine (record {
+  opened = record { above = over.0; below = omega arith };
+  later = record {
+    grows = begins-refl (old_head_of log).entries;
+    final = λ below. refl;
+    digest = λ upto. refl;
+    epoch = λ upto. omega arith;
+    shut = λ is. (refl, refl);
+    joined = λ x upto shut same at. true_false shut;
+    shuts = λ x upto before shut same at. told_closed-more (more-left sent []) (closed x at);
+  };
+  good = record {
+    old_shut = λ above less. refl;
+    writing_shut = λ writing above less. refl;
+    shut_below = λ is. over;
+    shut_committed = λ is. tests.0;
+    complete = λ x above upto open_now at. true_false open_now;
+    apart = λ open_now. true_false open_now;
+    noted = now.noted;
+    noted_closed = now.noted_closed;
+    committed = now.committed;
+  };
+  quiet = λ _. refl;
+  says = λ message at. absurd at;
+  news = λ x t f digest entries at. absurd at;
+})
+  where
+    s : ℕ
+    s = log.head - 1
+
+    over : (0 < log.head - 1) × (log.head - 1 < log.head)
+    over = old_head-opened log (and_parts (has_old_head log) (is_all_closed (old_head_of log)) e).0
+
+    tests : ((old_head_of log).config.committed ≡ true) × (all_closed (old_head_of log).config ≡ true)
+    tests = and_parts (old_head_of log).config.committed (all_closed (old_head_of log).config)
+        (and_parts (has_old_head log) (is_all_closed (old_head_of log)) e).1
+
+    now : GoodSegment (sent ++ []) m log.phase log.head (log.head - 1) (log.segments (log.head - 1))
+    now = segment-more (more-left sent []) (good.each (log.head - 1))
+
+    closed : (x : ServerId) → In x (ids_of (old_head_of log).config.members) →
+        HasToldClosed sent x m (log.head - 1) (old_head_of log).config.epoch
+    closed x at =
+        let found = In-map (λ (member : Member). member.id) x (old_head_of log).config.members at in
+        let is : told_closed found.0.told ≡ true =
+        (and_parts (not found.0.lost) (told_closed found.0.told)
+        (all-each is_closed found.0 (old_head_of log).config.members tests.1 found.1)).1 in
+        subst (λ y. HasToldClosed sent y m (log.head - 1) (old_head_of log).config.epoch) (sym found.2)
+        ((good.each (log.head - 1)).noted_closed found.0 found.1 is)
+
+moved-marks_shut : (sent : List Message) (m : ServerId) (master : Master) → GoodView sent m master →
+    Moved sent m master (marks_shut master, [])
+moved-marks_shut sent m master view = record {
+  log = either (λ log. LogMoved sent m master.log log []) (shuts master.log)
+      (with_segment (master.log.head - 1) (record (old_head_of master.log) { shut = true }) master.log) master.log
+      (λ e. shut-moved sent m master.log view.log view.fine e) (λ _. quiet-moved sent m master.log [] view.log view.fine (quiet-none m));
+  known = view.known;
+}
+
+-- Until none applies
+
+moved-further : (sent : List Message) (m : ServerId) (master : Master) (found : Option (Master × List Message))
+    (others : Master → Master × List Message) → GoodView sent m master → Does sent m master found
+    → ((more : List Message) (next : Master) → GoodView (sent ++ more) m next →
+    Moved (sent ++ more) m next (others next)) → Moved sent m master (further found master others)
+moved-further sent m master None others view does rest = still sent m master view
+moved-further sent m master (Some done) others view does rest =
+    moved-then sent m master done (others done.0) view does (rest done.1 done.0 (view-after sent m master done does))
+
+pub moved-followed : (times : ℕ) (sent : List Message) (m : ServerId) (master : Master) → GoodView sent m master →
+    Moved sent m master (followed times master)
+moved-followed zero sent m master view = moved-marks_shut sent m master view
+moved-followed (suc times) sent m master view =
+    let first : Moved sent m master (marks_shut master, []) = moved-marks_shut sent m master view in
+    let now : GoodView (sent ++ []) m (marks_shut master) = view-after sent m master (marks_shut master, []) first in
+    moved-then sent m master (marks_shut master, []) (further (follow_up (marks_shut master)) (marks_shut master)
+    (λ next. followed times next)) view first
+    (moved-further (sent ++ []) m (marks_shut master) (follow_up (marks_shut master)) (λ next. followed times next) now
+    (does-follow_up (sent ++ []) m (marks_shut master) now)
+    (λ more next good. moved-followed times ((sent ++ []) ++ more) m next good))
+
+pub moved-goes_on : (sent : List Message) (m : ServerId) (master : Master) → GoodView sent m master → Moved sent m master (goes_on master)
+moved-goes_on sent m master view =
+    either (λ after. Moved sent m master after) master.deposed (master, []) (followed (measure master) master)
+    (λ _. still sent m master view) (λ _. moved-followed (measure master) sent m master view)

@@ -1,0 +1,175 @@
+-- Lists, tables and tests, over plain variables.
+use Rattle.std.proofs.Common.{◌≡◌, ◌⊎◌, ℕ, zero, suc, ◌+◌, ◌<◌, ◌≤◌, Bool, true, false, cond, List, [], ◌∷◌, ◌++◌}
+use Rattle.std.proofs.Common.{length, drop, take, map, filter, slice_get, slice_set, nat_eq, Some, refl, sym, ap, ◌∙◌}
+use Rattle.std.proofs.Common.{subst, inl, inr, arith}
+use Rattle.std.proofs.lemmas.Bool.{eqb-true, eq-eqb}
+use Rattle.std.proofs.lemmas.Bool.Decides.{nat_tests}
+use Rattle.std.proofs.lemmas.List.{append-nil, append_assoc}
+use Rattle.rc_types.specs.declared.ids.ServerId.{ServerId}
+use Rattle.rc_model.specs.Ids.{same_id}
+use Rattle.rc_model.specs.Tables.{put, put_id}
+use Rattle.rc_model.specs.Headline.{In}
+use Rattle.rc_step_laws.specs.Words.{Begins}
+use Rattle.rc_model.proofs.Members.{either}
+
+-- true is not false
+pub true_false : {P : Type 0} → true ≡ false → P
+true_false e = cc
+
+-- a member of a filtered list is one of the whole, and passes the test
+pub In-filter : {X : Type 0} (test : X → Bool) (x : X) (xs : List X) → In x (filter test xs) → In x xs × (test x ≡ true)
+In-filter test x [] at = absurd at
+In-filter test x (y ∷ xs) at = by (test y) refl (In-filter test x xs) at
+  where
+    further : In x xs × (test x ≡ true) → ((x ≡ y) ⊎ In x xs) × (test x ≡ true)
+    further p = (inr p.0, p.1)
+
+    by : (b : Bool) → test y ≡ b → (In x (filter test xs) → In x xs × (test x ≡ true)) →
+        In x (cond b (y ∷ filter test xs) (filter test xs)) → ((x ≡ y) ⊎ In x xs) × (test x ≡ true)
+    by true e rec (inl same) = (inl same, ap test same ∙ e)
+    by true e rec (inr rest) = further (rec rest)
+    by false e rec rest = further (rec rest)
+
+-- Tables
+
+-- what holds of the new value, and of each old one, holds of each in the table after
+pub put_each : {V : Type 0} (P : ℕ → V → Type 0) (table : ℕ → V) (key : ℕ) (value : V) → P key value →
+    ((other : ℕ) → P other (table other)) → (other : ℕ) → P other (put table key value other)
+put_each P table key value new old other =
+    either (P other) (nat_eq key other) value (table other) (λ e. subst (λ k. P k value) (eqb-true key other e) new) (λ _. old other)
+
+-- the new value is found at its number
+pub put_same : {V : Type 0} (table : ℕ → V) (key : ℕ) (value : V) → put table key value key ≡ value
+put_same table key value = ap (λ b. cond b value (table key)) (eq-eqb key key refl)
+
+-- ids with the same parts are one
+pub same_parts : (a b : ServerId) → a.index ≡ b.index → a.generation ≡ b.generation → a ≡ b
+same_parts a b p q j = record { index = p j; generation = q j }
+
+-- ids that pass the test are one
+pub same_id-true : (a b : ServerId) → same_id a b ≡ true → a ≡ b
+same_id-true a b h = same_parts a b (grind (arith, nat_tests)) (grind (arith, nat_tests))
+
+-- an id passes the test with itself
+pub same_id-refl : (a : ServerId) → same_id a a ≡ true
+same_id-refl a = grind (arith, nat_tests)
+
+-- the same for a table of ids
+pub put_id_each : {V : Type 0} (P : ServerId → V → Type 0) (table : ServerId → V) (key : ServerId) (value : V) →
+    P key value → ((other : ServerId) → P other (table other)) → (other : ServerId) →
+    P other (put_id table key value other)
+put_id_each P table key value new old other =
+    either (P other) (same_id key other) value (table other) (λ e. subst (λ k. P k value) (same_id-true key other e) new) (λ _. old other)
+
+-- the new value is found at its id
+pub put_id_same : {V : Type 0} (table : ServerId → V) (key : ServerId) (value : V) → put_id table key value key ≡ value
+put_id_same table key value = ap (λ b. cond b value (table key)) (same_id-refl key)
+
+-- Places of lists
+
+-- what stood in a list stands in a longer one
+pub get-left : {X : Type 0} (xs ys : List X) (k : ℕ) (x : X) → slice_get xs k ≡ Some x → slice_get (xs ++ ys) k ≡ Some x
+get-left [] ys k x e = cc
+get-left (y ∷ xs) ys zero x e = e
+get-left (y ∷ xs) ys (suc k) x e = get-left xs ys k x e
+
+-- the first behind a list
+pub get-end : {X : Type 0} (xs : List X) (x : X) (ys : List X) → slice_get (xs ++ x ∷ ys) (length xs) ≡ Some x
+get-end [] x ys = refl
+get-end (y ∷ xs) x ys = get-end xs x ys
+
+-- an element of two lists joined is one of the first, or stands in the second
+pub get-append : {X : Type 0} (xs ys : List X) (k : ℕ) (x : X) → slice_get (xs ++ ys) k ≡ Some x →
+    (slice_get xs k ≡ Some x) ⊎ ((j : ℕ) × (k ≡ length xs + j) × (slice_get ys j ≡ Some x))
+get-append [] ys k x e = inr (k, omega arith, e)
+get-append (y ∷ xs) ys zero x e = inl e
+get-append (y ∷ xs) ys (suc k) x e = further (get-append xs ys k x e)
+  where
+    further : (slice_get xs k ≡ Some x) ⊎ ((j : ℕ) × (k ≡ length xs + j) × (slice_get ys j ≡ Some x))
+        → (slice_get xs k ≡ Some x) ⊎ ((j : ℕ) × (suc k ≡ suc (length xs) + j) × (slice_get ys j ≡ Some x))
+    further (inl old) = inl old
+    further (inr (j, p, q)) = inr (j, omega arith, q)
+
+-- a place of a list without its first elements
+pub get-drop : {X : Type 0} (n : ℕ) (xs : List X) (k : ℕ) → slice_get (drop n xs) k ≡ slice_get xs (n + k)
+get-drop zero xs k = ap (slice_get xs) (omega arith)
+get-drop (suc n) [] k = refl
+get-drop (suc n) (x ∷ xs) k = get-drop n xs k ∙ (let e : suc n + k ≡ suc (n + k) = omega arith in ap (slice_get (x ∷ xs)) (sym e))
+
+-- a place of the first elements
+pub get-take : {X : Type 0} (n : ℕ) (xs : List X) (k : ℕ) (x : X) → slice_get (take n xs) k ≡ Some x → (k < n) × (slice_get xs k ≡ Some x)
+get-take zero xs k x e = cc
+get-take (suc n) [] k x e = cc
+get-take (suc n) (y ∷ xs) zero x e = (omega arith, e)
+get-take (suc n) (y ∷ xs) (suc k) x e = let rest : (k < n) × (slice_get xs k ≡ Some x) = get-take n xs k x e in (omega arith, rest.1)
+
+-- a place below the length is taken
+pub get-below : {X : Type 0} (xs : List X) (k : ℕ) → k < length xs → (x : X) × (slice_get xs k ≡ Some x)
+get-below [] k less = absurd (omega arith)
+get-below (x ∷ xs) zero less = (x, refl)
+get-below (x ∷ xs) (suc k) less = get-below xs k (omega arith)
+
+-- and a place where something stands is below the length
+pub get-within : {X : Type 0} (xs : List X) (k : ℕ) (x : X) → slice_get xs k ≡ Some x → k < length xs
+get-within [] k x e = cc
+get-within (y ∷ xs) zero x e = omega arith
+get-within (y ∷ xs) (suc k) x e = let rest : k < length xs = get-within xs k x e in omega arith
+
+-- after a change at a place, an element is an old one, or the new one at that place
+pub get-set : {X : Type 0} (xs : List X) (j : ℕ) (new : X) (k : ℕ) (x : X) → slice_get (slice_set xs j new) k ≡ Some x →
+    (slice_get xs k ≡ Some x) ⊎ ((k ≡ j) × (x ≡ new))
+get-set [] j new k x e = cc
+get-set (y ∷ xs) zero new zero x e = let same : new ≡ x = cc in inr (refl, sym same)
+get-set (y ∷ xs) zero new (suc k) x e = inl e
+get-set (y ∷ xs) (suc j) new zero x e = inl e
+get-set (y ∷ xs) (suc j) new (suc k) x e = further (get-set xs j new k x e)
+  where
+    further : (slice_get xs k ≡ Some x) ⊎ ((k ≡ j) × (x ≡ new)) → (slice_get xs k ≡ Some x) ⊎ ((suc k ≡ suc j) × (x ≡ new))
+    further (inl old) = inl old
+    further (inr (p, q)) = inr (ap suc p, q)
+
+-- and an old one stays, or the new one stands in its place
+pub set-get : {X : Type 0} (xs : List X) (j : ℕ) (new : X) (k : ℕ) (x : X) → slice_get xs k ≡ Some x →
+    (slice_get (slice_set xs j new) k ≡ Some x) ⊎ ((k ≡ j) × (slice_get (slice_set xs j new) k ≡ Some new))
+set-get [] j new k x e = cc
+set-get (y ∷ xs) zero new zero x e = inr (refl, refl)
+set-get (y ∷ xs) zero new (suc k) x e = inl e
+set-get (y ∷ xs) (suc j) new zero x e = inl e
+set-get (y ∷ xs) (suc j) new (suc k) x e = further (set-get xs j new k x e)
+  where
+    further : (slice_get (slice_set xs j new) k ≡ Some x) ⊎ ((k ≡ j) × (slice_get (slice_set xs j new) k ≡ Some new))
+        → (slice_get (slice_set xs j new) k ≡ Some x) ⊎ ((suc k ≡ suc j) × (slice_get (slice_set xs j new) k ≡ Some new))
+    further (inl old) = inl old
+    further (inr (p, q)) = inr (ap suc p, q)
+
+-- Beginnings
+
+-- a beginning is no longer, and has the same at its places
+pub begins-length : {X : Type 0} (xs ys : List X) → Begins xs ys → length xs ≤ length ys
+begins-length [] ys b = omega arith
+begins-length (x ∷ xs) [] b = elim (cons-nil b.1) [ ]
+  where
+    cons-nil : x ∷ (xs ++ b.0) ≡ [] → ⊥
+    cons-nil e = cc
+begins-length (x ∷ xs) (y ∷ ys) b =
+    let e : x ∷ (xs ++ b.0) ≡ y ∷ ys = b.1 in
+    let tail : xs ++ b.0 ≡ ys = cc in
+    let rest : length xs ≤ length ys = begins-length xs ys (b.0, tail) in
+    omega arith
+
+pub get-begins : {X : Type 0} (xs ys : List X) → Begins xs ys → (k : ℕ) (x : X) → slice_get xs k ≡ Some x → slice_get ys k ≡ Some x
+get-begins {X} xs ys b k x e = subst (λ (zs : List X). slice_get zs k ≡ Some x) b.1 (get-left xs b.0 k x e)
+
+pub begins-refl : {X : Type 0} (xs : List X) → Begins xs xs
+begins-refl xs = ([], append-nil xs)
+
+pub begins-trans : {X : Type 0} (xs ys zs : List X) → Begins xs ys → Begins ys zs → Begins xs zs
+begins-trans {X} xs ys zs p q = (p.0 ++ q.0, sym (append_assoc xs p.0 q.0) ∙ (ap (λ (us : List X). us ++ q.0) p.1 ∙ q.1))
+
+-- a map of a beginning is one of the map
+pub map-append : {X Y : Type 0} (f : X → Y) (xs ys : List X) → map f (xs ++ ys) ≡ map f xs ++ map f ys
+map-append f [] ys = refl
+map-append {X} {Y} f (x ∷ xs) ys = ap (λ (rest : List Y). f x ∷ rest) (map-append f xs ys)
+
+pub begins-map : {X Y : Type 0} (f : X → Y) (xs ys : List X) → Begins xs ys → Begins (map f xs) (map f ys)
+begins-map {X} {Y} f xs ys b = (map f b.0, sym (map-append f xs b.0) ∙ ap (map f) b.1)

@@ -1,0 +1,226 @@
+-- Each step of a master: what a message does, what its timer does, and its start.
+use Rattle.std.proofs.Common.{◌≡◌, ℕ, Bool, true, cond, List, [], ◌∷◌, ◌++◌, map, refl, sym, inl, arith}
+use Rattle.rc_types.specs.declared.ids.ServerId.{ServerId}
+use Rattle.rc_types.specs.declared.ids.Addr.{Addr}
+use Rattle.rc_types.specs.declared.ids.Addr.TheVariants.{Server, Coordinator, Outside}
+use Rattle.rc_types.specs.declared.rows.Part.{Part}
+use Rattle.rc_types.specs.declared.rows.PlanRow.{PlanRow}
+use Rattle.rc_types.specs.declared.faults.Fault.TheVariants.{Deposed}
+use Rattle.rc_types.specs.declared.kept.Phase.TheVariants.{Opening, Writing}
+use Rattle.rc_types.specs.declared.messages.Message.{Message}
+use Rattle.rc_types.specs.declared.messages.Body.{Body}
+use Rattle.rc_types.specs.declared.messages.Body.TheVariants.{Write, Read, Stored, CommitOk, Refused, Plan, Data, Own, List as ServersOf}
+use Rattle.rc_model.specs.Messages.{from_coordinator}
+use Rattle.rc_model.specs.ServerList.{up_rows}
+use Rattle.rc_model.specs.Ownership.{knows_term, begin_part, put_data, grant}
+use Rattle.rc_model.specs.Master.{Master, Task}
+use Rattle.rc_model.specs.ListRules.{then_does}
+use Rattle.rc_model.specs.FollowUps.{goes_on}
+use Rattle.rc_model.specs.MasterTick.{fetch_of, ticks}
+use Rattle.rc_model.specs.MasterStep.{begins_task, task_of, takes_plan, says_deposed, master_takes_first}
+use Rattle.rc_model.specs.MasterStep.{deposed_takes, master_takes, master_ticks}
+use Rattle.rc_model.specs.Headline.{In}
+use Rattle.rc_model.proofs.Members.{either}
+use Rattle.rc_step_laws.specs.Words.{OnDifferentHosts}
+use Rattle.rc_step_laws.specs.Facts.{GoodMaster}
+use Rattle.rc_step_laws.specs.Moves.{OwnFine, MasterMoved, MayHear}
+use Rattle.rc_step_laws.specs.MasterClaims.{MasterTakesKeeps, MasterTicksKeeps, NewMasterIsGood}
+use Rattle.rc_step_laws.proofs.Lists.{true_false}
+use Rattle.rc_step_laws.proofs.LogMoves.{GoodLog}
+use Rattle.rc_step_laws.proofs.Views.{GoodView, Moved, moved-then_does, moved-quiet, quiet-none, still}
+use Rattle.rc_step_laws.proofs.Writing.{moved-writes, moved-reads, moved-refused}
+use Rattle.rc_step_laws.proofs.MasterTold.{moved-stored, moved-commit}
+use Rattle.rc_step_laws.proofs.ListRules.{moved-takes_list}
+use Rattle.rc_step_laws.proofs.FollowUps.{moved-goes_on}
+use Rattle.rc_step_laws.proofs.Ticks.{fetches-quiet, moved-ticks}
+
+-- A good master's view, and back
+
+pub view-of : (sent : List Message) (m : ServerId) (master : Master) → GoodMaster sent m master →
+    OwnFine sent m master.log → GoodView sent m master
+view-of sent m master good fine = record {
+  log = record {
+    own = good.own;
+    none_below = good.none_below;
+    none_above = good.none_above;
+    writing_opened = good.writing_opened;
+    empty = good.empty;
+    each = λ s. record {
+      old_shut = good.old_shut s;
+      writing_shut = λ writing. good.writing_shut writing s;
+      shut_below = good.shut_below s;
+      shut_committed = good.shut_committed s;
+      complete = λ x above upto open_now at. good.complete s x (record { above = above; below = upto }) open_now at;
+      apart = good.apart s;
+      noted = good.noted s;
+      noted_closed = good.noted_closed s;
+      committed = good.committed s;
+    };
+    one_a_host = good.one_a_host;
+    counted = good.counted;
+    digests = good.digests;
+    durable_within = good.durable_within;
+  };
+  fine = fine;
+  known = good.known;
+}
+
+good-of : (sent : List Message) (m : ServerId) (master : Master) → GoodLog sent m master.log →
+    OnDifferentHosts (up_rows master.known.rows) → GoodMaster sent m master
+good-of sent m master log known = record {
+  own = log.own;
+  none_below = log.none_below;
+  none_above = log.none_above;
+  old_shut = λ s. (log.each s).old_shut;
+  writing_opened = log.writing_opened;
+  writing_shut = λ writing s. (log.each s).writing_shut writing;
+  empty = log.empty;
+  shut_below = λ s. (log.each s).shut_below;
+  shut_committed = λ s. (log.each s).shut_committed;
+  complete = λ s x opened open_now at. (log.each s).complete x opened.above opened.below open_now at;
+  apart = λ s. (log.each s).apart;
+  one_a_host = log.one_a_host;
+  noted = λ s. (log.each s).noted;
+  noted_closed = λ s. (log.each s).noted_closed;
+  committed = λ s. (log.each s).committed;
+  counted = log.counted;
+  digests = log.digests;
+  known = known;
+  durable_within = log.durable_within;
+}
+
+moved-of : (sent : List Message) (m : ServerId) (old : Master) (after : Master × List Message) →
+    Moved sent m old after → MasterMoved sent m old after
+moved-of sent m old after moved = record {
+  good = good-of (sent ++ after.1) m after.0 moved.log.good moved.known;
+  fine = moved.log.fine;
+  later = moved.log.later;
+  says = moved.log.says;
+}
+
+-- A plan
+
+moved-begins : (sent : List Message) (m : ServerId) (task : Task) (master : Master) → GoodView sent m master →
+    Moved sent m master (begins_task task master)
+moved-begins sent m task master view =
+    either (λ after. Moved sent m master after) (knows_term master.ownership task.part.term) (master, [])
+    (begun, map (fetch_of master.log.own task) task.rows)
+    (λ _. still sent m master view)
+    (λ _. moved-quiet sent m master begun (map (fetch_of master.log.own task) task.rows) view refl refl
+    (fetches-quiet m master.log.own task task.rows view.log.own))
+  where
+    begun : Master
+    begun = record master {
+      ownership = begin_part task.part (map (λ row. (row.seg, row.holder)) task.rows) master.ownership;
+      tasks = master.tasks ++ task ∷ [];
+    }
+
+moved-takes_plan : (sent : List Message) (m : ServerId) (attempt : ℕ) (crashed : ServerId) (rows : List PlanRow)
+    (parts : List Part) (master : Master) → GoodView sent m master
+    → Moved sent m master (takes_plan attempt crashed rows parts master)
+moved-takes_plan sent m attempt crashed rows [] master view = still sent m master view
+moved-takes_plan sent m attempt crashed rows (part ∷ parts) master view =
+    let task : Task = task_of attempt crashed rows part in
+    moved-then_does sent m master (begins_task task master) (λ after. takes_plan attempt crashed rows parts after) view
+    (moved-begins sent m task master view)
+    (λ now. moved-takes_plan (sent ++ (begins_task task master).1) m attempt crashed rows parts (begins_task task master).0 now)
+
+-- A message
+
+-- the log stays, and nothing is sent
+quietly : (sent : List Message) (m : ServerId) (old new : Master) → GoodView sent m old → new.log ≡ old.log →
+    new.known ≡ old.known → Moved sent m old (new, [])
+quietly sent m old new view same known = moved-quiet sent m old new [] view same known (quiet-none m)
+
+moved-deposes : (sent : List Message) (m : ServerId) (master : Master) (b : Bool) → GoodView sent m master →
+    Moved sent m master (cond b (record master { deposed = true }) master, [])
+moved-deposes sent m master b view =
+    either (λ after. Moved sent m master (after, [])) b (record master { deposed = true }) master
+    (λ _. quietly sent m master (record master { deposed = true }) view refl refl) (λ _. still sent m master view)
+
+list-heard : (sent : List Message) (m : ServerId) (from : Addr) (version : ℕ) (rows : List (ServerId × Bool)) →
+    MayHear sent m from (ServersOf version rows) → OnDifferentHosts (up_rows rows)
+list-heard sent m (Server x) version rows may = may
+list-heard sent m Coordinator version rows may = may
+list-heard sent m Outside version rows may = may
+
+commit-heard : (sent : List Message) (m : ServerId) (from : Addr) (s e : ℕ) → MayHear sent m from (CommitOk s e) →
+    In (from_coordinator m (CommitOk s e)) sent
+commit-heard sent m (Server x) s e may = may
+commit-heard sent m Coordinator s e may = may
+commit-heard sent m Outside s e may = may
+
+moved-first : (sent : List Message) (m : ServerId) (master : Master) (from : Addr) (body : Body) →
+    GoodView sent m master → MayHear sent m from body → Moved sent m master (master_takes_first master from body)
+moved-first sent m master from (Write table key value) view may = moved-writes sent m master table key value view
+moved-first sent m master from (Read table key) view may = moved-reads sent m master table key view
+moved-first sent m master from (ServersOf version rows) view may =
+    moved-takes_list sent m master version rows view (list-heard sent m from version rows may)
+moved-first sent m master (Server from) (Stored s epoch len closed) view may = moved-stored sent m master from s epoch len closed view may
+moved-first sent m master from (CommitOk s epoch) view may = moved-commit sent m master s epoch view (commit-heard sent m from s epoch may)
+moved-first sent m master Coordinator (Refused reason) view may = moved-deposes sent m master (says_deposed reason) view
+moved-first sent m master from (Plan attempt crashed head rows parts) view may =
+    moved-takes_plan sent m attempt crashed rows parts master view
+moved-first sent m master (Server from) (Data attempt seg term entries) view may =
+    quietly sent m master (record master { ownership = put_data term seg from entries master.ownership }) view refl refl
+moved-first sent m master from (Own table lo hi term previous attempt) view may =
+    quietly sent m master (record master {
+      ownership = grant (record { range = record { table = table; lo = lo; hi = hi }; term = term })
+          master.ownership;
+    }) view refl refl
+moved-first sent m master from body view may = still sent m master view
+
+moved-deposed : (sent : List Message) (m : ServerId) (master : Master) (body : Body) → GoodView sent m master →
+    Moved sent m master (deposed_takes master body)
+moved-deposed sent m master (Write table key value) view = moved-refused sent m master Deposed view
+moved-deposed sent m master (Read table key) view = moved-refused sent m master Deposed view
+moved-deposed sent m master body view = still sent m master view
+
+-- The claims
+
+pub master_takes_keeps : MasterTakesKeeps
+master_takes_keeps sent m master from body good fine may = moved-of sent m master (master_takes master from body)
+    (either (λ after. Moved sent m master after) master.deposed (deposed_takes master body)
+    (then_does (master_takes_first master from body) goes_on)
+    (λ _. moved-deposed sent m master body view)
+    (λ _. moved-then_does sent m master (master_takes_first master from body) goes_on view (moved-first sent m master from body view may)
+    (λ now. moved-goes_on (sent ++ (master_takes_first master from body).1) m (master_takes_first master from body).0 now)))
+  where
+    view : GoodView sent m master
+    view = view-of sent m master good fine
+
+pub master_ticks_keeps : MasterTicksKeeps
+master_ticks_keeps sent m master good fine = moved-of sent m master (master_ticks master)
+    (either (λ after. Moved sent m master after) master.deposed (master, []) (then_does (ticks master) goes_on)
+    (λ _. still sent m master view)
+    (λ _. moved-then_does sent m master (ticks master) goes_on view (moved-ticks sent m master view)
+    (λ now. moved-goes_on (sent ++ (ticks master).1) m (ticks master).0 now)))
+  where
+    view : GoodView sent m master
+    view = view-of sent m master good fine
+
+pub new_master_is_good : NewMasterIsGood
+new_master_is_good m setup = record {
+  own = refl;
+  none_below = refl;
+  none_above = λ s over. refl;
+  old_shut = λ s above less. absurd (omega arith);
+  writing_opened = λ writing. opening_writing writing;
+  writing_shut = λ writing. opening_writing writing;
+  empty = λ quiet. refl;
+  shut_below = λ s e. true_false (sym e);
+  shut_committed = λ s e. true_false (sym e);
+  complete = λ s x opened open_now at. absurd at;
+  apart = λ s e. tt;
+  one_a_host = λ s e x y at_x at_y same. absurd at_x.placed;
+  noted = λ s member at o less. absurd at;
+  noted_closed = λ s member at told. absurd at;
+  committed = λ s e. inl refl;
+  counted = λ k place less at. absurd (omega arith);
+  digests = λ s opened. (let above = opened.above in let below = opened.below in absurd (omega arith));
+  known = tt;
+  durable_within = omega arith;
+}
+  where
+    opening_writing : {P : Type 0} → Opening ≡ Writing → P
+    opening_writing e = cc

@@ -1,0 +1,147 @@
+-- Lists of members: what is noted of them, who they are, and whose place is given to another.
+use Rattle.std.proofs.Common.{◌≡◌, ◌⊎◌, ℕ, ◌<◌, max, Bool, true, false, not, ◌||◌, List, [], ◌∷◌, map, Option, Some}
+use Rattle.std.proofs.Common.{None, refl, sym, ap, ◌∙◌, subst, inl, inr, arith}
+use Rattle.std.proofs.lemmas.Bool.{and_parts}
+use Rattle.rc_types.specs.declared.ids.ServerId.{ServerId}
+use Rattle.rc_types.specs.declared.kept.Member.{Member}
+use Rattle.rc_types.specs.declared.kept.Told.{Told}
+use Rattle.rc_types.specs.declared.messages.Message.{Message}
+use Rattle.rc_types.specs.declared.messages.Body.TheVariants.{Stored}
+use Rattle.rc_model.specs.Ids.{same_id}
+use Rattle.rc_model.specs.Messages.{between}
+use Rattle.rc_model.specs.ServerList.{ServerList, has_crashed}
+use Rattle.rc_model.specs.Config.{new_member, told_with, is_heard, told_if_heard, told_len, told_closed, lost_if_crashed, replaced}
+use Rattle.rc_model.specs.Master.{ids_of, not_lost}
+use Rattle.rc_model.specs.Headline.{In}
+use Rattle.rc_model.proofs.Members.{either}
+use Rattle.rc_step_laws.specs.Words.{HasTold, HasToldClosed}
+use Rattle.rc_step_laws.proofs.Lists.{same_id-true, In-filter}
+use Rattle.rc_step_laws.proofs.Tests.{In-map}
+
+-- What is noted of one member was told
+
+pub record NotedOf (sent : List Message) (m : ServerId) (s e : ℕ) (member : Member) : Type 0 where
+  pub len : (o : ℕ) → o < told_len member.told → HasTold sent member.id m s e o
+  pub closed : told_closed member.told ≡ true → HasToldClosed sent member.id m s e
+
+abbrev pub EachNoted : List Message → ServerId → ℕ → ℕ → List Member → Type 0
+EachNoted sent m s e members = (member : Member) → In member members → NotedOf sent m s e member
+
+-- a new member has told nothing
+pub noted-new : (sent : List Message) (m : ServerId) (s e : ℕ) (id : ServerId) → NotedOf sent m s e (new_member id)
+noted-new sent m s e id = record { len = λ o less. absurd (omega arith); closed = λ is. cc }
+
+-- a change of each member that keeps what is noted
+each-mapped : (sent : List Message) (m : ServerId) (s e : ℕ) (f : Member → Member) →
+    ((member : Member) → NotedOf sent m s e member → NotedOf sent m s e (f member))
+    → (members : List Member) → EachNoted sent m s e members → EachNoted sent m s e (map f members)
+each-mapped sent m s e f keeps members all member at =
+    let found = In-map f member members at in subst (λ one. NotedOf sent m s e one) (sym found.2) (keeps found.0 (all found.0 found.1))
+
+-- and its id
+ids-mapped : (f : Member → Member) → ((member : Member) → (f member).id ≡ member.id) → (members : List Member) →
+    ids_of (map f members) ≡ ids_of members
+ids-mapped f same [] = refl
+ids-mapped f same (member ∷ members) =
+    ap (λ id. id ∷ ids_of (map f members)) (same member) ∙ ap (λ ids. member.id ∷ ids) (ids-mapped f same members)
+
+-- A Stored is noted
+
+told-with : (sent : List Message) (m : ServerId) (s e : ℕ) (from : ServerId) (len : ℕ) (closed : Bool) →
+    In (between from m (Stored s e len closed)) sent
+    → (member : Member) → from ≡ member.id → NotedOf sent m s e member →
+    NotedOf sent m s e (record member { told = Some (told_with member.told len closed) })
+told-with sent m s e from len closed at member same old = by member.told old.len old.closed
+  where
+    new_len : (o : ℕ) → o < len → HasTold sent member.id m s e o
+    new_len o less = subst (λ x. HasTold sent x m s e o) same (record { len = len; closed = closed; above = less; told = at })
+
+    new_closed : closed ≡ true → HasToldClosed sent member.id m s e
+    new_closed is = subst (λ x. HasToldClosed sent x m s e) same
+        (record { len = len; told = subst (λ c. In (between from m (Stored s e len c)) sent) is at })
+
+    of_max : (a o : ℕ) → o < max a len → (o < a) ⊎ (o < len)
+    of_max a o less = grind arith
+
+    of_two : (a o : ℕ) → (o < a → HasTold sent member.id m s e o) → (o < a) ⊎ (o < len) → HasTold sent member.id m s e o
+    of_two a o before (inl less) = before less
+    of_two a o before (inr less) = new_len o less
+
+    of_or : (b : Bool) → (b ≡ true → HasToldClosed sent member.id m s e) → (b || closed) ≡ true → HasToldClosed sent member.id m s e
+    of_or true before is = before refl
+    of_or false before is = new_closed is
+
+    by : (told : Option Told) → ((o : ℕ) → o < told_len told → HasTold sent member.id m s e o) →
+        (told_closed told ≡ true → HasToldClosed sent member.id m s e)
+        → NotedOf sent m s e (record member { told = Some (told_with told len closed) })
+    by None before before_closed = record { len = new_len; closed = new_closed }
+    by (Some told) before before_closed = record {
+      len = λ o less. of_two told.len o (before o) (of_max told.len o less);
+      closed = λ is. of_or told.closed before_closed is;
+    }
+
+pub each-told : (sent : List Message) (m : ServerId) (s e : ℕ) (from : ServerId) (len : ℕ) (closed : Bool) →
+    In (between from m (Stored s e len closed)) sent
+    → (members : List Member) → EachNoted sent m s e members → EachNoted sent m s e (map (told_if_heard from len closed) members)
+each-told sent m s e from len closed at members all = each-mapped sent m s e (told_if_heard from len closed)
+    (λ member old. either (λ one. NotedOf sent m s e one) (is_heard from member)
+    (record member { told = Some (told_with member.told len closed) }) member
+    (λ heard. told-with sent m s e from len closed at member
+    (same_id-true from member.id (and_parts (same_id from member.id) (not member.lost) heard).0) old) (λ _. old))
+    members all
+
+pub ids-told : (from : ServerId) (len : ℕ) (closed : Bool) (members : List Member) →
+    ids_of (map (told_if_heard from len closed) members) ≡ ids_of members
+ids-told from len closed members = ids-mapped (told_if_heard from len closed)
+    (λ member. either (λ (one : Member). one.id ≡ member.id) (is_heard from member)
+    (record member { told = Some (told_with member.told len closed) }) member (λ _. refl) (λ _. refl)) members
+
+-- Members are marked lost
+
+pub each-lost : (sent : List Message) (m : ServerId) (s e : ℕ) (servers : ServerList) (members : List Member) →
+    EachNoted sent m s e members → EachNoted sent m s e (map (lost_if_crashed servers) members)
+each-lost sent m s e servers members all = each-mapped sent m s e (lost_if_crashed servers)
+    (λ member old. either (λ one. NotedOf sent m s e one) (has_crashed servers member.id) (record member { lost = true }) member
+    (λ _. record { len = old.len; closed = old.closed }) (λ _. old)) members all
+
+pub ids-lost : (servers : ServerList) (members : List Member) → ids_of (map (lost_if_crashed servers) members) ≡ ids_of members
+ids-lost servers members = ids-mapped (lost_if_crashed servers)
+    (λ member. either (λ (one : Member). one.id ≡ member.id) (has_crashed servers member.id)
+    (record member { lost = true }) member (λ _. refl) (λ _. refl)) members
+
+-- Lost ones are replaced
+
+pub each-replaced : (sent : List Message) (m : ServerId) (s e : ℕ) (members : List Member) (ids : List ServerId) →
+    EachNoted sent m s e members → EachNoted sent m s e (replaced members ids)
+each-replaced sent m s e [] ids all member at = absurd at
+each-replaced sent m s e (one ∷ members) [] all member at = all member at
+each-replaced sent m s e (one ∷ members) (id ∷ ids) all member at =
+    either (λ after. In member after → NotedOf sent m s e member) one.lost (new_member id ∷ replaced members ids)
+    (one ∷ replaced members (id ∷ ids))
+    (λ _ there. new_first (each-replaced sent m s e members ids (λ other is. all other (inr is)) member) there)
+    (λ _ there. old_first (each-replaced sent m s e members (id ∷ ids) (λ other is. all other (inr is)) member) there) at
+  where
+    new_first : (In member (replaced members ids) → NotedOf sent m s e member) →
+        (member ≡ new_member id) ⊎ In member (replaced members ids) → NotedOf sent m s e member
+    new_first rec (inl same) = subst (λ x. NotedOf sent m s e x) (sym same) (noted-new sent m s e id)
+    new_first rec (inr rest) = rec rest
+
+    old_first : (In member (replaced members (id ∷ ids)) → NotedOf sent m s e member) →
+        (member ≡ one) ⊎ In member (replaced members (id ∷ ids)) → NotedOf sent m s e member
+    old_first rec (inl same) = all member (inl same)
+    old_first rec (inr rest) = rec rest
+
+-- what the members are anew has told nothing
+pub each-new : (sent : List Message) (m : ServerId) (s e : ℕ) (members : List Member) →
+    EachNoted sent m s e (map (λ member. new_member member.id) members)
+each-new sent m s e members member at =
+    let found = In-map (λ (one : Member). new_member one.id) member members at in subst (λ one. NotedOf sent m s e one)
+    (sym found.2) (noted-new sent m s e found.0.id)
+
+-- the ids of those that aren't lost are ids
+pub ids-not_lost : (x : ServerId) (members : List Member) → In x (ids_of (not_lost members)) → In x (ids_of members)
+ids-not_lost x members at =
+    let found = In-map (λ (one : Member). one.id) x (not_lost members) at in
+    let kept = In-filter (λ (one : Member). not one.lost) found.0 members found.1 in
+    subst (λ id. In id (ids_of members)) (sym found.2)
+    (Rattle.rc_step_laws.proofs.Tests.map-In (λ (one : Member). one.id) found.0 members kept.0)

@@ -1,0 +1,173 @@
+-- Dead segments, the digest that leaves them out, and a roll.
+use Rattle.std.proofs.Common.{◌≡◌, ◌⊎◌, ℕ, ◌+◌, ◌<◌, ◌≤◌, Bool, true, false, cond, not, nat_eq, nat_lt, ◌&&◌, ◌||◌}
+use Rattle.std.proofs.Common.{List, [], ◌∷◌, ◌++◌, filter, Option, Some, None, Result, Ok, Err, refl, sym, ap, ◌∙◌}
+use Rattle.std.proofs.Common.{subst, inl, inr, arith}
+use Rattle.std.proofs.lemmas.Bool.{and_parts, eqb-true, eq-eqb, ltb-true}
+use Rattle.std.specs.List.{list_any}
+use Rattle.rc_types.specs.declared.ids.ServerId.{ServerId}
+use Rattle.rc_types.specs.declared.entries.Entry.{Entry}
+use Rattle.rc_types.specs.declared.faults.Fault.{Fault}
+use Rattle.rc_types.specs.declared.faults.Fault.TheVariants.{NoBackups, LogFull}
+use Rattle.rc_types.specs.declared.limits.TheConstants.{LAST_SEGMENT}
+use Rattle.rc_types.specs.declared.kept.Phase.{Phase}
+use Rattle.rc_types.specs.declared.kept.Phase.TheVariants.{Opening, Closing, Writing}
+use Rattle.rc_types.specs.declared.messages.Message.{Message}
+use Rattle.rc_model.specs.ServerList.{ServerList}
+use Rattle.rc_model.specs.Config.{choose}
+use Rattle.rc_model.specs.Log.{Log, LogPlace, head_of, places_of, entries_of, is_writing}
+use Rattle.rc_model.specs.Heads.{opens_head, next_digest, rolled, begin_roll}
+use Rattle.rc_model.specs.Versions.{is_of, is_outdated, is_dead}
+use Rattle.rc_model.specs.Master.{Master, durable_entries, is_dead_segment, dead_segments}
+use Rattle.rc_model.specs.Headline.{In}
+use Rattle.rc_model.proofs.Members.{either, In-get, In-left, In-right, In-append}
+use Rattle.rc_step_laws.specs.Words.{log_in}
+use Rattle.rc_step_laws.specs.Facts.{IsOutdated, IsDead, IsDigest}
+use Rattle.rc_step_laws.proofs.Lists.{In-filter, true_false}
+use Rattle.rc_step_laws.proofs.Copies.{split}
+use Rattle.rc_step_laws.proofs.Tests.{all-each, any-one, filter-In, get-map, In-take}
+use Rattle.rc_step_laws.proofs.LogMoves.{GoodLog}
+use Rattle.rc_step_laws.proofs.Places.{IsOf, places_to-are, place-logged}
+use Rattle.rc_step_laws.proofs.Openings.{NewDigest}
+
+-- Dead segments
+
+of-parts : (term table key version : ℕ) (other : Entry) → (is_of term table key other && nat_lt version other.version) ≡ true
+    → (other.term ≡ term) × (other.table ≡ table) × (other.key ≡ key) × (version < other.version)
+of-parts term table key version other e =
+    let both = and_parts (is_of term table key other) (nat_lt version other.version) e in
+    let first = and_parts (nat_eq other.term term) (nat_eq other.table table && nat_eq other.key key) both.0 in
+    let second = and_parts (nat_eq other.table table) (nat_eq other.key key) first.1 in (
+      eqb-true other.term term first.0,
+      eqb-true other.table table second.0,
+      eqb-true other.key key second.1,
+      ltb-true version other.version both.1,
+    )
+
+outdated-is : (sent : List Message) (m : ServerId) (master : Master) (entry : Entry) → GoodLog sent m master.log →
+    is_outdated (durable_entries master) entry ≡ true → IsOutdated sent m master.log entry
+outdated-is sent m master entry good e =
+    let found = any-one (λ (other : Entry). is_of entry.term entry.table entry.key other &&
+    nat_lt entry.version other.version) (durable_entries master) e in
+    let same = of-parts entry.term entry.table entry.key entry.version found.0 found.2 in
+    let at = In-take master.log.durable (entries_of master.log) found.0 found.1 in
+    let place = get-map (λ (one : LogPlace). one.entry) (places_of master.log) at.0 found.0 at.2 in
+    let is : IsOf master.log.segments master.log.head place.0 = places_to-are master.log.segments master.log.head at.0 place.0 place.1 in
+    record {
+      seg = place.0.seg;
+      offset = place.0.offset;
+      other = found.0;
+      safe = good.counted at.0 place.0 at.1 place.1;
+      holds = place-logged master.log place.0 is ∙ ap Some place.2;
+      term = same.0;
+      table = same.1;
+      key = same.2;
+      greater = same.3;
+    }
+
+pub dead-is : (sent : List Message) (m : ServerId) (master : Master) (s : ℕ) → GoodLog sent m master.log →
+    is_dead_segment master s ≡ true → IsDead sent m master.log s
+dead-is sent m master s good e =
+    let both = and_parts (master.log.segments s).shut (is_dead (durable_entries master) (log_in master.log s)) e in
+    record {
+      shut = both.0;
+      outdated = λ o entry at. outdated-is sent m master entry good
+          (all-each (is_outdated (durable_entries master)) entry (log_in master.log s) both.1
+          (In-get (log_in master.log s) o entry at));
+    }
+
+-- what is among the dead segments is dead
+dead-among : (sent : List Message) (m : ServerId) (master : Master) (s : ℕ) → GoodLog sent m master.log →
+    list_any (nat_eq s) (dead_segments master) ≡ true → IsDead sent m master.log s
+dead-among sent m master s good e =
+    let found = any-one (nat_eq s) (dead_segments master) e in
+    let same : s ≡ found.0 = eqb-true s found.0 found.2 in
+    subst (λ n. IsDead sent m master.log n) (sym same) (by master.free found.0 found.1)
+  where
+    by : (b : Bool) (t : ℕ) → In t (cond b (filter (is_dead_segment master) (head_of master.log).digest) []) → IsDead sent m master.log t
+    by true t at = dead-is sent m master t good (In-filter (is_dead_segment master) t (head_of master.log).digest at).1
+    by false t at = absurd at
+
+-- The digest of the next head
+
+pub next-digest : (sent : List Message) (m : ServerId) (master : Master) → GoodLog sent m master.log →
+    0 < master.log.head → NewDigest sent m master.log (next_digest master.log (dead_segments master))
+next-digest sent m master good above = record {
+  own = In-right h old (h ∷ []) (inl refl);
+  upto = λ t at. by_upto t (In-append t old (h ∷ []) at);
+  lacks = λ t over less. by_lacks t (last_or t less) over;
+}
+  where
+    h : ℕ
+    h = master.log.head + 1
+
+    test : ℕ → Bool
+    test s = nat_eq s master.log.head || not (list_any (nat_eq s) (dead_segments master))
+
+    old : List ℕ
+    old = filter test (head_of master.log).digest
+
+    is : IsDigest sent m master.log master.log.head (head_of master.log).digest
+    is = good.digests master.log.head (record { above = above; below = omega arith })
+
+    by_upto : (t : ℕ) → In t old ⊎ ((t ≡ h) ⊎ ⊥) → (0 < t) × (t ≤ h)
+    by_upto t (inl there) = (let p = is.upto t (In-filter test t (head_of master.log).digest there).0 in (p.0, omega (arith, p.1)))
+    by_upto t (inr (inl e)) = (omega arith, omega arith)
+    by_upto t (inr (inr none)) = absurd none
+
+    last_or : (t : ℕ) → t < h → (t ≡ master.log.head) ⊎ (t < master.log.head)
+    last_or t less = cut t master.log.head (omega arith)
+      where
+        cut : (a b : ℕ) → a ≤ b → (a ≡ b) ⊎ (a < b)
+        cut a b less = grind arith
+
+    or_first : (a b : Bool) → a ≡ true → (a || b) ≡ true
+    or_first true b e = refl
+    or_first false b e = true_false (sym e)
+
+    or_not : (a b : Bool) → b ≡ false → (a || not b) ≡ true
+    or_not true b e = refl
+    or_not false false e = refl
+    or_not false true e = true_false e
+
+    in_old : (t : ℕ) → In t (head_of master.log).digest → (In t old ⊎ IsDead sent m master.log t)
+    in_old t at = split (list_any (nat_eq t) (dead_segments master))
+        (λ dead. inr (dead-among sent m master t good dead))
+        (λ alive. inl (filter-In test t (head_of master.log).digest at
+        (or_not (nat_eq t master.log.head) (list_any (nat_eq t) (dead_segments master)) alive)))
+
+    further : (t : ℕ) → In t old ⊎ IsDead sent m master.log t → In t (old ++ h ∷ []) ⊎ IsDead sent m master.log t
+    further t (inl there) = inl (In-left t old (h ∷ []) there)
+    further t (inr dead) = inr dead
+
+    by_digest : (t : ℕ) → In t (head_of master.log).digest ⊎ IsDead sent m master.log t → In t (old ++ h ∷ []) ⊎ IsDead sent m master.log t
+    by_digest t (inl there) = further t (in_old t there)
+    by_digest t (inr dead) = inr dead
+
+    by_lacks : (t : ℕ) → (t ≡ master.log.head) ⊎ (t < master.log.head) → 0 < t → In t (old ++ h ∷ []) ⊎ IsDead sent m master.log t
+    by_lacks t (inl same) over =
+        inl (In-left t old (h ∷ [])
+        (filter-In test t (head_of master.log).digest (subst (λ n. In n (head_of master.log).digest) (sym same) is.own)
+        (or_first (nat_eq t master.log.head) (not (list_any (nat_eq t) (dead_segments master))) (eq-eqb t master.log.head same))))
+    by_lacks t (inr less) over = by_digest t (is.lacks t over less)
+
+-- What a roll comes to
+
+rolled-cases : (P : Log × Result Bool Fault → Type 0) (log : Log) (dead : List ℕ) (found : Option (List ServerId)) →
+    ((fault : Fault) → P (log, Err fault))
+    → ((ids : List ServerId) → found ≡ Some ids → P (opens_head log (next_digest log dead) ids, Ok true)) → P (rolled log dead found)
+rolled-cases P log dead None fails opens = fails NoBackups
+rolled-cases P log dead (Some ids) fails opens = opens ids refl
+
+pub roll-cases : (P : Log × Result Bool Fault → Type 0) (servers : ServerList) (dead : List ℕ) (log : Log) →
+    ((fault : Fault) → P (log, Err fault))
+    → ((ids : List ServerId) → choose (log.head + 1) log.own log.factor servers ≡ Some ids →
+    P (opens_head log (next_digest log dead) ids, Ok true)) → P (begin_roll servers dead log)
+roll-cases P servers dead log fails opens =
+    either P (nat_lt log.head LAST_SEGMENT) (rolled log dead (choose (log.head + 1) log.own log.factor servers)) (log, Err LogFull)
+    (λ _. rolled-cases P log dead (choose (log.head + 1) log.own log.factor servers) fails opens) (λ _. fails LogFull)
+
+-- the phase is Writing
+pub writing-is : (phase : Phase) → is_writing phase ≡ true → phase ≡ Writing
+writing-is Writing e = refl
+writing-is Opening e = true_false (sym e)
+writing-is Closing e = true_false (sym e)

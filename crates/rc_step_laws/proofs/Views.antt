@@ -1,0 +1,184 @@
+-- A master's view and its moves; messages that claim nothing.
+use Rattle.std.proofs.Common.{◌≡◌, ◌⊎◌, ℕ, Bool, false, List, [], ◌∷◌, ◌++◌, refl, sym, ap, subst, inl, inr, arith}
+use Rattle.rc_types.specs.declared.ids.ServerId.{ServerId}
+use Rattle.rc_types.specs.declared.ids.Addr.{Addr}
+use Rattle.rc_types.specs.declared.ids.Addr.TheVariants.{Server}
+use Rattle.rc_types.specs.declared.entries.Entry.{Entry}
+use Rattle.rc_types.specs.declared.messages.Message.{Message}
+use Rattle.rc_types.specs.declared.messages.Body.{Body}
+use Rattle.rc_types.specs.declared.messages.Body.TheVariants.{Place, ReadOk, Refused, Commit, Enlist, Ready, Fetch, Recovered, Free}
+use Rattle.rc_model.specs.Messages.{between}
+use Rattle.rc_model.specs.ServerList.{up_rows}
+use Rattle.rc_model.specs.Log.{Log}
+use Rattle.rc_model.specs.Master.{Master, to_ids}
+use Rattle.rc_model.specs.ListRules.{then_does}
+use Rattle.rc_model.specs.Headline.{In}
+use Rattle.rc_model.proofs.Members.{In-append}
+use Rattle.rc_step_laws.specs.Words.{IsMember, OnDifferentHosts}
+use Rattle.rc_step_laws.specs.Moves.{OwnFine, MasterSays, body_said}
+use Rattle.rc_step_laws.proofs.Logs.{log_later-refl}
+use Rattle.rc_step_laws.proofs.Tests.{In-map}
+use Rattle.rc_step_laws.proofs.LogMoves.{GoodLog, LogMoved, more-left, segment-more, moved-log, log_moved-then}
+
+-- Views
+
+pub record GoodView (sent : List Message) (m : ServerId) (master : Master) : Type 0 where
+  pub log : GoodLog sent m master.log
+  pub fine : OwnFine sent m master.log
+  pub known : OnDifferentHosts (up_rows master.known.rows)
+
+pub record Moved (sent : List Message) (m : ServerId) (old : Master) (after : Master × List Message) : Type 0 where
+  pub log : LogMoved sent m old.log after.0.log after.1
+  pub known : OnDifferentHosts (up_rows after.0.known.rows)
+
+pub view-after : (sent : List Message) (m : ServerId) (old : Master) (after : Master × List Message) →
+    Moved sent m old after → GoodView (sent ++ after.1) m after.0
+view-after sent m old after moved = record { log = moved.log.good; fine = moved.log.fine; known = moved.known }
+
+-- one rule after another
+pub moved-then : (sent : List Message) (m : ServerId) (one : Master) (done after : Master × List Message) →
+    GoodView sent m one → Moved sent m one done → Moved (sent ++ done.1) m done.0 after
+    → Moved sent m one (after.0, done.1 ++ after.1)
+moved-then sent m one done after view p q = record {
+  log = log_moved-then sent m one.log done.0.log after.0.log done.1 after.1 view.log p.log q.log;
+  known = q.known;
+}
+
+pub moved-then_does : (sent : List Message) (m : ServerId) (one : Master) (done : Master × List Message)
+    (rule : Master → Master × List Message) → GoodView sent m one → Moved sent m one done
+    → (GoodView (sent ++ done.1) m done.0 → Moved (sent ++ done.1) m done.0 (rule done.0)) → Moved sent m one (then_does done rule)
+moved-then_does sent m one done rule view p next = moved-then sent m one done (rule done.0) view p (next (view-after sent m one done p))
+
+-- The log stays
+
+pub same-moved : (sent : List Message) (m : ServerId) (log : Log) (messages : List Message) → GoodLog sent m log → OwnFine sent m log
+    → ((message : Message) → In message messages → MasterSays sent (sent ++ messages) m log log message)
+    → ((x : ServerId) (s e : ℕ) (digest : List ℕ) (entries : List Entry) →
+    In (between m x (Place s e digest entries false)) messages → IsMember sent m s e x)
+    → LogMoved sent m log log messages
+same-moved sent m log messages good fine says news = moved-log sent m log log messages good fine (record {
+  later = log_later-refl (sent ++ messages) m log;
+  says = says;
+  own = good.own;
+  none_below = good.none_below;
+  none_above = good.none_above;
+  writing_opened = good.writing_opened;
+  empty = good.empty;
+  each = λ s. segment-more (more-left sent messages) (good.each s);
+  news = λ x s e digest entries at. inl (news x s e digest entries at);
+  counted = good.counted;
+  digests = λ s over upto. absurd (omega arith);
+  durable_within = good.durable_within;
+})
+
+-- Messages that claim nothing
+
+abbrev pub IsQuiet : Body → Type 0
+IsQuiet (ReadOk table key version value) = Unit {0}
+IsQuiet (Refused reason) = Unit {0}
+IsQuiet (Commit s e) = Unit {0}
+IsQuiet Enlist = Unit {0}
+IsQuiet Ready = Unit {0}
+IsQuiet (Fetch attempt master s len part) = Unit {0}
+IsQuiet (Recovered attempt term) = Unit {0}
+IsQuiet (Free s) = Unit {0}
+IsQuiet _ = ⊥
+
+pub record IsQuietOf (m : ServerId) (message : Message) : Type 0 where
+  pub from : message.from ≡ Server m
+  pub quiet : IsQuiet message.body
+
+abbrev pub AllQuiet : ServerId → List Message → Type 0
+AllQuiet m messages = (message : Message) → In message messages → IsQuietOf m message
+
+quiet-said : (sent sent_now : List Message) (m : ServerId) (old new : Log) (to : Addr) (body : Body) → IsQuiet body →
+    body_said sent sent_now m old new to body
+quiet-said sent sent_now m old new to (ReadOk table key version value) is = tt
+quiet-said sent sent_now m old new to (Refused reason) is = tt
+quiet-said sent sent_now m old new to (Commit s e) is = tt
+quiet-said sent sent_now m old new to Enlist is = tt
+quiet-said sent sent_now m old new to Ready is = tt
+quiet-said sent sent_now m old new to (Fetch attempt master s len part) is = tt
+quiet-said sent sent_now m old new to (Recovered attempt term) is = tt
+quiet-said sent sent_now m old new to (Free s) is = tt
+quiet-said sent sent_now m old new to _ is = absurd is
+
+pub quiet-says : (sent sent_now : List Message) (m : ServerId) (old new : Log) (message : Message) →
+    IsQuietOf m message → MasterSays sent sent_now m old new message
+quiet-says sent sent_now m old new message is =
+    record { from = is.from; says = quiet-said sent sent_now m old new message.to message.body is.quiet }
+
+-- no Place is among them
+pub quiet-no_place : {P : Type 0} (m x : ServerId) (s e : ℕ) (digest : List ℕ) (entries : List Entry) (closed : Bool)
+    (messages : List Message) → AllQuiet m messages
+    → In (between m x (Place s e digest entries closed)) messages → P
+quiet-no_place m x s e digest entries closed messages all at = absurd (all (between m x (Place s e digest entries closed)) at).quiet
+
+pub quiet-moved : (sent : List Message) (m : ServerId) (log : Log) (messages : List Message) → GoodLog sent m log →
+    OwnFine sent m log → AllQuiet m messages → LogMoved sent m log log messages
+quiet-moved sent m log messages good fine all = same-moved sent m log messages good fine
+    (λ message at. quiet-says sent (sent ++ messages) m log log message (all message at))
+    (λ x s e digest entries at. quiet-no_place m x s e digest entries false messages all at)
+
+-- a step whose view has this log and these servers still, and that says nothing of note
+pub moved-quiet : (sent : List Message) (m : ServerId) (old new : Master) (messages : List Message) →
+    GoodView sent m old → new.log ≡ old.log → new.known ≡ old.known → AllQuiet m messages
+    → Moved sent m old (new, messages)
+moved-quiet sent m old new messages view same known all = record {
+  log = subst (λ log. LogMoved sent m old.log log messages) (sym same) (quiet-moved sent m old.log messages view.log view.fine all);
+  known = subst (λ servers. OnDifferentHosts (up_rows servers.rows)) (sym known) view.known;
+}
+
+pub quiet-none : (m : ServerId) → AllQuiet m []
+quiet-none m message at = absurd at
+
+pub quiet-one : (m : ServerId) (one : Message) → IsQuietOf m one → AllQuiet m (one ∷ [])
+quiet-one m one is message (inl e) = subst (IsQuietOf m) (sym e) is
+quiet-one m one is message (inr rest) = absurd rest
+
+pub quiet-both : (m : ServerId) (first second : List Message) → AllQuiet m first → AllQuiet m second → AllQuiet m (first ++ second)
+quiet-both m first second p q message at = by (In-append message first second at)
+  where
+    by : In message first ⊎ In message second → IsQuietOf m message
+    by (inl there) = p message there
+    by (inr there) = q message there
+
+-- nothing happens
+pub still : (sent : List Message) (m : ServerId) (master : Master) → GoodView sent m master → Moved sent m master (master, [])
+still sent m master view = moved-quiet sent m master master [] view refl refl (quiet-none m)
+
+-- To several
+
+-- what goes to each of these goes from its master to one of them
+pub each-to_ids : (P : Message → Type 0) (own : ServerId) (ids : List ServerId) (body : Body) →
+    ((x : ServerId) → In x ids → P (between own x body))
+    → (message : Message) → In message (to_ids own ids body) → P message
+each-to_ids P own ids body holds message at =
+    let found = In-map (λ (id : ServerId). between own id body) message ids at in subst P (sym found.2) (holds found.0 found.1)
+
+pub record SamePlace (x id : ServerId) (s e : ℕ) (closed : Bool) (t f : ℕ) (ends : Bool) : Type 0 where
+  pub to_is : x ≡ id
+  pub seg_is : s ≡ t
+  pub epoch_is : e ≡ f
+  pub closed_is : closed ≡ ends
+
+-- a Place among these is theirs
+same-place : (m own x id : ServerId) (s e t f : ℕ) (digest other : List ℕ) (entries others : List Entry) (closed ends : Bool)
+    → between m x (Place s e digest entries closed) ≡ between own id (Place t f other others ends) → SamePlace x id s e closed t f ends
+same-place m own x id s e t f digest other entries others closed ends same =
+    let addressee : ◌≡◌ {A = Addr} (Server x) (Server id) = ap (λ (message : Message). message.to) same in
+    let body : ◌≡◌ {A = Body} (Place s e digest entries closed) (Place t f other others ends) =
+    ap (λ (message : Message). message.body) same in
+    record { to_is = cc; seg_is = cc; epoch_is = cc; closed_is = cc }
+
+pub place-to_ids : (m own : ServerId) (ids : List ServerId) (x : ServerId) (s e t f : ℕ) (digest other : List ℕ)
+    (entries others : List Entry) (closed ends : Bool)
+    → In (between m x (Place s e digest entries closed)) (to_ids own ids (Place t f other others ends)) →
+    In x ids × SamePlace x x s e closed t f ends
+place-to_ids m own ids x s e t f digest other entries others closed ends at =
+    let found = In-map (λ (id : ServerId). between own id (Place t f other others ends))
+    (between m x (Place s e digest entries closed)) ids at in
+    let same = same-place m own x found.0 s e t f digest other entries others closed ends found.2 in (
+      subst (λ id. In id ids) (sym same.to_is) found.1,
+      record { to_is = refl; seg_is = same.seg_is; epoch_is = same.epoch_is; closed_is = same.closed_is },
+    )

@@ -1,0 +1,207 @@
+-- Writes and reads, and an entry that is appended.
+use Rattle.std.proofs.Common.{◌≡◌, ℕ, zero, suc, ◌+◌, Bool, true, false, cond, not, List, [], ◌∷◌, ◌++◌, length, map}
+use Rattle.std.proofs.Common.{slice_get, Option, Some, None, refl, sym, ap, ◌∙◌, subst, arith}
+use Rattle.std.proofs.lemmas.List.{map-append, length-map}
+use Rattle.rc_types.specs.declared.ids.ServerId.{ServerId}
+use Rattle.rc_types.specs.declared.ids.Addr.TheVariants.{Server}
+use Rattle.rc_types.specs.declared.entries.Entry.{Entry}
+use Rattle.rc_types.specs.declared.faults.Fault.{Fault}
+use Rattle.rc_types.specs.declared.faults.Fault.TheVariants.{NotOwner, Rolling, ValueTooLong}
+use Rattle.rc_types.specs.declared.kept.Phase.{Phase}
+use Rattle.rc_types.specs.declared.kept.Phase.TheVariants.{Writing}
+use Rattle.rc_types.specs.declared.messages.Message.{Message}
+use Rattle.rc_types.specs.declared.messages.Body.{Body}
+use Rattle.rc_types.specs.declared.messages.Body.TheVariants.{Place, Append, ReadOk}
+use Rattle.rc_model.specs.Messages.{between, to_outside, refuses}
+use Rattle.rc_model.specs.Segment.{Segment, with_entry}
+use Rattle.rc_model.specs.Log.{Log, head_of, is_writing}
+use Rattle.rc_model.specs.Heads.{appends, is_full, begin_roll, opens_head, next_digest}
+use Rattle.rc_model.specs.Ownership.{term_of}
+use Rattle.rc_model.specs.Versions.{Found, read_of}
+use Rattle.rc_model.specs.Master.{Master, with_log, durable_entries, to_ids, ids_of, not_lost, places_head, appends_entry, dead_segments}
+use Rattle.rc_model.specs.Writing.{refused, is_too_long, written, rolls_for_write, writes_under, writes_if_owned}
+use Rattle.rc_model.specs.Writing.{writes, reads_if_owned, reads}
+use Rattle.rc_model.specs.Headline.{In}
+use Rattle.rc_model.proofs.Members.{either}
+use Rattle.rc_step_laws.specs.Words.{Stands}
+use Rattle.rc_step_laws.specs.Moves.{OwnFine, MasterSays}
+use Rattle.rc_step_laws.proofs.Lists.{put_same, get-end, true_false}
+use Rattle.rc_step_laws.proofs.Tests.{In-map}
+use Rattle.rc_step_laws.proofs.LogMoves.{GoodSegment, GoodLog, LogMoved, more-left, segment-more}
+use Rattle.rc_step_laws.proofs.Segments.{put-moved}
+use Rattle.rc_step_laws.proofs.Views.{GoodView, Moved, moved-then, moved-quiet, quiet-one, each-to_ids, view-after}
+use Rattle.rc_step_laws.proofs.Openings.{opens-moved}
+use Rattle.rc_step_laws.proofs.Rolling.{next-digest, roll-cases, writing-is}
+use Rattle.rc_step_laws.proofs.Hosts.{apart-choose}
+
+-- An entry
+
+-- one more entry stands at the end
+stands-new : (entries : List (Entry × Bool)) (entry : Entry) (client : Bool) →
+    Stands (entry ∷ []) (length entries) (map (λ (one : Entry × Bool). one.0) (entries ++ (entry, client) ∷ []))
+stands-new entries entry client zero other e =
+    let fst : Entry × Bool → Entry = λ one. one.0 in
+    let same : entry ≡ other = cc in
+    let len : length (map fst entries) ≡ length entries + 0 = length-map entries fst ∙ omega arith in
+    subst (λ l. slice_get l (length entries + 0) ≡ Some other) (sym (map-append fst entries ((entry, client) ∷ [])))
+    (subst (λ n. slice_get (map fst entries ++ entry ∷ []) n ≡ Some other) len (get-end (map fst entries) entry [] ∙ ap Some same))
+stands-new entries entry client (suc k) other e = cc
+
+-- no Place is an Append
+append-no_place : {P : Type 0} (m own : ServerId) (ids : List ServerId) (x : ServerId) (s e t offset : ℕ)
+    (digest : List ℕ) (entries others : List Entry) (closed : Bool)
+    → In (between m x (Place s e digest entries closed)) (to_ids own ids (Append t offset others)) → P
+append-no_place m own ids x s e t offset digest entries others closed at =
+    let found = In-map (λ (id : ServerId). between own id (Append t offset others))
+    (between m x (Place s e digest entries closed)) ids at in
+    let body : ◌≡◌ {A = Body} (Place s e digest entries closed) (Append t offset others) =
+    ap (λ (message : Message). message.body) found.2 in cc
+
+entry-good : (sent : List Message) (m : ServerId) (phase : Phase) (head s : ℕ) (segment : Segment) (entry : Entry)
+    (client : Bool) → GoodSegment sent m phase head s segment
+    → GoodSegment sent m phase head s (with_entry entry client segment)
+entry-good sent m phase head s segment entry client p = record {
+  old_shut = p.old_shut;
+  writing_shut = p.writing_shut;
+  shut_below = p.shut_below;
+  shut_committed = p.shut_committed;
+  complete = p.complete;
+  apart = p.apart;
+  noted = p.noted;
+  noted_closed = p.noted_closed;
+  committed = p.committed;
+}
+
+appends-log : (sent : List Message) (m : ServerId) (log : Log) (entry : Entry) (client : Bool) (ids : List ServerId) →
+    GoodLog sent m log → OwnFine sent m log → log.phase ≡ Writing
+    → LogMoved sent m log (appends entry client log) (to_ids log.own ids (Append log.head (length (head_of log).entries) (entry ∷ [])))
+appends-log sent m log entry client ids good fine writing = put-moved sent m log h new messages good fine (record {
+  opened = record { above = good.writing_opened writing; below = omega arith };
+  later = record {
+    grows = ((entry, client) ∷ [], refl);
+    final = λ below. absurd (omega arith);
+    digest = λ upto. refl;
+    epoch = λ upto. omega arith;
+    shut = λ e. (e, refl);
+    joined = λ x upto shut same at. at;
+    shuts = λ x upto before shut same at. true_false (sym shut ∙ before);
+  };
+  good = entry-good (sent ++ messages) m log.phase h h (head_of log) entry client (segment-more (more-left sent messages) (good.each h));
+  quiet = λ quiet. absurd (quiet writing);
+  says = each-to_ids (MasterSays sent (sent ++ messages) m log (appends entry client log)) log.own ids
+      (Append h (length (head_of log).entries) (entry ∷ [])) (λ x at. record {
+        from = ap Server good.own;
+        says = record {
+          opened = record { above = good.writing_opened writing; below = omega arith };
+          stands = subst (λ (segment : Segment). Stands (entry ∷ []) (length (head_of log).entries)
+              (map (λ (one : Entry × Bool). one.0) segment.entries)) (sym (put_same log.segments h new))
+              (stands-new (head_of log).entries entry client);
+        };
+      });
+  news = λ x t e digest entries at. append-no_place m log.own ids x t e h (length (head_of log).entries) digest entries
+      (entry ∷ []) false at;
+})
+  where
+    h : ℕ
+    h = log.head
+
+    new : Segment
+    new = with_entry entry client (head_of log)
+
+    messages : List Message
+    messages = to_ids log.own ids (Append h (length (head_of log).entries) (entry ∷ []))
+
+pub moved-appends : (sent : List Message) (m : ServerId) (master : Master) (entry : Entry) (client : Bool) →
+    GoodView sent m master → master.log.phase ≡ Writing → Moved sent m master (appends_entry master entry client)
+moved-appends sent m master entry client view writing = record {
+  log = appends-log sent m master.log entry client (ids_of (not_lost (head_of master.log).config.members)) view.log view.fine writing;
+  known = view.known;
+}
+
+-- Refusals and answers
+
+pub moved-refused : (sent : List Message) (m : ServerId) (master : Master) (fault : Fault) → GoodView sent m master →
+    Moved sent m master (refused master fault)
+moved-refused sent m master fault view = moved-quiet sent m master master (refuses master.log.own fault ∷ []) view refl refl
+    (quiet-one m (refuses master.log.own fault) (record { from = ap Server view.log.own; quiet = tt }))
+
+-- A roll
+
+pub moved-opens_roll : (sent : List Message) (m : ServerId) (master : Master) (ids : List ServerId) →
+    GoodView sent m master → master.log.phase ≡ Writing
+    → Rattle.rc_model.specs.Config.choose (master.log.head + 1) master.log.own master.log.factor master.known ≡ Some ids
+    → Moved sent m master (
+      with_log master (opens_head master.log (next_digest master.log (dead_segments master)) ids),
+      places_head (opens_head master.log (next_digest master.log (dead_segments master)) ids),
+    )
+moved-opens_roll sent m master ids view writing chosen = record {
+  log = opens-moved sent m master.log (next_digest master.log (dead_segments master)) ids view.log view.fine
+      (λ s above less. (view.log.each s).writing_shut writing above less)
+      (apart-choose (master.log.head + 1) master.log.own master.log.factor master.known ids view.known chosen)
+      (next-digest sent m master view.log (view.log.writing_opened writing));
+  known = view.known;
+}
+
+moved-rolls_for_write : (sent : List Message) (m : ServerId) (master : Master) → GoodView sent m master → master.log.phase ≡ Writing
+    → Moved sent m master (rolls_for_write master (begin_roll master.known (dead_segments master) master.log))
+moved-rolls_for_write sent m master view writing =
+    roll-cases (λ result. Moved sent m master (rolls_for_write master result)) master.known (dead_segments master) master.log
+    (λ fault. moved-refused sent m master fault view)
+    (λ ids chosen. (
+    let log : Log = opens_head master.log (next_digest master.log (dead_segments master)) ids in
+    let done : Master × List Message = (with_log master log, places_head log) in
+    let first : Moved sent m master done = moved-opens_roll sent m master ids view writing chosen in
+    moved-then sent m master done (with_log master log, refuses log.own Rolling ∷ []) view first
+    (moved-refused (sent ++ places_head log) m (with_log master log) Rolling (view-after sent m master done first))))
+
+-- A write
+
+moved-writes_under : (sent : List Message) (m : ServerId) (master : Master) (term table key : ℕ)
+    (value : Option (List ℕ)) → GoodView sent m master → Moved sent m master (writes_under master term table key value)
+moved-writes_under sent m master term table key value view =
+    either P (not (is_writing master.log.phase)) (refused master Rolling)
+    (cond (is_full master.log) (rolls_for_write master (begin_roll master.known (dead_segments master) master.log))
+    (appends_entry master (written master term table key value) true))
+    (λ _. moved-refused sent m master Rolling view)
+    (λ is. (
+    let writing : master.log.phase ≡ Writing = writing-is master.log.phase (not_not (is_writing master.log.phase) is) in
+    either P (is_full master.log) (rolls_for_write master (begin_roll master.known (dead_segments master) master.log))
+    (appends_entry master (written master term table key value) true)
+    (λ _. moved-rolls_for_write sent m master view writing)
+    (λ _. moved-appends sent m master (written master term table key value) true view writing)))
+  where
+    P : Master × List Message → Type 0
+    P after = Moved sent m master after
+
+    not_not : (b : Bool) → not b ≡ false → b ≡ true
+    not_not true e = refl
+    not_not false e = true_false e
+
+moved-writes_if_owned : (sent : List Message) (m : ServerId) (master : Master) (term : Option ℕ) (table key : ℕ)
+    (value : Option (List ℕ)) → GoodView sent m master
+    → Moved sent m master (writes_if_owned master term table key value)
+moved-writes_if_owned sent m master None table key value view = moved-refused sent m master NotOwner view
+moved-writes_if_owned sent m master (Some term) table key value view = moved-writes_under sent m master term table key value view
+
+pub moved-writes : (sent : List Message) (m : ServerId) (master : Master) (table key : ℕ) (value : Option (List ℕ)) →
+    GoodView sent m master → Moved sent m master (writes master table key value)
+moved-writes sent m master table key value view =
+    either (λ after. Moved sent m master after) (is_too_long value) (refused master ValueTooLong)
+    (writes_if_owned master (term_of master.ownership table key) table key value)
+    (λ _. moved-refused sent m master ValueTooLong view)
+    (λ _. moved-writes_if_owned sent m master (term_of master.ownership table key) table key value view)
+
+-- A read
+
+moved-reads_if_owned : (sent : List Message) (m : ServerId) (master : Master) (term : Option ℕ) (table key : ℕ) →
+    GoodView sent m master → Moved sent m master (reads_if_owned master term table key)
+moved-reads_if_owned sent m master None table key view = moved-refused sent m master NotOwner view
+moved-reads_if_owned sent m master (Some term) table key view =
+    let found : Found = read_of term table key (durable_entries master) in
+    moved-quiet sent m master master (to_outside master.log.own (ReadOk table key found.version found.value) ∷ []) view refl refl
+    (quiet-one m (to_outside master.log.own (ReadOk table key found.version found.value))
+    (record { from = ap Server view.log.own; quiet = tt }))
+
+pub moved-reads : (sent : List Message) (m : ServerId) (master : Master) (table key : ℕ) → GoodView sent m master →
+    Moved sent m master (reads master table key)
+moved-reads sent m master table key view = moved-reads_if_owned sent m master (term_of master.ownership table key) table key view

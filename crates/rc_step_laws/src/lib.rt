@@ -1,0 +1,14 @@
+//! What each step of a node keeps, and what it may say. Nothing here runs: the functions have empty bodies, and their
+//! contracts are theorems on the definitions.
+//!
+//! `specs/Facts.antt` has the facts that hold in every world, `Later.antt` what only grows, `Moves.antt` what a step
+//! may change and say, and `Words.antt` the words of these. Each rule of each node keeps the facts, and says only
+//! what it may: `master_laws`, `backup_laws` and `coordinator_laws`. To be read in this order: `Words`, `Facts`,
+//! `Later`, `Moves`, and the three `*Claims`; the proofs of a master's rules (`Writing`, `FollowUps`, `ListRules`,
+//! `Ticks`, joined in `MasterSteps`), of a backup's (`Backups`), of the coordinator's (`CoordinatorSteps`). It stands
+//! on `rc_model` alone.
+#![tactic(auto)]
+
+pub mod backup_laws;
+pub mod coordinator_laws;
+pub mod master_laws;

@@ -1,4 +1,0 @@
-pub mod Keeping
-pub mod Steps
-pub mod Replays
-pub mod Issued

@@ -1,5 +1,0 @@
-use Rattle.rc_version_safety.proofs.Replays.{data-is-the-plan-cut}
-use Rattle.rc_version_safety.proofs.data.data_is_the_plan_cut_to_the_part.Goals as goal
-
-pub returns : goal.returns
-returns c = data-is-the-plan-cut

@@ -1,5 +1,0 @@
-use Rattle.rc_version_safety.proofs.Replays.{handovers-keep-acknowledged, handovers-keep-durable, previous-is-earlier}
-use Rattle.rc_version_safety.proofs.handovers.handovers_keep_what_was_acknowledged.Goals as goal
-
-pub returns : goal.returns
-returns c = record { acknowledged = handovers-keep-acknowledged; durable = handovers-keep-durable; previous = previous-is-earlier }

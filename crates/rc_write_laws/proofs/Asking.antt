@@ -1,0 +1,217 @@
+-- What stands in a log by a client was asked.
+use Rattle.std.proofs.Common.{◌≡◌, ◌⊎◌, ℕ, zero, suc, Bool, true, false, cond, nat_eq, ◌&&◌, List, [], ◌∷◌, ◌++◌}
+use Rattle.std.proofs.Common.{length, take, Option, slice_get, refl, sym, ap, ◌∙◌, subst, inl, inr}
+use Rattle.std.proofs.lemmas.Bool.{eqb-true}
+use Rattle.rc_types.specs.declared.ids.ServerId.{ServerId}
+use Rattle.rc_types.specs.declared.ids.Addr.{Addr}
+use Rattle.rc_types.specs.declared.ids.Addr.TheVariants.{Server}
+use Rattle.rc_types.specs.declared.entries.Entry.{Entry}
+use Rattle.rc_types.specs.declared.messages.Message.{Message}
+use Rattle.rc_types.specs.declared.messages.Body.{Body}
+use Rattle.rc_types.specs.declared.messages.Body.TheVariants.{WriteOk, Write}
+use Rattle.rc_types.specs.declared.events.Setup.{Setup}
+use Rattle.rc_model.specs.Recovered.{Ack}
+use Rattle.rc_model.specs.Segment.{Segment}
+use Rattle.rc_model.specs.Log.{Log, LogPlace, places_of}
+use Rattle.rc_model.specs.Master.{Master, with_log, appends_entry}
+use Rattle.rc_model.specs.FollowUps.{write_oks, new_durable, commits}
+use Rattle.rc_model.specs.Log.{durable_now}
+use Rattle.rc_model.specs.Writing.{written}
+use Rattle.rc_model.specs.MasterStep.{master_takes, master_ticks}
+use Rattle.rc_model.specs.MasterTick.{commits_again}
+use Rattle.rc_model.specs.World.{replay}
+use Rattle.rc_model.specs.Headline.{In}
+use Rattle.rc_model.proofs.Members.{either, In-left, In-append, place_of}
+use Rattle.rc_step_laws.specs.Words.{log_in}
+use Rattle.rc_step_laws.proofs.Lists.{same_id-refl}
+use Rattle.rc_step_laws.proofs.Places.{IsOf, places_to-are, place-logged}
+use Rattle.rc_write_laws.specs.AckClaims.{is_ack_of, counted_places, WasAsked, IsAsked, AcknowledgedWasAsked}
+use Rattle.rc_write_laws.proofs.Quiet.{places-same}
+use Rattle.rc_write_laws.proofs.Walk.{IsKept, takes-kept, tick-kept}
+use Rattle.rc_write_laws.proofs.Frame.{IsKeptByAll, kept-replay}
+use Rattle.rc_write_laws.proofs.Counting.{added, places-appended, filter-in, counted-is-acknowledged}
+use Rattle.rc_write_laws.proofs.Settling.{ok_of}
+
+-- Each client's place holds what was asked
+
+abbrev AllAsked : (Entry → Type 0) → List LogPlace → Type 0
+AllAsked Asked places = (place : LogPlace) → In place places → place.client ≡ true → Asked place.entry
+
+module _ (Asked : Entry → Type 0) where
+  abbrev Asks : Master → Master × List Message → Type 0
+  Asks old after = AllAsked Asked (places_of old.log) → AllAsked Asked (places_of after.0.log)
+
+  asks-both : (a b : Master) (first : List Message) (after : Master × List Message) → Asks a (b, first) → Asks b after →
+      Asks a (after.0, first ++ after.1)
+  asks-both a b first after p q all = q (p all)
+
+  asks-same : (old new : Master) (messages : List Message) → places_of new.log ≡ places_of old.log → Asks old (new, messages)
+  asks-same old new messages same all = subst (AllAsked Asked) (sym same) all
+
+  asks-added : (head len : ℕ) (entry : Entry) (client : Bool) → (client ≡ true → Asked entry) →
+      AllAsked Asked (added head len (entry, client))
+  asks-added zero len entry client asked place at is = absurd at
+  asks-added (suc n) len entry client asked place (inl same) is =
+      subst Asked (sym (ap (λ (p : LogPlace). p.entry) same)) (asked (sym (ap (λ (p : LogPlace). p.client) same) ∙ is))
+  asks-added (suc n) len entry client asked place (inr never) is = absurd never
+
+  asks-appends : (master : Master) (entry : Entry) (client : Bool) → (client ≡ true → Asked entry) →
+      Asks master (appends_entry master entry client)
+  asks-appends master entry client asked all =
+      subst (AllAsked Asked) (sym (places-appended master.log.segments master.log.head (entry, client)))
+      (λ place at. by place (In-append place (places_of master.log) (added master.log.head len (entry, client)) at))
+    where
+      len : ℕ
+      len = length (master.log.segments master.log.head).entries
+
+      by : (place : LogPlace) → In place (places_of master.log) ⊎ In place (added master.log.head len (entry, client)) →
+          place.client ≡ true → Asked place.entry
+      by place (inl at) = all place at
+      by place (inr at) = asks-added master.log.head len entry client asked place at
+
+  asks-commits : (master : Master) (seg : ℕ) → Asks master (commits master seg)
+  asks-commits master seg =
+      asks-same master (commits master seg).0 (commits master seg).1
+      (places-same master.log.segments (commits master seg).0.log.segments master.log.head
+      (λ s upto. either (λ (one : Segment). one.entries ≡ (master.log.segments s).entries) (nat_eq seg s)
+      (record (master.log.segments seg) { commit_sent = true }) (master.log.segments s)
+      (λ e. ap (λ k. (master.log.segments k).entries) (eqb-true seg s e)) (λ _. refl)))
+
+  asks-kept : IsKept Asked Asks
+  asks-kept = record {
+    inputs = record {
+      both = asks-both;
+      quiet = λ old new messages quiet soft. asks-same old new messages quiet.places;
+      appends = λ master entry client room asked. asks-appends master entry client asked;
+      again = λ master. asks-same master master (commits_again master.log) refl;
+    };
+    counts = λ master less. asks-same master (with_log master (record master.log { durable = durable_now master.log }))
+        (write_oks master.log.own (new_durable master.log)) refl;
+    commits = λ master seg e. asks-commits master seg;
+  }
+
+  pub asks-takes : (master : Master) (from : Addr) (body : Body) →
+      ((table key : ℕ) (value : Option (List ℕ)) (under : ℕ) → body ≡ Write table key value →
+      Asked (written master under table key value)) → Asks master (master_takes master from body)
+  asks-takes master from body asked = takes-kept Asked Asks asks-kept master from body asked
+
+  pub asks-ticks : (master : Master) → Asks master (master_ticks master)
+  asks-ticks master = tick-kept Asked Asks asks-kept master
+
+-- A world
+
+abbrev EntryAsked : List Message → ServerId → Entry → Type 0
+EntryAsked sent m entry = WasAsked sent m entry.table entry.key entry.value
+
+asked-more : (sent messages : List Message) (m : ServerId) (table key : ℕ) (value : Option (List ℕ)) →
+    WasAsked sent m table key value → WasAsked (sent ++ messages) m table key value
+asked-more sent messages m table key value p =
+    record { message = p.message; among = In-left p.message sent messages p.among; to = p.to; says = p.says }
+
+abbrev ClientsAsked : List Message → ServerId → Master → Type 0
+ClientsAsked sent m master = AllAsked (EntryAsked sent m) (places_of master.log)
+
+clients-more : (sent messages : List Message) (m : ServerId) (master : Master) → ClientsAsked sent m master →
+    ClientsAsked (sent ++ messages) m master
+clients-more sent messages m master p place at client =
+    asked-more sent messages m place.entry.table place.entry.key place.entry.value (p place at client)
+
+clients-kept : (setup : Setup) → IsKeptByAll setup ClientsAsked
+clients-kept setup = record {
+  opened = λ m place at. absurd at;
+  led = record {
+    same = λ sent m master p. p;
+    others = λ sent messages m master p others. clients-more sent messages m master p;
+    takes = λ sent m master from body good p at. asks-takes (EntryAsked (sent ++ (master_takes master from body).1) m) master from body
+        (λ table key value under e. asked-more sent (master_takes master from body).1 m table key value
+        (record { message = record { from = from; to = Server m; body = body }; among = at; to = refl; says = e }))
+        (clients-more sent (master_takes master from body).1 m master p);
+    ticks = λ sent m master good p. asks-ticks (EntryAsked (sent ++ (master_ticks master).1) m) master
+        (clients-more sent (master_ticks master).1 m master p);
+  };
+}
+
+-- Acknowledgements
+
+-- each is of a client's place
+oks-of : (own : ServerId) (places : List LogPlace) (message : Message) → In message (write_oks own places) →
+    (place : LogPlace) × In place places × (place.client ≡ true) × (message ≡ ok_of own place)
+oks-of own [] message at = absurd at
+oks-of own (first ∷ places) message at = by first.client refl (oks-of own places message) at
+  where
+    further : (place : LogPlace) × In place places × (place.client ≡ true) × (message ≡ ok_of own place) →
+        (place : LogPlace) × In place (first ∷ places) × (place.client ≡ true) × (message ≡ ok_of own place)
+    further (place, among, client, same) = (place, inr among, client, same)
+
+    by : (b : Bool) → first.client ≡ b →
+        (In message (write_oks own places) → (place : LogPlace) × In place places × (place.client ≡ true) ×
+        (message ≡ ok_of own place)) →
+        In message (cond b (ok_of own first ∷ write_oks own places) (write_oks own places)) →
+        (place : LogPlace) × In place (first ∷ places) × (place.client ≡ true) × (message ≡ ok_of own place)
+    by true is rec (inl same) = (first, inl refl, is, same)
+    by true is rec (inr rest) = further (rec rest)
+    by false isn't rec rest = further (rec rest)
+
+In-from_take : {X : Type 0} (n : ℕ) (xs : List X) (x : X) → In x (take n xs) → In x xs
+In-from_take zero xs x at = absurd at
+In-from_take (suc n) [] x at = absurd at
+In-from_take (suc n) (y ∷ xs) x (inl e) = inl e
+In-from_take (suc n) (y ∷ xs) x (inr rest) = inr (In-from_take n xs x rest)
+
+-- what an acknowledgement says, by its place
+record SaysOf (ack : Ack) (place : LogPlace) : Type 0 where
+  seg : ack.seg ≡ place.seg
+  offset : ack.offset ≡ place.offset
+  term : ack.term ≡ place.entry.term
+  table : ack.table ≡ place.entry.table
+  key : ack.key ≡ place.entry.key
+  version : ack.version ≡ place.entry.version
+
+same-ok : (a b c d f g h i j k l m : ℕ) → WriteOk a b c d f g ≡ WriteOk h i j k l m →
+    (a ≡ h) × (b ≡ i) × (c ≡ j) × (d ≡ k) × (f ≡ l) × (g ≡ m)
+same-ok a b c d f g h i j k l m e = (cc, cc, cc, cc, cc, cc)
+
+says-of : (ack : Ack) (place : LogPlace) → WriteOk ack.seg ack.offset ack.term ack.table ack.key ack.version ≡ WriteOk
+    place.seg place.offset place.entry.term place.entry.table place.entry.key place.entry.version → SaysOf ack place
+says-of ack place e =
+    let p = same-ok ack.seg ack.offset ack.term ack.table ack.key ack.version place.seg place.offset place.entry.term
+    place.entry.table place.entry.key place.entry.version e in
+    record { seg = p.0; offset = p.1; term = p.2; table = p.3; key = p.4; version = p.5 }
+
+pub acknowledged-was-asked : AcknowledgedWasAsked
+acknowledged-was-asked setup events m ack acked = by (oks-of m (counted_places log) acked.message there)
+  where
+    log : Log
+    log = ((replay setup events).masters m).log
+
+    there : In acked.message (write_oks m (counted_places log))
+    there = subst (In acked.message) (counted-is-acknowledged setup events m)
+        (filter-in (is_ack_of m) (replay setup events).sent acked.message acked.among (is-ack acked.message acked.from acked.says))
+      where
+        is-ack : (message : Message) → message.from ≡ Server m →
+            message.body ≡ WriteOk ack.seg ack.offset ack.term ack.table ack.key ack.version →
+            is_ack_of m message ≡ true
+        is-ack message from says = ap (λ (a : Addr). is_ack_of m (record { from = a; to = message.to; body = message.body })) from
+            ∙ (ap (λ (b : Body). is_ack_of m (record { from = Server m; to = message.to; body = b })) says ∙
+            ap (λ b. b && true) (same_id-refl m))
+
+    by : (place : LogPlace) × In place (counted_places log) × (place.client ≡ true) × (acked.message ≡ ok_of m place) →
+        IsAsked (replay setup events).sent m log ack
+    by (place, among, client, same) = record {
+      entry = place.entry;
+      stands = ap (λ s. slice_get (log_in log s) ack.offset) says.seg ∙
+          (ap (slice_get (log_in log place.seg)) says.offset ∙ place-logged log place found);
+      of_ack = record { term = sym says.term; table = sym says.table; key = sym says.key };
+      version = sym says.version;
+      asked = subst (λ t. WasAsked (replay setup events).sent m t ack.key place.entry.value) (sym says.table)
+          (subst (λ k. WasAsked (replay setup events).sent m place.entry.table k place.entry.value) (sym says.key)
+          (kept-replay setup ClientsAsked (clients-kept setup) events m place
+          (In-from_take log.durable (places_of log) place among) client));
+    }
+      where
+        says : SaysOf ack place
+        says = says-of ack place (sym acked.says ∙ ap (λ (message : Message). message.body) same)
+
+        found : IsOf log.segments log.head place
+        found = let at = place_of (places_of log) place (In-from_take log.durable (places_of log) place among) in
+            places_to-are log.segments log.head at.0 place at.1

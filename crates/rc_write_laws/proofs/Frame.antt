@@ -1,0 +1,296 @@
+-- What the steps of masters keep of each master, with what was sent, holds of every world.
+use Rattle.std.proofs.Common.{◌≡◌, ℕ, ◌+◌, false, List, [], ◌∷◌, ◌++◌, Option, Some, None, refl, sym, ap, ◌∙◌, subst, inl, inr, arith}
+use Rattle.std.specs.List.{All}
+use Rattle.std.proofs.lemmas.List.Elements.{All-nil, All-cons, All-head, All-tail}
+use Rattle.rc_types.specs.declared.ids.ServerId.{ServerId}
+use Rattle.rc_types.specs.declared.ids.Addr.{Addr}
+use Rattle.rc_types.specs.declared.ids.Addr.TheVariants.{Server, Coordinator as AtCoordinator, Outside}
+use Rattle.rc_types.specs.declared.rows.Part.{Part}
+use Rattle.rc_types.specs.declared.events.Setup.{Setup}
+use Rattle.rc_types.specs.declared.events.Event.{Event}
+use Rattle.rc_types.specs.declared.messages.Message.{Message}
+use Rattle.rc_types.specs.declared.messages.Body.{Body}
+use Rattle.rc_types.specs.declared.messages.Body.TheVariants.{Place, Append, Close, Free, Gather, Fetch, Data, Replicas, Enlist}
+use Rattle.rc_model.specs.Ids.{same_id, is_server}
+use Rattle.rc_model.specs.Tables.{put_id}
+use Rattle.rc_model.specs.Messages.{between, to_coordinator}
+use Rattle.rc_model.specs.Replica.{Replica}
+use Rattle.rc_model.specs.Backup.{Backup, backup_takes, keeps, stores, stored_of, is_refused, replica_of}
+use Rattle.rc_model.specs.Backup.{replica_after, rows_of_replicas, data_of, answers_fetch}
+use Rattle.rc_model.specs.Master.{Master, new_master}
+use Rattle.rc_model.specs.MasterStep.{master_takes, master_ticks}
+use Rattle.rc_model.specs.Nodes.{Work, Ask, Take, Tick, Stop, Start, Suspect, Decide, Create, Split, HostNode}
+use Rattle.rc_model.specs.Nodes.{master_setup, outside_sends, coordinator_step, server_of, host_step, is_for_backup}
+use Rattle.rc_model.specs.Nodes.{with_backup, with_master, server_takes, takes_if_running, ticks_if_running}
+use Rattle.rc_model.specs.Nodes.{starts_host, next_server}
+use Rattle.rc_model.specs.World.{World, opening, NodeName, TheOutside, TheCoordinator, TheHost, Job, work_of}
+use Rattle.rc_model.specs.World.{is_possible, with_last_view, node_done, job_done, step, replay_from, replay}
+use Rattle.rc_model.specs.Headline.{In}
+use Rattle.rc_model.proofs.Members.{either}
+use Rattle.rc_step_laws.specs.Facts.{GoodMaster, GoodHost}
+use Rattle.rc_step_laws.specs.Moves.{MasterMoved}
+use Rattle.rc_step_laws.proofs.Lists.{true_false, same_id-true, same_id-refl}
+use Rattle.rc_step_laws.proofs.MasterSteps.{master_takes_keeps, master_ticks_keeps}
+use Rattle.rc_step_laws.proofs.CoordinatorSteps as coordinator
+use Rattle.rc_log_laws.proofs.Replays.{GoodWorld, IsGiven, is-good, is-fine, hears, is_server-true, work_of-given}
+use Rattle.rc_log_laws.proofs.Replays.{may-hear, to-coordinator-is, good-step, good-opening}
+use Rattle.rc_write_laws.proofs.Quiet.{is_loud, AllSoft, soft-none, soft-one}
+
+-- others than this master say nothing loud in its name
+abbrev pub OthersSay : ServerId → List Message → Type 0
+OthersSay m messages = (message : Message) → In message messages → message.from ≡ Server m → is_loud message.body ≡ false
+
+-- what leads from what holds of each master before an event to what holds of it afterwards: what others say, and its own steps
+pub record IsLed (P Q : List Message → ServerId → Master → Type 0) : Type 0 where
+  pub same : (sent : List Message) (m : ServerId) (master : Master) → P sent m master → Q sent m master
+  pub others : (sent messages : List Message) (m : ServerId) (master : Master) → P sent m master →
+      OthersSay m messages → Q (sent ++ messages) m master
+  pub takes : (sent : List Message) (m : ServerId) (master : Master) (from : Addr) (body : Body) →
+      GoodMaster sent m master → P sent m master →
+      In (record { from = from; to = Server m; body = body }) sent →
+      Q (sent ++ (master_takes master from body).1) m (master_takes master from body).0
+  pub ticks : (sent : List Message) (m : ServerId) (master : Master) → GoodMaster sent m master → P sent m master →
+      Q (sent ++ (master_ticks master).1) m (master_ticks master).0
+
+-- what holds of a new master, and is kept so
+pub record IsKeptByAll (setup : Setup) (P : List Message → ServerId → Master → Type 0) : Type 0 where
+  pub opened : (m : ServerId) → P [] m (new_master m (master_setup setup m.index))
+  pub led : IsLed P P
+
+-- Backups
+
+pub All-In : {X : Type 0} (P : X → Type 0) (xs : List X) (x : X) → All P xs → In x xs → P x
+All-In P [] x all at = absurd at
+All-In P (y ∷ xs) x all (inl e) = subst P (sym e) (All-head P y xs all)
+All-In P (y ∷ xs) x all (inr rest) = All-In P xs x (All-tail P y xs all) rest
+
+soft-keeps : (backup : Backup) (master : ServerId) (seg : ℕ) (found : Option Replica) → AllSoft (keeps backup master seg found).1
+soft-keeps backup master seg None = soft-none
+soft-keeps backup master seg (Some replica) = soft-one (between backup.own master (stored_of seg replica)) refl
+
+soft-stores : (backup : Backup) (master : ServerId) (seg : ℕ) (body : Body) → AllSoft (stores backup master seg body).1
+soft-stores backup master seg body =
+    either (λ (after : Backup × List Message). AllSoft after.1) (is_refused seg (backup.held master)) (backup, [])
+    (keeps backup master seg (replica_after (replica_of seg (backup.held master).replicas) body))
+    (λ e. soft-none) (λ e. soft-keeps backup master seg (replica_after (replica_of seg (backup.held master).replicas) body))
+
+abbrev SoftBodies : List Body → Type 0
+SoftBodies bodies = All (λ (body : Body). is_loud body ≡ false) bodies
+
+soft-data : (attempt seg len : ℕ) (part : Part) (found : Option Replica) → SoftBodies (data_of attempt seg len part found)
+soft-data attempt seg len part None = All-nil (λ (body : Body). is_loud body ≡ false)
+soft-data attempt seg len part (Some replica) =
+    either SoftBodies _ (Data attempt seg part.term _ ∷ []) []
+    (λ e. All-cons (λ (body : Body). is_loud body ≡ false) (Data attempt seg part.term _) [] refl
+    (All-nil (λ (body : Body). is_loud body ≡ false)))
+    (λ e. All-nil (λ (body : Body). is_loud body ≡ false))
+
+soft-answers : (backup : Backup) (asker master : ServerId) (bodies : List Body) → SoftBodies bodies →
+    AllSoft (answers_fetch backup asker master bodies)
+soft-answers backup asker master [] all = soft-none
+soft-answers backup asker master (body ∷ bodies) all =
+    either AllSoft (backup.held master).fenced (between backup.own asker body ∷ []) []
+    (λ e. soft-one (between backup.own asker body) (All-head (λ (one : Body). is_loud one ≡ false) body bodies all)) (λ e. soft-none)
+
+soft-backup : (backup : Backup) (from : Addr) (body : Body) → AllSoft (backup_takes backup from body).1
+soft-backup backup (Server master) (Place seg epoch digest entries closed) =
+    soft-stores backup master seg (Place seg epoch digest entries closed)
+soft-backup backup (Server master) (Append seg offset entries) = soft-stores backup master seg (Append seg offset entries)
+soft-backup backup (Server master) (Close seg len) = soft-stores backup master seg (Close seg len)
+soft-backup backup (Server master) (Free seg) = soft-none
+soft-backup backup (Server asker) (Fetch attempt master seg len part) =
+    soft-answers backup asker master (data_of attempt seg len part (replica_of seg (backup.held master).replicas))
+    (soft-data attempt seg len part (replica_of seg (backup.held master).replicas))
+soft-backup backup from (Gather attempt master) =
+    soft-one (to_coordinator backup.own (Replicas attempt (rows_of_replicas (backup.held master).replicas))) refl
+soft-backup backup from body = soft-none
+
+soft-others : (m : ServerId) (messages : List Message) → AllSoft messages → OthersSay m messages
+soft-others m messages all message at from = All-In (λ (one : Message). is_loud one.body ≡ false) messages message all at
+
+-- A world
+
+abbrev pub OfAll : (List Message → ServerId → Master → Type 0) → List Message → (ServerId → Master) → Type 0
+OfAll P sent masters = (m : ServerId) → P sent m (masters m)
+
+module _ (P Q : List Message → ServerId → Master → Type 0) (led : IsLed P Q) where
+  quiet-all : (sent messages : List Message) (masters : ServerId → Master) → OfAll P sent masters →
+      ((m : ServerId) → OthersSay m messages) → OfAll Q (sent ++ messages) masters
+  quiet-all sent messages masters p others m = led.others sent messages m (masters m) (p m) (others m)
+
+  -- the view of a host's master is put in again as it is
+  same-view : (sent : List Message) (masters now : ServerId → Master) → ((m : ServerId) → now m ≡ masters m) →
+      OfAll Q sent masters → OfAll Q sent now
+  same-view sent masters now same p m = subst (Q sent m) (sym (same m)) (p m)
+
+  not-server : {Q : Type 0} (m : ServerId) → AtCoordinator ≡ Server m → Q
+  not-server m e = cc
+
+  not-server_too : {Q : Type 0} (m : ServerId) → Outside ≡ Server m → Q
+  not-server_too m e = cc
+
+  one-server : (a b : ServerId) → Server a ≡ Server b → a ≡ b
+  one-server a b e = cc
+
+  outside-others : (work : Work) (m : ServerId) → OthersSay m (outside_sends work)
+  outside-others (Ask to body) m message (inl same) from = not-server_too m (sym (ap (λ (one : Message). one.from) same) ∙ from)
+  outside-others (Ask to body) m message (inr never) from = absurd never
+  outside-others _ m message at from = absurd at
+
+  coordinator-from : (world : World) (work : Work) → GoodWorld world → IsGiven world.sent TheCoordinator work →
+      (message : Message) → In message (coordinator_step world.coordinator work).1 → message.from ≡ AtCoordinator
+  coordinator-from world (Take taken) good given =
+      (coordinator.moved-takes world.sent world.coordinator good.coordinator taken.from taken.body
+      (may-hear world.sent world.masters world.hosts world.coordinator good taken.from taken.body
+      (subst (λ (to : Addr). In (record { from = taken.from; to = to; body = taken.body }) world.sent)
+      (to-coordinator-is taken.to given.1) given.0))).from
+  coordinator-from world (Tick addr) good given = (coordinator.moved-ticks world.sent world.coordinator good.coordinator).from
+  coordinator-from world (Suspect id) good given = (coordinator.moved-suspects world.sent world.coordinator good.coordinator id).from
+  coordinator-from world (Decide id) good given = (coordinator.moved-decides world.sent world.coordinator good.coordinator id).from
+  coordinator-from world (Create table owner) good given =
+      (coordinator.moved-creates world.sent world.coordinator good.coordinator table owner).from
+  coordinator-from world (Split table at) good given =
+      (coordinator.moved-splits world.sent world.coordinator good.coordinator table at).from
+  coordinator-from world _ good given = λ message at. absurd at
+
+  module _ (world : World) (one : Event) (i : ℕ) (good : GoodWorld world) (p : OfAll P world.sent world.masters) where
+    abbrev Done : HostNode × List Message → Type 0
+    Done after = OfAll Q (world.sent ++ after.1) (with_last_view world.masters after.0.master)
+
+    own-is : (master : Master) → (world.hosts i).master ≡ Some master → master.log.own ≡ server_of (world.hosts i)
+    own-is master e = (is-good world one i good master e).own
+
+    view-same : (found : Option Master) → (world.hosts i).master ≡ found → (m : ServerId) →
+        with_last_view world.masters found m ≡ world.masters m
+    view-same None e m = refl
+    view-same (Some master) e m =
+        either (λ (now : Master). now ≡ world.masters m) (same_id master.log.own m) master (world.masters m)
+        (λ is. sym ((good.hosts_are i).runs master e) ∙ ap world.masters (sym (own-is master e) ∙ same_id-true master.log.own m is))
+        (λ _. refl)
+
+    -- the master stays, and nothing loud is said
+    done-quiet : (host : HostNode) (messages : List Message) → host.master ≡ (world.hosts i).master → AllSoft messages →
+        Done (host, messages)
+    done-quiet host messages same soft =
+        same-view (world.sent ++ messages) world.masters (with_last_view world.masters host.master)
+        (λ m. ap (λ (found : Option Master). with_last_view world.masters found m) same ∙ view-same (world.hosts i).master refl m)
+        (quiet-all world.sent messages world.masters p (λ m. soft-others m messages soft))
+
+    -- the master moves
+    done-moved : (master : Master) → (world.hosts i).master ≡ Some master → (after : Master × List Message) →
+        MasterMoved world.sent (server_of (world.hosts i)) master after →
+        Q (world.sent ++ after.1) (server_of (world.hosts i)) after.0 → Done (with_master (world.hosts i) after)
+    done-moved master e (now, messages) moved new m =
+        either (Q (world.sent ++ messages) m) (same_id now.log.own m) now (world.masters m)
+        (λ is. subst (λ (k : ServerId). Q (world.sent ++ messages) k now) (sym moved.good.own ∙ same_id-true now.log.own m is) new)
+        (λ isn't. led.others world.sent messages m (world.masters m) (p m)
+        (λ message at from. absurd (never (sym (moved.says message at).from ∙ from) isn't)))
+      where
+        never : Server (server_of (world.hosts i)) ≡ Server m → same_id now.log.own m ≡ false → ⊥
+        never same isn't =
+            true_false (sym (ap (λ (k : ServerId). same_id k m) (moved.good.own ∙ one-server (server_of (world.hosts i))
+            m same) ∙ same_id-refl m) ∙ isn't)
+
+    -- what holds of the master that runs
+    mine : (master : Master) → (world.hosts i).master ≡ Some master → P world.sent (server_of (world.hosts i)) master
+    mine master e = subst (P world.sent (server_of (world.hosts i))) ((good.hosts_are i).runs master e) (p (server_of (world.hosts i)))
+
+    done-server : (master : Master) → (world.hosts i).master ≡ Some master → (message : Message) →
+        In (record { from = message.from; to = Server (server_of (world.hosts i)); body = message.body }) world.sent →
+        Done (server_takes (world.hosts i) master message)
+    done-server master e message at =
+        either Done (is_for_backup message.body)
+        (with_backup (world.hosts i) (backup_takes (world.hosts i).backup message.from message.body))
+        (with_master (world.hosts i) (master_takes master message.from message.body))
+        (λ _. as_backup (backup_takes (world.hosts i).backup message.from message.body)
+        (soft-backup (world.hosts i).backup message.from message.body))
+        (λ _. done-moved master e (master_takes master message.from message.body)
+        (master_takes_keeps world.sent (server_of (world.hosts i)) master message.from message.body
+        (is-good world one i good master e) (is-fine world one i good master e)
+        (hears world one i good message.from message.body at))
+        (led.takes world.sent (server_of (world.hosts i)) master message.from message.body
+        (is-good world one i good master e) (mine master e) at))
+      where
+        as_backup : (after : Backup × List Message) → AllSoft after.1 → Done (with_backup (world.hosts i) after)
+        as_backup (backup, messages) soft = done-quiet (record (world.hosts i) { backup = backup }) messages refl soft
+
+    done-takes : (found : Option Master) → (world.hosts i).master ≡ found → (message : Message) →
+        In message world.sent → Done (takes_if_running (world.hosts i) found message)
+    done-takes None e message at = done-quiet (world.hosts i) [] refl soft-none
+    done-takes (Some master) e message at =
+        either Done (is_server (server_of (world.hosts i)) message.to) (server_takes (world.hosts i) master message) (world.hosts i, [])
+        (λ is. done-server master e message
+        (subst (λ (to : Addr). In (record { from = message.from; to = to; body = message.body }) world.sent)
+        (is_server-true world one i good (server_of (world.hosts i)) message.to is) at))
+        (λ _. done-quiet (world.hosts i) [] refl soft-none)
+
+    done-ticks : (found : Option Master) → (world.hosts i).master ≡ found → Done (ticks_if_running (world.hosts i) found)
+    done-ticks None e = done-quiet (world.hosts i) [] refl soft-none
+    done-ticks (Some master) e =
+        done-moved master e (master_ticks master) (master_ticks_keeps world.sent (server_of (world.hosts i)) master
+        (is-good world one i good master e) (is-fine world one i good master e))
+        (led.ticks world.sent (server_of (world.hosts i)) master (is-good world one i good master e) (mine master e))
+
+    done-starts : (list : List (ServerId × ℕ)) → Done (starts_host (world.hosts i) (next_server (world.hosts i)) list)
+    done-starts list =
+        same-view (world.sent ++ to_coordinator (next_server (world.hosts i)) Enlist ∷ []) world.masters
+        (put_id world.masters (next_server (world.hosts i)) (new_master (next_server (world.hosts i)) (world.hosts i).setup))
+        (λ m. either (λ (now : Master). now ≡ world.masters m) (same_id (next_server (world.hosts i)) m)
+        (new_master (next_server (world.hosts i)) (world.hosts i).setup) (world.masters m)
+        (λ is. sym started ∙ ap world.masters (same_id-true (next_server (world.hosts i)) m is)) (λ _. refl))
+        (quiet-all world.sent (to_coordinator (next_server (world.hosts i)) Enlist ∷ []) world.masters p
+        (λ m. soft-others m (to_coordinator (next_server (world.hosts i)) Enlist ∷ [])
+        (soft-one (to_coordinator (next_server (world.hosts i)) Enlist) refl)))
+      where
+        was : GoodHost world.sent world.masters i (world.hosts i)
+        was = good.hosts_are i
+
+        started : world.masters (next_server (world.hosts i)) ≡ new_master (next_server (world.hosts i)) (world.hosts i).setup
+        started = subst (λ n. world.masters (record { index = n; generation = (world.hosts i).generation + 1 }) ≡
+            new_master (record { index = n; generation = (world.hosts i).generation + 1 }) (world.hosts i).setup)
+            (sym was.index)
+            (was.unstarted ((world.hosts i).generation + 1) (omega arith))
+
+    done-host : (work : Work) → IsGiven world.sent (TheHost i) work → Done (host_step (world.hosts i) work)
+    done-host (Take message) given = done-takes (world.hosts i).master refl message given.0
+    done-host (Tick addr) given = done-ticks (world.hosts i).master refl
+    done-host (Stop id) given = quiet-all world.sent [] world.masters p (λ m. soft-others m [] soft-none)
+    done-host (Start list) given = done-starts list
+    done-host _ given = done-quiet (world.hosts i) [] refl soft-none
+
+  abbrev Before : World → Type 0
+  Before world = OfAll P world.sent world.masters
+
+  abbrev After : World → Type 0
+  After world = OfAll Q world.sent world.masters
+
+  led-node : (world : World) (one : Event) (node : NodeName) (work : Work) → GoodWorld world → Before world →
+      IsGiven world.sent node work → After (node_done world one node work)
+  led-node world one TheOutside work good p given = quiet-all world.sent (outside_sends work) world.masters p (outside-others work)
+  led-node world one TheCoordinator work good p given =
+      quiet-all world.sent (coordinator_step world.coordinator work).1 world.masters p
+      (λ m message at from. not-server m (sym (coordinator-from world work good given message at) ∙ from))
+  led-node world one (TheHost i) work good p given = done-host world one i good p work given
+
+  led-job : (world : World) (one : Event) (found : Option Job) → work_of world.sent one ≡ found → GoodWorld world →
+      Before world → After (job_done world one found)
+  led-job world one None is good p = λ m. led.same world.sent m (world.masters m) (p m)
+  led-job world one (Some job) is good p = led-node world one job.node job.work good p (work_of-given world.sent one job is)
+
+  -- an event
+  pub led-by : (world : World) (one : Event) → GoodWorld world → Before world → After (step world one)
+  led-by world one good p =
+      either After (is_possible world one) (job_done world one (work_of world.sent one)) world
+      (λ _. led-job world one (work_of world.sent one) refl good p)
+      (λ _ m. led.same world.sent m (world.masters m) (p m))
+
+module _ (setup : Setup) (P : List Message → ServerId → Master → Type 0) (kept : IsKeptByAll setup P) where
+  kept-from : (world : World) (events : List Event) → GoodWorld world → OfAll P world.sent world.masters →
+      OfAll P (replay_from world events).sent (replay_from world events).masters
+  kept-from world [] good p = p
+  kept-from world (one ∷ events) good p =
+      kept-from (step world one) events (good-step world one good) (led-by P P kept.led world one good p)
+
+  -- it holds of every world
+  pub kept-replay : (events : List Event) (m : ServerId) → P (replay setup events).sent m ((replay setup events).masters m)
+  kept-replay events = kept-from (opening setup) events (good-opening setup) kept.opened

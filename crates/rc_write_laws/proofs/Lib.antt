@@ -1,0 +1,16 @@
+pub mod Quiet
+pub mod Walk
+pub mod Frame
+pub mod Counting
+pub mod Settling
+pub mod Asking
+pub mod Once
+pub mod Ordering
+pub mod Leasts
+pub mod Limiting
+pub mod Moments
+pub mod Told
+pub mod DurableSteps
+pub mod Worlds
+pub mod Sending
+pub mod Handing

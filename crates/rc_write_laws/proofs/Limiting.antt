@@ -1,0 +1,76 @@
+-- The numbers of a log stay within their limits.
+use Rattle.std.proofs.Common.{◌≡◌, Bool, true, false, List, ◌++◌, length, refl, ◌∙◌, arith, leb-false}
+use Rattle.std.proofs.lemmas.List.{length_push}
+use Rattle.rc_types.specs.declared.ids.ServerId.{ServerId}
+use Rattle.rc_types.specs.declared.entries.Entry.{Entry}
+use Rattle.rc_types.specs.declared.messages.Message.{Message}
+use Rattle.rc_types.specs.declared.events.Setup.{Setup}
+use Rattle.rc_model.specs.Segment.{with_entry}
+use Rattle.rc_model.specs.Log.{head_of}
+use Rattle.rc_model.specs.Heads.{is_full}
+use Rattle.rc_model.specs.Master.{Master, appends_entry}
+use Rattle.rc_model.specs.MasterStep.{master_takes, master_ticks}
+use Rattle.rc_write_laws.specs.LimitClaims.{IsWithinLimits, LogsStayWithinLimits, SegmentsTakeWhatIsSetUp}
+use Rattle.rc_write_laws.proofs.Quiet.{limits-put}
+use Rattle.rc_write_laws.proofs.Walk.{IsKept, takes-kept, tick-kept}
+use Rattle.rc_write_laws.proofs.Frame.{IsKeptByAll, kept-replay}
+
+record Limits (old : Master) (after : Master × List Message) : Type 0 where
+  size : after.0.log.size ≡ old.log.size
+  limits : IsWithinLimits old.log → IsWithinLimits after.0.log
+
+limits-appends : (master : Master) (entry : Entry) (client : Bool) → is_full master.log ≡ false →
+    Limits master (appends_entry master entry client)
+limits-appends master entry client room = record {
+  size = refl;
+  limits = λ h. limits-put master.log master.log.head (with_entry entry client (head_of master.log)) h (h.epochs master.log.head)
+      (omega (
+        arith,
+        length_push (head_of master.log).entries (entry, client),
+        leb-false master.log.size (length (head_of master.log).entries) room,
+      ));
+}
+
+limits-kept : IsKept (λ entry. Unit {0}) Limits
+limits-kept = record {
+  inputs = record {
+    both = λ a b first after p q. record { size = q.size ∙ p.size; limits = λ h. q.limits (p.limits h) };
+    quiet = λ old new messages quiet soft. record { size = quiet.size; limits = quiet.limits };
+    appends = λ master entry client room asked. limits-appends master entry client room;
+    again = λ master. record { size = refl; limits = λ h. h };
+  };
+  counts = λ master less. record { size = refl; limits = λ h. record { head = h.head; epochs = h.epochs; entries = h.entries } };
+  commits = λ master seg e. record {
+    size = refl;
+    limits = λ h. limits-put master.log seg (record (master.log.segments seg) { commit_sent = true }) h (h.epochs seg) (h.entries seg);
+  };
+}
+
+record OfSetup (setup : Setup) (sent : List Message) (m : ServerId) (master : Master) : Type 0 where
+  size : master.log.size ≡ setup.segment
+  limits : IsWithinLimits master.log
+
+after-step : (setup : Setup) (sent sent_now : List Message) (m : ServerId) (master : Master)
+    (after : Master × List Message) → OfSetup setup sent m master → Limits master after →
+    OfSetup setup sent_now m after.0
+after-step setup sent sent_now m master after p step = record { size = step.size ∙ p.size; limits = step.limits p.limits }
+
+of_setup-kept : (setup : Setup) → IsKeptByAll setup (OfSetup setup)
+of_setup-kept setup = record {
+  opened = λ m. record { size = refl; limits = record { head = omega arith; epochs = λ s. omega arith; entries = λ s. omega arith } };
+  led = record {
+    same = λ sent m master p. p;
+    others = λ sent messages m master p others. record { size = p.size; limits = p.limits };
+    takes = λ sent m master from body good p at. after-step setup sent (sent ++ (master_takes master from body).1) m
+        master (master_takes master from body) p (takes-kept (λ entry. Unit {0}) Limits limits-kept master from body
+        (λ table key value under e. tt));
+    ticks = λ sent m master good p. after-step setup sent (sent ++ (master_ticks master).1) m master
+        (master_ticks master) p (tick-kept (λ entry. Unit {0}) Limits limits-kept master);
+  };
+}
+
+pub logs-stay-within-limits : LogsStayWithinLimits
+logs-stay-within-limits setup events m = (kept-replay setup (OfSetup setup) (of_setup-kept setup) events m).limits
+
+pub segments-take-what-is-set-up : SegmentsTakeWhatIsSetUp
+segments-take-what-is-set-up setup events m = (kept-replay setup (OfSetup setup) (of_setup-kept setup) events m).size

@@ -1,0 +1,354 @@
+-- A place is counted as durable in the event in which it becomes stored on all.
+use Rattle.std.proofs.Common.{◌≡◌, ℕ, zero, suc, ◌+◌, ◌-◌, ◌<◌, ◌≤◌, max, Bool, true, false, cond, nat_lt, List, []}
+use Rattle.std.proofs.Common.{◌∷◌, ◌++◌, length, map, Option, Some, None, Result, Ok, Err, refl, sym, ap, ◌∙◌, subst}
+use Rattle.std.proofs.Common.{inl, inr, arith}
+use Rattle.std.proofs.lemmas.Bool.{ltb-true}
+use Rattle.std.proofs.lemmas.List.{append_assoc, append-nil, map-append, length_push}
+use Rattle.rc_types.specs.declared.ids.ServerId.{ServerId}
+use Rattle.rc_types.specs.declared.events.Event.{Event}
+use Rattle.rc_types.specs.declared.ids.Addr.{Addr}
+use Rattle.rc_types.specs.declared.entries.Entry.{Entry}
+use Rattle.rc_types.specs.declared.faults.Fault.{Fault}
+use Rattle.rc_types.specs.declared.faults.Fault.TheVariants.{LogFull}
+use Rattle.rc_types.specs.declared.limits.TheConstants.{LAST_SEGMENT}
+use Rattle.rc_types.specs.declared.messages.Message.{Message}
+use Rattle.rc_types.specs.declared.messages.Body.{Body}
+use Rattle.rc_model.specs.ServerList.{ServerList}
+use Rattle.rc_model.specs.Config.{choose}
+use Rattle.rc_model.specs.Segment.{Segment, new_segment, with_entry, durable_in, with_closes_sent}
+use Rattle.rc_model.specs.Log.{Log, head_of, old_head_of, with_segment, numbers_to, is_writing, durable_among, durable_now}
+use Rattle.rc_model.specs.Heads.{opens_head, next_digest, rolled, begin_roll, is_full, appends, shuts, with_shut}
+use Rattle.rc_model.specs.Heads.{may_start, may_close, may_write, left_out, with_freed, starts, closes_old, writes_on}
+use Rattle.rc_model.specs.Ownership.{after_replay, to_answer}
+use Rattle.rc_model.specs.Master.{Master, with_log, durable_entries, dead_segments, appends_entry}
+use Rattle.rc_model.specs.ListRules.{then_does}
+use Rattle.rc_model.specs.FollowUps.{when, follows_start, follows_placed, close_is_due, close_marked, follows_closing}
+use Rattle.rc_model.specs.FollowUps.{follows_shut, first_open, wants_commit, commits, commits_open, follows_change}
+use Rattle.rc_model.specs.FollowUps.{follows_stored, rolls_for_replay, replays, follows_data, answers_part}
+use Rattle.rc_model.specs.FollowUps.{follows_replay, or_rule, follow_up, marks_shut, further, followed, measure}
+use Rattle.rc_model.specs.FollowUps.{goes_on}
+use Rattle.rc_model.specs.MasterTick.{ticks}
+use Rattle.rc_model.specs.MasterStep.{master_takes_first, deposed_takes, master_takes, master_ticks}
+use Rattle.rc_model.specs.World.{World, opening, step, replay}
+use Rattle.rc_model.specs.Headline.{In}
+use Rattle.rc_model.proofs.Members.{either}
+use Rattle.rc_model.proofs.Replays.{replay_from-push}
+use Rattle.rc_step_laws.proofs.Lists.{put_each}
+use Rattle.rc_step_laws.proofs.Places.{numbers-In}
+use Rattle.rc_log_laws.proofs.Replays.{GoodWorld, good-world}
+use Rattle.rc_write_laws.specs.MomentClaims.{CountedWhenStored}
+use Rattle.rc_write_laws.proofs.Quiet.{put-beside}
+use Rattle.rc_write_laws.proofs.Walk.{IsKeptByInputs, first-kept_by, ticks-kept_by}
+use Rattle.rc_write_laws.proofs.Frame.{IsLed, led-by, kept-replay}
+use Rattle.rc_write_laws.proofs.Settling.{IsSettled, settled-kept, deposed-same}
+
+-- How many places are stored on all, segment by segment
+
+record SegmentMore (old new : Segment) : Type 0 where
+  shut : old.shut ≡ true → new.shut ≡ true
+  longer : length old.entries ≤ length new.entries
+  stored : durable_in old ≤ durable_in new
+
+more-same : (segment : Segment) → SegmentMore segment segment
+more-same segment = record { shut = λ e. e; longer = omega arith; stored = omega arith }
+
+within : (segment : Segment) → durable_in segment ≤ length segment.entries
+within segment = omega arith
+
+first-more : (old new : Segment) (a b : ℕ) → SegmentMore old new → a ≤ b →
+    cond old.shut (length old.entries + a) (durable_in old) ≤ cond new.shut (length new.entries + b) (durable_in new)
+first-more old new a b p less = by old.shut new.shut refl refl
+  where
+    by : (x y : Bool) → old.shut ≡ x → new.shut ≡ y →
+        cond x (length old.entries + a) (durable_in old) ≤ cond y (length new.entries + b) (durable_in new)
+    by true true e f = omega (arith, p.longer, less)
+    by true false e f = absurd (never (sym (p.shut e) ∙ f))
+      where
+        never : true ≡ false → ⊥
+        never e = cc
+    by false true e f = omega (arith, p.stored, within new)
+    by false false e f = p.stored
+
+among-more : (old new : ℕ → Segment) (ns : List ℕ) → ((n : ℕ) → In n ns → SegmentMore (old n) (new n)) →
+    durable_among (map old ns) ≤ durable_among (map new ns)
+among-more old new [] each = omega arith
+among-more old new (n ∷ ns) each =
+    first-more (old n) (new n) (durable_among (map old ns)) (durable_among (map new ns)) (each n (inl refl))
+    (among-more old new ns (λ k at. each k (inr at)))
+
+among-further : (segments others : List Segment) → durable_among segments ≤ durable_among (segments ++ others)
+among-further [] others = omega arith
+among-further (segment ∷ segments) others = first-more segment segment (durable_among segments)
+    (durable_among (segments ++ others)) (more-same segment) (among-further segments others)
+
+numbers-more : (n d : ℕ) → (rest : List ℕ) × (numbers_to (d + n) ≡ numbers_to n ++ rest)
+numbers-more n zero = ([], (let e : 0 + n ≡ n = omega arith in ap numbers_to e) ∙ sym (append-nil (numbers_to n)))
+numbers-more n (suc d) = further_on (numbers-more n d)
+  where
+    further_on : (rest : List ℕ) × (numbers_to (d + n) ≡ numbers_to n ++ rest) →
+        (rest : List ℕ) × (numbers_to (suc d + n) ≡ numbers_to n ++ rest)
+    further_on (rest, e) = (
+      rest ++ suc (d + n) ∷ [],
+      (let same : suc d + n ≡ suc (d + n) = omega arith in ap numbers_to same)
+          ∙ (ap (λ l. l ++ suc (d + n) ∷ []) e ∙ append_assoc (numbers_to n) rest (suc (d + n) ∷ [])),
+    )
+
+numbers-upto : (n k : ℕ) → In k (numbers_to n) → k ≤ n
+numbers-upto n k at = (numbers-In k n at).1
+
+now-more : (old new : Log) → old.head ≤ new.head →
+    ((s : ℕ) → s ≤ old.head → SegmentMore (old.segments s) (new.segments s)) → durable_now old ≤ durable_now new
+now-more old new upto each = by (numbers-more old.head (new.head - old.head))
+  where
+    by : (rest : List ℕ) × (numbers_to ((new.head - old.head) + old.head) ≡ numbers_to old.head ++ rest) → durable_now old ≤ durable_now new
+    by (rest, e) =
+        let same : (new.head - old.head) + old.head ≡ new.head = omega (arith, upto) in
+        let whole : durable_now new ≡ durable_among (map new.segments (numbers_to old.head) ++ map new.segments rest) =
+        ap (λ n. durable_among (map new.segments (numbers_to n))) (sym same) ∙
+        (ap (λ l. durable_among (map new.segments l)) e ∙
+        ap durable_among (map-append new.segments (numbers_to old.head) rest)) in
+        omega (
+          arith,
+          whole,
+          among-further (map new.segments (numbers_to old.head)) (map new.segments rest),
+          among-more old.segments new.segments (numbers_to old.head) (λ n at. each n (numbers-upto old.head n at)),
+        )
+
+-- What follows an input
+
+record Follows (old new : Log) : Type 0 where
+  now : durable_now old ≤ durable_now new
+  rises : old.durable ≤ new.durable
+  count : new.durable ≤ max old.durable (durable_now new)
+
+follows-refl : (log : Log) → Follows log log
+follows-refl log = record { now = omega arith; rises = omega arith; count = omega arith }
+
+follows-then : (a b c : Log) → Follows a b → Follows b c → Follows a c
+follows-then a b c p q = record {
+  now = omega (arith, p.now, q.now);
+  rises = omega (arith, p.rises, q.rises);
+  count = omega (arith, p.count, q.count, q.now);
+}
+
+-- the count stays
+follows-more : (old new : Log) → new.durable ≡ old.durable → old.head ≤ new.head →
+    ((s : ℕ) → s ≤ old.head → SegmentMore (old.segments s) (new.segments s)) → Follows old new
+follows-more old new same upto each = record { now = now-more old new upto each; rises = omega (arith, same); count = omega (arith, same) }
+
+follows-put : (log : Log) (seg : ℕ) (segment : Segment) → SegmentMore (log.segments seg) segment →
+    Follows log (with_segment seg segment log)
+follows-put log seg segment more =
+    follows-more log (with_segment seg segment log) refl (omega arith)
+    (λ s upto. put_each (λ k (one : Segment). SegmentMore (log.segments k) one) log.segments seg segment more
+    (λ k. more-same (log.segments k)) s)
+
+follows-opens : (log : Log) (digest : List ℕ) (ids : List ServerId) → Follows log (opens_head log digest ids)
+follows-opens log digest ids =
+    follows-more log (opens_head log digest ids) refl (omega arith)
+    (λ s upto. subst (SegmentMore (log.segments s))
+    (sym (put-beside log.segments (log.head + 1) (new_segment (log.head + 1) digest ids) s
+    (λ same. absurd (omega (arith, same, upto))))) (more-same (log.segments s)))
+
+follows-rolled : (log : Log) (dead : List ℕ) (ids : Option (List ServerId)) → Follows log (rolled log dead ids).0
+follows-rolled log dead None = follows-refl log
+follows-rolled log dead (Some ids) = follows-opens log (next_digest log dead) ids
+
+follows-roll : (servers : ServerList) (dead : List ℕ) (log : Log) → Follows log (begin_roll servers dead log).0
+follows-roll servers dead log =
+    either (λ (after : Log × Result Bool Fault). Follows log after.0) (nat_lt log.head LAST_SEGMENT)
+    (rolled log dead (choose (log.head + 1) log.own log.factor servers)) (log, Err LogFull)
+    (λ e. follows-rolled log dead (choose (log.head + 1) log.own log.factor servers)) (λ e. follows-refl log)
+
+follows-appends : (entry : Entry) (client : Bool) (log : Log) → Follows log (appends entry client log)
+follows-appends entry client log =
+    follows-put log log.head (with_entry entry client (head_of log))
+    (record {
+      shut = λ e. e;
+      longer = omega (arith, length_push (head_of log).entries (entry, client));
+      stored = omega (arith, length_push (head_of log).entries (entry, client));
+    })
+
+follows-shut : (log : Log) → Follows log (with_shut log)
+follows-shut log =
+    either (Follows log) (shuts log) (with_segment (log.head - 1) (record (old_head_of log) { shut = true }) log) log
+    (λ e. follows-put log (log.head - 1) (record (old_head_of log) { shut = true })
+    (record { shut = λ e. refl; longer = omega arith; stored = omega arith })) (λ e. follows-refl log)
+
+follows-freed : (segs : List ℕ) (log : Log) → Follows log (with_freed segs log)
+follows-freed [] log = follows-refl log
+follows-freed (seg ∷ segs) log =
+    let next : Log = with_segment seg (record (log.segments seg) { freed = true }) log in
+    follows-then log next (with_freed segs next) (follows-put log seg (record (log.segments seg) { freed = true })
+    (record { shut = λ e. e; longer = omega arith; stored = omega arith })) (follows-freed segs next)
+
+follows-phase : (log new : Log) → new.durable ≡ log.durable → new.head ≡ log.head → new.segments ≡ log.segments → Follows log new
+follows-phase log new durable head segments =
+    follows-more log new durable (omega (arith, head))
+    (λ s upto. subst (λ (table : ℕ → Segment). SegmentMore (log.segments s) (table s)) (sym segments)
+    (more-same (log.segments s)))
+
+-- The rules
+
+abbrev Does : Master → Option (Master × List Message) → Type 0
+Does master None = Unit {0}
+Does master (Some done) = Follows master.log done.0.log
+
+does-when : (master : Master) (b : Bool) (done : Master × List Message) → (b ≡ true → Follows master.log done.0.log) →
+    Does master (when b done)
+does-when master true done p = p refl
+does-when master false done p = tt
+
+does-or : (master : Master) (one other : Option (Master × List Message)) → Does master one → Does master other →
+    Does master (or_rule one other)
+does-or master None other p q = q
+does-or master (Some done) other p q = p
+
+does-commits : (master : Master) (seg : Option ℕ) → Does master (commits_open master seg)
+does-commits master None = tt
+does-commits master (Some seg) = does-when master (wants_commit (master.log.segments seg)) (commits master seg)
+    (λ _. follows-put master.log seg (record (master.log.segments seg) { commit_sent = true })
+    (record { shut = λ e. e; longer = omega arith; stored = omega arith }))
+
+does-stored : (master : Master) → Does master (follows_stored master)
+does-stored master = does-when master (nat_lt master.log.durable (durable_now master.log))
+    (with_log master (record master.log { durable = durable_now master.log }), _)
+    (λ e. (let less : master.log.durable < durable_now master.log = ltb-true master.log.durable (durable_now master.log)
+    e in record { now = omega arith; rises = omega arith; count = omega arith }))
+
+does-rolls : (master : Master) (done : Log × Result Bool Fault) → Follows master.log done.0 → Does master (rolls_for_replay master done)
+does-rolls master (log, Ok began) p = p
+does-rolls master (log, Err fault) p = tt
+
+does-replays : (master : Master) (entries : List Entry) → Does master (replays master entries)
+does-replays master [] = tt
+does-replays master (entry ∷ entries) =
+    either (Does master) (is_full master.log)
+    (rolls_for_replay master (begin_roll master.known (dead_segments master) master.log))
+    (Some (appends_entry (record master { ownership = after_replay master.ownership }) entry false))
+    (λ e. does-rolls master (begin_roll master.known (dead_segments master) master.log)
+    (follows-roll master.known (dead_segments master) master.log))
+    (λ e. follows-appends entry false master.log)
+
+does-data : (master : Master) → Does master (follows_data master)
+does-data master = either (Does master) (is_writing master.log.phase) (replays master master.ownership.replay) None
+    (λ e. does-replays master master.ownership.replay) (λ e. tt)
+
+does-answers : (master : Master) (term : Option ℕ) → Does master (answers_part master term)
+does-answers master None = tt
+does-answers master (Some term) = follows-refl master.log
+
+does-follow_up : (master : Master) → Does master (follow_up master)
+does-follow_up master =
+    does-or master (follows_start master) _
+    (does-when master (may_start master.log) (with_log master (starts master.log), _)
+    (λ _. follows-phase master.log (starts master.log) refl refl refl))
+    (does-or master (follows_placed master) _
+    (does-when master (may_close master.log) (with_log master (closes_old master.log), _)
+    (λ _. follows-phase master.log (closes_old master.log) refl refl refl))
+    (does-or master (follows_closing master) _ (does-when master (close_is_due master.log) (with_log master (close_marked master.log), _)
+    (λ _. follows-put master.log (master.log.head - 1) (with_closes_sent (old_head_of master.log))
+    (record { shut = λ e. e; longer = omega arith; stored = omega arith })))
+    (does-or master (follows_shut master) _ (does-when master (may_write master.log) (with_log master (writes_on master.log), _)
+    (λ _. follows-then master.log (starts master.log) (writes_on master.log)
+    (follows-phase master.log (starts master.log) refl refl refl)
+    (follows-freed (left_out master.log) (starts master.log))))
+    (does-or master (follows_change master) _ (does-commits master (first_open master.log))
+    (does-or master (follows_stored master) _ (does-stored master)
+    (does-or master (follows_data master) (follows_replay master) (does-data master)
+    (does-answers master (to_answer (durable_entries master) master.ownership))))))))
+
+further-follows : (found : Option (Master × List Message)) (master : Master) (others : Master → Master × List Message) →
+    Does master found → ((next : Master) → Follows next.log (others next).0.log) →
+    Follows master.log (further found master others).0.log
+further-follows None master others p q = follows-refl master.log
+further-follows (Some (next, messages)) master others p q = follows-then master.log next.log (others next).0.log p (q next)
+
+followed-follows : (times : ℕ) (master : Master) → Follows master.log (followed times master).0.log
+followed-follows zero master = follows-shut master.log
+followed-follows (suc times) master =
+    follows-then master.log (marks_shut master).log (followed (suc times) master).0.log (follows-shut master.log)
+    (further-follows (follow_up (marks_shut master)) (marks_shut master) (followed times)
+    (does-follow_up (marks_shut master)) (followed-follows times))
+
+goes-follows : (master : Master) → Follows master.log (goes_on master).0.log
+goes-follows master =
+    either (λ (after : Master × List Message). Follows master.log after.0.log) master.deposed (master, [])
+    (followed (measure master) master) (λ e. follows-refl master.log)
+    (λ e. followed-follows (measure master) master)
+
+-- A step: an input counts nothing, and then the rules follow
+
+abbrev CountStays : Master → Master × List Message → Type 0
+CountStays old after = after.0.log.durable ≡ old.log.durable
+
+count-kept : IsKeptByInputs (λ entry. Unit {0}) CountStays
+count-kept = record {
+  both = λ a b first after p q. q ∙ p;
+  quiet = λ old new messages quiet soft. quiet.durable;
+  appends = λ master entry client room asked. refl;
+  again = λ master. refl;
+}
+
+pub record Counts (old new : Log) : Type 0 where
+  pub rises : old.durable ≤ new.durable
+  pub count : new.durable ≤ max old.durable (durable_now new)
+
+counts-same : (log : Log) → Counts log log
+counts-same log = record { rises = omega arith; count = omega arith }
+
+then-counts : (old : Log) (first : Master × List Message) → first.0.log.durable ≡ old.durable → Counts old (then_does first goes_on).0.log
+then-counts old (master, messages) same =
+    let after : Follows master.log (goes_on master).0.log = goes-follows master in
+    record { rises = omega (arith, after.rises, same); count = omega (arith, after.count, same) }
+
+takes-counts : (master : Master) (from : Addr) (body : Body) → Counts master.log (master_takes master from body).0.log
+takes-counts master from body =
+    either (λ (after : Master × List Message). Counts master.log after.0.log) master.deposed (deposed_takes master body)
+    (then_does (master_takes_first master from body) goes_on)
+    (λ _. subst (λ (after : Master). Counts master.log after.log) (sym (deposed-same master body)) (counts-same master.log))
+    (λ _. then-counts master.log (master_takes_first master from body)
+    (first-kept_by (λ entry. Unit {0}) CountStays count-kept master from body (λ table key value under e. tt)))
+
+ticks-counts : (master : Master) → Counts master.log (master_ticks master).0.log
+ticks-counts master =
+    either (λ (after : Master × List Message). Counts master.log after.0.log) master.deposed (master, []) (then_does (ticks master) goes_on)
+    (λ _. counts-same master.log)
+    (λ _. then-counts master.log (ticks master) (ticks-kept_by (λ entry. Unit {0}) CountStays count-kept master))
+
+-- An event
+
+module _ (world : World) where
+  abbrev IsBefore : List Message → ServerId → Master → Type 0
+  IsBefore sent m master = master ≡ world.masters m
+
+  abbrev HasCounted : List Message → ServerId → Master → Type 0
+  HasCounted sent m master = Counts (world.masters m).log master.log
+
+  counted-from : (m : ServerId) (master : Master) (after : Master) → master ≡ world.masters m →
+      Counts master.log after.log → Counts (world.masters m).log after.log
+  counted-from m master after same p = subst (λ (old : Master). Counts old.log after.log) same p
+
+  counted-led : IsLed IsBefore HasCounted
+  counted-led = record {
+    same = λ sent m master p. counted-from m master master p (counts-same master.log);
+    others = λ sent messages m master p others. counted-from m master master p (counts-same master.log);
+    takes = λ sent m master from body good p at. counted-from m master (master_takes master from body).0 p (takes-counts master from body);
+    ticks = λ sent m master good p. counted-from m master (master_ticks master).0 p (ticks-counts master);
+  }
+
+-- what an event makes of a master's count
+pub counts-on : (world : World) (one : Event) → GoodWorld world → (m : ServerId) →
+    Counts (world.masters m).log ((step world one).masters m).log
+counts-on world one good m = led-by (IsBefore world) (HasCounted world) (counted-led world) world one good (λ k. refl) m
+
+pub counted-when-stored : CountedWhenStored
+counted-when-stored setup events one m some up =
+    let led : Counts ((replay setup events).masters m).log ((replay setup (events ++ one ∷ [])).masters m).log =
+    subst (λ (after : World). Counts ((replay setup events).masters m).log (after.masters m).log)
+    (sym (replay_from-push (opening setup) events one))
+    (counts-on (replay setup events) one (good-world setup events) m) in
+    let settled : durable_now ((replay setup (events ++ one ∷ [])).masters m).log ≤
+    ((replay setup (events ++ one ∷ [])).masters m).log.durable =
+    (kept-replay setup (IsSettled setup) (settled-kept setup) (events ++ one ∷ []) m).settled some up in
+    omega (arith, led.rises, led.count, settled)

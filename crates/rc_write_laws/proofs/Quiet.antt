@@ -1,0 +1,276 @@
+-- What changes neither the places of a log nor what is counted of them, and asks for no commit.
+use Rattle.std.proofs.Common.{◌≡◌, ℕ, zero, suc, ◌+◌, ◌-◌, ◌≤◌, Bool, true, false, cond, nat_lt, nat_eq, List, [], ◌∷◌}
+use Rattle.std.proofs.Common.{◌++◌, Option, Some, None, Result, Ok, Err, refl, sym, ap, ◌∙◌, subst, arith, length, map}
+use Rattle.std.proofs.Common.{◌<◌}
+use Rattle.std.specs.List.{All}
+use Rattle.std.proofs.lemmas.List.Elements.{All-nil, All-cons, All-append, All-map}
+use Rattle.std.proofs.lemmas.List.{append-nil}
+use Rattle.std.proofs.lemmas.Bool.{eqb-true, eq-eqb, ltb-true}
+use Rattle.rc_types.specs.declared.ids.ServerId.{ServerId}
+use Rattle.rc_types.specs.declared.faults.Fault.{Fault}
+use Rattle.rc_types.specs.declared.faults.Fault.TheVariants.{LogFull, EpochsExhausted}
+use Rattle.rc_types.specs.declared.limits.TheConstants.{LAST_SEGMENT, LAST_EPOCH}
+use Rattle.rc_types.specs.declared.messages.Message.{Message}
+use Rattle.rc_types.specs.declared.messages.Body.{Body}
+use Rattle.rc_types.specs.declared.messages.Body.TheVariants.{WriteOk, Commit}
+use Rattle.rc_model.specs.Messages.{between}
+use Rattle.rc_model.specs.ServerList.{ServerList}
+use Rattle.rc_model.specs.Config.{Config, choose, told_if_heard, noted, committed_at, any_lost, with_lost}
+use Rattle.rc_model.specs.Config.{substitutes_for, changed, changes_to, lose, refills_with, refill}
+use Rattle.rc_model.specs.Segment.{Segment, new_segment, under_new_epoch}
+use Rattle.rc_model.specs.Log.{Log, places_in, places_to, places_of, old_head_of, with_segment, has_segment}
+use Rattle.rc_model.specs.Heads.{opens_head, opened_first, open_first, next_digest, rolled, begin_roll, with_config}
+use Rattle.rc_model.specs.Heads.{stored, commit_noted, opens_change, refills, loses, shuts, with_shut, with_freed}
+use Rattle.rc_model.specs.Master.{to_ids}
+use Rattle.rc_model.proofs.Members.{either}
+use Rattle.rc_write_laws.specs.LimitClaims.{IsWithinLimits}
+use Rattle.rc_step_laws.proofs.Lists.{true_false, put_each}
+
+-- Messages
+
+-- the message acknowledges, or asks for a commit
+abbrev pub is_loud : Body → Bool
+is_loud (WriteOk seg offset term table key version) = true
+is_loud (Commit seg epoch) = true
+is_loud _ = false
+
+abbrev pub is_soft : Message → Type 0
+is_soft message = is_loud message.body ≡ false
+
+abbrev pub AllSoft : List Message → Type 0
+AllSoft messages = All is_soft messages
+
+pub soft-none : AllSoft []
+soft-none = All-nil is_soft
+
+pub soft-one : (message : Message) → is_loud message.body ≡ false → AllSoft (message ∷ [])
+soft-one message p = All-cons is_soft message [] p soft-none
+
+pub soft-both : (first second : List Message) → AllSoft first → AllSoft second → AllSoft (first ++ second)
+soft-both first second p q = All-append is_soft first second p q
+
+pub soft-ids : (own : ServerId) (ids : List ServerId) (body : Body) → is_loud body ≡ false → AllSoft (to_ids own ids body)
+soft-ids own ids body p = All-map is_soft (λ (id : ServerId). between own id body) ids (λ k d less. p)
+
+-- Logs
+
+pub record QuietLog (old new : Log) : Type 0 where
+  pub own : new.own ≡ old.own
+  pub factor : new.factor ≡ old.factor
+  pub durable : new.durable ≡ old.durable
+  pub size : new.size ≡ old.size
+  pub limits : IsWithinLimits old → IsWithinLimits new
+  pub places : places_of new ≡ places_of old
+  pub head : old.head ≤ new.head
+  -- shut is for good, and no further segment counts as one whose commit was asked
+  pub shut : (s : ℕ) → s ≤ old.head → (old.segments s).shut ≡ true → (new.segments s).shut ≡ true
+  pub asked : (s : ℕ) → (new.segments s).commit_sent ≡ true → (old.segments s).commit_sent ≡ true
+
+pub quiet-refl : (log : Log) → QuietLog log log
+quiet-refl log = record {
+  own = refl;
+  factor = refl;
+  durable = refl;
+  size = refl;
+  limits = λ h. h;
+  places = refl;
+  head = omega arith;
+  shut = λ s upto e. e;
+  asked = λ s e. e;
+}
+
+pub quiet-trans : (old middle new : Log) → QuietLog old middle → QuietLog middle new → QuietLog old new
+quiet-trans old middle new p q = record {
+  own = q.own ∙ p.own;
+  factor = q.factor ∙ p.factor;
+  durable = q.durable ∙ p.durable;
+  size = q.size ∙ p.size;
+  limits = λ h. q.limits (p.limits h);
+  places = q.places ∙ p.places;
+  head = omega (arith, p.head, q.head);
+  shut = λ s upto e. q.shut s (omega (arith, upto, p.head)) (p.shut s upto e);
+  asked = λ s e. p.asked s (q.asked s e);
+}
+
+-- the same entries give the same places
+pub places-same : (old new : ℕ → Segment) (n : ℕ) → ((s : ℕ) → s ≤ n → (new s).entries ≡ (old s).entries) →
+    places_to new n ≡ places_to old n
+places-same old new zero same = refl
+places-same old new (suc n) same =
+    ap (λ l. l ++ places_in (suc n) 0 (new (suc n)).entries) (places-same old new n (λ s upto. same s (omega arith)))
+    ∙ ap (λ l. places_to old n ++ places_in (suc n) 0 l) (same (suc n) (omega arith))
+
+-- a segment within its limits is put in
+pub limits-put : (log : Log) (seg : ℕ) (segment : Segment) → IsWithinLimits log → segment.config.epoch ≤ LAST_EPOCH →
+    length segment.entries ≤ log.size → IsWithinLimits (with_segment seg segment log)
+limits-put log seg segment h epoch entries = record {
+  head = h.head;
+  epochs = put_each (λ k (one : Segment). one.config.epoch ≤ LAST_EPOCH) log.segments seg segment epoch h.epochs;
+  entries = put_each (λ k (one : Segment). length one.entries ≤ log.size) log.segments seg segment entries h.entries;
+}
+
+-- a segment is changed, but for its entries
+pub quiet-put : (log : Log) (seg : ℕ) (segment : Segment) → segment.entries ≡ (log.segments seg).entries →
+    ((log.segments seg).shut ≡ true → segment.shut ≡ true) →
+    (segment.commit_sent ≡ true → (log.segments seg).commit_sent ≡ true) →
+    ((log.segments seg).config.epoch ≤ LAST_EPOCH → segment.config.epoch ≤ LAST_EPOCH) →
+    QuietLog log (with_segment seg segment log)
+quiet-put log seg segment entries shut asked epoch = record {
+  own = refl;
+  factor = refl;
+  durable = refl;
+  size = refl;
+  limits = λ h. limits-put log seg segment h (epoch (h.epochs seg))
+      (let same : length segment.entries ≡ length (log.segments seg).entries = ap length entries in
+      let old = h.entries seg in omega arith);
+  places = places-same log.segments (with_segment seg segment log).segments log.head
+      (λ s upto. put_each (λ k (one : Segment). one.entries ≡ (log.segments k).entries) log.segments seg segment entries (λ k. refl) s);
+  head = omega arith;
+  shut = λ s upto. put_each (λ k (one : Segment). (log.segments k).shut ≡ true → one.shut ≡ true) log.segments seg
+      segment shut (λ k e. e) s;
+  asked = put_each (λ k (one : Segment). one.commit_sent ≡ true → (log.segments k).commit_sent ≡ true) log.segments seg
+      segment asked (λ k e. e);
+}
+
+-- a segment beside the one that is put
+pub put-beside : (segments : ℕ → Segment) (key : ℕ) (segment : Segment) (s : ℕ) → (key ≡ s → ⊥) →
+    cond (nat_eq key s) segment (segments s) ≡ segments s
+put-beside segments key segment s differs = either (λ one. one ≡ segments s) (nat_eq key s) segment (segments s)
+    (λ e. absurd (differs (eqb-true key s e))) (λ _. refl)
+
+places-opened : (segments : ℕ → Segment) (segment : Segment) (n : ℕ) → segment.entries ≡ [] →
+    places_to (λ s. cond (nat_eq (suc n) s) segment (segments s)) (suc n) ≡ places_to segments n
+places-opened segments segment n none =
+    ap (λ l. l ++ places_in (suc n) 0 (cond (nat_eq (suc n) (suc n)) segment (segments (suc n))).entries)
+    (places-same segments (λ s. cond (nat_eq (suc n) s) segment (segments s)) n
+    (λ s upto. ap (λ (one : Segment). one.entries) (put-beside segments (suc n) segment s (λ e. absurd (omega (arith, e, upto))))))
+    ∙ (ap (λ l. places_to segments n ++ places_in (suc n) 0 l)
+    (ap (λ b. (cond b segment (segments (suc n))).entries) (eq-eqb (suc n) (suc n) refl) ∙ none)
+    ∙ append-nil (places_to segments n))
+
+-- by its number
+places-opened_at : (segments : ℕ → Segment) (segment : Segment) (n h : ℕ) → h ≡ suc n → segment.entries ≡ [] →
+    places_to (λ s. cond (nat_eq h s) segment (segments s)) h ≡ places_to segments n
+places-opened_at segments segment n h is none =
+    subst (λ k. places_to (λ s. cond (nat_eq k s) segment (segments s)) k ≡ places_to segments n) (sym is)
+    (places-opened segments segment n none)
+
+quiet-opens : (log : Log) (digest : List ℕ) (ids : List ServerId) → log.head < LAST_SEGMENT → QuietLog log (opens_head log digest ids)
+quiet-opens log digest ids room = record {
+  own = refl;
+  factor = refl;
+  durable = refl;
+  size = refl;
+  limits = λ h. record {
+    head = omega (arith, room);
+    epochs = put_each (λ k (one : Segment). one.config.epoch ≤ LAST_EPOCH) log.segments (log.head + 1)
+        (new_segment (log.head + 1) digest ids) (omega arith) h.epochs;
+    entries = put_each (λ k (one : Segment). length one.entries ≤ log.size) log.segments (log.head + 1)
+        (new_segment (log.head + 1) digest ids) (omega arith) h.entries;
+  };
+  places = places-opened_at log.segments (new_segment (log.head + 1) digest ids) log.head (log.head + 1) (omega arith) refl;
+  head = omega arith;
+  shut = λ s upto e. subst (λ (one : Segment). one.shut ≡ true)
+      (sym (put-beside log.segments (log.head + 1) (new_segment (log.head + 1) digest ids) s
+      (λ same. absurd (omega (arith, same, upto))))) e;
+  asked = put_each (λ k (one : Segment). one.commit_sent ≡ true → (log.segments k).commit_sent ≡ true) log.segments
+      (log.head + 1) (new_segment (log.head + 1) digest ids)
+      (λ never. true_false (sym never)) (λ k e. e);
+}
+
+quiet-opened : (log : Log) (ids : Option (List ServerId)) → log.head < LAST_SEGMENT → QuietLog log (opened_first log ids).0
+quiet-opened log None room = quiet-refl log
+quiet-opened log (Some ids) room = quiet-opens log (1 ∷ []) ids room
+
+pub quiet-first : (servers : ServerList) (log : Log) → log.head ≡ 0 → QuietLog log (open_first servers log).0
+quiet-first servers log none = quiet-opened log (choose 1 log.own log.factor servers) (omega (arith, none))
+
+quiet-rolled : (log : Log) (dead : List ℕ) (ids : Option (List ServerId)) → log.head < LAST_SEGMENT → QuietLog log (rolled log dead ids).0
+quiet-rolled log dead None room = quiet-refl log
+quiet-rolled log dead (Some ids) room = quiet-opens log (next_digest log dead) ids room
+
+pub quiet-roll : (servers : ServerList) (dead : List ℕ) (log : Log) → QuietLog log (begin_roll servers dead log).0
+quiet-roll servers dead log =
+    either (λ (after : Log × Result Bool Fault). QuietLog log after.0) (nat_lt log.head LAST_SEGMENT)
+    (rolled log dead (choose (log.head + 1) log.own log.factor servers)) (log, Err LogFull)
+    (λ e. quiet-rolled log dead (choose (log.head + 1) log.own log.factor servers) (ltb-true log.head LAST_SEGMENT e)) (λ e. quiet-refl log)
+
+-- the limit of an epoch is kept
+abbrev KeepsEpoch : Config → Config → Type 0
+KeepsEpoch old new = old.epoch ≤ LAST_EPOCH → new.epoch ≤ LAST_EPOCH
+
+quiet-config : (seg : ℕ) (config : Config) (log : Log) → KeepsEpoch (log.segments seg).config config →
+    QuietLog log (with_config seg config log)
+quiet-config seg config log epoch = quiet-put log seg (record (log.segments seg) { config = config }) refl (λ e. e) (λ e. e) epoch
+
+epoch-noted : (from : ServerId) (epoch len : ℕ) (closed : Bool) (config : Config) → KeepsEpoch config (noted from epoch len closed config)
+epoch-noted from epoch len closed config =
+    either (KeepsEpoch config) (nat_eq epoch config.epoch)
+    (record config { members = map (told_if_heard from len closed) config.members }) config (λ _ h. h) (λ _ h. h)
+
+epoch-committed : (epoch : ℕ) (config : Config) → KeepsEpoch config (committed_at epoch config)
+epoch-committed epoch config = either (KeepsEpoch config) (nat_eq epoch config.epoch)
+    (record config { committed = true }) config (λ _ h. h) (λ _ h. h)
+
+epoch-changes : (config : Config) (ids : Option (List ServerId)) → KeepsEpoch config (changes_to config ids).0
+epoch-changes config None = λ h. h
+epoch-changes config (Some ids) =
+    either (λ (done : Config × Result Bool Fault). KeepsEpoch config done.0) (nat_lt config.epoch LAST_EPOCH)
+    (changed config ids, Ok true) (config, Err EpochsExhausted)
+    (λ e h. let less : config.epoch < LAST_EPOCH = ltb-true config.epoch LAST_EPOCH e in omega arith) (λ _ h. h)
+
+epoch-lose : (own : ServerId) (servers : ServerList) (config : Config) → KeepsEpoch config (lose own servers config).0
+epoch-lose own servers config =
+    either (λ (done : Config × Result Bool Fault). KeepsEpoch config done.0) (any_lost (with_lost servers config).members)
+    (changes_to (with_lost servers config) (substitutes_for own servers (with_lost servers config))) (with_lost servers config, Ok false)
+    (λ _. epoch-changes (with_lost servers config) (substitutes_for own servers (with_lost servers config))) (λ _ h. h)
+
+epoch-refills : (config : Config) (ids : Option (List ServerId)) → KeepsEpoch config (refills_with config ids).0
+epoch-refills config None h = h
+epoch-refills config (Some ids) h = h
+
+pub quiet-stored : (seg : ℕ) (from : ServerId) (epoch len : ℕ) (closed : Bool) (log : Log) →
+    QuietLog log (stored seg from epoch len closed log)
+quiet-stored seg from epoch len closed log =
+    either (QuietLog log) (has_segment log seg) (with_config seg (noted from epoch len closed (log.segments seg).config) log) log
+    (λ e. quiet-config seg (noted from epoch len closed (log.segments seg).config) log
+    (epoch-noted from epoch len closed (log.segments seg).config)) (λ e. quiet-refl log)
+
+pub quiet-commit_noted : (seg epoch : ℕ) (log : Log) → QuietLog log (commit_noted seg epoch log)
+quiet-commit_noted seg epoch log =
+    either (QuietLog log) (has_segment log seg) (with_config seg (committed_at epoch (log.segments seg).config) log) log
+    (λ e. quiet-config seg (committed_at epoch (log.segments seg).config) log
+    (epoch-committed epoch (log.segments seg).config)) (λ e. quiet-refl log)
+
+quiet-change : (seg : ℕ) (log : Log) (done : Config × Result Bool Fault) → KeepsEpoch (log.segments seg).config done.0 →
+    QuietLog log (opens_change seg log done).0
+quiet-change seg log (config, Ok true) epoch =
+    quiet-put log seg (under_new_epoch config (log.segments seg)) refl (λ e. e) (λ never. true_false (sym never)) epoch
+quiet-change seg log (config, Ok false) epoch = quiet-config seg config log epoch
+quiet-change seg log (config, Err fault) epoch = quiet-config seg config log epoch
+
+quiet-refills : (seg : ℕ) (log : Log) (done : Config × Result (List ServerId) Fault) →
+    KeepsEpoch (log.segments seg).config done.0 → QuietLog log (refills seg log done).0
+quiet-refills seg log (config, answer) epoch = quiet-config seg config log epoch
+
+pub quiet-loses : (servers : ServerList) (seg : ℕ) (log : Log) → QuietLog log (loses servers seg log).0
+quiet-loses servers seg log =
+    either (λ (after : Log × Result (List ServerId) Fault). QuietLog log after.0) (log.segments seg).shut
+    (refills seg log (refill log.own servers (log.segments seg).config))
+    (opens_change seg log (lose log.own servers (log.segments seg).config))
+    (λ e. quiet-refills seg log (refill log.own servers (log.segments seg).config)
+    (epoch-refills (with_lost servers (log.segments seg).config)
+    (substitutes_for log.own servers (with_lost servers (log.segments seg).config))))
+    (λ e. quiet-change seg log (lose log.own servers (log.segments seg).config) (epoch-lose log.own servers (log.segments seg).config))
+
+pub quiet-shut : (log : Log) → QuietLog log (with_shut log)
+quiet-shut log =
+    either (QuietLog log) (shuts log) (with_segment (log.head - 1) (record (old_head_of log) { shut = true }) log) log
+    (λ e. quiet-put log (log.head - 1) (record (old_head_of log) { shut = true }) refl (λ e. refl) (λ e. e) (λ e. e)) (λ e. quiet-refl log)
+
+pub quiet-freed : (segs : List ℕ) (log : Log) → QuietLog log (with_freed segs log)
+quiet-freed [] log = quiet-refl log
+quiet-freed (seg ∷ segs) log =
+    let next : Log = with_segment seg (record (log.segments seg) { freed = true }) log in
+    quiet-trans log next (with_freed segs next) (quiet-put log seg (record (log.segments seg) { freed = true }) refl
+    (λ e. e) (λ e. e) (λ e. e)) (quiet-freed segs next)

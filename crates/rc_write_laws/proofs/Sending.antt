@@ -1,0 +1,229 @@
+-- What a backup has told, its master has sent it: each place below the length of a Stored is made.
+use Rattle.std.proofs.Common.{◌≡◌, ◌⊎◌, ℕ, ◌<◌, Bool, List, [], ◌∷◌, ◌++◌, Option, Some, None, refl, ap, ◌∙◌, subst, inl, inr, arith}
+use Rattle.rc_types.specs.declared.ids.ServerId.{ServerId}
+use Rattle.rc_types.specs.declared.ids.Addr.{Addr}
+use Rattle.rc_types.specs.declared.ids.Addr.TheVariants.{Server, Coordinator as AtCoordinator, Outside}
+use Rattle.rc_types.specs.declared.entries.Entry.{Entry}
+use Rattle.rc_types.specs.declared.events.Setup.{Setup}
+use Rattle.rc_types.specs.declared.events.Event.{Event}
+use Rattle.rc_types.specs.declared.messages.Message.{Message}
+use Rattle.rc_types.specs.declared.messages.Body.TheVariants.{Stored, Enlist}
+use Rattle.rc_model.specs.Ids.{is_server}
+use Rattle.rc_model.specs.Tables.{put}
+use Rattle.rc_model.specs.Messages.{between, to_coordinator}
+use Rattle.rc_model.specs.Backup.{Backup, backup_takes}
+use Rattle.rc_model.specs.Master.{Master}
+use Rattle.rc_model.specs.MasterStep.{master_takes, master_ticks}
+use Rattle.rc_model.specs.Coordinator.{Coordinator, suspects}
+use Rattle.rc_model.specs.Deciding.{decides}
+use Rattle.rc_model.specs.CoordinatorStep.{creates, splits, coordinator_ticks, coordinator_takes}
+use Rattle.rc_model.specs.Nodes.{Work, Ask, Take, Tick, Stop, Start, Suspect, Decide, Create, Split, HostNode}
+use Rattle.rc_model.specs.Nodes.{outside_sends, coordinator_step, is_for_backup, with_backup, with_master, server_of}
+use Rattle.rc_model.specs.Nodes.{next_server, server_takes, takes_if_running, ticks_if_running, host_step}
+use Rattle.rc_model.specs.World.{World, opening, NodeName, TheOutside, TheCoordinator, TheHost, Job, is_possible}
+use Rattle.rc_model.specs.World.{work_of, node_done, job_done, step, replay_from, replay}
+use Rattle.rc_model.specs.Headline.{In, HasMade}
+use Rattle.rc_model.proofs.Members.{either, In-append, In-left}
+use Rattle.rc_step_laws.specs.Facts.{StillStands}
+use Rattle.rc_step_laws.specs.Moves.{MasterMoved, CoordinatorMoved, BackupMoved, stored_said}
+use Rattle.rc_step_laws.proofs.Lists.{put_same}
+use Rattle.rc_step_laws.proofs.MasterSteps.{master_takes_keeps, master_ticks_keeps}
+use Rattle.rc_step_laws.proofs.CoordinatorSteps.{moved-takes, moved-suspects, moved-decides, moved-creates, moved-splits, moved-ticks}
+use Rattle.rc_step_laws.proofs.Backups.{moved-backup}
+use Rattle.rc_log_laws.proofs.Replays.{GoodWorld, IsGiven, may-hear, to-coordinator-is, is-good, is-fine, hears}
+use Rattle.rc_log_laws.proofs.Replays.{is_server-true, work_of-given, good-step, good-opening}
+
+-- the master has sent an entry for the place
+abbrev pub IsSent : List Message → ServerId → ℕ → ℕ → Type 0
+IsSent sent m s o = (entry : Entry) × HasMade sent m s o entry
+
+-- of these messages each Stored tells only places that were sent
+abbrev pub TellsSent : List Message → List Message → Type 0
+TellsSent messages sent =
+    (x m : ServerId) (s e len : ℕ) (closed : Bool) → In (between x m (Stored s e len closed)) messages → (o : ℕ) →
+    o < len → IsSent sent m s o
+
+-- Lists
+
+made-more : (sent messages : List Message) (m : ServerId) (s o : ℕ) (entry : Entry) → HasMade sent m s o entry →
+    HasMade (sent ++ messages) m s o entry
+made-more sent messages m s o entry p =
+    record { message = p.message; among = In-left p.message sent messages p.among; from = p.from; holds = p.holds }
+
+joined : (sent messages : List Message) → TellsSent sent sent → TellsSent messages (sent ++ messages) →
+    TellsSent (sent ++ messages) (sent ++ messages)
+joined sent messages old new x m s e len closed at o less = by (In-append (between x m (Stored s e len closed)) sent messages at)
+  where
+    more : IsSent sent m s o → IsSent (sent ++ messages) m s o
+    more p = (p.0, made-more sent messages m s o p.0 p.1)
+
+    by : In (between x m (Stored s e len closed)) sent ⊎ In (between x m (Stored s e len closed)) messages → IsSent (sent ++ messages) m s o
+    by (inl before) = more (old x m s e len closed before o less)
+    by (inr now) = new x m s e len closed now o less
+
+-- Who tells nothing
+
+abbrev AllFrom : Addr → List Message → Type 0
+AllFrom from messages = (message : Message) → In message messages → message.from ≡ from
+
+by-coordinator : (messages sent : List Message) → AllFrom AtCoordinator messages → TellsSent messages sent
+by-coordinator messages sent from x m s e len closed at o less = absurd (never (from (between x m (Stored s e len closed)) at))
+  where
+    never : ◌≡◌ {A = Addr} (Server x) AtCoordinator → ⊥
+    never e = cc
+
+by-outside : (messages sent : List Message) → AllFrom Outside messages → TellsSent messages sent
+by-outside messages sent from x m s e len closed at o less = absurd (never (from (between x m (Stored s e len closed)) at))
+  where
+    never : ◌≡◌ {A = Addr} (Server x) Outside → ⊥
+    never e = cc
+
+of-outside : (work : Work) → AllFrom Outside (outside_sends work)
+of-outside (Ask to asked) message (inl same) = ap (λ (one : Message). one.from) same
+of-outside (Ask to asked) message (inr never) = absurd never
+of-outside (Take one) message at = absurd at
+of-outside (Tick addr) message at = absurd at
+of-outside (Stop id) message at = absurd at
+of-outside (Start kept) message at = absurd at
+of-outside (Suspect id) message at = absurd at
+of-outside (Decide id) message at = absurd at
+of-outside (Create table owner) message at = absurd at
+of-outside (Split table place) message at = absurd at
+
+-- A node's step
+
+abbrev NodeTells : World → List Message → Type 0
+NodeTells world messages = TellsSent messages (world.sent ++ messages)
+
+none-tells : (world : World) → NodeTells world []
+none-tells world x m s e len closed at o less = absurd at
+
+by-backup : (world : World) (hosts : ℕ → HostNode) (host : HostNode) (after : Backup × List Message) →
+    BackupMoved world.sent world.masters hosts world.coordinator host after → NodeTells world after.1
+by-backup world hosts host after moved x m s e len closed at o less =
+    let said : stored_said (world.sent ++ after.1) world.masters host after.0 (Server m) s e len closed =
+    moved.says (between x m (Stored s e len closed)) at in
+    let stands : StillStands (after.0.held m) s e len closed = said.1.0 in
+    let enough = stands.enough in
+    let found = ((moved.held m).each s stands.replica stands.kept).copy.made o (omega (arith, less, enough)) in
+    (found.0, found.2)
+
+by-master : (world : World) (m : ServerId) (old : Master) (after : Master × List Message) →
+    MasterMoved world.sent m old after → NodeTells world after.1
+by-master world own old after moved x m s e len closed at o less = absurd (moved.says (between x m (Stored s e len closed)) at).says
+
+module _ (world : World) (one : Event) (i : ℕ) (good : GoodWorld world) where
+  server-tells : (master : Master) → (world.hosts i).master ≡ Some master → (message : Message) →
+      In (record { from = message.from; to = Server (server_of (world.hosts i)); body = message.body }) world.sent →
+      NodeTells world (server_takes (world.hosts i) master message).1
+  server-tells master e message at =
+      either (λ (after : HostNode × List Message). NodeTells world after.1) (is_for_backup message.body)
+      (with_backup (world.hosts i) (backup_takes (world.hosts i).backup message.from message.body))
+      (with_master (world.hosts i) (master_takes master message.from message.body))
+      (λ _. by-backup world (put world.hosts i
+      (record (world.hosts i) { backup = (backup_takes (world.hosts i).backup message.from message.body).0 }))
+      (world.hosts i) (backup_takes (world.hosts i).backup message.from message.body)
+      (moved-backup world.sent world.masters world.hosts
+      (put world.hosts i (record (world.hosts i)
+      { backup = (backup_takes (world.hosts i).backup message.from message.body).0 })) world.coordinator i
+      message.from message.body good at
+      (ap (put world.hosts i (record (world.hosts i)
+      { backup = (backup_takes (world.hosts i).backup message.from message.body).0 })) (good.hosts_are i).index ∙
+      put_same world.hosts i (record (world.hosts i)
+      { backup = (backup_takes (world.hosts i).backup message.from message.body).0 }))))
+      (λ _. by-master world (server_of (world.hosts i)) master (master_takes master message.from message.body)
+      (master_takes_keeps world.sent (server_of (world.hosts i)) master message.from message.body
+      (is-good world one i good master e) (is-fine world one i good master e)
+      (hears world one i good message.from message.body at)))
+
+  takes-tells : (found : Option Master) → (world.hosts i).master ≡ found → (message : Message) → In message world.sent →
+      NodeTells world (takes_if_running (world.hosts i) found message).1
+  takes-tells None e message at = none-tells world
+  takes-tells (Some master) e message at =
+      either (λ (after : HostNode × List Message). NodeTells world after.1)
+      (is_server (server_of (world.hosts i)) message.to) (server_takes (world.hosts i) master message)
+      (world.hosts i, [])
+      (λ is. server-tells master e message
+      (subst (λ (to : Addr). In (record { from = message.from; to = to; body = message.body }) world.sent)
+      (is_server-true world one i good (server_of (world.hosts i)) message.to is) at))
+      (λ _. none-tells world)
+
+  ticks-tells : (found : Option Master) → (world.hosts i).master ≡ found → NodeTells world (ticks_if_running (world.hosts i) found).1
+  ticks-tells None e = none-tells world
+  ticks-tells (Some master) e = by-master world (server_of (world.hosts i)) master (master_ticks master)
+      (master_ticks_keeps world.sent (server_of (world.hosts i)) master (is-good world one i good master e)
+      (is-fine world one i good master e))
+
+  starts-tells : (own : ServerId) → NodeTells world (to_coordinator own Enlist ∷ [])
+  starts-tells own x m s e len closed (inl same) o less =
+      let bodies : Stored s e len closed ≡ Enlist = ap (λ (message : Message). message.body) same in cc
+  starts-tells own x m s e len closed (inr never) o less = absurd never
+
+  host-tells : (work : Work) → IsGiven world.sent (TheHost i) work → NodeTells world (host_step (world.hosts i) work).1
+  host-tells (Take message) given = takes-tells (world.hosts i).master refl message given.0
+  host-tells (Tick addr) given = ticks-tells (world.hosts i).master refl
+  host-tells (Start kept) given = starts-tells (next_server (world.hosts i))
+  host-tells (Stop id) given = none-tells world
+  host-tells (Ask to asked) given = none-tells world
+  host-tells (Suspect id) given = none-tells world
+  host-tells (Decide id) given = none-tells world
+  host-tells (Create table owner) given = none-tells world
+  host-tells (Split table at) given = none-tells world
+
+coordinator-tells : (world : World) (work : Work) → GoodWorld world → IsGiven world.sent TheCoordinator work →
+    NodeTells world (coordinator_step world.coordinator work).1
+coordinator-tells world work good given = by-coordinator (coordinator_step world.coordinator work).1
+    (world.sent ++ (coordinator_step world.coordinator work).1) (of-work work given)
+  where
+    of-moved : (after : Coordinator × List Message) → CoordinatorMoved world.sent world.coordinator after → AllFrom AtCoordinator after.1
+    of-moved after moved = moved.from
+
+    of-work : (work : Work) → IsGiven world.sent TheCoordinator work → AllFrom AtCoordinator (coordinator_step world.coordinator work).1
+    of-work (Take message) given = of-moved (coordinator_takes world.coordinator message.from message.body)
+        (moved-takes world.sent world.coordinator good.coordinator message.from message.body
+        (may-hear world.sent world.masters world.hosts world.coordinator good message.from message.body
+        (subst (λ (to : Addr). In (record { from = message.from; to = to; body = message.body }) world.sent)
+        (to-coordinator-is message.to given.1) given.0)))
+    of-work (Tick addr) given = of-moved (world.coordinator, coordinator_ticks world.coordinator)
+        (moved-ticks world.sent world.coordinator good.coordinator)
+    of-work (Suspect id) given = of-moved (suspects world.coordinator id) (moved-suspects world.sent world.coordinator good.coordinator id)
+    of-work (Decide id) given = of-moved (decides world.coordinator id) (moved-decides world.sent world.coordinator good.coordinator id)
+    of-work (Create table owner) given = of-moved (creates world.coordinator table owner)
+        (moved-creates world.sent world.coordinator good.coordinator table owner)
+    of-work (Split table at) given = of-moved (splits world.coordinator table at)
+        (moved-splits world.sent world.coordinator good.coordinator table at)
+    of-work (Ask to asked) given = λ message at. absurd at
+    of-work (Stop id) given = λ message at. absurd at
+    of-work (Start kept) given = λ message at. absurd at
+
+-- Every world
+
+abbrev AllTold : World → Type 0
+AllTold world = TellsSent world.sent world.sent
+
+node-told : (world : World) (one : Event) (node : NodeName) (work : Work) → GoodWorld world →
+    IsGiven world.sent node work → AllTold world → AllTold (node_done world one node work)
+node-told world one TheOutside work good given told = joined world.sent (outside_sends work) told
+    (by-outside (outside_sends work) (world.sent ++ outside_sends work) (of-outside work))
+node-told world one TheCoordinator work good given told =
+    joined world.sent (coordinator_step world.coordinator work).1 told (coordinator-tells world work good given)
+node-told world one (TheHost i) work good given told =
+    joined world.sent (host_step (world.hosts i) work).1 told (host-tells world one i good work given)
+
+job-told : (world : World) (one : Event) (found : Option Job) → work_of world.sent one ≡ found → GoodWorld world →
+    AllTold world → AllTold (job_done world one found)
+job-told world one None is good told = told
+job-told world one (Some job) is good told = node-told world one job.node job.work good (work_of-given world.sent one job is) told
+
+step-told : (world : World) (one : Event) → GoodWorld world → AllTold world → AllTold (step world one)
+step-told world one good told =
+    either AllTold (is_possible world one) (job_done world one (work_of world.sent one)) world
+    (λ _. job-told world one (work_of world.sent one) refl good told) (λ _. told)
+
+replay-told : (world : World) (events : List Event) → GoodWorld world → AllTold world → AllTold (replay_from world events)
+replay-told world [] good told = told
+replay-told world (one ∷ events) good told = replay-told (step world one) events (good-step world one good) (step-told world one good told)
+
+-- after every list of events
+pub told-is-sent : (setup : Setup) (events : List Event) → TellsSent (replay setup events).sent (replay setup events).sent
+told-is-sent setup events = replay-told (opening setup) events (good-opening setup) (λ x m s e len closed at o less. absurd at)

@@ -1,0 +1,448 @@
+-- What is shut, and what is counted, was stored on all members at some moment, so it is durable; and so is what was acknowledged.
+use Rattle.std.proofs.Common.{◌≡◌, ◌≢◌, ◌⊎◌, ℕ, zero, suc, ◌+◌, ◌-◌, ◌<◌, ◌≤◌, min, max, Bool, true, false, not, ◌&&◌}
+use Rattle.std.proofs.Common.{List, [], ◌∷◌, ◌++◌, length, take, nat_lt, ◌||◌, slice_get, Some, refl, sym, ap, ◌∙◌}
+use Rattle.std.proofs.Common.{subst, inl, inr, arith}
+use Rattle.std.specs.List.{list_all}
+use Rattle.std.proofs.lemmas.Bool.{and_parts, cases_order}
+use Rattle.std.proofs.lemmas.Bool.Decides.{nat_tests}
+use Rattle.std.proofs.lemmas.List.{length-map, length-append, append-nil, append_assoc, take_all, take-take, take-append-le}
+use Rattle.rc_types.specs.declared.ids.ServerId.{ServerId}
+use Rattle.rc_types.specs.declared.ids.Addr.{Addr}
+use Rattle.rc_types.specs.declared.ids.Addr.TheVariants.{Server}
+use Rattle.rc_types.specs.declared.entries.Entry.{Entry}
+use Rattle.rc_types.specs.declared.events.Setup.{Setup}
+use Rattle.rc_types.specs.declared.events.Event.{Event}
+use Rattle.rc_types.specs.declared.kept.Member.{Member}
+use Rattle.rc_types.specs.declared.messages.Message.{Message}
+use Rattle.rc_types.specs.declared.messages.Body.{Body}
+use Rattle.rc_types.specs.declared.messages.Body.TheVariants as body
+use Rattle.rc_types.specs.declared.messages.Body.TheVariants.{WriteOk}
+use Rattle.rc_model.specs.Ids.{is_server}
+use Rattle.rc_model.specs.Messages.{between, to_outside}
+use Rattle.rc_model.specs.Config.{all_closed, is_closed, told_closed, told_len, any_lost, least_told, durable_len}
+use Rattle.rc_model.specs.Segment.{Segment, is_all_closed, durable_in}
+use Rattle.rc_model.specs.Log.{Log, LogPlace, has_segment, places_of, durable_now}
+use Rattle.rc_model.specs.Durable.{all_shut_to, is_stored_on_all, WasStored, EarlierWereStored, IsDurable}
+use Rattle.rc_model.specs.Master.{Master}
+use Rattle.rc_model.specs.MasterStep.{master_takes, master_ticks}
+use Rattle.rc_model.specs.FollowUps.{write_oks}
+use Rattle.rc_model.specs.Nodes.{factor_of}
+use Rattle.rc_model.specs.World.{World, opening, step, replay}
+use Rattle.rc_model.specs.Headline.{In}
+use Rattle.rc_model.proofs.Members.{either}
+use Rattle.rc_model.proofs.Replays.{replay_from-push}
+use Rattle.rc_step_laws.specs.Words.{log_in}
+use Rattle.rc_step_laws.specs.Facts.{IsStored, GoodMaster}
+use Rattle.rc_step_laws.specs.Later.{LogLater}
+use Rattle.rc_step_laws.proofs.Lists.{true_false, get-below, get-begins, get-within, same_id-refl}
+use Rattle.rc_step_laws.proofs.Places.{IsOf, places_to-are, places-later, IsCovered, durable-covered}
+use Rattle.rc_step_laws.proofs.Tests.{all-each, filter-In, In-take}
+use Rattle.rc_log_laws.proofs.Replays.{GoodWorld, led-step, good-world}
+use Rattle.rc_write_laws.specs.AckClaims.{is_write_ok, is_ack_of, counted_places}
+use Rattle.rc_write_laws.proofs.Frame.{IsLed, led-by}
+use Rattle.rc_write_laws.proofs.Counting.{counted-is-acknowledged}
+use Rattle.rc_write_laws.proofs.Moments.{Counts, counts-on}
+use Rattle.rc_write_laws.specs.DurableClaims.{StoredIsDurable, CountedIsDurable, AcknowledgedIsDurable}
+use Rattle.rc_write_laws.proofs.Told.{Told, IsWholeTold}
+use Rattle.rc_write_laws.proofs.DurableSteps.{TellsWhole, StepOk, step-same, takes-step, ticks-step}
+
+-- One event
+
+-- what was told closed tells all of a segment below the head
+tells-whole : (world : World) → GoodWorld world → (m : ServerId) (from : Addr) (says : Body) →
+    In (record { from = from; to = Server m; body = says }) world.sent → TellsWhole (world.masters m).log from says
+tells-whole world good m (Server x) (body.Stored s e len closed) at = whole (good.messages (between x m (body.Stored s e len closed)) at)
+  where
+    whole : IsStored world.sent world.hosts m (world.masters m).log x s e len closed → IsWholeTold (world.masters m).log s len closed
+    whole is closed_so =
+        let all : (s < (world.masters m).log.head) × (len ≡ length (log_in (world.masters m).log s)) = is.told.whole closed_so in
+        let same : length (log_in (world.masters m).log s) ≡ length ((world.masters m).log.segments s).entries =
+        length-map ((world.masters m).log.segments s).entries (λ (one : Entry × Bool). one.0) in
+        let long : len ≡ length (log_in (world.masters m).log s) = all.1 in
+        (all.0, omega (arith, long, same))
+tells-whole world good m from says at = tt
+
+module _ (world : World) (good : GoodWorld world) where
+  record IsBefore (sent : List Message) (m : ServerId) (master : Master) : Type 0 where
+    sent_is : sent ≡ world.sent
+    master_is : master ≡ world.masters m
+
+  abbrev IsAfter : List Message → ServerId → Master → Type 0
+  IsAfter sent m master = StepOk (world.masters m).log master.log
+
+  after-step : (m : ServerId) (master after : Master) → master ≡ world.masters m → StepOk master.log after.log →
+      StepOk (world.masters m).log after.log
+  after-step m master after same p = subst (λ (old : Master). StepOk old.log after.log) same p
+
+  step-led : IsLed IsBefore IsAfter
+  step-led = record {
+    same = λ sent m master p. after-step m master master p.master_is (step-same master.log);
+    others = λ sent messages m master p others. after-step m master master p.master_is (step-same master.log);
+    takes = λ sent m master from says fine p at. after-step m master (master_takes master from says).0 p.master_is
+        (takes-step master from says (subst (λ (old : Master). TellsWhole old.log from says) (sym p.master_is)
+        (tells-whole world good m from says
+        (subst (λ (all : List Message). In (record { from = from; to = Server m; body = says }) all) p.sent_is
+        at))));
+    ticks = λ sent m master fine p. after-step m master (master_ticks master).0 p.master_is (ticks-step master);
+  }
+
+steps-on : (world : World) (one : Event) → GoodWorld world → (m : ServerId) → StepOk (world.masters m).log ((step world one).masters m).log
+steps-on world one good m = led-by (IsBefore world good) (IsAfter world good) (step-led world good) world one good
+    (λ k. record { sent_is = refl; master_is = refl }) m
+
+-- Stored at some moment
+
+record WasStoredOnce (setup : Setup) (events : List Event) (m : ServerId) (s o : ℕ) : Type 0 where
+  moment : ℕ
+  happened : moment ≤ length events
+  stored : WasStored setup events m moment s o
+
+once-later : (setup : Setup) (events more : List Event) (m : ServerId) (s o : ℕ) → WasStoredOnce setup events m s o →
+    WasStoredOnce setup (events ++ more) m s o
+once-later setup events more m s o was = record {
+  moment = was.moment;
+  happened = (let upto : was.moment ≤ length events = was.happened in let longer : length (events ++ more) ≡ length
+      events + length more = length-append events more in omega (arith, upto, longer));
+  stored = subst (λ (past : List Event). is_stored_on_all ((replay setup past).masters m).log s o ≡ true)
+      (sym (take-append-le was.moment events more was.happened)) was.stored;
+}
+
+once-now : (setup : Setup) (events : List Event) (m : ServerId) (s o : ℕ) →
+    is_stored_on_all ((replay setup events).masters m).log s o ≡ true → WasStoredOnce setup events m s o
+once-now setup events m s o stored = record {
+  moment = length events;
+  happened = omega arith;
+  stored = subst (λ (past : List Event). is_stored_on_all ((replay setup past).masters m).log s o ≡ true)
+      (sym (take_all (length events) events (omega arith))) stored;
+}
+
+-- What is stored now
+
+all-shut : (segments : ℕ → Segment) (n : ℕ) → ((t : ℕ) → 0 < t → t ≤ n → (segments t).shut ≡ true) → all_shut_to segments n ≡ true
+all-shut segments zero each = refl
+all-shut segments (suc n) each =
+    ap (λ b. b && all_shut_to segments n) (each (suc n) (omega arith) (omega arith)) ∙
+    all-shut segments n (λ t above upto. each t above (omega (arith, upto)))
+
+shut-each : (segments : ℕ → Segment) (n t : ℕ) → all_shut_to segments n ≡ true → 0 < t → t ≤ n → (segments t).shut ≡ true
+shut-each segments zero t e above upto = absurd (omega (arith, above, upto))
+shut-each segments (suc n) t e above upto =
+    by (cases_order t (suc n))
+    (λ less. shut-each segments n t (and_parts (segments (suc n)).shut (all_shut_to segments n) e).1 above less)
+  where
+    by : (t ≡ suc n) ⊎ ((t < suc n) ⊎ (suc n < t)) → (t ≤ n → (segments t).shut ≡ true) → (segments t).shut ≡ true
+    by (inl same) rec = subst (λ k. (segments k).shut ≡ true) (sym same) (and_parts (segments (suc n)).shut (all_shut_to segments n) e).0
+    by (inr (inl less)) rec = rec (omega (arith, less))
+    by (inr (inr more)) rec = absurd (omega (arith, upto, more))
+
+-- a place below the durable length of a segment of the log, where each earlier one is shut
+stored-now : (log : Log) (s o : ℕ) → 0 < s → s ≤ log.head → o < durable_len (log.segments s).config →
+    ((t : ℕ) → 0 < t → t < s → (log.segments t).shut ≡ true) → is_stored_on_all log s o ≡ true
+stored-now log s o above upto less shut =
+    by (has_segment log s) (has above upto)
+    (ap (λ b. b && all_shut_to log.segments (s - 1)) (lt o (durable_len (log.segments s).config) less)
+    ∙ all-shut log.segments (s - 1) (λ t over under. shut t over (omega (arith, above, under))))
+  where
+    has : 0 < s → s ≤ log.head → has_segment log s ≡ true
+    has p q = grind (arith, nat_tests)
+
+    lt : (a b : ℕ) → a < b → nat_lt a b ≡ true
+    lt a b p = grind (arith, nat_tests)
+
+    by : (b : Bool) → b ≡ true → {c : Bool} → c ≡ true → (b && c) ≡ true
+    by true e f = f
+    by false e f = true_false (sym e)
+
+-- a segment that is closed on all its members, who have told all of it
+least-told : (n : ℕ) (members : List Member) → (members ≡ [] → ⊥) →
+    ((member : Member) → In member members → n ≤ told_len member.told) → n ≤ least_told members
+least-told n [] some each = absurd (some refl)
+least-told n (member ∷ []) some each = each member (inl refl)
+least-told n (member ∷ other ∷ members) some each =
+    let here : n ≤ told_len member.told = each member (inl refl) in
+    let rest : n ≤ least_told (other ∷ members) = least-told n (other ∷ members) (λ e. never e) (λ one at. each one (inr at)) in
+    omega (arith, here, rest)
+  where
+    never : other ∷ members ≡ [] → ⊥
+    never e = cc
+
+closed-parts : (member : Member) → is_closed member ≡ true → (not member.lost ≡ true) × (told_closed member.told ≡ true)
+closed-parts member e = and_parts (not member.lost) (told_closed member.told) e
+
+none-lost : (members : List Member) → list_all is_closed members ≡ true → any_lost members ≡ false
+none-lost [] e = refl
+none-lost (member ∷ members) e =
+    let parts : (is_closed member ≡ true) × (list_all is_closed members ≡ true) =
+    and_parts (is_closed member) (list_all is_closed members) e in
+    by member.lost (closed-parts member parts.0).0 (none-lost members parts.1)
+  where
+    by : (b : Bool) → not b ≡ true → any_lost members ≡ false → (b || any_lost members) ≡ false
+    by true e rec = true_false (sym e)
+    by false e rec = rec
+
+closed-len : (log : Log) (s : ℕ) → Told log → 0 < s → s ≤ log.head → is_all_closed (log.segments s) ≡ true →
+    length (log.segments s).entries ≤ durable_len (log.segments s).config
+closed-len log s told above upto closed =
+    either (λ n. length (log.segments s).entries ≤ n) ((log.segments s).config.committed &&
+    not (any_lost (log.segments s).config.members)) (least_told (log.segments s).config.members) 0
+    (λ _. least-told (length (log.segments s).entries) (log.segments s).config.members (told.members s above upto)
+    (λ member at. (told.closed s member at
+    (closed-parts member (all-each is_closed member (log.segments s).config.members parts.1 at)).1).1))
+    (λ isn't. true_false (sym both ∙ isn't))
+  where
+    parts : ((log.segments s).config.committed ≡ true) × (all_closed (log.segments s).config ≡ true)
+    parts = and_parts (log.segments s).config.committed (all_closed (log.segments s).config) closed
+
+    both : ((log.segments s).config.committed && not (any_lost (log.segments s).config.members)) ≡ true
+    both = ap (λ b. b && not (any_lost (log.segments s).config.members)) parts.0 ∙
+        ap not (none-lost (log.segments s).config.members parts.1)
+
+-- After every list of events
+
+record AllWereStored (setup : Setup) (events : List Event) (m : ServerId) : Type 0 where
+  told : Told ((replay setup events).masters m).log
+  shut : (t o : ℕ) → (((replay setup events).masters m).log.segments t).shut ≡ true →
+      o < length (((replay setup events).masters m).log.segments t).entries → WasStoredOnce setup events m t o
+  counted : (k : ℕ) (place : LogPlace) → k < ((replay setup events).masters m).log.durable →
+      slice_get (places_of ((replay setup events).masters m).log) k ≡ Some place →
+      WasStoredOnce setup events m place.seg place.offset
+
+module _ (setup : Setup) (events : List Event) (one : Event) (m : ServerId) (was : AllWereStored setup events m) where
+  old : Log
+  old = ((replay setup events).masters m).log
+
+  good : GoodWorld (replay setup events)
+  good = good-world setup events
+
+  -- the world one step further is that of one event more
+  pushed : replay setup (events ++ one ∷ []) ≡ step (replay setup events) one
+  pushed = replay_from-push (opening setup) events one
+
+  made : StepOk ((replay setup events).masters m).log ((replay setup (events ++ one ∷ [])).masters m).log
+  made = subst (λ (world : World). StepOk ((replay setup events).masters m).log (world.masters m).log) (sym pushed)
+      (steps-on (replay setup events) one good m)
+
+  counts : Counts ((replay setup events).masters m).log ((replay setup (events ++ one ∷ [])).masters m).log
+  counts = subst (λ (world : World). Counts ((replay setup events).masters m).log (world.masters m).log) (sym pushed)
+      (counts-on (replay setup events) one good m)
+
+  later : LogLater (replay setup (events ++ one ∷ [])).sent m ((replay setup events).masters m).log
+      ((replay setup (events ++ one ∷ [])).masters m).log
+  later = subst (λ (world : World). LogLater world.sent m ((replay setup events).masters m).log (world.masters m).log)
+      (sym pushed) ((led-step (replay setup events) one good).onward.grown m).later
+
+  mine : GoodMaster (replay setup (events ++ one ∷ [])).sent m ((replay setup (events ++ one ∷ [])).masters m)
+  mine = (good-world setup (events ++ one ∷ [])).masters_are m
+
+  told-now : Told ((replay setup (events ++ one ∷ [])).masters m).log
+  told-now = made.keeps was.told
+
+  now-shut : (t o : ℕ) → (((replay setup (events ++ one ∷ [])).masters m).log.segments t).shut ≡ true →
+      o < length (((replay setup (events ++ one ∷ [])).masters m).log.segments t).entries →
+      WasStoredOnce setup (events ++ one ∷ []) m t o
+  now-shut t o shut less = by (made.shut was.told t shut)
+    where
+      by : ((((replay setup events).masters m).log.segments t).shut ≡ true) ⊎
+          (is_all_closed (((replay setup (events ++ one ∷ [])).masters m).log.segments t) ≡ true) →
+          WasStoredOnce setup (events ++ one ∷ []) m t o
+      by (inl before) = once-later setup events (one ∷ []) m t o
+          (was.shut t o before (subst (λ (entries : List (Entry × Bool)). o < length entries)
+          (later.final t (was.told.within t before)) less))
+      by (inr closed) = once-now setup (events ++ one ∷ []) m t o
+          (stored-now ((replay setup (events ++ one ∷ [])).masters m).log t o above (omega (arith, below)) enough
+          (λ k over under. mine.old_shut k over (omega (arith, under, below))))
+        where
+          above : 0 < t
+          above = (mine.shut_below t shut).0
+
+          below : t < ((replay setup (events ++ one ∷ [])).masters m).log.head
+          below = (mine.shut_below t shut).1
+
+          enough : o < durable_len (((replay setup (events ++ one ∷ [])).masters m).log.segments t).config
+          enough = let all : length (((replay setup (events ++ one ∷ [])).masters m).log.segments t).entries ≤
+              durable_len (((replay setup (events ++ one ∷ [])).masters m).log.segments t).config =
+              closed-len ((replay setup (events ++ one ∷ [])).masters m).log t told-now above (omega (arith, below))
+              closed in omega (arith, less, all)
+
+  now-counted : (k : ℕ) (place : LogPlace) → k < ((replay setup (events ++ one ∷ [])).masters m).log.durable →
+      slice_get (places_of ((replay setup (events ++ one ∷ [])).masters m).log) k ≡ Some place →
+      WasStoredOnce setup (events ++ one ∷ []) m place.seg place.offset
+  now-counted k place less at = by_count (cases_order k ((replay setup events).masters m).log.durable)
+    where
+      before : k < ((replay setup events).masters m).log.durable → WasStoredOnce setup (events ++ one ∷ []) m place.seg place.offset
+      before under =
+          let within : ((replay setup events).masters m).log.durable ≤ length
+          (places_of ((replay setup events).masters m).log) = (good.masters_are m).durable_within in
+          let found : (p : LogPlace) × (slice_get (places_of ((replay setup events).masters m).log) k ≡ Some p) =
+          get-below (places_of ((replay setup events).masters m).log) k (omega (arith, under, within)) in
+          let still : slice_get (places_of ((replay setup (events ++ one ∷ [])).masters m).log) k ≡ Some found.0 =
+          get-begins (places_of ((replay setup events).masters m).log) (places_of ((replay setup (events ++ one ∷ [])).masters m).log)
+          (places-later (replay setup (events ++ one ∷ [])).sent m ((replay setup events).masters m).log
+          ((replay setup (events ++ one ∷ [])).masters m).log later) k found.0 found.1 in
+          let same : found.0 ≡ place = cc in
+          subst (λ (p : LogPlace). WasStoredOnce setup (events ++ one ∷ []) m p.seg p.offset) same
+          (once-later setup events (one ∷ []) m found.0.seg found.0.offset (was.counted k found.0 under found.1))
+
+      of : IsOf ((replay setup (events ++ one ∷ [])).masters m).log.segments ((replay setup (events ++ one ∷ [])).masters m).log.head place
+      of = places_to-are ((replay setup (events ++ one ∷ [])).masters m).log.segments
+          ((replay setup (events ++ one ∷ [])).masters m).log.head k place at
+
+      just : k < durable_now ((replay setup (events ++ one ∷ [])).masters m).log →
+          WasStoredOnce setup (events ++ one ∷ []) m place.seg place.offset
+      just under = by covered.reason
+        where
+          covered : IsCovered ((replay setup (events ++ one ∷ [])).masters m).log.segments place
+          covered = durable-covered ((replay setup (events ++ one ∷ [])).masters m).log k place under at
+
+          by : ((((replay setup (events ++ one ∷ [])).masters m).log.segments place.seg).shut ≡ true) ⊎
+              (place.offset < durable_in (((replay setup (events ++ one ∷ [])).masters m).log.segments place.seg)) →
+              WasStoredOnce setup (events ++ one ∷ []) m place.seg place.offset
+          by (inl shut) = now-shut place.seg place.offset shut
+              (get-within (((replay setup (events ++ one ∷ [])).masters m).log.segments place.seg).entries place.offset
+              (place.entry, place.client) of.holds)
+          by (inr some) = once-now setup (events ++ one ∷ []) m place.seg place.offset
+              (stored-now ((replay setup (events ++ one ∷ [])).masters m).log place.seg place.offset of.above of.upto
+              (let both : place.offset < min
+              (durable_len (((replay setup (events ++ one ∷ [])).masters m).log.segments place.seg).config)
+              (length (((replay setup (events ++ one ∷ [])).masters m).log.segments place.seg).entries) =
+              some in omega (arith, both))
+              covered.below)
+
+      rest : ((replay setup events).masters m).log.durable ≤ k → WasStoredOnce setup (events ++ one ∷ []) m place.seg place.offset
+      rest from =
+          let upto : ((replay setup (events ++ one ∷ [])).masters m).log.durable ≤ max
+          ((replay setup events).masters m).log.durable
+          (durable_now ((replay setup (events ++ one ∷ [])).masters m).log) = counts.count in
+          just (omega (arith, less, from, upto))
+
+      by_count : (k ≡ ((replay setup events).masters m).log.durable) ⊎
+          ((k < ((replay setup events).masters m).log.durable) ⊎ (((replay setup events).masters m).log.durable < k)) →
+          WasStoredOnce setup (events ++ one ∷ []) m place.seg place.offset
+      by_count (inl same) = rest (omega (arith, same))
+      by_count (inr (inl under)) = before under
+      by_count (inr (inr over)) = rest (omega (arith, over))
+
+  all-now : AllWereStored setup (events ++ one ∷ []) m
+  all-now = record { told = told-now; shut = now-shut; counted = now-counted }
+
+all-opening : (setup : Setup) (m : ServerId) → factor_of setup m.index ≢ 0 → AllWereStored setup [] m
+all-opening setup m some = record {
+  told = record {
+    closed = λ s member at. absurd at;
+    within = λ s e. true_false (sym e);
+    members = λ s above upto. absurd (omega (arith, above, upto));
+    factor = some;
+  };
+  shut = λ t o shut. true_false (sym shut);
+  counted = λ k place less. absurd (omega (arith, less));
+}
+
+all-from : (setup : Setup) (past events : List Event) (m : ServerId) → AllWereStored setup past m → AllWereStored setup (past ++ events) m
+all-from setup past [] m p = subst (λ (all : List Event). AllWereStored setup all m) (sym (append-nil past)) p
+all-from setup past (one ∷ events) m p =
+    subst (λ (all : List Event). AllWereStored setup all m) (append_assoc past (one ∷ []) events)
+    (all-from setup (past ++ one ∷ []) events m (all-now setup past one m p))
+
+all-world : (setup : Setup) (events : List Event) (m : ServerId) → factor_of setup m.index ≢ 0 → AllWereStored setup events m
+all-world setup events m some = all-from setup [] events m (all-opening setup m some)
+
+-- Durable
+
+once-durable : (setup : Setup) (events : List Event) (m : ServerId) (s o : ℕ) → factor_of setup m.index ≢ 0 →
+    WasStoredOnce setup events m s o → IsDurable setup events m s o
+once-durable setup events m s o some was = record { moment = was.moment; happened = was.happened; stored = was.stored; earlier = earlier }
+  where
+    past : List Event
+    past = take was.moment events
+
+    shut : (t : ℕ) → 0 < t → t < s → (((replay setup (take was.moment events)).masters m).log.segments t).shut ≡ true
+    shut t above below = shut-each ((replay setup (take was.moment events)).masters m).log.segments (s - 1) t
+        (and_parts (nat_lt o (durable_len (((replay setup (take was.moment events)).masters m).log.segments s).config))
+        (all_shut_to ((replay setup (take was.moment events)).masters m).log.segments (s - 1))
+        (and_parts (has_segment ((replay setup (take was.moment events)).masters m).log s)
+        (nat_lt o (durable_len (((replay setup (take was.moment events)).masters m).log.segments s).config)
+        && all_shut_to ((replay setup (take was.moment events)).masters m).log.segments (s - 1)) was.stored).1).1
+        above (omega (arith, below))
+
+    earlier : EarlierWereStored setup events m was.moment s
+    earlier t k above below less = by ((all-world setup (take was.moment events) m some).shut t k (shut t above below) less)
+      where
+        by : WasStoredOnce setup (take was.moment events) m t k → (n : ℕ) × (n ≤ was.moment) × WasStored setup events m n t k
+        by once =
+            let upto : once.moment ≤ length (take was.moment events) = once.happened in
+            let short : length (take was.moment events) ≤ was.moment = length-take was.moment events in
+            let before : once.moment ≤ was.moment = omega (arith, upto, short) in (
+              once.moment,
+              before,
+              subst (λ (one : List Event). is_stored_on_all ((replay setup one).masters m).log t
+                  k ≡ true) (take-take once.moment was.moment events before) once.stored,
+            )
+          where
+            length-take : (n : ℕ) (list : List Event) → length (take n list) ≤ n
+            length-take zero list = omega arith
+            length-take (suc n) [] = omega arith
+            length-take (suc n) (one ∷ list) = let rec : length (take n list) ≤ n = length-take n list in omega (arith, rec)
+
+pub stored-is-durable : StoredIsDurable
+stored-is-durable setup events m s o some stored = once-durable setup events m s o some (once-now setup events m s o stored)
+
+pub counted-is-durable : CountedIsDurable
+counted-is-durable setup events m k place some less at =
+    once-durable setup events m place.seg place.offset some ((all-world setup events m some).counted k place less at)
+
+-- a WriteOk of these places names one of them
+record IsOkOf (own : ServerId) (places : List LogPlace) (message : Message) : Type 0 where
+  place : LogPlace
+  among : In place places
+  says : message.body ≡ WriteOk place.seg place.offset place.entry.term place.entry.table place.entry.key place.entry.version
+
+ok-of : (own : ServerId) (places : List LogPlace) (message : Message) → In message (write_oks own places) → IsOkOf own places message
+ok-of own [] message at = absurd at
+ok-of own (place ∷ places) message at =
+    either (λ (messages : List Message). In message messages → IsOkOf own (place ∷ places) message) place.client
+    (to_outside own (WriteOk place.seg place.offset place.entry.term place.entry.table place.entry.key
+    place.entry.version) ∷ write_oks own places) (write_oks own places)
+    (λ _ there. by (ok-of own places message) there) (λ _ there. further (ok-of own places message there)) at
+  where
+    further : IsOkOf own places message → IsOkOf own (place ∷ places) message
+    further is = record { place = is.place; among = inr is.among; says = is.says }
+
+    by : (In message (write_oks own places) → IsOkOf own places message) →
+        (message ≡ to_outside own (WriteOk place.seg place.offset place.entry.term place.entry.table place.entry.key
+        place.entry.version)) ⊎ In message (write_oks own places) → IsOkOf own (place ∷ places) message
+    by rec (inl same) = record { place = place; among = inl refl; says = ap (λ (one : Message). one.body) same }
+    by rec (inr rest) = further (rec rest)
+
+seg_of : Body → ℕ
+seg_of (WriteOk s o term table key version) = s
+seg_of _ = 0
+
+offset_of : Body → ℕ
+offset_of (WriteOk s o term table key version) = o
+offset_of _ = 0
+
+pub acknowledged-is-durable : AcknowledgedIsDurable
+unfolding seg_of offset_of
+acknowledged-is-durable setup events m ack some acked =
+    subst (λ s. IsDurable setup events m s ack.offset) seg (subst (λ o. IsDurable setup events m found.place.seg o) offset
+    (counted-is-durable setup events m counted.0 found.place some counted.1 counted.2))
+  where
+    is_ok : is_ack_of m acked.message ≡ true
+    is_ok = ap (λ (from : Addr). is_server m from && is_write_ok acked.message.body) acked.from
+        ∙ (ap (λ (says : Body). is_server m (Server m) && is_write_ok says) acked.says ∙ ap (λ b. b && true) (same_id-refl m))
+
+    found : IsOkOf m (counted_places ((replay setup events).masters m).log) acked.message
+    found = ok-of m (counted_places ((replay setup events).masters m).log) acked.message
+        (subst (λ (messages : List Message). In acked.message messages) (counted-is-acknowledged setup events m)
+        (filter-In (is_ack_of m) acked.message (replay setup events).sent acked.among is_ok))
+
+    counted : (k : ℕ) × (k < ((replay setup events).masters m).log.durable) ×
+        (slice_get (places_of ((replay setup events).masters m).log) k ≡ Some found.place)
+    counted = In-take ((replay setup events).masters m).log.durable (places_of ((replay setup events).masters m).log)
+        found.place found.among
+
+    seg : found.place.seg ≡ ack.seg
+    seg = ap seg_of (sym found.says ∙ acked.says)
+
+    offset : found.place.offset ≡ ack.offset
+    offset = ap offset_of (sym found.says ∙ acked.says)

@@ -1,0 +1,21 @@
+//! Acknowledgements.
+
+ghost use Rattle.rc_write_laws.specs.MomentClaims.{CountedWhenStored};
+ghost use Rattle.rc_write_laws.specs.AckClaims.{CountedIsAcknowledged, StoredIsAcknowledged, AcknowledgedOnce};
+ghost use Rattle.rc_write_laws.specs.AckClaims.{AcknowledgedWasAsked};
+
+/// A master has acknowledged exactly the clients' writes at the places that it counts as durable, in the
+/// order of places, each once. A place is counted in the very event in which it becomes stored on all
+/// members of its segment with each earlier segment shut, unless the master is deposed.
+pub fn writes_are_acknowledged_once()
+    ensures counted { CountedIsAcknowledged }
+    ensures stored { StoredIsAcknowledged }
+    ensures once { AcknowledgedOnce }
+    ensures moment { CountedWhenStored }
+{}
+
+/// What was acknowledged was asked: a Write of that table and key was sent to that master, and the entry
+/// at the acknowledged place has that Write's value.
+pub fn acknowledged_was_asked()
+    ensures { AcknowledgedWasAsked }
+{}
