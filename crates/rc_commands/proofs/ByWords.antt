@@ -16,19 +16,21 @@ use Rattle.clap.proofs.OnLiterals.{clap_on_literals}
 use Rattle.clap.proofs.WalkLemmas.{both}
 use Rattle.rc_commands.specs.declared.asking.Asked.{Asked}
 use Rattle.rc_commands.specs.declared.asking.Asked.TheVariants as asked
-use Rattle.rc_commands.specs.Asking.{Tells, as_command, asked_in, asks_for_text, begins_with_help, command_in, fuzz_in}
+use Rattle.rc_commands.specs.Asking.{Tells, as_command, asked_in, asks_for_text, begins_with_help, command_in, explain_in}
+use Rattle.rc_commands.specs.Asking.{explore_in, exploring, fuzz_in}
 use Rattle.rc_commands.specs.Asking.{is_alone, is_command, is_end, is_help, is_option, is_plain, is_request, is_text}
 use Rattle.rc_commands.specs.Asking.{is_version, run_in, stops_in, where_taken, heap_line, option_zip_with}
 use Rattle.rc_commands.specs.Asking as line_of
 use Rattle.rc_commands.specs.Commands as command
 use Rattle.rc_commands.specs.Commands.{ramseg}
-use Rattle.rc_commands.proofs.Words.{IsLevel, asks, audit_is, fuzz_is, leaf, line_told, run_is, same, stops_is, tells}
-use Rattle.rc_commands.proofs.Words.{tells_first, text_tells, trace_is}
+use Rattle.rc_commands.proofs.Words.{IsLevel, asks, audit_is, explore_is, fuzz_is, leaf, line_told, run_is, same, stops_is}
+use Rattle.rc_commands.proofs.Words.{tells, tells_first, text_tells, trace_is}
 use Rattle.rc_commands.specs.Numbers.{decimal_in}
 use Rattle.rc_commands.proofs.Heap.{heap_given, none_first}
-use Rattle.rc_commands.proofs.Lines.{audit_found, audit_line, by_command, empty_told, faults_at, fuzz_found, fuzz_line}
-use Rattle.rc_commands.proofs.Lines.{no_option, run_found, run_line, stops_found, stops_line, told, trace_found}
-use Rattle.rc_commands.proofs.Lines.{trace_line}
+use Rattle.rc_commands.proofs.Lines.{audit_found, audit_line, by_command, empty_told, explain_found, explain_line}
+use Rattle.rc_commands.proofs.Lines.{explore_found, explore_line, faults_at, fuzz_found, fuzz_line}
+use Rattle.rc_commands.proofs.Lines.{no_option, run_found, run_line, stops_found, stops_line}
+use Rattle.rc_commands.proofs.Lines.{told, trace_found, trace_line}
 
 -- no error comes exactly where a command stands alone; else each is a request exactly where a text is asked for
 abbrev agrees : Bool → Bool → Kinds → Bool
@@ -111,6 +113,19 @@ unfolding clap_on_literals
 stops_ended [] = refl
 stops_ended (next ∷ rest) = refl
 
+explore_alone : After command.explore.top []
+unfolding clap_on_literals
+explore_alone = refl
+
+explore_ended : (rest : List Text) → After command.explore.top (codes "--" ∷ rest)
+unfolding clap_on_literals
+explore_ended [] = refl
+explore_ended (next ∷ rest) = refl
+
+explain_alone : After command.explain.top []
+unfolding clap_on_literals
+explain_alone = refl
+
 no_options : (words : List Text) → NoOption [] words
 no_options [] = tt
 no_options (word ∷ rest) = no_option word
@@ -159,11 +174,19 @@ line word rest plain = by_command (λ w. is_plain (w ∷ rest) ≡ true → Agre
     (λ e. ap (agrees (is_end rest) (begins_with_help rest)) (stops_line rest)
     ∙ after command.stops.top (codes "seed" ∷ codes "steps" ∷ []) stops_is stops_alone stops_ended rest
     (plain_after (codes "seed" ∷ codes "steps" ∷ []) rest (codes "stops") (λ w more h. not_true _ h) e))
+    (λ e. ap (agrees (is_end rest) (begins_with_help rest)) (explore_line rest)
+    ∙ after command.explore.top exploring explore_is explore_alone explore_ended rest
+    (plain_after exploring rest (codes "explore") (λ w more h. not_true _ h) e))
+    (explain_ends rest)
     (λ e. absurd (true≢false (sym e ∙ about rest)))
     (λ w none no_help e.
     ap (λ b. agrees (b && is_end rest) (if b then begins_with_help rest else (is_help w || is_version w)) (fault_of ramseg (w ∷ rest))) none
     ∙ agrees_told (asks true w) (fault_of ramseg (w ∷ rest)) (told w rest none no_help)) word plain
   where
+    explain_ends : (rest : List Text) → is_plain (codes "explain" ∷ rest) ≡ true → Agrees (codes "explain" ∷ rest)
+    explain_ends [] e = ap (agrees true false) (explain_line []) ∙ explain_alone
+    explain_ends (next ∷ more) e = absurd (true≢false (sym e))
+
     about : (rest : List Text) → is_plain (codes "help" ∷ rest) ≡ false
     about [] = refl
     about (w ∷ more) = refl
@@ -215,6 +238,14 @@ asked_stops : (rest : List Text) → asked_in (codes "stops" ∷ rest) ≡ where
     (stops_in (rows_at (leaf command.stops.top) rest).1)
 asked_stops rest = ap₂ asked_by (stops_line rest) (stops_found rest)
 
+asked_explore : (rest : List Text) → asked_in (codes "explore" ∷ rest) ≡ where_taken (faults_at command.explore.top rest)
+    (explore_in (rows_at (leaf command.explore.top) rest).1)
+asked_explore rest = ap₂ asked_by (explore_line rest) (explore_found rest)
+
+asked_explain : (rest : List Text) → asked_in (codes "explain" ∷ rest) ≡ where_taken (faults_at command.explain.top rest)
+    (explain_in (rows_at (leaf command.explain.top) rest).1)
+asked_explain rest = ap₂ asked_by (explain_line rest) (explain_found rest)
+
 -- of which command an answer is not
 module _ (T : Option Asked → Bool) (none : T None ≡ false) where
   never : (faults : Kinds) (x : Option Asked) → T x ≡ false → T (where_taken faults x) ≡ false
@@ -259,6 +290,35 @@ module _ (T : Option Asked → Bool) (none : T None ≡ false) where
       go (Some seed) None = none
       go (Some seed) (Some steps) = each _ _
 
+  pub no_explore : ((seed steps hosts factor segment : ℕ) (free save : Bool) →
+      T (Some (asked.Explore seed steps hosts factor segment free save)) ≡ false) → (rest : List Text) →
+      T (asked_in (codes "explore" ∷ rest)) ≡ false
+  no_explore each rest = ap T (asked_explore rest) ∙ never _ _ (by_rows (rows_at (leaf command.explore.top) rest).1)
+    where
+      go : (free save : Bool) (seed steps hosts factor segment : Option ℕ) →
+          T (option_and_then (λ a. option_and_then (λ b. option_and_then (λ c. option_and_then (λ d. option_map
+          (λ e. asked.Explore a b c d e free save) segment) factor) hosts) steps) seed) ≡ false
+      go free save None steps hosts factor segment = none
+      go free save (Some a) None hosts factor segment = none
+      go free save (Some a) (Some b) None factor segment = none
+      go free save (Some a) (Some b) (Some c) None segment = none
+      go free save (Some a) (Some b) (Some c) (Some d) None = none
+      go free save (Some a) (Some b) (Some c) (Some d) (Some e) = each _ _ _ _ _ _ _
+
+      by_rows : (rows : List Row) → T (explore_in rows) ≡ false
+      by_rows rows = go (line_of.has_flag (codes "free") rows) (line_of.has_flag (codes "save") rows)
+          (line_of.number_or 1 (codes "seed") 0 18446744073709551615 rows)
+          (line_of.number_or 2000 (codes "steps") 0 100000 rows) (line_of.number_or 5 (codes "hosts") 1 16 rows)
+          (line_of.number_or 2 (codes "factor") 1 5 rows) (line_of.number_or 2 (codes "segment") 1 1024 rows)
+
+  pub no_explain : ((code : Option ℕ) → T (Some (asked.Explain code)) ≡ false) → (rest : List Text) →
+      T (asked_in (codes "explain" ∷ rest)) ≡ false
+  no_explain each rest = ap T (asked_explain rest) ∙ never _ _ (go _)
+    where
+      go : (o : Option (Option ℕ)) → T (option_map asked.Explain o) ≡ false
+      go None = none
+      go (Some code) = each code
+
   pub no_help : (rest : List Text) → T (asked_in (codes "help" ∷ rest)) ≡ false
   unfolding clap_on_literals
   no_help rest = none
@@ -293,6 +353,8 @@ trace_only (word ∷ rest) h = by_command (λ w. is_trace (asked_in (w ∷ rest)
     (λ e. absurd (true≢false (sym e ∙ no_audit is_trace refl refl rest)))
     (λ e. absurd (true≢false (sym e ∙ no_fuzz is_trace refl (λ seed steps free. refl) rest)))
     (λ e. absurd (true≢false (sym e ∙ no_stops is_trace refl (λ seed steps. refl) rest)))
+    (λ e. absurd (true≢false (sym e ∙ no_explore is_trace refl (λ seed steps hosts factor segment free save. refl) rest)))
+    (λ e. absurd (true≢false (sym e ∙ no_explain is_trace refl (λ code. refl) rest)))
     (λ e. absurd (true≢false (sym e ∙ no_help is_trace refl rest)))
     (λ w no_name no_about e. absurd (true≢false (sym e ∙ no_other is_trace refl rest w no_name no_about))) word h
 
@@ -332,6 +394,8 @@ run_only (word ∷ rest) h = by_command (λ w. is_bare_run (asked_in (w ∷ rest
     (λ e. absurd (true≢false (sym e ∙ no_audit is_bare_run refl refl rest)))
     (λ e. absurd (true≢false (sym e ∙ no_fuzz is_bare_run refl (λ seed steps free. refl) rest)))
     (λ e. absurd (true≢false (sym e ∙ no_stops is_bare_run refl (λ seed steps. refl) rest)))
+    (λ e. absurd (true≢false (sym e ∙ no_explore is_bare_run refl (λ seed steps hosts factor segment free save. refl) rest)))
+    (λ e. absurd (true≢false (sym e ∙ no_explain is_bare_run refl (λ code. refl) rest)))
     (λ e. absurd (true≢false (sym e ∙ no_help is_bare_run refl rest)))
     (λ w no_name no_about e. absurd (true≢false (sym e ∙ no_other is_bare_run refl rest w no_name no_about))) word h
 
@@ -344,6 +408,8 @@ audit_only (word ∷ rest) h = by_command (λ w. is_audit (asked_in (w ∷ rest)
     (sym (ap is_audit (asked_audit rest)) ∙ e))
     (λ e. absurd (true≢false (sym e ∙ no_fuzz is_audit refl (λ seed steps free. refl) rest)))
     (λ e. absurd (true≢false (sym e ∙ no_stops is_audit refl (λ seed steps. refl) rest)))
+    (λ e. absurd (true≢false (sym e ∙ no_explore is_audit refl (λ seed steps hosts factor segment free save. refl) rest)))
+    (λ e. absurd (true≢false (sym e ∙ no_explain is_audit refl (λ code. refl) rest)))
     (λ e. absurd (true≢false (sym e ∙ no_help is_audit refl rest)))
     (λ w no_name no_about e. absurd (true≢false (sym e ∙ no_other is_audit refl rest w no_name no_about))) word h
 
@@ -380,6 +446,15 @@ fuzz_gives = alone_gives (codes "fuzz") (asked.Fuzz 1 1000 false) refl refl
 pub stops_gives : (words : List Text) → is_alone (codes "stops") words ≡ true → asked_in words ≡ Some (asked.Stops 1 300)
 unfolding clap_on_literals
 stops_gives = alone_gives (codes "stops") (asked.Stops 1 300) refl refl
+
+pub explore_gives : (words : List Text) → is_alone (codes "explore") words ≡ true →
+    asked_in words ≡ Some (asked.Explore 1 2000 5 2 2 false false)
+unfolding clap_on_literals
+explore_gives = alone_gives (codes "explore") (asked.Explore 1 2000 5 2 2 false false) refl refl
+
+pub explain_gives : (words : List Text) → is_alone (codes "explain") words ≡ true → asked_in words ≡ Some (asked.Explain None)
+unfolding clap_on_literals
+explain_gives = alone_gives (codes "explain") (asked.Explain None) refl refl
 
 -- ---- lines with each option once
 
@@ -437,6 +512,8 @@ is_answer a b e = go a e
     go asked.Audit e = ap (λ o. unwrap_or o b) e
     go (asked.Fuzz seed steps free) e = ap (λ o. unwrap_or o b) e
     go (asked.Stops seed steps) e = ap (λ o. unwrap_or o b) e
+    go (asked.Explore seed steps hosts factor segment free save) e = ap (λ o. unwrap_or o b) e
+    go (asked.Explain code) e = ap (λ o. unwrap_or o b) e
 
 module _ (words : List Text) (a : Asked) (asks : as_command a ≡ asked_in words) where
   pub trace_told : (a ≡ asked.Trace) ↔ (is_alone (codes "trace") words ≡ true)
@@ -457,6 +534,12 @@ module _ (words : List Text) (a : Asked) (asks : as_command a ≡ asked_in words
 
   pub stops_told : is_alone (codes "stops") words ≡ true → a ≡ asked.Stops 1 300
   stops_told h = is_answer a (asked.Stops 1 300) (asks ∙ stops_gives words h)
+
+  pub explore_told : is_alone (codes "explore") words ≡ true → a ≡ asked.Explore 1 2000 5 2 2 false false
+  explore_told h = is_answer a (asked.Explore 1 2000 5 2 2 false false) (asks ∙ explore_gives words h)
+
+  pub explain_told : is_alone (codes "explain") words ≡ true → a ≡ asked.Explain None
+  explain_told h = is_answer a (asked.Explain None) (asks ∙ explain_gives words h)
 
   pub heap_told : (bytes : Text) → words ≡ heap_line bytes →
       as_command a ≡ option_map asked.Run (option_map Some (decimal_in 16 1048576 bytes))

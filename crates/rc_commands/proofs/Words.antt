@@ -19,7 +19,7 @@ use Rattle.clap.specs.Faults.{positional_fault, short_fault, turn_fault, walk_fa
 use Rattle.clap.specs.Faults.{step_fault, stray_fault, level_fault, flags_fault, bundle_step_fault, bundle_fault}
 use Rattle.clap.specs.Faults.{long_fault}
 use Rattle.clap.proofs.OnLiterals.{clap_on_literals}
-use Rattle.rc_commands.specs.Asking.{is_help, is_option, is_request, is_version}
+use Rattle.rc_commands.specs.Asking.{exploring, is_help, is_option, is_request, is_version}
 use Rattle.rc_commands.specs.Commands as command
 use Rattle.rc_commands.specs.Commands.{ramseg}
 
@@ -135,6 +135,24 @@ stops_is = record { long = long; short = λ x. refl; strays = refl; positional =
     long name e =
         let p = or_parts _ _ e in
         passed (bytes_eq (codes "seed") name) _ _ p.0 ∙ passed (bytes_eq (codes "steps") name) _ _ (or_parts _ _ p.1).0
+
+pub explore_is : IsLevel (leaf command.explore.top) false exploring
+unfolding clap_on_literals
+explore_is = record { long = long; short = λ x. refl; strays = refl; positional = refl }
+  where
+    long : (name : Text) → list_any (λ option. bytes_eq option name) exploring ≡ false
+        → arg_by_long (leaf command.explore.top).rules name ≡ flag_of (bytes_eq (codes "help") name) false
+    long name e =
+        let p = or_parts _ _ e in
+        let q = or_parts _ _ p.1 in
+        let r = or_parts _ _ q.1 in
+        let s = or_parts _ _ r.1 in
+        let t = or_parts _ _ s.1 in
+        let u = or_parts _ _ t.1 in
+        passed (bytes_eq (codes "seed") name) _ _ p.0 ∙ passed (bytes_eq (codes "steps") name) _ _ q.0
+        ∙ passed (bytes_eq (codes "hosts") name) _ _ r.0 ∙ passed (bytes_eq (codes "factor") name) _ _ s.0
+        ∙ passed (bytes_eq (codes "segment") name) _ _ t.0 ∙ passed (bytes_eq (codes "free") name) _ _ u.0
+        ∙ passed (bytes_eq (codes "save") name) _ _ (or_parts _ _ u.1).0
 
 pub fuzz_is : IsLevel (leaf command.fuzz.top) false (codes "seed" ∷ codes "steps" ∷ codes "free" ∷ [])
 unfolding clap_on_literals

@@ -1,7 +1,7 @@
 -- What a command line asks for, by its words, of which the program's name is none.
 use Rattle.std.specs.Prelude.{◌≡◌, ◌≤◌, ◌==◌, ◌&&◌, ◌||◌, ⊤, ℕ, Bool, true, false, not, List, [], ◌∷◌, ◌++◌}
 use Rattle.std.specs.Prelude.{Option, Some, None, codes, slice_get, unwrap_or, option_map, option_and_then}
-use Rattle.std.specs.Prelude.{if◌then◌else◌}
+use Rattle.std.specs.Prelude.{if◌then◌else◌, nat_eq}
 use Rattle.std.specs.List.{list_any}
 use Rattle.std.specs.Option.{option_map_or}
 use Rattle.std.specs.Str.{byte, bytes_eq, chars}
@@ -34,6 +34,9 @@ abbrev pub IsInRange : Asked → Type 0
 IsInRange (asked.Run heap) = IsWithin 16 1048576 heap
 IsInRange (asked.Fuzz seed steps free) = steps ≤ 100000
 IsInRange (asked.Stops seed steps) = steps ≤ 1000
+IsInRange (asked.Explore seed steps hosts factor segment free save) = (steps ≤ 100000) × (1 ≤ hosts) × (hosts ≤ 16)
+    × (1 ≤ factor) × (factor ≤ 5) × (1 ≤ segment) × (segment ≤ 1024)
+IsInRange (asked.Explain code) = IsWithin 1 21 code
 IsInRange _ = ⊤
 
 -- ---- the command, as `clap` reads the words
@@ -63,6 +66,31 @@ stops_in rows = option_and_then (λ seed. option_map
     (λ steps. asked.Stops (unwrap_or seed 1) (unwrap_or steps 300))
     (number_given (codes "steps") 0 1000 rows)) (seed_given rows)
 
+-- the number that was given for an option, or else this one; None where it is no number of the range
+abbrev pub number_or : ℕ → Text → ℕ → ℕ → List Row → Option ℕ
+number_or default name least most rows = option_map (λ given. unwrap_or given default) (number_given name least most rows)
+
+abbrev pub explore_in : List Row → Option Asked
+explore_in rows =
+    option_and_then (λ seed. option_and_then (λ steps. option_and_then (λ hosts. option_and_then (λ factor. option_map
+    (λ segment. asked.Explore seed steps hosts factor segment (has_flag (codes "free") rows)
+        (has_flag (codes "save") rows))
+    (number_or 2 (codes "segment") 1 1024 rows)) (number_or 2 (codes "factor") 1 5 rows))
+    (number_or 5 (codes "hosts") 1 16 rows)) (number_or 2000 (codes "steps") 0 100000 rows))
+    (number_or 1 (codes "seed") 0 18446744073709551615 rows)
+
+-- the number of a code that is written as F and decimal digits
+abbrev pub code_in : Text → Option ℕ
+code_in [] = None
+code_in (first ∷ digits) = if nat_eq first (byte "F") then decimal_in 1 21 digits else None
+
+-- the code that was given, if one was; None where it is no code
+abbrev pub code_given : List Row → Option (Option ℕ)
+code_given rows = option_map_or (λ text. option_map Some (code_in text)) (first_of (codes "code") rows) (Some None)
+
+abbrev pub explain_in : List Row → Option Asked
+explain_in rows = option_map asked.Explain (code_given rows)
+
 -- the command of this name, with what was given for its options
 abbrev pub command_in : Text → List Row → Option Asked
 command_in name rows =
@@ -70,7 +98,9 @@ command_in name rows =
     else (if bytes_eq name (codes "trace") then Some asked.Trace
     else (if bytes_eq name (codes "audit") then Some asked.Audit
     else (if bytes_eq name (codes "fuzz") then fuzz_in rows
-    else (if bytes_eq name (codes "stops") then stops_in rows else None))))
+    else (if bytes_eq name (codes "stops") then stops_in rows
+    else (if bytes_eq name (codes "explore") then explore_in rows
+    else (if bytes_eq name (codes "explain") then explain_in rows else None))))))
 
 -- nothing, where `clap` finds a fault in the words
 abbrev pub where_taken : Kinds → Option Asked → Option Asked
@@ -109,7 +139,8 @@ is_alone name [] = false
 is_alone name (word ∷ rest) = bytes_eq name word && is_end rest
 
 abbrev pub names : List Text
-names = codes "run" ∷ codes "trace" ∷ codes "audit" ∷ codes "fuzz" ∷ codes "stops" ∷ []
+names = codes "run" ∷ codes "trace" ∷ codes "audit" ∷ codes "fuzz" ∷ codes "stops" ∷ codes "explore" ∷ codes "explain"
+    ∷ []
 
 abbrev pub is_command : Text → Bool
 is_command word = list_any (λ name. bytes_eq name word) names
@@ -136,23 +167,30 @@ abbrev pub asks_for_text : List Text → Bool
 asks_for_text [] = false
 asks_for_text (word ∷ rest) = if is_command word then begins_with_help rest else (is_help word || is_version word)
 
+abbrev pub exploring : List Text
+exploring = codes "seed" ∷ codes "steps" ∷ codes "hosts" ∷ codes "factor" ∷ codes "segment" ∷ codes "free"
+    ∷ codes "save" ∷ []
+
 -- the options of a command
 abbrev pub options_of : Text → List Text
 options_of name =
     if bytes_eq (codes "run") name then codes "heap" ∷ []
     else (if bytes_eq (codes "fuzz") name then codes "seed" ∷ codes "steps" ∷ codes "free" ∷ []
-    else (if bytes_eq (codes "stops") name then codes "seed" ∷ codes "steps" ∷ [] else []))
+    else (if bytes_eq (codes "stops") name then codes "seed" ∷ codes "steps" ∷ []
+    else (if bytes_eq (codes "explore") name then exploring else [])))
 
 -- `--NAME` or `--NAME=VALUE`, for one of these options
 abbrev pub is_option : List Text → Text → Bool
 is_option options word =
     option_map_or (λ flag. list_any (λ option. bytes_eq option flag.0) options) (long_of word) false
 
--- neither is the first word `help`, nor the second an option of a command that is the first
+-- neither is the first word `help`, or `explain` with a word after it, nor the second an option of a command that is
+-- the first
 abbrev pub is_plain : List Text → Bool
 is_plain [] = true
 is_plain (word ∷ []) = not (bytes_eq (codes "help") word)
-is_plain (word ∷ next ∷ rest) = not (bytes_eq (codes "help") word) && not (is_option (options_of word) next)
+is_plain (word ∷ next ∷ rest) = not (bytes_eq (codes "help") word) &&
+    not (bytes_eq (codes "explain") word || is_option (options_of word) next)
 
 -- ---- lines with each option once
 

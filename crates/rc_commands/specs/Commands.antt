@@ -10,6 +10,10 @@ use Rattle.clap.specs.declared.builder.command.Command.TheViews.{out-Command}
 abbrev pub option : Text → Rule
 option name = record (new_rule name) { long = Some name; value_names = 1 }
 
+-- a word that stands by itself
+abbrev pub word : Text → Rule
+word name = record (new_rule name) { value_names = 1 }
+
 -- `--NAME`
 abbrev pub flag : Text → Rule
 flag name = record (new_rule name) { long = Some name; action = Some SetTrue }
@@ -30,13 +34,27 @@ fuzz = with_rule (with_rule (with_rule (new_app (codes "fuzz")) (option (codes "
 abbrev pub stops : App
 stops = with_rule (with_rule (new_app (codes "stops")) (option (codes "seed"))) (option (codes "steps"))
 
+-- `explore` with the options of a drawing, then with those of its nodes too
+abbrev pub explore_drawn : App
+explore_drawn = with_rule (with_rule (new_app (codes "explore")) (option (codes "seed"))) (option (codes "steps"))
+
+abbrev pub explore_sized : App
+explore_sized = with_rule (with_rule (with_rule explore_drawn (option (codes "hosts"))) (option (codes "factor")))
+    (option (codes "segment"))
+
+abbrev pub explore : App
+explore = with_rule (with_rule explore_sized (flag (codes "free"))) (flag (codes "save"))
+
+abbrev pub explain : App
+explain = with_rule (new_app (codes "explain")) (word (codes "code"))
+
 abbrev pub alone : App
 alone = on_top (λ top. record top { has_version = true; no_binary_name = true; subcommand_required = true })
     (new_app (codes "ramseg"))
 
 abbrev pub ramseg : App
-ramseg = with_subcommand (with_subcommand (with_subcommand (with_subcommand (with_subcommand alone
-    run.top) trace.top) audit.top) fuzz.top) stops.top
+ramseg = with_subcommand (with_subcommand (with_subcommand (with_subcommand (with_subcommand (with_subcommand
+    (with_subcommand alone run.top) trace.top) audit.top) fuzz.top) stops.top) explore.top) explain.top
 
 -- a command that is built so, and has no option for its subcommands
 abbrev pub IsBuiltAs : App → Command → Type 0

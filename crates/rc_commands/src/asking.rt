@@ -3,16 +3,16 @@
 ghost use Rattle.std.specs.Prelude.{◌≡◌, ◌≢◌, ◌↔◌, Some, None, true, false, map, codes, string_bytes, IfOk, IfErr};
 ghost use Rattle.std.specs.Prelude.{option_map, MatchResult, option_and_then, List, ℕ};
 ghost use Rattle.clap.specs.Faults.{fault_of};
-ghost use Rattle.clap.specs.Words.{app_of, found_of, kind_of, rows_of, subcommand_name_of, subcommand_rows_of};
+ghost use Rattle.clap.specs.Words.{app_of, found_of, kind_of, rows_of, subcommand_rows_of};
 ghost use Rattle.rc_types.specs.declared.faults.Fault.TheVariants.{OutOfMemory};
 ghost use Rattle.rc_commands.specs.Asking.{IsInRange, Tells, as_command, asked_in, asks_for_text, command_in};
-ghost use Rattle.rc_commands.specs.Asking.{fuzz_in, fuzz_line, heap_line, option_zip_with, is_alone, is_command};
+ghost use Rattle.rc_commands.specs.Asking.{explain_in, explore_in, fuzz_in, fuzz_line, heap_line, option_zip_with, is_alone};
 ghost use Rattle.rc_commands.specs.Asking.{is_plain, is_request, is_text, run_in, stops_in, stops_line};
 ghost use Rattle.rc_commands.specs.Numbers.{decimal_in};
 ghost use Rattle.rc_commands.specs.Commands.{ramseg};
 
 use crate::commands::program;
-use crate::numbers::{BadNumber, has_flag, number_of};
+use crate::numbers::{BadWord, code_of, has_flag, number_of};
 use clap::error::ErrorKind;
 use clap::{ArgMatches, Error};
 use rc_types::Fault;
@@ -31,6 +31,18 @@ pub enum Asked {
     Fuzz { seed: u64, steps: u32, free: bool },
     /// Draw events from a seed, and cut the power after each of them.
     Stops { seed: u64, steps: u32 },
+    /// Run events that are drawn from a seed so that much happens; or print them, where `save` says so.
+    Explore {
+        seed: u64,
+        steps: u32,
+        hosts: u8,
+        factor: u8,
+        segment: u16,
+        free: bool,
+        save: bool,
+    },
+    /// Say what the code of this number means, or what all codes mean.
+    Explain { code: Option<u8> },
     /// Nothing but this text, for standard output: help, or the version.
     Tell(String),
     /// It is wrong; this text is for standard error.
@@ -55,6 +67,10 @@ pub fn asked_for(alloc: Global, words: &[String]) -> Result<Asked, Fault>
         (λ a. is_alone (codes "fuzz") (map string_bytes words.now) ≡ true → a ≡ Asked.Fuzz 1 1000 false) }
     ensures stops { IfOk result
         (λ a. is_alone (codes "stops") (map string_bytes words.now) ≡ true → a ≡ Asked.Stops 1 300) }
+    ensures explore { IfOk result (λ a. is_alone (codes "explore") (map string_bytes words.now) ≡ true
+        → a ≡ Asked.Explore 1 2000 5 2 2 false false) }
+    ensures explain { IfOk result
+        (λ a. is_alone (codes "explain") (map string_bytes words.now) ≡ true → a ≡ Asked.Explain None) }
     ensures texts { IfOk result (λ a. is_plain (map string_bytes words.now) ≡ true
         → is_text a ≡ asks_for_text (map string_bytes words.now)) }
 
@@ -77,7 +93,6 @@ pub fn asked_for(alloc: Global, words: &[String]) -> Result<Asked, Fault>
 
 /// The command that was found, or what is wrong with one of its numbers.
 fn found(alloc: Global, matches: &ArgMatches<'_>) -> Result<Asked, Fault>
-    requires { option_map is_command (subcommand_name_of matches.now) ≡ Some true }
     ensures command { IfOk result (λ a. as_command a
         ≡ option_and_then (λ p. command_in p.0 p.1) (subcommand_rows_of matches.now)) }
     ensures text { IfOk result (λ a. is_text a ≡ false) }
@@ -86,13 +101,12 @@ fn found(alloc: Global, matches: &ArgMatches<'_>) -> Result<Asked, Fault>
 {
     match command_of(matches) {
         Ok(command) => Ok(command),
-        Err(number) => Ok(Asked::Wrong(number.to_string(alloc)?)),
+        Err(word) => Ok(Asked::Wrong(word.to_string(alloc)?)),
     }
 }
 
 /// The command with its options.
-fn command_of<'a>(matches: &ArgMatches<'a>) -> Result<Asked, BadNumber<'a>>
-    requires { option_map is_command (subcommand_name_of matches.now) ≡ Some true }
+fn command_of<'a>(matches: &ArgMatches<'a>) -> Result<Asked, BadWord<'a>>
     ensures command { let asked = option_and_then (λ p. command_in p.0 p.1) (subcommand_rows_of matches.now) in
         MatchResult result (λ a. as_command a ≡ asked) (λ _. asked ≡ None) }
     ensures text { IfOk result (λ a. is_text a ≡ false) }
@@ -104,12 +118,14 @@ fn command_of<'a>(matches: &ArgMatches<'a>) -> Result<Asked, BadNumber<'a>>
         Some(("audit", _)) => Ok(Asked::Audit),
         Some(("fuzz", given)) => fuzz_of(given),
         Some(("stops", given)) => stops_of(given),
-        _ => unreachable!(),
+        Some(("explore", given)) => explore_of(given),
+        Some(("explain", given)) => explain_of(given),
+        _ => Err(BadWord::NoCommand),
     }
 }
 
 /// `run` with its option.
-fn run_of<'a>(given: &ArgMatches<'a>) -> Result<Asked, BadNumber<'a>>
+fn run_of<'a>(given: &ArgMatches<'a>) -> Result<Asked, BadWord<'a>>
     ensures command { let asked = run_in (rows_of (found_of given.now)) in
         MatchResult result (λ a. as_command a ≡ asked) (λ _. asked ≡ None) }
     ensures text { IfOk result (λ a. is_text a ≡ false) }
@@ -123,7 +139,7 @@ fn run_of<'a>(given: &ArgMatches<'a>) -> Result<Asked, BadNumber<'a>>
 }
 
 /// `fuzz` with its options.
-fn fuzz_of<'a>(given: &ArgMatches<'a>) -> Result<Asked, BadNumber<'a>>
+fn fuzz_of<'a>(given: &ArgMatches<'a>) -> Result<Asked, BadWord<'a>>
     ensures command { let asked = fuzz_in (rows_of (found_of given.now)) in
         MatchResult result (λ a. as_command a ≡ asked) (λ _. asked ≡ None) }
     ensures text { IfOk result (λ a. is_text a ≡ false) }
@@ -136,7 +152,7 @@ fn fuzz_of<'a>(given: &ArgMatches<'a>) -> Result<Asked, BadNumber<'a>>
 }
 
 /// `stops` with its options.
-fn stops_of<'a>(given: &ArgMatches<'a>) -> Result<Asked, BadNumber<'a>>
+fn stops_of<'a>(given: &ArgMatches<'a>) -> Result<Asked, BadWord<'a>>
     ensures command { let asked = stops_in (rows_of (found_of given.now)) in
         MatchResult result (λ a. as_command a ≡ asked) (λ _. asked ≡ None) }
     ensures text { IfOk result (λ a. is_text a ≡ false) }
@@ -145,6 +161,45 @@ fn stops_of<'a>(given: &ArgMatches<'a>) -> Result<Asked, BadNumber<'a>>
     let seed = number_of(given, "seed", 0, u64::MAX)?.unwrap_or(1);
     let steps = number_of(given, "steps", 0, 1_000)?.unwrap_or(300) as u32;
     Ok(Asked::Stops { seed, steps })
+}
+
+/// `explore` with its options.
+fn explore_of<'a>(given: &ArgMatches<'a>) -> Result<Asked, BadWord<'a>>
+    ensures command { let asked = explore_in (rows_of (found_of given.now)) in
+        MatchResult result (λ a. as_command a ≡ asked) (λ _. asked ≡ None) }
+    ensures text { IfOk result (λ a. is_text a ≡ false) }
+    ensures ranges { IfOk result IsInRange }
+{
+    let seed = number_of(given, "seed", 0, u64::MAX)?.unwrap_or(1);
+    let steps = number_of(given, "steps", 0, 100_000)?.unwrap_or(2_000) as u32;
+    let hosts = number_of(given, "hosts", 1, 16)?.unwrap_or(5) as u8;
+    let factor = number_of(given, "factor", 1, 5)?.unwrap_or(2) as u8;
+    let segment = number_of(given, "segment", 1, 1_024)?.unwrap_or(2) as u16;
+    let free = has_flag(given, "free");
+    let save = has_flag(given, "save");
+    Ok(Asked::Explore {
+        seed,
+        steps,
+        hosts,
+        factor,
+        segment,
+        free,
+        save,
+    })
+}
+
+/// `explain` with its code.
+fn explain_of<'a>(given: &ArgMatches<'a>) -> Result<Asked, BadWord<'a>>
+    ensures command { let asked = explain_in (rows_of (found_of given.now)) in
+        MatchResult result (λ a. as_command a ≡ asked) (λ _. asked ≡ None) }
+    ensures text { IfOk result (λ a. is_text a ≡ false) }
+    ensures ranges { IfOk result IsInRange }
+{
+    let code = match code_of(given)? {
+        Some(number) => Some(number as u8),
+        None => None,
+    };
+    Ok(Asked::Explain { code })
 }
 
 /// What is told in place of a command's work: help and the version, or what is wrong.

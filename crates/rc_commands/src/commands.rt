@@ -22,7 +22,9 @@ pub fn program<'a>(alloc: Global) -> Result<Command<'a>, AllocError>
         .subcommand(trace(alloc))?
         .subcommand(audit(alloc))?
         .subcommand(fuzz(alloc)?)?
-        .subcommand(stops(alloc)?)
+        .subcommand(stops(alloc)?)?
+        .subcommand(explore(alloc)?)?
+        .subcommand(explain(alloc)?)
 }
 
 /// A command without options. Its help ends with an example.
@@ -78,10 +80,6 @@ fn audit<'a>(alloc: Global) -> Command<'a>
 fn fuzz<'a>(alloc: Global) -> Result<Command<'a>, AllocError>
     ensures { IfOk result (IsBuiltAs spec.fuzz) }
 {
-    let free = Arg::new(alloc, "free")
-        .long("free")
-        .action(ArgAction::SetTrue)
-        .help("Lets masters free segments");
     command(
         alloc,
         "fuzz",
@@ -95,7 +93,7 @@ fn fuzz<'a>(alloc: Global) -> Result<Command<'a>, AllocError>
         "N",
         "How many steps are drawn, 0 to 100000; 1000 if not given",
     ))?
-    .arg(free)
+    .arg(flag(alloc, "free", "Lets masters free segments"))
 }
 
 /// `stops` with its options.
@@ -117,11 +115,91 @@ fn stops<'a>(alloc: Global) -> Result<Command<'a>, AllocError>
     ))
 }
 
+/// `explore` with its options.
+fn explore<'a>(alloc: Global) -> Result<Command<'a>, AllocError>
+    ensures { IfOk result (IsBuiltAs spec.explore) }
+{
+    explore_sized(alloc)?
+        .arg(flag(alloc, "free", "Lets masters free segments"))?
+        .arg(flag(alloc, "save", "Prints the run as a scenario in place of the report"))
+}
+
+/// `explore` with the options of its drawing and of its nodes.
+fn explore_sized<'a>(alloc: Global) -> Result<Command<'a>, AllocError>
+    ensures { IfOk result (IsBuiltAs spec.explore_sized) }
+{
+    explore_drawn(alloc)?
+        .arg(option(
+            alloc,
+            "hosts",
+            "N",
+            "How many hosts there are, 1 to 16; 5 if not given",
+        ))?
+        .arg(option(
+            alloc,
+            "factor",
+            "N",
+            "How many replicas each segment has, 1 to 5; 2 if not given",
+        ))?
+        .arg(option(
+            alloc,
+            "segment",
+            "N",
+            "How many entries a segment takes, 1 to 1024; 2 if not given",
+        ))
+}
+
+/// `explore` with the options of its drawing.
+fn explore_drawn<'a>(alloc: Global) -> Result<Command<'a>, AllocError>
+    ensures { IfOk result (IsBuiltAs spec.explore_drawn) }
+{
+    command(
+        alloc,
+        "explore",
+        "Runs events drawn so that much happens, and prints the report and what the run has reached",
+        "Example: ramseg explore --seed 7 --steps 2000 --free",
+    )
+    .arg(seed(alloc))?
+    .arg(option(
+        alloc,
+        "steps",
+        "N",
+        "How many steps are drawn, 0 to 100000; 2000 if not given",
+    ))
+}
+
+/// `explain` with the code that it explains.
+fn explain<'a>(alloc: Global) -> Result<Command<'a>, AllocError>
+    ensures { IfOk result (IsBuiltAs spec.explain) }
+{
+    command(
+        alloc,
+        "explain",
+        "Says what a code of a refusal or a fault means, when it comes, and what to do",
+        "Example: ramseg explain F18",
+    )
+    .arg(
+        Arg::new(alloc, "code")
+            .value_name("CODE")
+            .help("The code, as F18; if not given, all codes are listed"),
+    )
+}
+
 /// The seed of a command that draws events.
 fn seed<'a>(alloc: Global) -> Arg<'a>
     ensures { (rule_of result ≡ spec.option (codes "seed")) × (result.global ≡ false) }
 {
     option(alloc, "seed", "N", "The seed, below 2^64; 1 if not given")
+}
+
+/// A flag `--NAME`.
+fn flag<'a>(alloc: Global, name: &'a str, help: &'a str) -> Arg<'a>
+    ensures { (rule_of result ≡ spec.flag name.now) × (result.global ≡ false) }
+{
+    Arg::new(alloc, name)
+        .long(name)
+        .action(ArgAction::SetTrue)
+        .help(help)
 }
 
 /// An option `--NAME VALUE`.

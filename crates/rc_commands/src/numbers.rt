@@ -1,32 +1,51 @@
-//! Numbers on the command line: decimal digits alone.
+//! Numbers on the command line: decimal digits alone, or after the `F` of a code.
 
 ghost use Rattle.std.specs.Prelude.{◌≡◌, Some, None, IfOk, MatchResult};
 ghost use Rattle.clap.specs.Words.{found_of, rows_of};
 ghost use Rattle.rc_commands.specs.Asking as spec;
-ghost use Rattle.rc_commands.specs.Asking.{number_given};
+ghost use Rattle.rc_commands.specs.Asking.{code_given, number_given};
 ghost use Rattle.rc_commands.specs.Numbers.{IsWithin, decimal_in};
 
 use clap::ArgMatches;
 use std::fmt;
 
-/// A text that was given for an option, and is no number that it takes.
+/// A text that was given, and is not what it stands for.
 #[derive(Debug, PartialEq, Clone, Copy)]
-pub struct BadNumber<'a> {
-    option: &'static str,
-    text: &'a str,
-    least: u64,
-    most: u64,
+pub enum BadWord<'a> {
+    /// No number that this option takes.
+    Number {
+        option: &'static str,
+        text: &'a str,
+        least: u64,
+        most: u64,
+    },
+    /// No code.
+    Code { text: &'a str },
+    /// There is no command.
+    NoCommand,
 }
 
-impl fmt::Display for BadNumber<'_> {
+impl fmt::Display for BadWord<'_> {
     fn fmt<W: fmt::Write>(&self, f: &mut fmt::Formatter<W>) -> fmt::Result {
-        write!(
-            f,
-            "error: '{}' is no value for '--{}': decimal digits from {} to {}\n\nFor more information, try '--help'.\n",
-            self.text, self.option, self.least, self.most
-        )
+        match self {
+            BadWord::Number {
+                option,
+                text,
+                least,
+                most,
+            } => write!(
+                f,
+                "error: '{text}' is no value for '--{option}': decimal digits from {least} to {most}\n"
+            )?,
+            BadWord::Code { text } => write!(f, "error: '{text}' is no code: F1 to F{MOST_CODE}\n")?,
+            BadWord::NoCommand => write!(f, "error: a command is wanted\n")?,
+        }
+        write!(f, "\nFor more information, try '--help'.\n")
     }
 }
+
+/// The number of the last code.
+const MOST_CODE: u64 = 21;
 
 /// The number that was given for an option, if one was.
 pub fn number_of<'a>(
@@ -34,7 +53,7 @@ pub fn number_of<'a>(
     option: &'static str,
     least: u64,
     most: u64,
-) -> Result<Option<u64>, BadNumber<'a>>
+) -> Result<Option<u64>, BadWord<'a>>
     ensures number { let number = number_given option.now least most (rows_of (found_of given.now)) in
         MatchResult result (λ found. number ≡ Some found) (λ _. number ≡ None) }
     ensures range { IfOk result (IsWithin least most) }
@@ -44,7 +63,7 @@ pub fn number_of<'a>(
     };
     match number_in(text, least, most) {
         Some(number) => Ok(Some(number)),
-        None => Err(BadNumber {
+        None => Err(BadWord::Number {
             option,
             text,
             least,
@@ -61,6 +80,30 @@ pub fn has_flag(given: &ArgMatches<'_>, name: &str) -> bool
         Some(text) => text == "true",
         None => false,
     }
+}
+
+/// The number of the code that was given, if one was.
+pub fn code_of<'a>(given: &ArgMatches<'a>) -> Result<Option<u64>, BadWord<'a>>
+    ensures number { let number = code_given (rows_of (found_of given.now)) in
+        MatchResult result (λ found. number ≡ Some found) (λ _. number ≡ None) }
+    ensures range { IfOk result (IsWithin 1 21) }
+{
+    let Some(text) = given.get_str("code") else {
+        return Ok(None);
+    };
+    match code_in(text) {
+        Some(number) => Ok(Some(number)),
+        None => Err(BadWord::Code { text }),
+    }
+}
+
+/// The number of the code that is written so: `F` and decimal digits.
+fn code_in(text: &str) -> Option<u64>
+    ensures number { result ≡ spec.code_in text.now }
+    ensures range { IsWithin 1 21 result }
+{
+    let digits = text.strip_prefix("F")?;
+    number_in(digits, 1, MOST_CODE)
 }
 
 /// The number that these digits write, if it is in the range.

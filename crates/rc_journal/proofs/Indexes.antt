@@ -7,7 +7,7 @@ use Rattle.rc_types.specs.declared.messages.Message.{Message}
 use Rattle.rc_model.specs.World.{node_of}
 use Rattle.rc_ledger.specs.Views.{name_at}
 use Rattle.rc_journal.specs.Names.{number_at}
-use Rattle.rc_journal.specs.Numbers.{numbers_from, numbers_to}
+use Rattle.rc_journal.specs.Numbers.{numbers_to}
 use Rattle.rc_journal.specs.Index.{IsIndex}
 use Rattle.rc_journal.specs.declared.index.TheConstants.{NAMES}
 use Rattle.rc_journal.proofs.Named.{same_node-number, same_node-other}

@@ -1,16 +1,12 @@
 -- Ascending numbers, and the first from a number on.
-use Rattle.std.proofs.Common.{◌≡◌, ℕ, zero, suc, ◌+◌, ◌<◌, ◌≤◌, nat_lt, nat_le, Bool, true, false, cond, List, [], ◌∷◌, length, Some}
+use Rattle.std.proofs.Common.{◌≡◌, ℕ, zero, suc, ◌+◌, ◌<◌, ◌≤◌, nat_lt, nat_le, Bool, true, false, cond, List, [], ◌∷◌, ◌++◌, length, Some}
 use Rattle.std.proofs.Common.{slice_get, slice_index_or, refl, sym, ap, ◌∙◌, arith}
 use Rattle.std.specs.List.{find, AllWithin}
 use Rattle.std.specs.List.Sorted.{IsPartitionedBy}
 use Rattle.rc_types.specs.declared.messages.Message.{Message}
 use Rattle.rc_model.specs.World.{NodeName, same_node, node_of}
 use Rattle.rc_journal.specs.Numbers.{numbers_from}
-
--- the numbers rise, from low on
-abbrev pub Rises : ℕ → List ℕ → Type 0
-Rises low [] = Unit {0}
-Rises low (first ∷ numbers) = (low ≤ first) × Rises (first + 1) numbers
+use Rattle.rc_journal.specs.Rising.{Rises}
 
 rises-from : (high low : ℕ) (numbers : List ℕ) → low ≤ high → Rises high numbers → Rises low numbers
 rises-from high low [] le rise = tt
@@ -59,3 +55,23 @@ least-at from (x ∷ xs) (suc place) below above =
     least-at from xs place (λ k d le lt. below (suc k) d (omega arith) (omega (arith, lt)))
     (λ k d le lt. above (suc k) d (omega (arith, le)) (omega (arith, lt)))
     ∙ sym (ap (λ b. cond b (Some x) (find (λ n. nat_le from n) xs)) is)
+
+-- what rises goes on rising
+pub rises-after : (low : ℕ) (xs ys : List ℕ) → Rises low (xs ++ ys) → Rises low ys
+rises-after low [] ys rise = rise
+rises-after low (x ∷ xs) ys rise = rises-from (x + 1) low ys (omega (arith, rise.0)) (rises-after (x + 1) xs ys rise.1)
+
+-- what stands before a number that is too small is too small
+pub find-past : (from low : ℕ) (xs : List ℕ) (y : ℕ) (ys : List ℕ) → Rises low (xs ++ y ∷ ys) → nat_lt y from ≡ true →
+    find (λ n. nat_le from n) (xs ++ y ∷ ys) ≡ find (λ n. nat_le from n) (y ∷ ys)
+find-past from low [] y ys rise below = refl
+find-past from low (x ∷ xs) y ys rise below =
+    let at : x + 1 ≤ y = (rises-after (x + 1) xs (y ∷ ys) rise.1).0 in
+    let is : nat_le from x ≡ false = not-above from x (grind (arith, at, below)) in
+    ap (λ b. cond b (Some x) (find (λ n. nat_le from n) (xs ++ y ∷ ys))) is ∙ find-past from (x + 1) xs y ys rise.1 below
+
+-- the first from a number on is among the last, where the first of these is too small
+pub find-last : (from low : ℕ) (xs ys : List ℕ) (d : ℕ) → Rises low (xs ++ ys) → 1 ≤ length ys →
+    slice_index_or ys 0 d < from → find (λ n. nat_le from n) ys ≡ find (λ n. nat_le from n) (xs ++ ys)
+find-last from low xs [] d rise some below = absurd (omega (arith, some))
+find-last from low xs (y ∷ ys) d rise some below = sym (find-past from low xs y ys rise (grind (arith, below)))

@@ -1,5 +1,5 @@
 -- Numbers of seats and names of nodes.
-use Rattle.std.proofs.Common.{◌≡◌, ◌≢◌, ℕ, zero, suc, true, false, refl, sym, ap, ◌∙◌}
+use Rattle.std.proofs.Common.{◌≡◌, ◌≢◌, ℕ, true, false, refl, sym, ap, ◌∙◌}
 use Rattle.std.proofs.lemmas.Bool.{eq-eqb}
 use Rattle.rc_model.specs.World.{NodeName, TheOutside, TheCoordinator, TheHost, same_node}
 use Rattle.rc_ledger.specs.Views.{name_at}

@@ -1,6 +1,6 @@
 -- Lists of an index, one of which is changed.
-use Rattle.std.proofs.Common.{◌≡◌, ◌≢◌, ℕ, zero, suc, ◌+◌, ◌<◌, ◌≤◌, ◌⊎◌, inl, inr, ⊎_elim, List, [], ◌∷◌, ◌++◌, length, Some, slice_get}
-use Rattle.std.proofs.Common.{slice_set, refl, sym, ap, ◌∙◌, subst, arith}
+use Rattle.std.proofs.Common.{◌≡◌, ◌≢◌, ℕ, ◌+◌, ◌<◌, ◌≤◌, ⊎_elim, List, length, Some, slice_get}
+use Rattle.std.proofs.Common.{slice_set, sym, ap, ◌∙◌, subst, arith}
 use Rattle.rc_types.specs.declared.messages.Message.{Message}
 use Rattle.rc_model.specs.World.{node_of}
 use Rattle.rc_journal.specs.Names.{number_at}

@@ -1,5 +1,5 @@
 -- What a look and a step keep.
-use Rattle.std.proofs.Common.{◌≡◌, ℕ, zero, suc, ◌+◌, ◌<◌, ◌≤◌, Bool, true, ◌&&◌, List, [], ◌∷◌, ◌++◌, length, map, refl, sym, ap, ◌∙◌}
+use Rattle.std.proofs.Common.{◌≡◌, ℕ, zero, suc, ◌+◌, ◌<◌, Bool, true, ◌&&◌, List, [], ◌∷◌, ◌++◌, length, map, refl, sym, ap, ◌∙◌}
 use Rattle.std.proofs.Common.{subst, length-append, arith}
 use Rattle.std.specs.List.{range_with_len}
 use Rattle.rc_types.specs.declared.events.Setup.{Setup}
@@ -7,7 +7,7 @@ use Rattle.rc_types.specs.declared.events.Event.{Event}
 use Rattle.rc_types.specs.declared.messages.Message.{Message}
 use Rattle.rc_types.specs.declared.limits.TheConstants.{MAX_EVENTS}
 use Rattle.rc_model.specs.World.{opening, replay, is_possible}
-use Rattle.rc_history.specs.Events.{is_legal, is_legal_from}
+use Rattle.rc_history.specs.Events.{is_legal}
 use Rattle.rc_history.proofs.Longer.{legal_from-append, events_of-other}
 use Rattle.rc_ledger.specs.declared.ledger.Ledger.{Ledger}
 use Rattle.rc_ledger.specs.declared.view.Place.{Place}

@@ -1,5 +1,6 @@
 pub mod Names
 pub mod Numbers
+pub mod Rising
 pub mod Index
 pub mod Pages
 pub mod Tokens

@@ -1,5 +1,5 @@
 -- Room in what a journal is stored in.
-use Rattle.std.specs.Prelude.{ℕ, ◌+◌, ◌<◌, ◌≤◌, List, length, vec_len, vec_capacity}
+use Rattle.std.specs.Prelude.{◌+◌, ◌<◌, ◌≤◌, List, length, vec_len, vec_capacity}
 use Rattle.rc_types.specs.declared.messages.Message.{Message}
 use Rattle.rc_journal.specs.Index.{HasRoomFor}
 use Rattle.rc_journal.specs.declared.pages.Pages.{Pages}

@@ -1,10 +1,13 @@
 //! The numbers of the messages to each node.
 
-ghost use Rattle.std.specs.Prelude.{◌≡◌, ◌+◌, ◌<◌, ◌≤◌, ◌^◌, ◌++◌, List, [], length, Some, slice_get, IfOk, OnOk};
+ghost use Rattle.std.specs.Prelude.{◌≡◌, ◌+◌, ◌<◌, ◌≤◌, ◌^◌, ◌++◌, List, [], length, nat_le, Some, slice_get};
+ghost use Rattle.std.specs.Prelude.{IfOk, OnOk};
+ghost use Rattle.std.specs.List.{find};
 ghost use Rattle.rc_types.specs.declared.messages.Message.{Message as MessageModel};
 ghost use Rattle.rc_model.specs.World.{NodeName};
 ghost use Rattle.rc_journal.specs.Names.{number_of};
 ghost use Rattle.rc_journal.specs.Numbers.{numbers_to, least_to};
+ghost use Rattle.rc_journal.specs.Rising.{Rises};
 ghost use Rattle.rc_journal.specs.Index.{lists_of, IsIndex, HasRoomFor};
 ghost use Rattle.rc_journal.specs.declared.index.TheConstants.{NAMES};
 
@@ -73,10 +76,25 @@ impl Index {
     }
 }
 
-/// The first of these ascending numbers from `from` on.
+/// How many of the last numbers are looked at first.
+const NEAR: usize = 64;
+
+/// The first of these ascending numbers from `from` on. Where it is among the last of them, which is so where a
+/// node has seen all but the newest messages, the cost does not grow with how many there are.
 pub(crate) fn first_from(numbers: &[usize], from: usize) -> Option<usize>
     ensures { (name : NodeName) (sent : List MessageModel) → numbers.now ≡ numbers_to name sent →
         result ≡ least_to name from sent }
+{
+    let (_, last) = numbers.split_at(numbers.len().saturating_sub(NEAR));
+    match last {
+        [first, ..] if *first < from => least_in(last, from),
+        _ => least_in(numbers, from),
+    }
+}
+
+/// The first of these ascending numbers from `from` on, by halving.
+fn least_in(numbers: &[usize], from: usize) -> Option<usize>
+    ensures { Rises 0 numbers.now → result ≡ find (λ number. nat_le from number) numbers.now }
 {
     number_in(numbers, numbers.partition_point(|number| *number < from))
 }

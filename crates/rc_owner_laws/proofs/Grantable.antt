@@ -45,7 +45,8 @@ use Rattle.rc_owner_laws.specs.Grants.{IsGiven, IsPlanOf}
 use Rattle.rc_owner_laws.specs.Waiting.{IsTablet, GoodTablets, lacks_tablet, NoneLacksTablet}
 use Rattle.rc_owner_laws.specs.Recoveries.{IsPlanned, IsOwned, IsAnsweredByOwn, PlannedPartsAreTablets}
 use Rattle.rc_owner_laws.specs.Recoveries.{PlannedPartsCanBeGranted, NoServerLacksATablet}
-use Rattle.rc_owner_laws.proofs.OwnerSteps.{find-some, find-none, gives, IsSenders, senders}
+use Rattle.rc_owner_laws.proofs.Decided.{find-some, find-none, gives}
+use Rattle.rc_owner_laws.proofs.OwnerSteps.{IsSenders, senders}
 use Rattle.rc_owner_laws.proofs.Marks.{ranged}
 use Rattle.rc_owner_laws.proofs.Waiting.{sender-waits, tablets-moved, new-tablets}
 use Rattle.rc_owner_laws.proofs.OwnerReplays.{OfWorld, grants-step, grants-opening, grants-world}

@@ -1,6 +1,7 @@
 pub mod Tablets
 pub mod Chains
 pub mod Granting
+pub mod Decided
 pub mod OwnerSteps
 pub mod OwnersOrdered
 pub mod Marks

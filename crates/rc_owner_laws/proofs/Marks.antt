@@ -19,7 +19,7 @@ use Rattle.rc_step_laws.specs.Words.{OnDifferentHosts}
 use Rattle.rc_step_laws.proofs.Lists.{true_false, same_id-true}
 use Rattle.rc_step_laws.proofs.LogMoves.{apart-same}
 use Rattle.rc_owner_laws.specs.Waiting.{IsTablet}
-use Rattle.rc_owner_laws.proofs.OwnerSteps.{find-some, find-none}
+use Rattle.rc_owner_laws.proofs.Decided.{find-some, find-none}
 
 -- what holds of each of these tablets
 abbrev pub EachTablet : (Tablet → Type 0) → List Tablet → Type 0

@@ -32,7 +32,8 @@ use Rattle.rc_step_laws.proofs.CoordinatorSteps as coordinator
 use Rattle.rc_log_laws.proofs.Replays.{GoodWorld, IsGiven, is-good, is-fine, hears, is_server-true, work_of-given}
 use Rattle.rc_log_laws.proofs.Replays.{may-hear, to-coordinator-is, good-step, good-opening}
 use Rattle.rc_owner_laws.specs.Grants.{own_said, GoodGrants, GrantsKept}
-use Rattle.rc_owner_laws.proofs.OwnerSteps.{OwnSays, moved, new-grants}
+use Rattle.rc_owner_laws.proofs.Decided.{OwnSays}
+use Rattle.rc_owner_laws.proofs.OwnerSteps.{moved, new-grants}
 use Rattle.rc_owner_laws.proofs.OwnersOrdered.{kept-step, kept-others, kept-none}
 
 pub record GrantsWorld (sent : List Message) (c : Coordinator) : Type 0 where

@@ -48,7 +48,7 @@ use Rattle.rc_step_laws.proofs.Attempting.{numbered-at}
 use Rattle.rc_owner_laws.specs.Grants.{owner_of, owner_at, IsDecided, GoodGrants}
 use Rattle.rc_owner_laws.proofs.Tablets.{some-none, owner_at-marked, owner_at-split, owner_at-new, owner_at-beside}
 use Rattle.rc_owner_laws.proofs.Tablets.{assigned-beside, assigned-within}
-use Rattle.rc_owner_laws.proofs.OwnerSteps.{gives}
+use Rattle.rc_owner_laws.proofs.Decided.{gives}
 use Rattle.rc_owner_laws.specs.Terms.{IsGivenBy, GoodTerms}
 use Rattle.rc_owner_laws.proofs.Keeping.{decided-later, SameTerms, same-refl, same-trans, kept-terms, IsNewTerm}
 use Rattle.rc_owner_laws.proofs.Keeping.{granted-terms, decided-terms}

@@ -52,7 +52,8 @@ use Rattle.rc_owner_laws.specs.Waiting.{IsTablet, GoodTablets, lacks_tablet, Non
 use Rattle.rc_owner_laws.proofs.Tablets.{by_test, some-none}
 use Rattle.rc_owner_laws.proofs.Chains.{of_owner, IsPartOf, part-of}
 use Rattle.rc_owner_laws.proofs.Granting.{IsNewGrant}
-use Rattle.rc_owner_laws.proofs.OwnerSteps.{gives, begun-decided, answered-decided, newly-decided, undecided-none}
+use Rattle.rc_owner_laws.proofs.Decided.{gives, begun-decided, answered-decided, newly-decided}
+use Rattle.rc_owner_laws.proofs.OwnerSteps.{undecided-none}
 use Rattle.rc_owner_laws.proofs.OwnerSteps.{IsSenders, senders, senders-decided, senders-open, new-grant}
 use Rattle.rc_owner_laws.proofs.Marks.{EachTablet, MarkedStay, stay-marked, each-marked, IsSplit, stay-split}
 use Rattle.rc_owner_laws.proofs.Marks.{each-split, stay-inserted, each-inserted, each-assigned, stay-assigned}

@@ -1,5 +1,5 @@
 -- What comes of a scenario, a trace, or drawn events: what is printed, and what is answered.
-use Rattle.std.specs.Prelude.{◌≡◌, ◌⊎◌, ◌≤◌, ◌*◌, ℕ, Bool, false, List, [], ◌++◌, length, codes, Option, Some, None}
+use Rattle.std.specs.Prelude.{◌≡◌, ◌⊎◌, ◌≤◌, ◌*◌, ℕ, Bool, true, false, List, [], ◌++◌, length, codes, Option, Some, None}
 use Rattle.std.specs.Prelude.{Result, Ok, Err}
 use Rattle.rc_types.specs.declared.faults.Code.{Code}
 use Rattle.rc_types.specs.declared.faults.Code.TheVariants.{OutOfMemory, BadEvent}
@@ -96,6 +96,13 @@ Judged bytes verdict text =
 abbrev pub Drawn : ℕ → ℕ → Bool → Verdict → List ℕ → Type 0
 Drawn seed steps free verdict text =
     (verdict ≡ audited (breach (drawn_world seed steps free).sent)) × (text ≡ report (drawn_world seed steps free).sent)
+
+-- the report of a world that was drawn to reach much, and lines that tell what it has reached; or, where it is to be
+-- saved, some text
+abbrev pub Explored : Bool → Verdict → List ℕ → Type 0
+Explored true verdict text = verdict ≡ Clean
+Explored false verdict text = (world : Happened) × (lines : List ℕ) ×
+    (verdict ≡ audited (breach (sent_in world))) × (text ≡ report (sent_in world) ++ lines)
 
 -- the two lines of power failures
 abbrev pub cuts_text : ℕ → ℕ → List ℕ

@@ -27,6 +27,8 @@ use std::alloc::{Allocator, Global};
 pub struct Answer {
     pub(crate) verdict: Verdict,
     pub(crate) text: String,
+    /// How many messages were sent in the run, if it was one.
+    pub(crate) sent: usize,
 }
 
 /// The answer to these bytes as a scenario. The run's tablets lie in memory of the second allocator. It
@@ -94,7 +96,12 @@ fn reported(alloc: Global, sent: &[Message]) -> Result<Answer, SimFault>
         None => Verdict::Clean,
         Some(_) => Verdict::Breach,
     };
-    Ok(Answer { verdict, text })
+    let sent = sent.len();
+    Ok(Answer {
+        verdict,
+        text,
+        sent,
+    })
 }
 
 /// The answer with a trace of these messages.
@@ -105,7 +112,12 @@ fn traced(alloc: Global, sent: &[Message]) -> Result<Answer, SimFault>
 {
     let text = write_trace(alloc, sent)?;
     let verdict = Verdict::Clean;
-    Ok(Answer { verdict, text })
+    let sent = sent.len();
+    Ok(Answer {
+        verdict,
+        text,
+        sent,
+    })
 }
 
 /// The answer to a run that stopped at this event of the scenario.
@@ -121,10 +133,14 @@ fn stopped<A: Allocator + Clone>(
         ≡ printed_of output (sent_in world.now) ++ last_line output code place) }
     ensures fault { IfErr result (λ fault. fault ≡ Memory) }
 {
-    let Answer { mut text, .. } = ended(alloc, world, output)?;
+    let Answer { mut text, sent, .. } = ended(alloc, world, output)?;
     add_last_line(alloc, &mut text, output, place, code)?;
     let verdict = Verdict::Stopped(place, code);
-    Ok(Answer { verdict, text })
+    Ok(Answer {
+        verdict,
+        text,
+        sent,
+    })
 }
 
 /// Adds the last line of what is printed of a run that stopped: a report has one.
@@ -152,7 +168,11 @@ fn bad(alloc: Global, place: usize) -> Result<Answer, SimFault>
 {
     let text = error_text(alloc, place).map_err(|_| SimFault::Memory)?;
     let verdict = Verdict::Bad(place);
-    Ok(Answer { verdict, text })
+    Ok(Answer {
+        verdict,
+        text,
+        sent: 0,
+    })
 }
 
 /// The answer to these bytes as a trace. It fails only where memory was refused.
@@ -169,5 +189,6 @@ pub fn judgement_of(alloc: Global, bytes: &[u8]) -> Result<Answer, SimFault>
     Ok(Answer {
         verdict,
         text: judged.text,
+        sent: 0,
     })
 }

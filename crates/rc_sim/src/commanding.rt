@@ -5,26 +5,32 @@ ghost use Rattle.rc_commands.specs.declared.asking.Asked.{Asked as AskedModel};
 ghost use Rattle.rc_commands.specs.Asking.{asked_in};
 ghost use Rattle.rc_sim.specs.declared.verdicts.Output.TheVariants.{Report};
 ghost use Rattle.rc_sim.specs.Statuses.{fault_status, outcome_status, EndsBy, Does};
-ghost use Rattle.rc_sim.specs.Verdicts.{Played};
+ghost use Rattle.rc_sim.specs.Verdicts.{Played, Judged};
 
 use crate::counted::Counted;
 use crate::drawing::{fuzz, stops};
+use crate::exploring::explore;
 use crate::outlets::write_all;
-use crate::simulating::{judge, simulate, trace};
-use crate::verdicts::{SimFault, Verdict};
+use crate::playing::{Kept, play, weigh};
+use crate::telling::tell_why;
+use crate::verdicts::{Output, SimFault, Verdict};
 use linked_list_allocator::LocalHeap;
 use rc_commands::{Asked, asked_for};
-use std::alloc::Global;
+use rc_explain::explain;
+use rc_explore::Options;
+use rc_reasons::Dialect;
+use std::alloc::{Allocator, Global};
 use std::io::{Read, Write};
 
 /// Does what the words after the program's name ask for, and gives the exit status: 0 where all is
 /// well, 1 where an audit found a breach, 2 for a wrong command line, scenario or trace and for an event
 /// that was not possible, 3 where memory was refused, 4 where a read or a write failed.
 ///
-/// `run` and `trace` run the scenario that the reader gives (see [`simulate`] and [`trace`]), `audit`
-/// judges the trace that it gives ([`judge`]); `fuzz` and `stops` read nothing. Help and the version go to
-/// the writer. What is wrong with the command line, and the line of a fault (`memory`, `read`, `write N`),
-/// go to `errors`; where that can't be written, the status alone tells.
+/// `run` and `trace` run the scenario that the reader gives (see [`simulate`](crate::simulate)), `audit` judges the
+/// trace that it gives ([`judge`](crate::judge)); `fuzz`, `stops`, `explore` and `explain` read nothing.
+/// Help and the version go to the writer. What is wrong with the command line, the line of a
+/// fault (`memory`, `read`, `write N`), and why a scenario or a trace was refused, go to `errors`; where that can not be
+/// written, the status alone tells.
 pub fn command<R: Read, W: Write, E: Write>(
     alloc: Global,
     words: &[String],
@@ -39,14 +45,36 @@ pub fn command<R: Read, W: Write, E: Write>(
 {
     match asked_for(alloc, words) {
         Ok(Asked::Run { heap }) => run(alloc, heap, reader, writer, errors),
-        Ok(Asked::Trace) => ended(trace(alloc, reader, writer), errors),
-        Ok(Asked::Audit) => ended(judge(alloc, reader, writer), errors),
+        Ok(Asked::Trace) => played(alloc, alloc, Output::Trace, reader, writer, errors),
+        Ok(Asked::Audit) => audited(alloc, reader, writer, errors),
         Ok(Asked::Fuzz { seed, steps, free }) => {
             ended(fuzz(alloc, seed, steps as usize, free, writer), errors)
         }
         Ok(Asked::Stops { seed, steps }) => {
             ended(stops(alloc, seed, steps as usize, writer), errors)
         }
+        Ok(
+            Asked::Explore {
+                seed,
+                steps,
+                hosts,
+                factor,
+                segment,
+                free,
+                save,
+            },
+        ) => {
+            let options = Options {
+                seed,
+                steps: steps as usize,
+                hosts,
+                factor,
+                segment,
+                free,
+            };
+            ended(explore(alloc, &options, save, writer), errors)
+        }
+        Ok(Asked::Explain { code }) => explained(alloc, code, writer, errors),
         Ok(Asked::Tell(text)) => tell(text.as_str(), writer, errors),
         Ok(Asked::Wrong(text)) => {
             let _ = write_all(errors, text.as_bytes());
@@ -70,12 +98,48 @@ fn run<R: Read, W: Write, E: Write>(
     ensures known { result ≤ 4 }
 {
     let Some(bytes) = heap else {
-        return ended(simulate(alloc, reader, writer, alloc), errors);
+        return played(alloc, alloc, Output::Report, reader, writer, errors);
     };
     match LocalHeap::new(alloc, bytes) {
-        Ok(heap) => ended(simulate(alloc, reader, writer, &heap), errors),
+        Ok(heap) => played(alloc, &heap, Output::Report, reader, writer, errors),
         Err(_) => failed(&SimFault::Memory, errors),
     }
+}
+
+/// Plays the scenario that the reader gives, and tells what is wrong with it.
+fn played<R: Read, W: Write, E: Write, A: Allocator + Clone>(
+    alloc: Global,
+    tablets: A,
+    output: Output,
+    reader: &mut Counted<R>,
+    writer: &mut Counted<W>,
+    errors: &mut Counted<E>,
+) -> u8
+    ensures done { EndsBy (Played output) result (R.remaining reader.old.inner) (W.contents writer.old.inner)
+        (W.contents writer.new.inner) }
+    ensures known { result ≤ 4 }
+{
+    let mut kept = Kept::new(alloc);
+    let outcome = play(alloc, reader, writer, tablets, output, &mut kept);
+    tell_why(alloc, Dialect::Scenario, &outcome, &kept, errors);
+    ended(outcome, errors)
+}
+
+/// Judges the trace that the reader gives, and tells what is wrong with it.
+fn audited<R: Read, W: Write, E: Write>(
+    alloc: Global,
+    reader: &mut Counted<R>,
+    writer: &mut Counted<W>,
+    errors: &mut Counted<E>,
+) -> u8
+    ensures done { EndsBy Judged result (R.remaining reader.old.inner) (W.contents writer.old.inner)
+        (W.contents writer.new.inner) }
+    ensures known { result ≤ 4 }
+{
+    let mut kept = Kept::new(alloc);
+    let outcome = weigh(alloc, reader, writer, &mut kept);
+    tell_why(alloc, Dialect::Trace, &outcome, &kept, errors);
+    ended(outcome, errors)
 }
 
 /// The status of what came of a command; a fault is told.
@@ -85,6 +149,21 @@ fn ended<E: Write>(outcome: Result<Verdict, SimFault>, errors: &mut Counted<E>) 
     match outcome {
         Ok(verdict) => verdict.status(),
         Err(fault) => failed(&fault, errors),
+    }
+}
+
+/// Writes what a code means, or what all codes mean.
+fn explained<W: Write, E: Write>(
+    alloc: Global,
+    code: Option<u8>,
+    writer: &mut Counted<W>,
+    errors: &mut Counted<E>,
+) -> u8
+    ensures { result ≤ 4 }
+{
+    match explain(alloc, code) {
+        Ok(text) => tell(text.as_str(), writer, errors),
+        Err(_) => failed(&SimFault::Memory, errors),
     }
 }
 

@@ -88,7 +88,11 @@ fn stops_answer(alloc: Global, seed: u64, steps: usize) -> Result<Answer, SimFau
     } else {
         Verdict::Breach
     };
-    Ok(Answer { verdict, text })
+    Ok(Answer {
+        verdict,
+        text,
+        sent: 0,
+    })
 }
 
 /// The two lines of numbers.

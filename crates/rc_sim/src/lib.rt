@@ -6,12 +6,16 @@ mod answers;
 mod commanding;
 mod counted;
 mod drawing;
+mod exploring;
 mod outlets;
+mod playing;
 mod simulating;
+mod telling;
 mod verdicts;
 
 pub use commanding::command;
 pub use counted::Counted;
 pub use drawing::{fuzz, stops};
+pub use exploring::explore;
 pub use simulating::{judge, simulate, trace};
 pub use verdicts::{Output, SimFault, Verdict};

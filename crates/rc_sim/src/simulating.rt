@@ -9,9 +9,10 @@ ghost use Rattle.rc_sim.specs.Failures.{failed_reads, failed_writes};
 ghost use Rattle.rc_sim.specs.Verdicts.{Played, Judged};
 ghost use Rattle.rc_sim.specs.Written.{IsWritten, IsBegun};
 
-use crate::answers::{Answer, answer_to, judgement_of};
+use crate::answers::Answer;
 use crate::counted::Counted;
-use crate::outlets::{read_all, write_all};
+use crate::outlets::write_all;
+use crate::playing::{Kept, play, weigh};
 use crate::verdicts::{Output, SimFault, Verdict};
 use std::alloc::{Allocator, Global};
 use std::io::{Read, Write};
@@ -48,9 +49,8 @@ pub fn simulate<R: Read, W: Write, A: Allocator + Clone>(
     // the headline, as the program tells it: no audit finds a breach
     ensures no_breach { result ≢ Ok Breach }
 {
-    let bytes = read_all(alloc, reader)?;
-    let answer = answer_to(alloc, bytes.as_slice(), tablets, Output::Report)?;
-    write_answer(writer, &answer)
+    let mut kept = Kept::new(alloc);
+    play(alloc, reader, writer, tablets, Output::Report, &mut kept)
 }
 
 /// Reads a scenario, runs it as `simulate` does, and writes the trace of what was sent, or the one line
@@ -73,9 +73,8 @@ pub fn trace<R: Read, W: Write>(
     ensures reads { reader.new.failures ≡ failed_reads result reader.old.failures }
     ensures writes { writer.new.failures ≡ failed_writes result writer.old.failures }
 {
-    let bytes = read_all(alloc, reader)?;
-    let answer = answer_to(alloc, bytes.as_slice(), alloc, Output::Trace)?;
-    write_answer(writer, &answer)
+    let mut kept = Kept::new(alloc);
+    play(alloc, reader, writer, alloc, Output::Trace, &mut kept)
 }
 
 /// Reads a trace, judges it, and writes how many messages it has and what the audit found; or the one
@@ -98,9 +97,8 @@ pub fn judge<R: Read, W: Write>(
     ensures reads { reader.new.failures ≡ failed_reads result reader.old.failures }
     ensures writes { writer.new.failures ≡ failed_writes result writer.old.failures }
 {
-    let bytes = read_all(alloc, reader)?;
-    let answer = judgement_of(alloc, bytes.as_slice())?;
-    write_answer(writer, &answer)
+    let mut kept = Kept::new(alloc);
+    weigh(alloc, reader, writer, &mut kept)
 }
 
 /// Writes the text of an answer, and gives its verdict.

@@ -5,15 +5,10 @@ use Rattle.clap.specs.Simple.{subcommand_of}
 use Rattle.clap.proofs.WalkLemmas.{IfOk-both}
 use Rattle.rc_commands.specs.Asking.{Tells}
 use Rattle.rc_commands.specs.Commands.{ramseg}
-use Rattle.rc_commands.proofs.Parsed.{gives_command, names_command, none_asked, refused, taken, told_among}
-use Rattle.rc_commands.proofs.ByWords.{audit_told, cut_told, drawn_told, fuzz_told, heap_told, run_told, stops_told, texts_told, trace_told}
+use Rattle.rc_commands.proofs.Parsed.{gives_command, none_asked, refused, taken, told_among}
+use Rattle.rc_commands.proofs.ByWords.{audit_told, cut_told, drawn_told, explain_told, explore_told, fuzz_told, heap_told}
+use Rattle.rc_commands.proofs.ByWords.{run_told, stops_told, texts_told, trace_told}
 use Rattle.rc_commands.proofs.asking.asked_for.Goals as goal
-
-pub found-requires : goal.found-requires
-found-requires c =
-    let words = map string_bytes c.args.words.now in
-    let is = c.in_ok-program.ensures in
-    names_command _ words is c.in-Ok.matches c.in-Ok.ensures.matches (taken _ words is c.in-Ok.ensures.kinds)
 
 pub returns-in-Ok-clause-command : goal.returns-in-Ok-clause-command
 returns-in-Ok-clause-command c =
@@ -114,3 +109,19 @@ returns-in-Err-clause-drawn c =
 pub returns-in-Err-clause-cut : goal.returns-in-Err-clause-cut
 returns-in-Err-clause-cut c =
     IfOk-weaker c.refused.result _ _ (cut_told (map string_bytes c.args.words.now)) (returns-in-Err-clause-command c)
+
+pub returns-in-Ok-clause-explore : goal.returns-in-Ok-clause-explore
+returns-in-Ok-clause-explore c =
+    IfOk-weaker c.found.result _ _ (explore_told (map string_bytes c.args.words.now)) (returns-in-Ok-clause-command c)
+
+pub returns-in-Err-clause-explore : goal.returns-in-Err-clause-explore
+returns-in-Err-clause-explore c =
+    IfOk-weaker c.refused.result _ _ (explore_told (map string_bytes c.args.words.now)) (returns-in-Err-clause-command c)
+
+pub returns-in-Ok-clause-explain : goal.returns-in-Ok-clause-explain
+returns-in-Ok-clause-explain c =
+    IfOk-weaker c.found.result _ _ (explain_told (map string_bytes c.args.words.now)) (returns-in-Ok-clause-command c)
+
+pub returns-in-Err-clause-explain : goal.returns-in-Err-clause-explain
+returns-in-Err-clause-explain c =
+    IfOk-weaker c.refused.result _ _ (explain_told (map string_bytes c.args.words.now)) (returns-in-Err-clause-command c)

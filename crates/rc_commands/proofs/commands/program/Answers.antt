@@ -21,5 +21,9 @@ returns c =
     let with_audit = c.in_ok-subcommand-3.ensures.shape c.audit.ensures.1 ∙ ap₂ with_subcommand with_trace (ap top_of c.audit.ensures.0) in
     let with_fuzz = c.in_ok-subcommand-4.ensures.shape c.in_ok-fuzz.ensures.1 ∙ ap₂ with_subcommand with_audit
     (ap top_of c.in_ok-fuzz.ensures.0) in
-    IfOk-weaker c.subcommand-5.result _ _ (λ r h. h.shape c.in_ok-stops.ensures.1 ∙ ap₂ with_subcommand with_fuzz
-    (ap top_of c.in_ok-stops.ensures.0)) c.subcommand-5.ensures
+    let with_stops = c.in_ok-subcommand-5.ensures.shape c.in_ok-stops.ensures.1 ∙ ap₂ with_subcommand with_fuzz
+    (ap top_of c.in_ok-stops.ensures.0) in
+    let with_explore = c.in_ok-subcommand-6.ensures.shape c.in_ok-explore.ensures.1 ∙ ap₂ with_subcommand with_stops
+    (ap top_of c.in_ok-explore.ensures.0) in
+    IfOk-weaker c.subcommand-7.result _ _ (λ r h. h.shape c.in_ok-explain.ensures.1 ∙ ap₂ with_subcommand with_explore
+    (ap top_of c.in_ok-explain.ensures.0)) c.subcommand-7.ensures

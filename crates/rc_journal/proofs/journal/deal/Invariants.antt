@@ -1,4 +1,4 @@
-use Rattle.std.proofs.Common.{◌≡◌, ◌<◌}
+use Rattle.std.proofs.Common.{◌≡◌}
 use Rattle.rc_ledger.specs.Views.{at_desk}
 use Rattle.rc_ledger.specs.Passes.{view, IsPassOf}
 use Rattle.rc_journal.specs.Calls.{new_places, seated}

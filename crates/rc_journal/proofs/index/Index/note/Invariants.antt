@@ -1,4 +1,4 @@
-use Rattle.std.proofs.Common.{◌≡◌, ◌+◌, ◌<◌, ◌≤◌, ◌++◌, List, length, take, vec_len, vec_capacity}
+use Rattle.std.proofs.Common.{◌≡◌, ◌+◌, ◌≤◌, ◌++◌, List, length, take, vec_len, vec_capacity}
 use Rattle.rc_types.specs.declared.messages.Message.{Message}
 use Rattle.rc_journal.specs.Index.{lists_of, IsIndex}
 use Rattle.rc_journal.specs.declared.index.TheConstants.{NAMES}

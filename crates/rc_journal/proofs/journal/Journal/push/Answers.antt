@@ -6,7 +6,7 @@ use Rattle.rc_ledger.specs.Views.{with_own}
 use Rattle.rc_journal.specs.Tokens.{place_in}
 use Rattle.rc_journal.specs.Index.{lists_of}
 use Rattle.rc_journal.specs.Sound.{desk_of, IsHistory}
-use Rattle.rc_journal.specs.Calls.{Tells, IsStep, Adds, having_added}
+use Rattle.rc_journal.specs.Calls.{IsStep, Adds}
 use Rattle.rc_journal.proofs.Steps.{place-as, sits-as, sound-push, history-push}
 use Rattle.rc_journal.proofs.journal.Journal.push.Goals as goal
 

@@ -1,7 +1,7 @@
 use Rattle.std.proofs.Common.{string_bytes}
 use Rattle.rc_sim.specs.Verdicts.{Judged}
 use Rattle.rc_sim.proofs.Endings.{written_of, begun_of, judged_so}
-use Rattle.rc_sim.proofs.simulating.judge.Goals as goal
+use Rattle.rc_sim.proofs.playing.weigh.Goals as goal
 
 pub returns-clause-ok : goal.returns-clause-ok
 returns-clause-ok g c =

@@ -1,0 +1,270 @@
+//! A run that is drawn so that much happens.
+
+ghost use Rattle.std.specs.Prelude.{◌≡◌, IfErr};
+ghost use Rattle.rc_types.specs.declared.faults.Fault.TheVariants.{OutOfMemory};
+
+use crate::choosing::{Choice, Words};
+use crate::mail::Mail;
+use crate::options::Options;
+use crate::roster::{KEYS, Roster};
+use rand_pcg::Pcg32;
+use rc_types::{Addr, Body, Event, Fault, Seq, ServerId};
+use rc_world::World;
+use std::alloc::Global;
+
+/// A world, and what the drawing knows of it.
+#[derive(Drop)]
+struct Explorer {
+    world: World<Global>,
+    mail: Mail,
+    noticed: usize,
+    roster: Roster,
+    calm: usize,
+}
+
+/// The most deliveries that bring the beginning to rest.
+const MOST_AT_FIRST: usize = 2_000;
+
+/// The world after the hosts were started, a table was created, and so many steps were drawn.
+///
+/// # Errors
+///
+/// `OutOfMemory` (F1): memory was refused.
+pub fn explore(alloc: Global, options: &Options) -> Result<World<Global>, Fault> {
+    let mut explorer = Explorer {
+        world: World::new(alloc, options.setup(alloc), alloc),
+        mail: Mail::new(alloc),
+        noticed: 0,
+        roster: Roster::new(alloc, options.hosts, options.factor),
+        calm: options.steps - options.steps / 6,
+    };
+    explorer.begin(alloc)?;
+    let mut generator = Pcg32::new(options.seed, 54);
+    for number in 0..options.steps {
+        let words = Words::take(&mut generator);
+        explorer.step(alloc, number, words)?;
+    }
+    Ok(explorer.world)
+}
+
+impl Explorer {
+    /// The hosts are started, and a table is created.
+    fn begin(&mut self, alloc: Global) -> Result<(), Fault> {
+        for host in 0..self.roster.hosts() {
+            self.take(
+                alloc,
+                &Event::Start {
+                    host,
+                    kept: Seq::new(alloc),
+                },
+            )?;
+        }
+        self.rest(alloc)?;
+        let owner = self.roster.server(&self.world, 0);
+        let table = self.roster.table();
+        self.take(alloc, &Event::Create { table, owner })?;
+        self.rest(alloc)
+    }
+
+    /// Delivers what waits.
+    fn rest(&mut self, alloc: Global) -> Result<(), Fault> {
+        for _ in 0..MOST_AT_FIRST {
+            match self.mail.take(0) {
+                Some(number) => self.take(alloc, &Event::Deliver(number))?,
+                None => return Ok(()),
+            }
+        }
+        Ok(())
+    }
+
+    /// One more event, if it is possible; and what it sends waits.
+    fn take(&mut self, alloc: Global, event: &Event) -> Result<(), Fault> {
+        match self.world.take(alloc, event) {
+            Ok(()) => self.notice(),
+            Err(Fault::BadEvent) => Ok(()),
+            Err(fault) => Err(fault),
+        }
+    }
+
+    /// Notes what was sent since.
+    fn notice(&mut self) -> Result<(), Fault> {
+        let sent = self.world.sent();
+        for number in self.noticed..sent.len() {
+            let message = &sent[number];
+            self.roster.notice(message)?;
+            if message.to != Addr::Outside {
+                self.mail.add(number)?;
+            }
+        }
+        self.noticed = sent.len();
+        Ok(())
+    }
+
+    /// One step, of this number.
+    fn step(&mut self, alloc: Global, number: usize, words: Words) -> Result<(), Fault> {
+        match self.event_of(alloc, number, words)? {
+            Some(event) => self.take(alloc, &event),
+            None => Ok(()),
+        }
+    }
+
+    /// The event that the words choose, if there is one.
+    fn event_of(
+        &mut self,
+        alloc: Global,
+        number: usize,
+        words: Words,
+    ) -> Result<Option<Event>, Fault> {
+        match self.choice(number, words) {
+            Choice::Write => self.write(alloc, Some(number), words),
+            Choice::Delete => self.write(alloc, None, words),
+            Choice::Read => Ok(Some(self.read(words))),
+            Choice::Tick => Ok(Some(Event::Tick(Addr::Server(self.server(words))))),
+            Choice::TickCoordinator => Ok(Some(Event::Tick(Addr::Coordinator))),
+            Choice::Stop => Ok(self.stop(words)),
+            Choice::Start => self.start(alloc, words),
+            Choice::Suspect => self.suspect(words),
+            Choice::Decide => Ok(self.roster.crashed(words.target).map(Event::Decide)),
+            Choice::Split => Ok(Some(Event::Split {
+                table: self.roster.table(),
+                at: u64::from(words.target % KEYS as u32),
+            })),
+            Choice::Create => Ok(self.create(words)),
+            mail => self.delivery(mail, words),
+        }
+    }
+
+    /// The kind of event. In the last sixth of the steps nothing crashes any more: what was begun is decided.
+    fn choice(&self, number: usize, words: Words) -> Choice {
+        match Choice::of(words.kind, self.mail.len()) {
+            Choice::Stop | Choice::Suspect if number >= self.calm => Choice::Decide,
+            choice => choice,
+        }
+    }
+
+    /// What is done with a message that waits, or was held back.
+    fn delivery(&mut self, choice: Choice, words: Words) -> Result<Option<Event>, Fault> {
+        if let Choice::Release = choice {
+            return Ok(self.mail.release(words.target).map(Event::Deliver));
+        }
+        let Some(number) = self.mail.take(words.target) else {
+            return Ok(None);
+        };
+        match choice {
+            Choice::Lose => return Ok(None),
+            Choice::Hold => {
+                self.mail.hold(number)?;
+                return Ok(None);
+            }
+            Choice::Repeat => self.mail.add(number)?,
+            _ => {}
+        }
+        Ok(Some(Event::Deliver(number)))
+    }
+
+    /// The newest server of the host that the words choose.
+    fn server(&self, words: Words) -> ServerId {
+        self.roster.server(&self.world, words.target)
+    }
+
+    /// The server that is to be suspected: every second time one that owns a key, else any.
+    fn suspected(&self, words: Words) -> ServerId {
+        let owner = self.roster.owner(&self.world, words.target as usize % KEYS);
+        match owner {
+            Some(id) if words.detail % 2 == 0 => id,
+            _ => self.server(words),
+        }
+    }
+
+    /// A write of one of the keys; its value is the step's number in decimal digits, or it is a deletion.
+    fn write(
+        &self,
+        alloc: Global,
+        value: Option<usize>,
+        words: Words,
+    ) -> Result<Option<Event>, Fault> {
+        let key = words.target as usize % KEYS;
+        let value = match value {
+            Some(number) => Some(Seq::from_vec(format!(in alloc; "{number}")?.into_bytes())),
+            None => None,
+        };
+        Ok(Some(Event::Ask {
+            to: self.roster.asked(&self.world, key, words.detail),
+            body: Body::Write {
+                table: self.roster.table(),
+                key: key as u64,
+                value,
+            },
+        }))
+    }
+
+    /// A read of one of the keys.
+    fn read(&self, words: Words) -> Event {
+        let key = words.target as usize % KEYS;
+        Event::Ask {
+            to: self.roster.asked(&self.world, key, words.detail),
+            body: Body::Read {
+                table: self.roster.table(),
+                key: key as u64,
+            },
+        }
+    }
+
+    /// A stop of a server that was suspected, and now and then of one that was not.
+    fn stop(&self, words: Words) -> Option<Event> {
+        let id = self.server(words);
+        if self.roster.is_suspected(id)
+            || (words.detail % 4 == 0 && self.roster.can_spare(&self.world))
+        {
+            Some(Event::Stop(id))
+        } else {
+            None
+        }
+    }
+
+    /// A start of a host, mostly with all of its open replicas.
+    fn start(&mut self, alloc: Global, words: Words) -> Result<Option<Event>, Fault> {
+        let id = self.server(words);
+        if self.world.is_running(id) {
+            return Ok(None);
+        }
+        let kept = if words.detail % 4 == 0 {
+            Vec::new(alloc)
+        } else {
+            self.world.open_replicas(id.index)?
+        };
+        if id.generation > 0 && !self.roster.is_suspected(id) {
+            self.roster.suspect(id)?;
+        }
+        Ok(Some(Event::Start {
+            host: id.index,
+            kept: Seq::from_vec(kept),
+        }))
+    }
+
+    /// A suspicion of a server that has stopped, or of one that lives.
+    fn suspect(&mut self, words: Words) -> Result<Option<Event>, Fault> {
+        let id = self.suspected(words);
+        if id.generation == 0 || self.roster.is_suspected(id) {
+            return Ok(None);
+        }
+        if self.world.is_running(id) && !self.roster.can_spare(&self.world) {
+            return Ok(None);
+        }
+        self.roster.suspect(id)?;
+        Ok(Some(Event::Suspect(id)))
+    }
+
+    /// Another table, now and then.
+    fn create(&mut self, words: Words) -> Option<Event> {
+        let owner = self.server(words);
+        if words.detail % 8 > 0
+            || self.roster.is_suspected(owner)
+            || !self.world.is_running(owner)
+        {
+            return None;
+        }
+        let table = self.roster.next_table();
+        Some(Event::Create { table, owner })
+    }
+}

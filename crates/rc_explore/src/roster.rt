@@ -1,0 +1,199 @@
+//! Which servers there are, and who owns what, as far as the messages tell.
+
+use crate::options::MOST_HOSTS;
+use rc_types::{Addr, Body, Message, ServerId};
+use rc_world::World;
+use std::alloc::{AllocError, Global};
+
+/// How many keys are written, those below.
+pub(crate) const KEYS: usize = 4;
+
+/// How often the recovery of one server is decided, at most.
+const MOST_TRIES: u8 = 12;
+
+/// A server that was suspected, and how often its recovery was decided since.
+#[derive(Clone, Copy)]
+struct Crash {
+    id: ServerId,
+    tries: u8,
+}
+
+/// The owners of a key of a table: the last two.
+#[derive(Clone, Copy)]
+struct Owners {
+    last: ServerId,
+    before: ServerId,
+}
+
+/// What the drawing knows of the servers.
+#[derive(Drop)]
+pub(crate) struct Roster {
+    hosts: u8,
+    factor: u8,
+    suspected: [u32; MOST_HOSTS],
+    crashes: Vec<Crash>,
+    owned: Vec<ServerId>,
+    table: u32,
+    owners: [Owners; KEYS],
+}
+
+/// No server has this id.
+const NOBODY: ServerId = ServerId {
+    index: 0,
+    generation: 0,
+};
+
+impl Roster {
+    /// Of so many hosts, 1 to 16, of which none was started.
+    pub(crate) fn new(alloc: Global, hosts: u8, factor: u8) -> Roster {
+        Roster {
+            hosts: hosts.max(1).min(MOST_HOSTS as u8),
+            factor,
+            suspected: [0; MOST_HOSTS],
+            crashes: Vec::new(alloc),
+            owned: Vec::new(alloc),
+            table: 1,
+            owners: [Owners {
+                last: NOBODY,
+                before: NOBODY,
+            }; KEYS],
+        }
+    }
+
+    /// How many hosts there are.
+    pub(crate) fn hosts(&self) -> u8 {
+        self.hosts
+    }
+
+    /// The table that is written.
+    pub(crate) fn table(&self) -> u32 {
+        self.table
+    }
+
+    /// Another table, which is written from now on.
+    pub(crate) fn next_table(&mut self) -> u32 {
+        self.table = self.table.saturating_add(1);
+        self.table
+    }
+
+    /// The newest server of the host that the word chooses.
+    pub(crate) fn server(&self, world: &World<Global>, word: u32) -> ServerId {
+        let index = if self.hosts == 0 {
+            0
+        } else {
+            (word % self.hosts as u32) as u8
+        };
+        ServerId {
+            index,
+            generation: world.newest(index),
+        }
+    }
+
+    /// Whether this server, or a later one of its host, was suspected.
+    pub(crate) fn is_suspected(&self, id: ServerId) -> bool {
+        match self.suspected.get(id.index as usize) {
+            Some(generation) => id.generation <= *generation,
+            None => false,
+        }
+    }
+
+    /// Whether one more server can crash: enough others are up, and few logs wait to be recovered.
+    pub(crate) fn can_spare(&self, world: &World<Global>) -> bool {
+        let mut up = 0u8;
+        for index in 0..self.hosts {
+            let generation = world.newest(index);
+            let id = ServerId { index, generation };
+            if generation > 0 && !self.is_suspected(id) && world.is_running(id) {
+                up = up.saturating_add(1);
+            }
+        }
+        up > self.factor.saturating_add(1) && self.crashes.len() < 2
+    }
+
+    /// This server has crashed for the coordinator, or soon will have: it was suspected, or its host is started anew.
+    pub(crate) fn suspect(&mut self, id: ServerId) -> Result<(), AllocError> {
+        let at = id.index as usize;
+        if at < MOST_HOSTS {
+            self.suspected[at] = id.generation;
+        }
+        if self.owned.contains(&id) {
+            self.crashes.push(Crash { id, tries: 0 })?;
+        }
+        Ok(())
+    }
+
+    /// A server whose recovery is to be decided, if there is one.
+    pub(crate) fn crashed(&mut self, word: u32) -> Option<ServerId> {
+        if self.crashes.is_empty() {
+            return None;
+        }
+        let at = word as usize % self.crashes.len();
+        let Crash { id, tries } = self.crashes[at];
+        if tries >= MOST_TRIES {
+            self.crashes.swap_remove(at);
+        } else {
+            self.crashes[at].tries = tries + 1;
+        }
+        Some(id)
+    }
+
+    /// The last owner of this key, where it is the newest server of its host.
+    pub(crate) fn owner(&self, world: &World<Global>, key: usize) -> Option<ServerId> {
+        let id = self.owners.get(key)?.last;
+        if world.newest(id.index) == id.generation {
+            Some(id)
+        } else {
+            None
+        }
+    }
+
+    /// The server that is asked for this key: mostly its owner, now and then the one before or anyone.
+    pub(crate) fn asked(&self, world: &World<Global>, key: usize, word: u32) -> ServerId {
+        let Some(owners) = self.owners.get(key) else {
+            return self.server(world, word);
+        };
+        let id = match word % 16 {
+            0 => self.server(world, word / 16),
+            1..=3 => owners.before,
+            _ => owners.last,
+        };
+        if id.generation == 0 {
+            return self.server(world, word / 16);
+        }
+        id
+    }
+
+    /// What a message tells of owners and of plans.
+    pub(crate) fn notice(&mut self, message: &Message) -> Result<(), AllocError> {
+        match (message.to, &message.body) {
+            (Addr::Server(id), Body::Own { table, lo, hi, .. }) => {
+                if !self.owned.contains(&id) {
+                    self.owned.push(id)?;
+                }
+                self.grant(id, *table, *lo, *hi);
+            }
+            (_, Body::Plan { master, .. }) => self.forget(*master),
+            _ => {}
+        }
+        Ok(())
+    }
+
+    /// The server owns these keys of the table.
+    fn grant(&mut self, id: ServerId, table: u32, lo: u64, hi: u64) {
+        if table != self.table {
+            return;
+        }
+        for (key, owners) in self.owners.iter_mut().enumerate() {
+            let key = key as u64;
+            if lo <= key && key <= hi && owners.last != id {
+                owners.before = owners.last;
+                owners.last = id;
+            }
+        }
+    }
+
+    /// The recovery of this server has a plan.
+    fn forget(&mut self, master: ServerId) {
+        self.crashes.retain(|crash| crash.id != master);
+    }
+}

@@ -1,0 +1,208 @@
+-- Attempts, answers and decisions: what is decided after one of them, and what the messages say that tell it.
+use Rattle.std.proofs.Common.{◌≡◌, ◌⊎◌, ℕ, ◌+◌, ◌-◌, ◌<◌, Bool, true, false, cond, List, [], ◌∷◌}
+use Rattle.std.proofs.Common.{◌++◌, length, find, slice_get, slice_set, Some, None}
+use Rattle.std.proofs.Common.{refl, sym, ap, ◌∙◌, subst, inl, inr, arith}
+use Rattle.rc_types.specs.declared.ids.ServerId.{ServerId}
+use Rattle.rc_types.specs.declared.ids.Addr.{Addr}
+use Rattle.rc_types.specs.declared.ids.Addr.TheVariants.{Server, Coordinator as AtCoordinator}
+use Rattle.rc_types.specs.declared.rows.Row.{Row}
+use Rattle.rc_types.specs.declared.rows.Part.{Part}
+use Rattle.rc_types.specs.declared.messages.Message.{Message}
+use Rattle.rc_types.specs.declared.messages.Body.{Body}
+use Rattle.rc_types.specs.declared.messages.Body.TheVariants.{Plan as PlanBody}
+use Rattle.rc_model.specs.Tables.{put_id}
+use Rattle.rc_model.specs.Messages.{to_each}
+use Rattle.rc_model.specs.Ids.{same_id}
+use Rattle.rc_model.specs.Attempts.{Attempt, Decision, GivenPart, new_attempt}
+use Rattle.rc_model.specs.Attempts.{parts_of, plan_message, plan_messages}
+use Rattle.rc_model.specs.Coordinator.{Coordinator}
+use Rattle.rc_model.specs.Coordinator.{begins_attempt}
+use Rattle.rc_model.specs.Deciding.{with_answer}
+use Rattle.rc_model.specs.Headline.{In}
+use Rattle.rc_model.proofs.Members.{In-append, In-get}
+use Rattle.rc_step_laws.proofs.Lists.{true_false, put_id_each, get-append, get-within, get-set, same_id-true}
+use Rattle.rc_owner_laws.specs.Grants.{IsDecided, GoodGrants, own_said}
+use Rattle.rc_owner_laws.proofs.Tablets.{some-none}
+use Rattle.rc_owner_laws.proofs.Granting.{kept-good}
+
+-- What is found passes the test, and where nothing is found nothing passes it
+pub find-some : {X : Type 0} (test : X → Bool) (xs : List X) (x : X) → find test xs ≡ Some x → In x xs × (test x ≡ true)
+find-some test [] x e = cc
+find-some test (y ∷ xs) x e = by (test y) refl (find-some test xs x) e
+  where
+    further : In x xs × (test x ≡ true) → ((x ≡ y) ⊎ In x xs) × (test x ≡ true)
+    further p = (inr p.0, p.1)
+
+    by : (b : Bool) → test y ≡ b → (find test xs ≡ Some x → In x xs × (test x ≡ true)) →
+        cond b (Some y) (find test xs) ≡ Some x → ((x ≡ y) ⊎ In x xs) × (test x ≡ true)
+    by true is rec e = let same : y ≡ x = cc in (inl (sym same), subst (λ z. test z ≡ true) same is)
+    by false is rec e = further (rec e)
+
+pub find-none : {X : Type 0} (test : X → Bool) (xs : List X) (x : X) → find test xs ≡ None → In x xs → test x ≡ true → ⊥
+find-none test [] x e at passes = absurd at
+find-none test (y ∷ xs) x e at passes = by (test y) refl (find-none test xs x) e at
+  where
+    by : (b : Bool) → test y ≡ b → (find test xs ≡ None → In x xs → test x ≡ true → ⊥) →
+        cond b (Some y) (find test xs) ≡ None → (x ≡ y) ⊎ In x xs → ⊥
+    by true is rec e at = some-none e
+    by false is rec e (inl same) = true_false (sym passes ∙ (ap test same ∙ is))
+    by false is rec e (inr rest) = rec e rest passes
+
+abbrev pub gives : ServerId → Part → GivenPart
+gives id part = record { to = id; part = part }
+
+pub given-in : (id : ServerId) (parts : List GivenPart) (part : Part) → In part (parts_of id parts) →
+    In (record { to = id; part = part }) parts
+given-in id [] part at = absurd at
+given-in id (first ∷ parts) part at = by (same_id id first.to) refl (given-in id parts part) at
+  where
+    by : (b : Bool) → same_id id first.to ≡ b → (In part (parts_of id parts) → In (record { to = id; part = part }) parts) →
+        In part (cond b (first.part ∷ parts_of id parts) (parts_of id parts)) →
+        (gives id part ≡ first) ⊎ In (record { to = id; part = part }) parts
+    by true e rec (inl same) = inl (both (same_id-true id first.to e) same)
+      where
+        both : id ≡ first.to → part ≡ first.part → gives id part ≡ first
+        both p q j = record { to = p j; part = q j }
+    by true e rec (inr rest) = inr (rec rest)
+    by false e rec rest = inr (rec rest)
+
+-- Messages
+
+abbrev pub OwnSays : Coordinator → List Message → Type 0
+OwnSays c messages = (message : Message) → In message messages → own_said c message.to message.body
+
+pub says-none : (c : Coordinator) → OwnSays c []
+says-none c message at = absurd at
+
+pub says-one : (c : Coordinator) (to : Addr) (body : Body) → own_said c to body →
+    OwnSays c (record { from = AtCoordinator; to = to; body = body } ∷ [])
+says-one c to body holds message (inl e) = subst (λ (one : Message). own_said c one.to one.body) (sym e) holds
+says-one c to body holds message (inr never) = absurd never
+
+pub says-each : (c : Coordinator) (body : Body) → ((to : Addr) → own_said c to body) → (ids : List ServerId) → OwnSays c (to_each ids body)
+says-each c body holds [] message at = absurd at
+says-each c body holds (id ∷ ids) message (inl e) = subst (λ (one : Message). own_said c one.to one.body) (sym e) (holds (Server id))
+says-each c body holds (id ∷ ids) message (inr rest) = says-each c body holds ids message rest
+
+pub says-join : (c : Coordinator) (first second : List Message) → OwnSays c first → OwnSays c second → OwnSays c (first ++ second)
+says-join c first second p q message at = by (In-append message first second at)
+  where
+    by : In message first ⊎ In message second → own_said c message.to message.body
+    by (inl a) = p message a
+    by (inr b) = q message b
+
+-- each message of a plan is of the decision
+pub says-plans : (c : Coordinator) (number : ℕ) (master : ServerId) (decision : Decision) →
+    IsDecided c.attempts number master decision → (ids : List ServerId) →
+    OwnSays c (plan_messages number master decision ids)
+says-plans c number master decision decided [] = says-none c
+says-plans c number master decision decided (id ∷ ids) =
+    says-join c (plan_message number master decision.plan id (parts_of id decision.parts)) (plan_messages number master decision ids)
+    (one (parts_of id decision.parts) (λ part at. at)) (says-plans c number master decision decided ids)
+  where
+    one : (parts : List Part) → ((part : Part) → In part parts → In part (parts_of id decision.parts)) →
+        OwnSays c (plan_message number master decision.plan id parts)
+    one [] among = says-none c
+    one (part ∷ parts) among =
+        says-one c (Server id) (PlanBody number master decision.plan.head decision.plan.rows (part ∷ parts)) (record {
+          id = id;
+          to_is = refl;
+          decision = decision;
+          decided = decided;
+          rows_are = refl;
+          given = λ some at. given-in id decision.parts some (among some at);
+        })
+
+-- what is decided once an attempt has begun was decided before, and in a current attempt only if it was current
+pub begun-decided : (c : Coordinator) (master : ServerId) (number : ℕ) (other : ServerId) (decision : Decision) →
+    IsDecided (c.attempts ++ new_attempt master ∷ []) number other decision →
+    IsDecided c.attempts number other decision × (put_id c.current master (length c.attempts + 1) other ≡ number → c.current other ≡ number)
+begun-decided c master number other decision decided =
+    old (get-append c.attempts (new_attempt master ∷ []) decided.numbered.place decided.attempt
+    decided.numbered.attempt_is)
+  where
+    undecided : (j : ℕ) (attempt : Attempt) (decision : Decision) →
+        slice_get (new_attempt master ∷ []) j ≡ Some attempt → attempt.decided ≡ Some decision → ⊥
+    undecided j attempt decision e has = new (In-get (new_attempt master ∷ []) j attempt e)
+      where
+        new : (attempt ≡ new_attempt master) ⊎ ⊥ → ⊥
+        new (inl same) = some-none (sym has ∙ ap (λ (one : Attempt). one.decided) same)
+        new (inr never) = never
+
+    current : number < length c.attempts + 1 → put_id c.current master (length c.attempts + 1) other ≡ number → c.current other ≡ number
+    current below =
+        put_id_each (λ (k : ServerId) (n : ℕ). n ≡ number → c.current k ≡ number) c.current master (length c.attempts + 1)
+        (λ e. absurd (never e)) (λ k e. e) other
+      where
+        never : length c.attempts + 1 ≡ number → ⊥
+        never e = omega (arith, e, below)
+
+    old : (slice_get c.attempts decided.numbered.place ≡ Some decided.attempt) ⊎
+        ((j : ℕ) × (decided.numbered.place ≡ length c.attempts + j) ×
+        (slice_get (new_attempt master ∷ []) j ≡ Some decided.attempt)) →
+        IsDecided c.attempts number other decision × (put_id c.current master (length c.attempts + 1) other ≡ number →
+        c.current other ≡ number)
+    old (inl there) = (
+      record {
+        attempt = decided.attempt;
+        numbered = record { place = decided.numbered.place; number_is = decided.numbered.number_is; attempt_is = there };
+        master_is = decided.master_is;
+        decided = decided.decided;
+      },
+      current (let below : decided.numbered.place < length c.attempts = get-within c.attempts decided.numbered.place
+          decided.attempt there in
+          let is : number ≡ decided.numbered.place + 1 = decided.numbered.number_is in omega (arith, below, is)),
+    )
+    old (inr (j, p, q)) = absurd (undecided j decided.attempt decision q decided.decided)
+
+-- an attempt begins
+pub begun-good : (c : Coordinator) → GoodGrants c → (master : ServerId) → GoodGrants (begins_attempt c master).0
+begun-good c good master =
+    kept-good c good c.servers c.ready c.tablets c.least (c.attempts ++ new_attempt master ∷ [])
+    (put_id c.current master (length c.attempts + 1)) good.apart (λ table key. refl) (λ m e. e)
+    (begun-decided c master)
+
+-- an answer decides nothing
+pub answered-decided : (c : Coordinator) (from : ServerId) (number : ℕ) (rows : List Row) (attempt : Attempt) →
+    attempt.decided ≡ None → (other : ℕ) (master : ServerId) (decision : Decision) →
+    IsDecided (slice_set c.attempts (number - 1) (with_answer from rows attempt)) other master decision →
+    IsDecided c.attempts other master decision
+answered-decided c from number rows attempt undecided other master decision decided =
+    by (get-set c.attempts (number - 1) (with_answer from rows attempt) decided.numbered.place decided.attempt decided.numbered.attempt_is)
+  where
+    by : (slice_get c.attempts decided.numbered.place ≡ Some decided.attempt) ⊎
+        ((decided.numbered.place ≡ number - 1) × (decided.attempt ≡ with_answer from rows attempt)) →
+        IsDecided c.attempts other master decision
+    by (inl there) = record {
+      attempt = decided.attempt;
+      numbered = record { place = decided.numbered.place; number_is = decided.numbered.number_is; attempt_is = there };
+      master_is = decided.master_is;
+      decided = decided.decided;
+    }
+    by (inr (p, q)) = some-none (sym decided.decided ∙ (ap (λ (one : Attempt). one.decided) q ∙ undecided))
+
+-- what is decided once this attempt is decided was decided before, or is this decision
+pub newly-decided : (c : Coordinator) (number : ℕ) (attempt : Attempt) (new : Decision) (other : ℕ) (master : ServerId)
+    (decision : Decision) →
+    IsDecided (slice_set c.attempts (number - 1) (record attempt { decided = Some new })) other master decision →
+    IsDecided c.attempts other master decision ⊎ ((master ≡ attempt.master) × (decision ≡ new))
+newly-decided c number attempt new other master decision decided =
+    by (get-set c.attempts (number - 1) (record attempt { decided = Some new }) decided.numbered.place decided.attempt
+    decided.numbered.attempt_is)
+  where
+    by : (slice_get c.attempts decided.numbered.place ≡ Some decided.attempt) ⊎
+        ((decided.numbered.place ≡ number - 1) × (decided.attempt ≡ record attempt { decided = Some new })) →
+        IsDecided c.attempts other master decision ⊎ ((master ≡ attempt.master) × (decision ≡ new))
+    by (inl there) = inl (record {
+      attempt = decided.attempt;
+      numbered = record { place = decided.numbered.place; number_is = decided.numbered.number_is; attempt_is = there };
+      master_is = decided.master_is;
+      decided = decided.decided;
+    })
+    by (inr (p, q)) = inr (
+      sym decided.master_is ∙ ap (λ (one : Attempt). one.master) q,
+      same (sym decided.decided ∙ ap (λ (one : Attempt). one.decided) q),
+    )
+      where
+        same : Some decision ≡ Some new → decision ≡ new
+        same e = cc

@@ -1,0 +1,16 @@
+//! Why a scenario or a trace is refused, and why a run stops, in words: the text is read again, more slowly than
+//! by those who refuse it. Nothing here decides anything; where no cause is found, the texts say so.
+#![tactic(auto)]
+
+mod dialects;
+mod faults;
+mod histories;
+mod names;
+mod pieces;
+mod stops;
+mod syntax;
+mod values;
+
+pub use dialects::Dialect;
+pub use faults::reason_of_fault;
+pub use stops::reason_of_stop;

@@ -1,0 +1,211 @@
+//! Pieces of a JSON text, found by its brackets, commas and quotes alone.
+
+use std::alloc::{AllocError, Global};
+
+/// A piece of a text: where it begins, and where it ends.
+#[derive(Clone, Copy)]
+pub struct Piece {
+    /// Its first byte.
+    pub from: usize,
+    /// The byte past its last one.
+    pub to: usize,
+}
+
+impl Piece {
+    /// All of this text.
+    pub fn all(text: &[u8]) -> Piece {
+        Piece {
+            from: 0,
+            to: text.len(),
+        }
+        .trimmed(text)
+    }
+
+    /// Its bytes; none, where the text has no such piece.
+    pub fn of(self, text: &[u8]) -> &[u8] {
+        if self.from <= self.to && self.to <= text.len() {
+            &text[self.from..self.to]
+        } else {
+            &[]
+        }
+    }
+
+    /// Its characters; none, where it isn't UTF-8.
+    pub fn text(self, text: &[u8]) -> &str {
+        std::str::from_utf8(self.of(text)).unwrap_or("")
+    }
+
+    /// Its first byte, or 0.
+    pub fn first(self, text: &[u8]) -> u8 {
+        self.of(text).first().copied().unwrap_or(0)
+    }
+
+    /// The piece without the blanks at its ends.
+    pub fn trimmed(self, text: &[u8]) -> Piece {
+        let bytes = self.of(text);
+        let before = bytes.iter().take_while(|byte| is_blank(**byte)).count();
+        let after = bytes
+            .iter()
+            .rev()
+            .take_while(|byte| is_blank(**byte))
+            .count();
+        Piece {
+            from: self.from.saturating_add(before),
+            to: self.to.saturating_sub(after),
+        }
+    }
+
+    /// The piece without its first byte and its last one.
+    pub fn inner(self) -> Piece {
+        Piece {
+            from: self.from.saturating_add(1),
+            to: self.to.saturating_sub(1),
+        }
+    }
+}
+
+/// Whether JSON takes the byte for a blank.
+fn is_blank(byte: u8) -> bool {
+    matches!(byte, b' ' | b'\t' | b'\n' | b'\r')
+}
+
+/// A member of an object.
+#[derive(Clone, Copy)]
+pub struct Member {
+    /// Its name, between the quotes.
+    pub name: Piece,
+    /// Its value.
+    pub value: Piece,
+}
+
+/// Where a walk along a text stands.
+#[derive(Clone, Copy)]
+struct Walk {
+    depth: usize,
+    is_quoted: bool,
+    is_escaped: bool,
+}
+
+impl Walk {
+    fn new() -> Walk {
+        Walk {
+            depth: 0,
+            is_quoted: false,
+            is_escaped: false,
+        }
+    }
+
+    /// The walk goes on past this byte.
+    fn past(self, byte: u8) -> Walk {
+        if self.is_quoted {
+            return Walk {
+                is_quoted: self.is_escaped || byte != b'"',
+                is_escaped: !self.is_escaped && byte == b'\\',
+                ..self
+            };
+        }
+        match byte {
+            b'"' => Walk {
+                is_quoted: true,
+                ..self
+            },
+            b'[' | b'{' => Walk {
+                depth: self.depth.saturating_add(1),
+                ..self
+            },
+            b']' | b'}' => Walk {
+                depth: self.depth.saturating_sub(1),
+                ..self
+            },
+            _ => self,
+        }
+    }
+
+    /// Whether an item of the outermost list or object ends before this byte.
+    fn ends_item(self, byte: u8) -> bool {
+        self.depth == 1 && !self.is_quoted && matches!(byte, b',' | b']' | b'}')
+    }
+}
+
+/// The items of a list, or the members of an object.
+pub fn items(alloc: Global, text: &[u8], whole: Piece) -> Result<Vec<Piece>, AllocError> {
+    let mut found = Vec::new(alloc);
+    let mut walk = Walk::new();
+    let mut from = whole.from.saturating_add(1);
+    let mut at = whole.from;
+    for byte in whole.of(text) {
+        if walk.ends_item(*byte) {
+            let item = Piece { from, to: at }.trimmed(text);
+            if item.from < item.to {
+                found.push(item)?;
+            }
+            from = at.saturating_add(1);
+        }
+        walk = walk.past(*byte);
+        at = at.saturating_add(1);
+    }
+    Ok(found)
+}
+
+/// The members of an object.
+pub fn members(alloc: Global, text: &[u8], whole: Piece) -> Result<Vec<Member>, AllocError> {
+    let mut found = Vec::new(alloc);
+    for item in &items(alloc, text, whole)? {
+        found.push(member_in(text, *item))?;
+    }
+    Ok(found)
+}
+
+/// The member that an item of an object is.
+fn member_in(text: &[u8], item: Piece) -> Member {
+    let mut walk = Walk::new();
+    let mut colon = item.from;
+    for byte in item.of(text) {
+        if *byte == b':' && !walk.is_quoted {
+            break;
+        }
+        walk = walk.past(*byte);
+        colon = colon.saturating_add(1);
+    }
+    let name = Piece {
+        from: item.from,
+        to: colon,
+    };
+    let value = Piece {
+        from: colon.saturating_add(1),
+        to: item.to,
+    };
+    Member {
+        name: name.trimmed(text).inner(),
+        value: value.trimmed(text),
+    }
+}
+
+/// The last member of this name: it is the one that counts.
+pub fn named(text: &[u8], members: &[Member], name: &str) -> Option<Member> {
+    members
+        .iter()
+        .rev()
+        .find(|member| member.name.of(text) == name.as_bytes())
+        .copied()
+}
+
+/// The line and the column of a byte, both from 1; a column is a character.
+pub fn line_and_column(text: &[u8], at: usize) -> (usize, usize) {
+    let mut line = 1usize;
+    let mut column = 1usize;
+    for byte in (Piece {
+        from: 0,
+        to: at.min(text.len()),
+    })
+    .of(text)
+    {
+        if *byte == b'\n' {
+            line = line.saturating_add(1);
+            column = 1;
+        } else if *byte & 0xc0 != 0x80 {
+            column = column.saturating_add(1);
+        }
+    }
+    (line, column)
+}

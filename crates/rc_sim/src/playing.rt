@@ -1,0 +1,97 @@
+//! A scenario is read and run, or a trace is read and judged, and what came of it is written; what it was is kept.
+
+ghost use Rattle.std.specs.Prelude.{◌≡◌, ◌≢◌, ℕ, IfOk, IfSome, Ok, Err};
+ghost use Rattle.std.specs.Io.KnownBytes.{Keeps};
+ghost use Rattle.rc_sim.specs.declared.verdicts.Output.TheVariants.{Report};
+ghost use Rattle.rc_sim.specs.declared.verdicts.SimFault.TheVariants.{Memory, Read as ReadFailed, Write as WriteFailed};
+ghost use Rattle.rc_sim.specs.declared.verdicts.Verdict.TheVariants.{Breach};
+ghost use Rattle.rc_sim.specs.Failures.{failed_reads, failed_writes};
+ghost use Rattle.rc_sim.specs.Verdicts.{Played, Judged};
+ghost use Rattle.rc_sim.specs.Written.{IsWritten, IsBegun};
+
+use crate::answers::{Answer, answer_to, judgement_of};
+use crate::counted::Counted;
+use crate::outlets::read_all;
+use crate::simulating::write_answer;
+use crate::verdicts::{Output, SimFault, Verdict};
+use std::alloc::{Allocator, Global};
+use std::io::{Read, Write};
+
+/// What is kept of a scenario or a trace, to tell more of it than its report does. Nothing is claimed of it.
+#[derive(Drop)]
+pub(crate) struct Kept {
+    /// The bytes that were read.
+    pub(crate) bytes: Vec<u8>,
+    /// How many messages were sent.
+    pub(crate) sent: usize,
+}
+
+impl Kept {
+    /// Nothing yet.
+    pub(crate) fn new(alloc: Global) -> Kept {
+        Kept {
+            bytes: Vec::new(alloc),
+            sent: 0,
+        }
+    }
+
+    /// Keeps what was read, and what is told of what was answered.
+    fn note(&mut self, bytes: Vec<u8>, answer: &Answer) {
+        self.bytes = bytes;
+        self.sent = answer.sent;
+    }
+}
+
+/// Reads a scenario, runs it, and writes what the output asks for; `simulate` says how it fails. The bytes are kept
+/// once an answer is there.
+pub(crate) fn play<R: Read, W: Write, A: Allocator + Clone>(
+    alloc: Global,
+    reader: &mut Counted<R>,
+    writer: &mut Counted<W>,
+    tablets: A,
+    output: Output,
+    kept: &mut Kept,
+) -> Result<Verdict, SimFault>
+    ensures ok { IfOk result (λ verdict. IfSome (R.remaining reader.old.inner)
+        (λ bytes. IsWritten (Played output bytes) verdict (W.contents writer.old.inner)
+        (W.contents writer.new.inner))) }
+    ensures cut_short { (count : ℕ) → result ≡ Err (WriteFailed count) → IfSome (R.remaining reader.old.inner)
+        (λ bytes. IsBegun (Played output bytes) count (W.contents writer.old.inner) (W.contents writer.new.inner)) }
+    ensures nothing_without_memory { result ≡ Err Memory →
+        Keeps (W.contents writer.old.inner) (W.contents writer.new.inner) }
+    ensures nothing_unread { result ≡ Err ReadFailed →
+        Keeps (W.contents writer.old.inner) (W.contents writer.new.inner) }
+    ensures reads { reader.new.failures ≡ failed_reads result reader.old.failures }
+    ensures writes { writer.new.failures ≡ failed_writes result writer.old.failures }
+    ensures no_breach { output ≡ Report → result ≢ Ok Breach }
+{
+    let bytes = read_all(alloc, reader)?;
+    let answer = answer_to(alloc, bytes.as_slice(), tablets, output)?;
+    kept.note(bytes, &answer);
+    write_answer(writer, &answer)
+}
+
+/// Reads a trace, judges it, and writes what came of it; `simulate` says how it fails. The bytes are kept once an
+/// answer is there.
+pub(crate) fn weigh<R: Read, W: Write>(
+    alloc: Global,
+    reader: &mut Counted<R>,
+    writer: &mut Counted<W>,
+    kept: &mut Kept,
+) -> Result<Verdict, SimFault>
+    ensures ok { IfOk result (λ verdict. IfSome (R.remaining reader.old.inner)
+        (λ bytes. IsWritten (Judged bytes) verdict (W.contents writer.old.inner) (W.contents writer.new.inner))) }
+    ensures cut_short { (count : ℕ) → result ≡ Err (WriteFailed count) → IfSome (R.remaining reader.old.inner)
+        (λ bytes. IsBegun (Judged bytes) count (W.contents writer.old.inner) (W.contents writer.new.inner)) }
+    ensures nothing_without_memory { result ≡ Err Memory →
+        Keeps (W.contents writer.old.inner) (W.contents writer.new.inner) }
+    ensures nothing_unread { result ≡ Err ReadFailed →
+        Keeps (W.contents writer.old.inner) (W.contents writer.new.inner) }
+    ensures reads { reader.new.failures ≡ failed_reads result reader.old.failures }
+    ensures writes { writer.new.failures ≡ failed_writes result writer.old.failures }
+{
+    let bytes = read_all(alloc, reader)?;
+    let answer = judgement_of(alloc, bytes.as_slice())?;
+    kept.note(bytes, &answer);
+    write_answer(writer, &answer)
+}
