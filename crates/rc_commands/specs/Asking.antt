@@ -68,7 +68,8 @@ stops_in rows = option_and_then (λ seed. option_map
 
 -- the number that was given for an option, or else this one; None where it is no number of the range
 abbrev pub number_or : ℕ → Text → ℕ → ℕ → List Row → Option ℕ
-number_or default name least most rows = option_map (λ given. unwrap_or given default) (number_given name least most rows)
+number_or default name least most rows =
+    option_map (λ given. unwrap_or given default) (number_given name least most rows)
 
 abbrev pub explore_in : List Row → Option Asked
 explore_in rows =

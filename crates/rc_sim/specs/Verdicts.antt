@@ -1,6 +1,6 @@
 -- What comes of a scenario, a trace, or drawn events: what is printed, and what is answered.
-use Rattle.std.specs.Prelude.{◌≡◌, ◌⊎◌, ◌≤◌, ◌*◌, ℕ, Bool, true, false, List, [], ◌++◌, length, codes, Option, Some, None}
-use Rattle.std.specs.Prelude.{Result, Ok, Err}
+use Rattle.std.specs.Prelude.{◌≡◌, ◌⊎◌, ◌≤◌, ◌*◌, ℕ, Bool, true, false, List, [], ◌++◌, length, codes}
+use Rattle.std.specs.Prelude.{Option, Some, None, Result, Ok, Err}
 use Rattle.rc_types.specs.declared.faults.Code.{Code}
 use Rattle.rc_types.specs.declared.faults.Code.TheVariants.{OutOfMemory, BadEvent}
 use Rattle.rc_types.specs.declared.limits.TheConstants.{MAX_EVENTS}

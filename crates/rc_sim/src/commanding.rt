@@ -29,8 +29,8 @@ use std::io::{Read, Write};
 /// `run` and `trace` run the scenario that the reader gives (see [`simulate`](crate::simulate)), `audit` judges the
 /// trace that it gives ([`judge`](crate::judge)); `fuzz`, `stops`, `explore` and `explain` read nothing.
 /// Help and the version go to the writer. What is wrong with the command line, the line of a
-/// fault (`memory`, `read`, `write N`), and why a scenario or a trace was refused, go to `errors`; where that can not be
-/// written, the status alone tells.
+/// fault (`memory`, `read`, `write N`), and why a scenario or a trace was refused, go to `errors`; where that can not
+/// be written, the status alone tells.
 pub fn command<R: Read, W: Write, E: Write>(
     alloc: Global,
     words: &[String],

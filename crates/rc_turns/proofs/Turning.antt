@@ -327,7 +327,8 @@ pub progress-delivered : (setup : Setup) (start : SeatData) (steps : List Step) 
     held.held ≡ Some (number, message) → Takes setup held work.Fetched new → Progress setup start steps at (number + 1) new
 progress-delivered setup start steps at from number old held new message p least not-had g mine idle holds t =
     let is : event.Deliver number ≡ t.event =
-    cc-some (event.Deliver number) t.event (ap (λ (h : Option (ℕ × Message)). event_for (node_at setup held) h work.Fetched) (sym holds) ∙ t.is) in
+    cc-some (event.Deliver number) t.event
+    (ap (λ (h : Option (ℕ × Message)). event_for (node_at setup held) h work.Fetched) (sym holds) ∙ t.is) in
     let p' : Progress setup start steps at from held = progress-looked setup start steps at from old held p g mine idle in
     let fresh : is_new held.mine t.event ≡ true =
     ap (is_new held.mine) (sym is) ∙ (ap (λ l. not (was_delivered l number)) mine ∙ ap not not-had) in

@@ -80,14 +80,14 @@ pub record Does (old : SeatData) (works : List Work) (new : SeatData) : Type 0 w
 -- of the messages to its node in what it has seen it has delivered each whose number is below this
 abbrev pub DeliveredBelow : Setup → ℕ → SeatData → Type 0
 DeliveredBelow setup from seat = (number : ℕ) (message : Message) → number < from →
-    slice_get (world_at setup seat).sent number ≡ Some message → same_node (node_of message.to) (node_name seat) ≡ true →
-    was_delivered seat.mine number ≡ true
+    slice_get (world_at setup seat).sent number ≡ Some message →
+    same_node (node_of message.to) (node_name seat) ≡ true → was_delivered seat.mine number ≡ true
 
 -- and every one
 abbrev pub AllDelivered : Setup → SeatData → Type 0
 AllDelivered setup seat = (number : ℕ) (message : Message) →
-    slice_get (world_at setup seat).sent number ≡ Some message → same_node (node_of message.to) (node_name seat) ≡ true →
-    was_delivered seat.mine number ≡ true
+    slice_get (world_at setup seat).sent number ≡ Some message →
+    same_node (node_of message.to) (node_name seat) ≡ true → was_delivered seat.mine number ≡ true
 
 -- these works are done, and every message that the seat has seen is delivered
 pub record Runs (setup : Setup) (old : SeatData) (works : List Work) (new : SeatData) : Type 0 where
