@@ -75,7 +75,7 @@ abbrev pub explore_in : List Row → Option Asked
 explore_in rows =
     option_and_then (λ seed. option_and_then (λ steps. option_and_then (λ hosts. option_and_then (λ factor. option_map
     (λ segment. asked.Explore seed steps hosts factor segment (has_flag (codes "free") rows)
-        (has_flag (codes "save") rows))
+    (has_flag (codes "save") rows))
     (number_or 2 (codes "segment") 1 1024 rows)) (number_or 2 (codes "factor") 1 5 rows))
     (number_or 5 (codes "hosts") 1 16 rows)) (number_or 2000 (codes "steps") 0 100000 rows))
     (number_or 1 (codes "seed") 0 18446744073709551615 rows)

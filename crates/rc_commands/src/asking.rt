@@ -22,15 +22,24 @@ use std::alloc::Global;
 #[derive(Debug, PartialEq, Drop)]
 pub enum Asked {
     /// Replay a scenario; where a heap is given, the coordinator's tree stands in one of so many bytes.
-    Run { heap: Option<usize> },
+    Run {
+        heap: Option<usize>,
+    },
     /// Replay a scenario, and write the trace of what was sent.
     Trace,
     /// Judge a trace.
     Audit,
     /// Run events that are drawn from a seed, with freed segments where `free` says so.
-    Fuzz { seed: u64, steps: u32, free: bool },
+    Fuzz {
+        seed: u64,
+        steps: u32,
+        free: bool,
+    },
     /// Draw events from a seed, and cut the power after each of them.
-    Stops { seed: u64, steps: u32 },
+    Stops {
+        seed: u64,
+        steps: u32,
+    },
     /// Run events that are drawn from a seed so that much happens; or print them, where `save` says so.
     Explore {
         seed: u64,
@@ -42,7 +51,9 @@ pub enum Asked {
         save: bool,
     },
     /// Say what the code of this number means, or what all codes mean.
-    Explain { code: Option<u8> },
+    Explain {
+        code: Option<u8>,
+    },
     /// Nothing but this text, for standard output: help, or the version.
     Tell(String),
     /// It is wrong; this text is for standard error.

@@ -121,7 +121,11 @@ fn explore<'a>(alloc: Global) -> Result<Command<'a>, AllocError>
 {
     explore_sized(alloc)?
         .arg(flag(alloc, "free", "Lets masters free segments"))?
-        .arg(flag(alloc, "save", "Prints the run as a scenario in place of the report"))
+        .arg(flag(
+            alloc,
+            "save",
+            "Prints the run as a scenario in place of the report",
+        ))
 }
 
 /// `explore` with the options of its drawing and of its nodes.

@@ -20,7 +20,9 @@ pub enum BadWord<'a> {
         most: u64,
     },
     /// No code.
-    Code { text: &'a str },
+    Code {
+        text: &'a str,
+    },
     /// There is no command.
     NoCommand,
 }
@@ -37,7 +39,10 @@ impl fmt::Display for BadWord<'_> {
                 f,
                 "error: '{text}' is no value for '--{option}': decimal digits from {least} to {most}\n"
             )?,
-            BadWord::Code { text } => write!(f, "error: '{text}' is no code: F1 to F{MOST_CODE}\n")?,
+            BadWord::Code { text } => write!(
+                f,
+                "error: '{text}' is no code: F1 to F{MOST_CODE}\n"
+            )?,
             BadWord::NoCommand => write!(f, "error: a command is wanted\n")?,
         }
         write!(f, "\nFor more information, try '--help'.\n")
