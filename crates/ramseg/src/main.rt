@@ -13,7 +13,6 @@ fn main(rt: HostRuntime) -> ExitCode {
     let mut errors = Counted::new(rt.stderr());
     let status = match words(&rt) {
         Ok(words) => command(
-            &rt,
             rt.alloc(),
             words.as_slice(),
             &mut reader,
