@@ -13,6 +13,7 @@ fn main(rt: HostRuntime) -> ExitCode {
     let mut errors = Counted::new(rt.stderr());
     let status = match words(&rt) {
         Ok(words) => command(
+            &rt,
             rt.alloc(),
             words.as_slice(),
             &mut reader,

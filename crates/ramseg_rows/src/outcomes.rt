@@ -4,8 +4,10 @@ use crate::again;
 use crate::rows::{Inputs, Row};
 use crate::streams::{Sink, Source};
 use rc_sim::{Counted, command};
-use std::alloc::{AllocError, Global};
+use std::alloc::AllocError;
 use std::io;
+use std::sync::Wait;
+use std::thread::Threads;
 
 /// So many bytes of output need no memory while they are written.
 const EXPECTED: usize = 8_192;
@@ -23,7 +25,12 @@ struct Outcome {
 
 impl Outcome {
     /// That of the row's command line, on this input.
-    fn of(alloc: Global, row: &Row<'_>, input: &[u8]) -> Result<Outcome, AllocError> {
+    fn of<R: AllocGlobal + Threads + Wait + Sync>(
+        rt: &R,
+        row: &Row<'_>,
+        input: &[u8],
+    ) -> Result<Outcome, AllocError> {
+        let alloc = rt.alloc();
         let words = row.words(alloc)?;
         let mut reader = Counted::new(Source {
             bytes: input,
@@ -37,6 +44,7 @@ impl Outcome {
         });
         let mut errors = Counted::new(Vec::with_capacity(alloc, EXPECTED)?);
         let status = command(
+            rt,
             alloc,
             words.as_slice(),
             &mut reader,
@@ -85,7 +93,11 @@ struct Runs<'a> {
 
 impl Runs<'_> {
     /// Runs the command line on this input. Prints what comes of it, where it is not what came of the last one.
-    fn add<R: Print + Eprint + AllocGlobal>(&mut self, rt: &R, input: &[u8]) -> io::Result<()> {
+    fn add<R: Print + Eprint + AllocGlobal + Threads + Wait + Sync>(
+        &mut self,
+        rt: &R,
+        input: &[u8],
+    ) -> io::Result<()> {
         let outcome = final_outcome(rt, self.row, input)?;
         let is_known = match &self.last {
             Some(last) => outcome.is_like(last),
@@ -104,7 +116,10 @@ impl Runs<'_> {
 }
 
 /// Prints what comes of a row.
-pub fn show<R: Print + Eprint + AllocGlobal>(rt: &R, row: &Row<'_>) -> io::Result<()> {
+pub fn show<R: Print + Eprint + AllocGlobal + Threads + Wait + Sync>(
+    rt: &R,
+    row: &Row<'_>,
+) -> io::Result<()> {
     println!(rt; "== {}", row.title)?;
     let input = again!(rt; row.input(rt.alloc()));
     let mut runs = Runs {
@@ -130,16 +145,16 @@ pub fn show<R: Print + Eprint + AllocGlobal>(rt: &R, row: &Row<'_>) -> io::Resul
 }
 
 /// What comes of a row on this input. Where memory was refused, that is told, and the row is run once more.
-fn final_outcome<R: Eprint + AllocGlobal>(
+fn final_outcome<R: Eprint + AllocGlobal + Threads + Wait + Sync>(
     rt: &R,
     row: &Row<'_>,
     input: &[u8],
 ) -> io::Result<Outcome> {
-    match Outcome::of(rt.alloc(), row, input) {
+    match Outcome::of(rt, row, input) {
         Ok(outcome) if !outcome.lacked_memory() => Ok(outcome),
         _ => {
             rt.eprintln("refused")?;
-            Ok(Outcome::of(rt.alloc(), row, input)?)
+            Ok(Outcome::of(rt, row, input)?)
         }
     }
 }

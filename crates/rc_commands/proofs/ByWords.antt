@@ -19,18 +19,18 @@ use Rattle.rc_commands.specs.declared.asking.Asked.TheVariants as asked
 use Rattle.rc_commands.specs.Asking.{Tells, as_command, asked_in, asks_for_text, begins_with_help, command_in, explain_in}
 use Rattle.rc_commands.specs.Asking.{explore_in, exploring, fuzz_in}
 use Rattle.rc_commands.specs.Asking.{is_alone, is_command, is_end, is_help, is_option, is_plain, is_request, is_text}
-use Rattle.rc_commands.specs.Asking.{is_version, run_in, stops_in, where_taken, heap_line, option_zip_with}
+use Rattle.rc_commands.specs.Asking.{is_version, run_in, stops_in, threads_in, where_taken, heap_line, option_zip_with}
 use Rattle.rc_commands.specs.Asking as line_of
 use Rattle.rc_commands.specs.Commands as command
 use Rattle.rc_commands.specs.Commands.{ramseg}
 use Rattle.rc_commands.proofs.Words.{IsLevel, asks, audit_is, explore_is, fuzz_is, leaf, line_told, run_is, same, stops_is}
-use Rattle.rc_commands.proofs.Words.{tells, tells_first, text_tells, trace_is}
+use Rattle.rc_commands.proofs.Words.{tells, tells_first, text_tells, threads_is, trace_is}
 use Rattle.rc_commands.specs.Numbers.{decimal_in}
 use Rattle.rc_commands.proofs.Heap.{heap_given, none_first}
 use Rattle.rc_commands.proofs.Lines.{audit_found, audit_line, by_command, empty_told, explain_found, explain_line}
 use Rattle.rc_commands.proofs.Lines.{explore_found, explore_line, faults_at, fuzz_found, fuzz_line}
 use Rattle.rc_commands.proofs.Lines.{no_option, run_found, run_line, stops_found, stops_line}
-use Rattle.rc_commands.proofs.Lines.{told, trace_found, trace_line}
+use Rattle.rc_commands.proofs.Lines.{threads_found, threads_line, told, trace_found, trace_line}
 
 -- no error comes exactly where a command stands alone; else each is a request exactly where a text is asked for
 abbrev agrees : Bool → Bool → Kinds → Bool
@@ -113,6 +113,15 @@ unfolding clap_on_literals
 stops_ended [] = refl
 stops_ended (next ∷ rest) = refl
 
+threads_alone : After command.threads.top []
+unfolding clap_on_literals
+threads_alone = refl
+
+threads_ended : (rest : List Text) → After command.threads.top (codes "--" ∷ rest)
+unfolding clap_on_literals
+threads_ended [] = refl
+threads_ended (next ∷ rest) = refl
+
 explore_alone : After command.explore.top []
 unfolding clap_on_literals
 explore_alone = refl
@@ -174,6 +183,9 @@ line word rest plain = by_command (λ w. is_plain (w ∷ rest) ≡ true → Agre
     (λ e. ap (agrees (is_end rest) (begins_with_help rest)) (stops_line rest)
     ∙ after command.stops.top (codes "seed" ∷ codes "steps" ∷ []) stops_is stops_alone stops_ended rest
     (plain_after (codes "seed" ∷ codes "steps" ∷ []) rest (codes "stops") (λ w more h. not_true _ h) e))
+    (λ e. ap (agrees (is_end rest) (begins_with_help rest)) (threads_line rest)
+    ∙ after command.threads.top (codes "hosts" ∷ codes "writes" ∷ []) threads_is threads_alone threads_ended rest
+    (plain_after (codes "hosts" ∷ codes "writes" ∷ []) rest (codes "threads") (λ w more h. not_true _ h) e))
     (λ e. ap (agrees (is_end rest) (begins_with_help rest)) (explore_line rest)
     ∙ after command.explore.top exploring explore_is explore_alone explore_ended rest
     (plain_after exploring rest (codes "explore") (λ w more h. not_true _ h) e))
@@ -238,6 +250,10 @@ asked_stops : (rest : List Text) → asked_in (codes "stops" ∷ rest) ≡ where
     (stops_in (rows_at (leaf command.stops.top) rest).1)
 asked_stops rest = ap₂ asked_by (stops_line rest) (stops_found rest)
 
+asked_threads : (rest : List Text) → asked_in (codes "threads" ∷ rest) ≡ where_taken (faults_at command.threads.top rest)
+    (threads_in (rows_at (leaf command.threads.top) rest).1)
+asked_threads rest = ap₂ asked_by (threads_line rest) (threads_found rest)
+
 asked_explore : (rest : List Text) → asked_in (codes "explore" ∷ rest) ≡ where_taken (faults_at command.explore.top rest)
     (explore_in (rows_at (leaf command.explore.top) rest).1)
 asked_explore rest = ap₂ asked_by (explore_line rest) (explore_found rest)
@@ -289,6 +305,19 @@ module _ (T : Option Asked → Bool) (none : T None ≡ false) where
       go None p = none
       go (Some seed) None = none
       go (Some seed) (Some steps) = each _ _
+
+  pub no_threads : ((hosts writes : ℕ) → T (Some (asked.Threads hosts writes)) ≡ false) → (rest : List Text) →
+      T (asked_in (codes "threads" ∷ rest)) ≡ false
+  no_threads each rest = ap T (asked_threads rest) ∙ never _ _ (by_rows (rows_at (leaf command.threads.top) rest).1)
+    where
+      go : (hosts writes : Option ℕ) →
+          T (option_and_then (λ a. option_map (λ b. asked.Threads a b) writes) hosts) ≡ false
+      go None writes = none
+      go (Some a) None = none
+      go (Some a) (Some b) = each _ _
+
+      by_rows : (rows : List Row) → T (threads_in rows) ≡ false
+      by_rows rows = go (line_of.number_or 4 (codes "hosts") 3 16 rows) (line_of.number_or 10 (codes "writes") 0 1000 rows)
 
   pub no_explore : ((seed steps hosts factor segment : ℕ) (free save : Bool) →
       T (Some (asked.Explore seed steps hosts factor segment free save)) ≡ false) → (rest : List Text) →
@@ -353,6 +382,7 @@ trace_only (word ∷ rest) h = by_command (λ w. is_trace (asked_in (w ∷ rest)
     (λ e. absurd (true≢false (sym e ∙ no_audit is_trace refl refl rest)))
     (λ e. absurd (true≢false (sym e ∙ no_fuzz is_trace refl (λ seed steps free. refl) rest)))
     (λ e. absurd (true≢false (sym e ∙ no_stops is_trace refl (λ seed steps. refl) rest)))
+    (λ e. absurd (true≢false (sym e ∙ no_threads is_trace refl (λ hosts writes. refl) rest)))
     (λ e. absurd (true≢false (sym e ∙ no_explore is_trace refl (λ seed steps hosts factor segment free save. refl) rest)))
     (λ e. absurd (true≢false (sym e ∙ no_explain is_trace refl (λ code. refl) rest)))
     (λ e. absurd (true≢false (sym e ∙ no_help is_trace refl rest)))
@@ -394,6 +424,7 @@ run_only (word ∷ rest) h = by_command (λ w. is_bare_run (asked_in (w ∷ rest
     (λ e. absurd (true≢false (sym e ∙ no_audit is_bare_run refl refl rest)))
     (λ e. absurd (true≢false (sym e ∙ no_fuzz is_bare_run refl (λ seed steps free. refl) rest)))
     (λ e. absurd (true≢false (sym e ∙ no_stops is_bare_run refl (λ seed steps. refl) rest)))
+    (λ e. absurd (true≢false (sym e ∙ no_threads is_bare_run refl (λ hosts writes. refl) rest)))
     (λ e. absurd (true≢false (sym e ∙ no_explore is_bare_run refl (λ seed steps hosts factor segment free save. refl) rest)))
     (λ e. absurd (true≢false (sym e ∙ no_explain is_bare_run refl (λ code. refl) rest)))
     (λ e. absurd (true≢false (sym e ∙ no_help is_bare_run refl rest)))
@@ -408,6 +439,7 @@ audit_only (word ∷ rest) h = by_command (λ w. is_audit (asked_in (w ∷ rest)
     (sym (ap is_audit (asked_audit rest)) ∙ e))
     (λ e. absurd (true≢false (sym e ∙ no_fuzz is_audit refl (λ seed steps free. refl) rest)))
     (λ e. absurd (true≢false (sym e ∙ no_stops is_audit refl (λ seed steps. refl) rest)))
+    (λ e. absurd (true≢false (sym e ∙ no_threads is_audit refl (λ hosts writes. refl) rest)))
     (λ e. absurd (true≢false (sym e ∙ no_explore is_audit refl (λ seed steps hosts factor segment free save. refl) rest)))
     (λ e. absurd (true≢false (sym e ∙ no_explain is_audit refl (λ code. refl) rest)))
     (λ e. absurd (true≢false (sym e ∙ no_help is_audit refl rest)))
@@ -446,6 +478,10 @@ fuzz_gives = alone_gives (codes "fuzz") (asked.Fuzz 1 1000 false) refl refl
 pub stops_gives : (words : List Text) → is_alone (codes "stops") words ≡ true → asked_in words ≡ Some (asked.Stops 1 300)
 unfolding clap_on_literals
 stops_gives = alone_gives (codes "stops") (asked.Stops 1 300) refl refl
+
+pub threads_gives : (words : List Text) → is_alone (codes "threads") words ≡ true → asked_in words ≡ Some (asked.Threads 4 10)
+unfolding clap_on_literals
+threads_gives = alone_gives (codes "threads") (asked.Threads 4 10) refl refl
 
 pub explore_gives : (words : List Text) → is_alone (codes "explore") words ≡ true →
     asked_in words ≡ Some (asked.Explore 1 2000 5 2 2 false false)
@@ -512,6 +548,7 @@ is_answer a b e = go a e
     go asked.Audit e = ap (λ o. unwrap_or o b) e
     go (asked.Fuzz seed steps free) e = ap (λ o. unwrap_or o b) e
     go (asked.Stops seed steps) e = ap (λ o. unwrap_or o b) e
+    go (asked.Threads hosts writes) e = ap (λ o. unwrap_or o b) e
     go (asked.Explore seed steps hosts factor segment free save) e = ap (λ o. unwrap_or o b) e
     go (asked.Explain code) e = ap (λ o. unwrap_or o b) e
 
@@ -534,6 +571,9 @@ module _ (words : List Text) (a : Asked) (asks : as_command a ≡ asked_in words
 
   pub stops_told : is_alone (codes "stops") words ≡ true → a ≡ asked.Stops 1 300
   stops_told h = is_answer a (asked.Stops 1 300) (asks ∙ stops_gives words h)
+
+  pub threads_told : is_alone (codes "threads") words ≡ true → a ≡ asked.Threads 4 10
+  threads_told h = is_answer a (asked.Threads 4 10) (asks ∙ threads_gives words h)
 
   pub explore_told : is_alone (codes "explore") words ≡ true → a ≡ asked.Explore 1 2000 5 2 2 false false
   explore_told h = is_answer a (asked.Explore 1 2000 5 2 2 false false) (asks ∙ explore_gives words h)

@@ -69,6 +69,11 @@ unfolding walked walk_fault defaults_fault
 stops_line words = ap₂ fault_at (stopped_fault top top_names (walk_from nothing_held) (codes "stops", []) words)
     (sym (walk_stopped top.rules top_names (walk_from nothing_held) (codes "stops") [] words))
 
+pub threads_line : (words : List Text) → fault_of ramseg (codes "threads" ∷ words) ≡ faults_at command.threads.top words
+unfolding walked walk_fault defaults_fault
+threads_line words = ap₂ fault_at (stopped_fault top top_names (walk_from nothing_held) (codes "threads", []) words)
+    (sym (walk_stopped top.rules top_names (walk_from nothing_held) (codes "threads") [] words))
+
 pub explore_line : (words : List Text) → fault_of ramseg (codes "explore" ∷ words) ≡ faults_at command.explore.top words
 unfolding walked walk_fault defaults_fault
 explore_line words = ap₂ fault_at (stopped_fault top top_names (walk_from nothing_held) (codes "explore", []) words)
@@ -98,6 +103,11 @@ fuzz_found words = ap found_at (sym (walk_stopped top.rules top_names (walk_from
 pub stops_found : (words : List Text) → subcommand_of ramseg (codes "stops" ∷ words) ≡ Some (rows_at (leaf command.stops.top) words)
 unfolding walked
 stops_found words = ap found_at (sym (walk_stopped top.rules top_names (walk_from nothing_held) (codes "stops") [] words))
+
+pub threads_found : (words : List Text) → subcommand_of ramseg (codes "threads" ∷ words)
+    ≡ Some (rows_at (leaf command.threads.top) words)
+unfolding walked
+threads_found words = ap found_at (sym (walk_stopped top.rules top_names (walk_from nothing_held) (codes "threads") [] words))
 
 pub explore_found : (words : List Text) → subcommand_of ramseg (codes "explore" ∷ words)
     ≡ Some (rows_at (leaf command.explore.top) words)
@@ -135,25 +145,26 @@ no_option word = go (long_of word)
     go None = refl
     go (Some flag) = refl
 
-none_of : (a b c d e f g : Bool) → (a || (b || (c || (d || (e || (f || (g || false))))))) ≡ false →
-    (a ≡ false) × (b ≡ false) × (c ≡ false) × (d ≡ false) × (e ≡ false) × (f ≡ false) × (g ≡ false)
-none_of true b c d e f g none = absurd (true≢false none)
-none_of false true c d e f g none = absurd (true≢false none)
-none_of false false true d e f g none = absurd (true≢false none)
-none_of false false false true e f g none = absurd (true≢false none)
-none_of false false false false true f g none = absurd (true≢false none)
-none_of false false false false false true g none = absurd (true≢false none)
-none_of false false false false false false true none = absurd (true≢false none)
-none_of false false false false false false false none = (refl, refl, refl, refl, refl, refl, refl)
+none_of : (a b c d e f g h : Bool) → (a || (b || (c || (d || (e || (f || (g || (h || false)))))))) ≡ false →
+    (a ≡ false) × (b ≡ false) × (c ≡ false) × (d ≡ false) × (e ≡ false) × (f ≡ false) × (g ≡ false) × (h ≡ false)
+none_of true b c d e f g h none = absurd (true≢false none)
+none_of false true c d e f g h none = absurd (true≢false none)
+none_of false false true d e f g h none = absurd (true≢false none)
+none_of false false false true e f g h none = absurd (true≢false none)
+none_of false false false false true f g h none = absurd (true≢false none)
+none_of false false false false false true g h none = absurd (true≢false none)
+none_of false false false false false false true h none = absurd (true≢false none)
+none_of false false false false false false false true none = absurd (true≢false none)
+none_of false false false false false false false false none = (refl, refl, refl, refl, refl, refl, refl, refl)
 
 module _ (word : Text) (rest : List Text) (none : is_command word ≡ false) (no_help : bytes_eq (codes "help") word ≡ false) where
   no_command : subcommand_met top_names idle word ≡ None
   no_command =
       let p = none_of (bytes_eq (codes "run") word) (bytes_eq (codes "trace") word) (bytes_eq (codes "audit") word)
       (bytes_eq (codes "fuzz") word)
-      (bytes_eq (codes "stops") word) (bytes_eq (codes "explore") word)
+      (bytes_eq (codes "stops") word) (bytes_eq (codes "threads") word) (bytes_eq (codes "explore") word)
       (bytes_eq (codes "explain") word) none in
-      rw (p.0, p.1, p.2, p.3, p.4, p.5, p.6, no_help) refl
+      rw (p.0, p.1, p.2, p.3, p.4, p.5, p.6, p.7, no_help) refl
 
   pub told : Told word rest
   told = ⊎_elim {C = Told word rest} (λ h. subst (λ w. Told w rest) (sym h.1) (ended rest))
@@ -163,19 +174,21 @@ module _ (word : Text) (rest : List Text) (none : is_command word ≡ false) (no
 
 -- what holds of a line by its first word, if it holds of each command's, of those of `help`, and of those of neither
 pub by_command : (P : Text → Type 0) → P (codes "run") → P (codes "trace") → P (codes "audit") → P (codes "fuzz") →
-    P (codes "stops") → P (codes "explore") → P (codes "explain") → P (codes "help")
+    P (codes "stops") → P (codes "threads") → P (codes "explore") → P (codes "explain") → P (codes "help")
     → ((word : Text) → is_command word ≡ false → bytes_eq (codes "help") word ≡ false → P word) → (word : Text) → P word
-by_command P run trace audit fuzz stops explore explain help other word =
+by_command P run trace audit fuzz stops threads explore explain help other word =
     ⊎_elim (λ it. subst P it.1 run) (λ a.
     ⊎_elim (λ it. subst P it.1 trace) (λ b.
     ⊎_elim (λ it. subst P it.1 audit) (λ c.
     ⊎_elim (λ it. subst P it.1 fuzz) (λ d.
     ⊎_elim (λ it. subst P it.1 stops) (λ e.
-    ⊎_elim (λ it. subst P it.1 explore) (λ f.
-    ⊎_elim (λ it. subst P it.1 explain) (λ g.
-    ⊎_elim (λ it. subst P it.1 help) (λ no_help. other word (no_name a b c d e f g) no_help)
+    ⊎_elim (λ it. subst P it.1 threads) (λ f.
+    ⊎_elim (λ it. subst P it.1 explore) (λ g.
+    ⊎_elim (λ it. subst P it.1 explain) (λ h.
+    ⊎_elim (λ it. subst P it.1 help) (λ no_help. other word (no_name a b c d e f g h) no_help)
     (text_tells (codes "help") word)) (text_tells (codes "explain") word))
     (text_tells (codes "explore") word))
+    (text_tells (codes "threads") word))
     (text_tells (codes "stops") word))
     (text_tells (codes "fuzz") word))
     (text_tells (codes "audit") word))
@@ -187,7 +200,8 @@ by_command P run trace audit fuzz stops explore explain help other word =
         bytes_eq (codes "audit") word ≡ false →
         bytes_eq (codes "fuzz") word ≡ false →
         bytes_eq (codes "stops") word ≡ false →
+        bytes_eq (codes "threads") word ≡ false →
         bytes_eq (codes "explore") word ≡ false →
         bytes_eq (codes "explain") word ≡ false →
         is_command word ≡ false
-    no_name a b c d e f g = rw (a, b, c, d, e, f, g) refl
+    no_name a b c d e f g h = rw (a, b, c, d, e, f, g, h) refl

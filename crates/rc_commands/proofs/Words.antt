@@ -136,6 +136,16 @@ stops_is = record { long = long; short = λ x. refl; strays = refl; positional =
         let p = or_parts _ _ e in
         passed (bytes_eq (codes "seed") name) _ _ p.0 ∙ passed (bytes_eq (codes "steps") name) _ _ (or_parts _ _ p.1).0
 
+pub threads_is : IsLevel (leaf command.threads.top) false (codes "hosts" ∷ codes "writes" ∷ [])
+unfolding clap_on_literals
+threads_is = record { long = long; short = λ x. refl; strays = refl; positional = refl }
+  where
+    long : (name : Text) → list_any (λ option. bytes_eq option name) (codes "hosts" ∷ codes "writes" ∷ []) ≡ false
+        → arg_by_long (leaf command.threads.top).rules name ≡ flag_of (bytes_eq (codes "help") name) false
+    long name e =
+        let p = or_parts _ _ e in
+        passed (bytes_eq (codes "hosts") name) _ _ p.0 ∙ passed (bytes_eq (codes "writes") name) _ _ (or_parts _ _ p.1).0
+
 pub explore_is : IsLevel (leaf command.explore.top) false exploring
 unfolding clap_on_literals
 explore_is = record { long = long; short = λ x. refl; strays = refl; positional = refl }

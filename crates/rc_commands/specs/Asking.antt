@@ -34,6 +34,7 @@ abbrev pub IsInRange : Asked → Type 0
 IsInRange (asked.Run heap) = IsWithin 16 1048576 heap
 IsInRange (asked.Fuzz seed steps free) = steps ≤ 100000
 IsInRange (asked.Stops seed steps) = steps ≤ 1000
+IsInRange (asked.Threads hosts writes) = (3 ≤ hosts) × (hosts ≤ 16) × (writes ≤ 1000)
 IsInRange (asked.Explore seed steps hosts factor segment free save) = (steps ≤ 100000) × (1 ≤ hosts) × (hosts ≤ 16)
     × (1 ≤ factor) × (factor ≤ 5) × (1 ≤ segment) × (segment ≤ 1024)
 IsInRange (asked.Explain code) = IsWithin 1 21 code
@@ -71,6 +72,10 @@ abbrev pub number_or : ℕ → Text → ℕ → ℕ → List Row → Option ℕ
 number_or default name least most rows =
     option_map (λ given. unwrap_or given default) (number_given name least most rows)
 
+abbrev pub threads_in : List Row → Option Asked
+threads_in rows = option_and_then (λ hosts. option_map (λ writes. asked.Threads hosts writes)
+    (number_or 10 (codes "writes") 0 1000 rows)) (number_or 4 (codes "hosts") 3 16 rows)
+
 abbrev pub explore_in : List Row → Option Asked
 explore_in rows =
     option_and_then (λ seed. option_and_then (λ steps. option_and_then (λ hosts. option_and_then (λ factor. option_map
@@ -100,8 +105,9 @@ command_in name rows =
     else (if bytes_eq name (codes "audit") then Some asked.Audit
     else (if bytes_eq name (codes "fuzz") then fuzz_in rows
     else (if bytes_eq name (codes "stops") then stops_in rows
+    else (if bytes_eq name (codes "threads") then threads_in rows
     else (if bytes_eq name (codes "explore") then explore_in rows
-    else (if bytes_eq name (codes "explain") then explain_in rows else None))))))
+    else (if bytes_eq name (codes "explain") then explain_in rows else None)))))))
 
 -- nothing, where `clap` finds a fault in the words
 abbrev pub where_taken : Kinds → Option Asked → Option Asked
@@ -140,8 +146,8 @@ is_alone name [] = false
 is_alone name (word ∷ rest) = bytes_eq name word && is_end rest
 
 abbrev pub names : List Text
-names = codes "run" ∷ codes "trace" ∷ codes "audit" ∷ codes "fuzz" ∷ codes "stops" ∷ codes "explore" ∷ codes "explain"
-    ∷ []
+names = codes "run" ∷ codes "trace" ∷ codes "audit" ∷ codes "fuzz" ∷ codes "stops" ∷ codes "threads" ∷ codes "explore"
+    ∷ codes "explain" ∷ []
 
 abbrev pub is_command : Text → Bool
 is_command word = list_any (λ name. bytes_eq name word) names
@@ -178,7 +184,8 @@ options_of name =
     if bytes_eq (codes "run") name then codes "heap" ∷ []
     else (if bytes_eq (codes "fuzz") name then codes "seed" ∷ codes "steps" ∷ codes "free" ∷ []
     else (if bytes_eq (codes "stops") name then codes "seed" ∷ codes "steps" ∷ []
-    else (if bytes_eq (codes "explore") name then exploring else [])))
+    else (if bytes_eq (codes "threads") name then codes "hosts" ∷ codes "writes" ∷ []
+    else (if bytes_eq (codes "explore") name then exploring else []))))
 
 -- `--NAME` or `--NAME=VALUE`, for one of these options
 abbrev pub is_option : List Text → Text → Bool

@@ -34,6 +34,9 @@ fuzz = with_rule (with_rule (with_rule (new_app (codes "fuzz")) (option (codes "
 abbrev pub stops : App
 stops = with_rule (with_rule (new_app (codes "stops")) (option (codes "seed"))) (option (codes "steps"))
 
+abbrev pub threads : App
+threads = with_rule (with_rule (new_app (codes "threads")) (option (codes "hosts"))) (option (codes "writes"))
+
 -- `explore` with the options of a drawing, then with those of its nodes too
 abbrev pub explore_drawn : App
 explore_drawn = with_rule (with_rule (new_app (codes "explore")) (option (codes "seed"))) (option (codes "steps"))
@@ -54,7 +57,8 @@ alone = on_top (λ top. record top { has_version = true; no_binary_name = true; 
 
 abbrev pub ramseg : App
 ramseg = with_subcommand (with_subcommand (with_subcommand (with_subcommand (with_subcommand (with_subcommand
-    (with_subcommand alone run.top) trace.top) audit.top) fuzz.top) stops.top) explore.top) explain.top
+    (with_subcommand (with_subcommand alone run.top) trace.top) audit.top) fuzz.top) stops.top) threads.top)
+    explore.top) explain.top
 
 -- a command that is built so, and has no option for its subcommands
 abbrev pub IsBuiltAs : App → Command → Type 0

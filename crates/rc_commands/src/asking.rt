@@ -8,6 +8,7 @@ ghost use Rattle.rc_types.specs.declared.faults.Fault.TheVariants.{OutOfMemory};
 ghost use Rattle.rc_commands.specs.Asking.{IsInRange, Tells, as_command, asked_in, asks_for_text, command_in};
 ghost use Rattle.rc_commands.specs.Asking.{explain_in, explore_in, fuzz_in, fuzz_line, heap_line, option_zip_with};
 ghost use Rattle.rc_commands.specs.Asking.{is_alone, is_plain, is_request, is_text, run_in, stops_in, stops_line};
+ghost use Rattle.rc_commands.specs.Asking.{threads_in};
 ghost use Rattle.rc_commands.specs.Numbers.{decimal_in};
 ghost use Rattle.rc_commands.specs.Commands.{ramseg};
 
@@ -39,6 +40,11 @@ pub enum Asked {
     Stops {
         seed: u64,
         steps: u32,
+    },
+    /// Run nodes on threads: so many hosts, and so many writes.
+    Threads {
+        hosts: u8,
+        writes: u32,
     },
     /// Run events that are drawn from a seed so that much happens; or print them, where `save` says so.
     Explore {
@@ -78,6 +84,8 @@ pub fn asked_for(alloc: Global, words: &[String]) -> Result<Asked, Fault>
         (λ a. is_alone (codes "fuzz") (map string_bytes words.now) ≡ true → a ≡ Asked.Fuzz 1 1000 false) }
     ensures stops { IfOk result
         (λ a. is_alone (codes "stops") (map string_bytes words.now) ≡ true → a ≡ Asked.Stops 1 300) }
+    ensures threads { IfOk result
+        (λ a. is_alone (codes "threads") (map string_bytes words.now) ≡ true → a ≡ Asked.Threads 4 10) }
     ensures explore { IfOk result (λ a. is_alone (codes "explore") (map string_bytes words.now) ≡ true
         → a ≡ Asked.Explore 1 2000 5 2 2 false false) }
     ensures explain { IfOk result
@@ -129,6 +137,7 @@ fn command_of<'a>(matches: &ArgMatches<'a>) -> Result<Asked, BadWord<'a>>
         Some(("audit", _)) => Ok(Asked::Audit),
         Some(("fuzz", given)) => fuzz_of(given),
         Some(("stops", given)) => stops_of(given),
+        Some(("threads", given)) => threads_of(given),
         Some(("explore", given)) => explore_of(given),
         Some(("explain", given)) => explain_of(given),
         _ => Err(BadWord::NoCommand),
@@ -172,6 +181,18 @@ fn stops_of<'a>(given: &ArgMatches<'a>) -> Result<Asked, BadWord<'a>>
     let seed = number_of(given, "seed", 0, u64::MAX)?.unwrap_or(1);
     let steps = number_of(given, "steps", 0, 1_000)?.unwrap_or(300) as u32;
     Ok(Asked::Stops { seed, steps })
+}
+
+/// `threads` with its options.
+fn threads_of<'a>(given: &ArgMatches<'a>) -> Result<Asked, BadWord<'a>>
+    ensures command { let asked = threads_in (rows_of (found_of given.now)) in
+        MatchResult result (λ a. as_command a ≡ asked) (λ _. asked ≡ None) }
+    ensures text { IfOk result (λ a. is_text a ≡ false) }
+    ensures ranges { IfOk result IsInRange }
+{
+    let hosts = number_of(given, "hosts", 3, 16)?.unwrap_or(4) as u8;
+    let writes = number_of(given, "writes", 0, 1_000)?.unwrap_or(10) as u32;
+    Ok(Asked::Threads { hosts, writes })
 }
 
 /// `explore` with its options.

@@ -23,6 +23,7 @@ pub fn program<'a>(alloc: Global) -> Result<Command<'a>, AllocError>
         .subcommand(audit(alloc))?
         .subcommand(fuzz(alloc)?)?
         .subcommand(stops(alloc)?)?
+        .subcommand(threads(alloc)?)?
         .subcommand(explore(alloc)?)?
         .subcommand(explain(alloc)?)
 }
@@ -112,6 +113,30 @@ fn stops<'a>(alloc: Global) -> Result<Command<'a>, AllocError>
         "steps",
         "N",
         "How many steps are drawn, 0 to 1000; 300 if not given",
+    ))
+}
+
+/// `threads` with its options.
+fn threads<'a>(alloc: Global) -> Result<Command<'a>, AllocError>
+    ensures { IfOk result (IsBuiltAs spec.threads) }
+{
+    command(
+        alloc,
+        "threads",
+        "Runs a coordinator and masters on threads of their own, with writes and a recovery, and prints the report",
+        "Example: ramseg threads --hosts 5 --writes 100",
+    )
+    .arg(option(
+        alloc,
+        "hosts",
+        "N",
+        "How many hosts there are, 3 to 16; 4 if not given",
+    ))?
+    .arg(option(
+        alloc,
+        "writes",
+        "N",
+        "How many writes are asked for, 0 to 1000; 10 if not given",
     ))
 }
 

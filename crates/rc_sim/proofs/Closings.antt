@@ -79,6 +79,7 @@ not_begun asked.Trace status input known is = (Err Memory, is, keeps_same known)
 not_begun asked.Audit status input known is = (Err Memory, is, keeps_same known)
 not_begun (asked.Fuzz seed steps free) status input known is = (Err Memory, is, keeps_same known)
 not_begun (asked.Stops seed steps) status input known is = (Err Memory, is, keeps_same known)
+not_begun (asked.Threads hosts writes) status input known is = (Err Memory, is, keeps_same known)
 not_begun (asked.Explore seed steps hosts factor segment free save) status input known is =
     (Err Memory, is, keeps_same known)
 not_begun (asked.Explain code) status input known is = tt

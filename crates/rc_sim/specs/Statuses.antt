@@ -10,7 +10,7 @@ use Rattle.rc_sim.specs.declared.verdicts.Verdict.{Verdict}
 use Rattle.rc_sim.specs.declared.verdicts.Verdict.TheVariants.{Clean, Breach, Bad, Stopped}
 use Rattle.rc_sim.specs.declared.verdicts.SimFault.{SimFault}
 use Rattle.rc_sim.specs.declared.verdicts.SimFault.TheVariants.{Memory, Read, Write}
-use Rattle.rc_sim.specs.Verdicts.{Played, Judged, Drawn, PowerCut, Explored}
+use Rattle.rc_sim.specs.Verdicts.{Played, Judged, Drawn, PowerCut, Threaded, Explored}
 use Rattle.rc_sim.specs.Written.{IsWritten, IsBegun}
 
 abbrev pub verdict_status : Verdict → ℕ
@@ -50,6 +50,7 @@ Does asked.Trace status input old new = EndsBy (Played Trace) status input old n
 Does asked.Audit status input old new = EndsBy Judged status input old new
 Does (asked.Fuzz seed steps free) status input old new = EndsBy (λ _. Drawn seed steps free) status input old new
 Does (asked.Stops seed steps) status input old new = EndsBy (λ _. PowerCut seed steps) status input old new
+Does (asked.Threads hosts writes) status input old new = EndsBy (λ _. Threaded) status input old new
 Does (asked.Explore seed steps hosts factor segment free save) status input old new =
     EndsBy (λ _. Explored save) status input old new
 Does _ status input old new = ⊤

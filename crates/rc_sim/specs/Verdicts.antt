@@ -1,4 +1,4 @@
--- What comes of a scenario, a trace, or drawn events: what is printed, and what is answered.
+-- What comes of a scenario, a trace, drawn events, or nodes on threads: what is printed, and what is answered.
 use Rattle.std.specs.Prelude.{◌≡◌, ◌⊎◌, ◌≤◌, ◌*◌, ℕ, Bool, true, false, List, [], ◌++◌, length, codes}
 use Rattle.std.specs.Prelude.{Option, Some, None, Result, Ok, Err}
 use Rattle.rc_types.specs.declared.faults.Code.{Code}
@@ -19,6 +19,7 @@ use Rattle.rc_judging.specs.declared.judging.Finding.TheVariants as finding
 use Rattle.rc_judging.specs.Judged.{finding_of, text_of}
 use Rattle.rc_world.specs.Happened.{Happened, sent_in}
 use Rattle.rc_draw.specs.Draw.{drawn_world, drawn}
+use Rattle.rc_workload.specs.Workload.{threads_setup}
 use Rattle.rc_sim.specs.declared.verdicts.Output.{Output}
 use Rattle.rc_sim.specs.declared.verdicts.Output.TheVariants.{Report, Trace}
 use Rattle.rc_sim.specs.declared.verdicts.Verdict.{Verdict}
@@ -103,6 +104,19 @@ abbrev pub Explored : Bool → Verdict → List ℕ → Type 0
 Explored true verdict text = verdict ≡ Clean
 Explored false verdict text = (world : Happened) × (lines : List ℕ) ×
     (verdict ≡ audited (breach (sent_in world))) × (text ≡ report (sent_in world) ++ lines)
+
+-- the report of a world that has the setup of nodes on threads
+abbrev pub Reported : Verdict → List ℕ → Type 0
+Reported verdict text = (world : Happened) × (world.setup ≡ threads_setup) ×
+    (verdict ≡ audited (breach (sent_in world))) × (text ≡ report (sent_in world))
+
+-- a node could not do a step: which one is not known
+abbrev pub Unable : Verdict → List ℕ → Type 0
+Unable verdict text = (verdict ≡ Stopped 0 BadEvent) × (text ≡ codes "stopped F18\n")
+
+-- of nodes on threads
+abbrev pub Threaded : Verdict → List ℕ → Type 0
+Threaded verdict text = Reported verdict text ⊎ Unable verdict text
 
 -- the two lines of power failures
 abbrev pub cuts_text : ℕ → ℕ → List ℕ

@@ -13,6 +13,7 @@ use crate::exploring::explore;
 use crate::outlets::write_all;
 use crate::playing::{Kept, play, weigh};
 use crate::telling::tell_why;
+use crate::threading::threads;
 use crate::verdicts::{Output, SimFault, Verdict};
 use linked_list_allocator::LocalHeap;
 use rc_commands::{Asked, asked_for};
@@ -21,17 +22,20 @@ use rc_explore::Options;
 use rc_reasons::Dialect;
 use std::alloc::{Allocator, Global};
 use std::io::{Read, Write};
+use std::sync::Wait;
+use std::thread;
 
 /// Does what the words after the program's name ask for, and gives the exit status: 0 where all is
 /// well, 1 where an audit found a breach, 2 for a wrong command line, scenario or trace and for an event
 /// that was not possible, 3 where memory was refused, 4 where a read or a write failed.
 ///
 /// `run` and `trace` run the scenario that the reader gives (see [`simulate`](crate::simulate)), `audit` judges the
-/// trace that it gives ([`judge`](crate::judge)); `fuzz`, `stops`, `explore` and `explain` read nothing.
+/// trace that it gives ([`judge`](crate::judge)); `fuzz`, `stops`, `threads`, `explore` and `explain` read nothing.
 /// Help and the version go to the writer. What is wrong with the command line, the line of a
 /// fault (`memory`, `read`, `write N`), and why a scenario or a trace was refused, go to `errors`; where that can not
-/// be written, the status alone tells.
-pub fn command<R: Read, W: Write, E: Write>(
+/// be written, the status alone tells. Only `threads` starts threads and waits.
+pub fn command<H: thread::Threads + Wait + Sync, R: Read, W: Write, E: Write>(
+    rt: &H,
     alloc: Global,
     words: &[String],
     reader: &mut Counted<R>,
@@ -52,6 +56,9 @@ pub fn command<R: Read, W: Write, E: Write>(
         }
         Ok(Asked::Stops { seed, steps }) => {
             ended(stops(alloc, seed, steps as usize, writer), errors)
+        }
+        Ok(Asked::Threads { hosts, writes }) => {
+            ended(threads(rt, alloc, hosts, writes, writer), errors)
         }
         Ok(
             Asked::Explore {
@@ -76,10 +83,7 @@ pub fn command<R: Read, W: Write, E: Write>(
         }
         Ok(Asked::Explain { code }) => explained(alloc, code, writer, errors),
         Ok(Asked::Tell(text)) => tell(text.as_str(), writer, errors),
-        Ok(Asked::Wrong(text)) => {
-            let _ = write_all(errors, text.as_bytes());
-            2
-        }
+        Ok(Asked::Wrong(text)) => refused(text.as_str(), errors),
         Err(_) => failed(&SimFault::Memory, errors),
     }
 }
@@ -165,6 +169,14 @@ fn explained<W: Write, E: Write>(
         Ok(text) => tell(text.as_str(), writer, errors),
         Err(_) => failed(&SimFault::Memory, errors),
     }
+}
+
+/// Writes what is wrong with the command line.
+fn refused<E: Write>(text: &str, errors: &mut Counted<E>) -> u8
+    ensures { result ≡ 2 }
+{
+    let _ = write_all(errors, text.as_bytes());
+    2
 }
 
 /// Writes help or the version.

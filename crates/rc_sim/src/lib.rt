@@ -1,5 +1,5 @@
-//! What the program `ramseg` does: a scenario is run, a trace is judged, or events are drawn; and what
-//! came of it is written.
+//! What the program `ramseg` does: a scenario is run, a trace is judged, events are drawn, or nodes are run on threads;
+//! and what came of it is written.
 #![tactic(auto)]
 
 mod answers;
@@ -11,6 +11,7 @@ mod outlets;
 mod playing;
 mod simulating;
 mod telling;
+mod threading;
 mod verdicts;
 
 pub use commanding::command;
@@ -18,4 +19,5 @@ pub use counted::Counted;
 pub use drawing::{fuzz, stops};
 pub use exploring::explore;
 pub use simulating::{judge, simulate, trace};
+pub use threading::threads;
 pub use verdicts::{Output, SimFault, Verdict};

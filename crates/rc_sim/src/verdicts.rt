@@ -15,7 +15,7 @@ pub enum Output {
     Trace,
 }
 
-/// What came of a scenario, of a trace, or of drawn events.
+/// What came of a scenario, of a trace, of drawn events, or of nodes on threads.
 #[derive(Clone, Copy)]
 pub enum Verdict {
     /// Every event happened, and the audit found no breach; or the trace of what was sent was written.
@@ -25,7 +25,7 @@ pub enum Verdict {
     /// The scenario or the trace is wrong at this place (F17).
     Bad(usize),
     /// The run stopped at this event of the scenario: F18 where it was not possible, F1 where its step
-    /// found no memory.
+    /// found no memory. For nodes on threads: F18, where one could not do a step, and 0, since which one is not known.
     Stopped(usize, Code),
 }
 

@@ -7,7 +7,7 @@ use Rattle.rc_commands.specs.Asking.{Tells}
 use Rattle.rc_commands.specs.Commands.{ramseg}
 use Rattle.rc_commands.proofs.Parsed.{gives_command, none_asked, refused, taken, told_among}
 use Rattle.rc_commands.proofs.ByWords.{audit_told, cut_told, drawn_told, explain_told, explore_told, fuzz_told, heap_told}
-use Rattle.rc_commands.proofs.ByWords.{run_told, stops_told, texts_told, trace_told}
+use Rattle.rc_commands.proofs.ByWords.{run_told, stops_told, texts_told, threads_told, trace_told}
 use Rattle.rc_commands.proofs.asking.asked_for.Goals as goal
 
 pub returns-in-Ok-clause-command : goal.returns-in-Ok-clause-command
@@ -109,6 +109,14 @@ returns-in-Err-clause-drawn c =
 pub returns-in-Err-clause-cut : goal.returns-in-Err-clause-cut
 returns-in-Err-clause-cut c =
     IfOk-weaker c.refused.result _ _ (cut_told (map string_bytes c.args.words.now)) (returns-in-Err-clause-command c)
+
+pub returns-in-Ok-clause-threads : goal.returns-in-Ok-clause-threads
+returns-in-Ok-clause-threads c =
+    IfOk-weaker c.found.result _ _ (threads_told (map string_bytes c.args.words.now)) (returns-in-Ok-clause-command c)
+
+pub returns-in-Err-clause-threads : goal.returns-in-Err-clause-threads
+returns-in-Err-clause-threads c =
+    IfOk-weaker c.refused.result _ _ (threads_told (map string_bytes c.args.words.now)) (returns-in-Err-clause-command c)
 
 pub returns-in-Ok-clause-explore : goal.returns-in-Ok-clause-explore
 returns-in-Ok-clause-explore c =

@@ -23,7 +23,9 @@ returns c =
     (ap top_of c.in_ok-fuzz.ensures.0) in
     let with_stops = c.in_ok-subcommand-5.ensures.shape c.in_ok-stops.ensures.1 ∙ ap₂ with_subcommand with_fuzz
     (ap top_of c.in_ok-stops.ensures.0) in
-    let with_explore = c.in_ok-subcommand-6.ensures.shape c.in_ok-explore.ensures.1 ∙ ap₂ with_subcommand with_stops
+    let with_threads = c.in_ok-subcommand-6.ensures.shape c.in_ok-threads.ensures.1 ∙ ap₂ with_subcommand with_stops
+    (ap top_of c.in_ok-threads.ensures.0) in
+    let with_explore = c.in_ok-subcommand-7.ensures.shape c.in_ok-explore.ensures.1 ∙ ap₂ with_subcommand with_threads
     (ap top_of c.in_ok-explore.ensures.0) in
-    IfOk-weaker c.subcommand-7.result _ _ (λ r h. h.shape c.in_ok-explain.ensures.1 ∙ ap₂ with_subcommand with_explore
-    (ap top_of c.in_ok-explain.ensures.0)) c.subcommand-7.ensures
+    IfOk-weaker c.subcommand-8.result _ _ (λ r h. h.shape c.in_ok-explain.ensures.1 ∙ ap₂ with_subcommand with_explore
+    (ap top_of c.in_ok-explain.ensures.0)) c.subcommand-8.ensures
