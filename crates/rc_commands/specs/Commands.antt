@@ -48,12 +48,6 @@ explore_sized = with_rule (with_rule (with_rule explore_drawn (option (codes "ho
 abbrev pub explore : App
 explore = with_rule (with_rule explore_sized (flag (codes "free"))) (flag (codes "save"))
 
-abbrev pub log : App
-log = with_rule (new_app (codes "log")) (flag (codes "json"))
-
-abbrev pub picture : App
-picture = with_rule (new_app (codes "picture")) (flag (codes "mermaid"))
-
 abbrev pub explain : App
 explain = with_rule (new_app (codes "explain")) (word (codes "code"))
 
@@ -63,8 +57,8 @@ alone = on_top (λ top. record top { has_version = true; no_binary_name = true; 
 
 abbrev pub ramseg : App
 ramseg = with_subcommand (with_subcommand (with_subcommand (with_subcommand (with_subcommand (with_subcommand
-    (with_subcommand (with_subcommand (with_subcommand (with_subcommand alone run.top) trace.top) audit.top) fuzz.top)
-    stops.top) threads.top) explore.top) log.top) picture.top) explain.top
+    (with_subcommand (with_subcommand alone run.top) trace.top) audit.top) fuzz.top) stops.top) threads.top)
+    explore.top) explain.top
 
 -- a command that is built so, and has no option for its subcommands
 abbrev pub IsBuiltAs : App → Command → Type 0

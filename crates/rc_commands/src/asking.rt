@@ -56,14 +56,6 @@ pub enum Asked {
         free: bool,
         save: bool,
     },
-    /// Replay a scenario, and tell each event and each message; as JSON, where `json` says so.
-    Log {
-        json: bool,
-    },
-    /// Replay a scenario, and draw the run as a page; or for Mermaid, where `mermaid` says so.
-    Picture {
-        mermaid: bool,
-    },
     /// Say what the code of this number means, or what all codes mean.
     Explain {
         code: Option<u8>,
@@ -96,10 +88,6 @@ pub fn asked_for(alloc: Global, words: &[String]) -> Result<Asked, Fault>
         (λ a. is_alone (codes "threads") (map string_bytes words.now) ≡ true → a ≡ Asked.Threads 4 10) }
     ensures explore { IfOk result (λ a. is_alone (codes "explore") (map string_bytes words.now) ≡ true
         → a ≡ Asked.Explore 1 2000 5 2 2 false false) }
-    ensures log { IfOk result
-        (λ a. is_alone (codes "log") (map string_bytes words.now) ≡ true → a ≡ Asked.Log false) }
-    ensures picture { IfOk result
-        (λ a. is_alone (codes "picture") (map string_bytes words.now) ≡ true → a ≡ Asked.Picture false) }
     ensures explain { IfOk result
         (λ a. is_alone (codes "explain") (map string_bytes words.now) ≡ true → a ≡ Asked.Explain None) }
     ensures texts { IfOk result (λ a. is_plain (map string_bytes words.now) ≡ true
@@ -151,12 +139,6 @@ fn command_of<'a>(matches: &ArgMatches<'a>) -> Result<Asked, BadWord<'a>>
         Some(("stops", given)) => stops_of(given),
         Some(("threads", given)) => threads_of(given),
         Some(("explore", given)) => explore_of(given),
-        Some(("log", given)) => Ok(Asked::Log {
-            json: has_flag(given, "json"),
-        }),
-        Some(("picture", given)) => Ok(Asked::Picture {
-            mermaid: has_flag(given, "mermaid"),
-        }),
         Some(("explain", given)) => explain_of(given),
         _ => Err(BadWord::NoCommand),
     }

@@ -25,8 +25,6 @@ pub fn program<'a>(alloc: Global) -> Result<Command<'a>, AllocError>
         .subcommand(stops(alloc)?)?
         .subcommand(threads(alloc)?)?
         .subcommand(explore(alloc)?)?
-        .subcommand(log(alloc)?)?
-        .subcommand(picture(alloc)?)?
         .subcommand(explain(alloc)?)
 }
 
@@ -196,36 +194,6 @@ fn explore_drawn<'a>(alloc: Global) -> Result<Command<'a>, AllocError>
         "steps",
         "N",
         "How many steps are drawn, 0 to 100000; 2000 if not given",
-    ))
-}
-
-/// `log` with its flag.
-fn log<'a>(alloc: Global) -> Result<Command<'a>, AllocError>
-    ensures { IfOk result (IsBuiltAs spec.log) }
-{
-    command(
-        alloc,
-        "log",
-        "Replays a scenario that it reads from standard input, and tells each event and each message",
-        "Example: ramseg log < examples/first-write.json",
-    )
-    .arg(flag(alloc, "json", "Tells it as one JSON value"))
-}
-
-/// `picture` with its flag.
-fn picture<'a>(alloc: Global) -> Result<Command<'a>, AllocError>
-    ensures { IfOk result (IsBuiltAs spec.picture) }
-{
-    command(
-        alloc,
-        "picture",
-        "Replays a scenario that it reads from standard input, and draws the run as a page for a browser",
-        "Example: ramseg picture < examples/first-write.json > run.html",
-    )
-    .arg(flag(
-        alloc,
-        "mermaid",
-        "Draws a sequence diagram as text for Mermaid in place of the page",
     ))
 }
 

@@ -27,9 +27,5 @@ returns c =
     (ap top_of c.in_ok-threads.ensures.0) in
     let with_explore = c.in_ok-subcommand-7.ensures.shape c.in_ok-explore.ensures.1 ∙ ap₂ with_subcommand with_threads
     (ap top_of c.in_ok-explore.ensures.0) in
-    let with_log = c.in_ok-subcommand-8.ensures.shape c.in_ok-log.ensures.1 ∙ ap₂ with_subcommand with_explore
-    (ap top_of c.in_ok-log.ensures.0) in
-    let with_picture = c.in_ok-subcommand-9.ensures.shape c.in_ok-picture.ensures.1 ∙ ap₂ with_subcommand with_log
-    (ap top_of c.in_ok-picture.ensures.0) in
-    IfOk-weaker c.subcommand-10.result _ _ (λ r h. h.shape c.in_ok-explain.ensures.1 ∙ ap₂ with_subcommand with_picture
-    (ap top_of c.in_ok-explain.ensures.0)) c.subcommand-10.ensures
+    IfOk-weaker c.subcommand-8.result _ _ (λ r h. h.shape c.in_ok-explain.ensures.1 ∙ ap₂ with_subcommand with_explore
+    (ap top_of c.in_ok-explain.ensures.0)) c.subcommand-8.ensures
