@@ -4,3 +4,4 @@ pub mod Lines
 pub mod Parsed
 pub mod Heap
 pub mod ByWords
+pub mod Tops

@@ -97,17 +97,21 @@ code_given rows = option_map_or (λ text. option_map Some (code_in text)) (first
 abbrev pub explain_in : List Row → Option Asked
 explain_in rows = option_map asked.Explain (code_given rows)
 
--- the command of this name, with what was given for its options
+-- the command of this name, with what was given for its options; first of those that read nothing
+abbrev pub unread_in : Text → List Row → Option Asked
+unread_in name rows =
+    if bytes_eq name (codes "fuzz") then fuzz_in rows
+    else (if bytes_eq name (codes "stops") then stops_in rows
+    else (if bytes_eq name (codes "threads") then threads_in rows
+    else (if bytes_eq name (codes "explore") then explore_in rows
+    else (if bytes_eq name (codes "explain") then explain_in rows else None))))
+
 abbrev pub command_in : Text → List Row → Option Asked
 command_in name rows =
     if bytes_eq name (codes "run") then run_in rows
     else (if bytes_eq name (codes "trace") then Some asked.Trace
     else (if bytes_eq name (codes "audit") then Some asked.Audit
-    else (if bytes_eq name (codes "fuzz") then fuzz_in rows
-    else (if bytes_eq name (codes "stops") then stops_in rows
-    else (if bytes_eq name (codes "threads") then threads_in rows
-    else (if bytes_eq name (codes "explore") then explore_in rows
-    else (if bytes_eq name (codes "explain") then explain_in rows else None)))))))
+    else unread_in name rows))
 
 -- nothing, where `clap` finds a fault in the words
 abbrev pub where_taken : Kinds → Option Asked → Option Asked

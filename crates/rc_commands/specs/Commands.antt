@@ -27,23 +27,25 @@ trace = new_app (codes "trace")
 abbrev pub audit : App
 audit = new_app (codes "audit")
 
+-- a command that draws events, with the options of its drawing
+abbrev pub drawn : Text → App
+drawn name = with_rule (with_rule (new_app name) (option (codes "seed"))) (option (codes "steps"))
+
 abbrev pub fuzz : App
-fuzz = with_rule (with_rule (with_rule (new_app (codes "fuzz")) (option (codes "seed"))) (option (codes "steps")))
-    (flag (codes "free"))
+fuzz = with_rule (drawn (codes "fuzz")) (flag (codes "free"))
 
 abbrev pub stops : App
-stops = with_rule (with_rule (new_app (codes "stops")) (option (codes "seed"))) (option (codes "steps"))
+stops = drawn (codes "stops")
 
 abbrev pub threads : App
 threads = with_rule (with_rule (new_app (codes "threads")) (option (codes "hosts"))) (option (codes "writes"))
 
--- `explore` with the options of a drawing, then with those of its nodes too
-abbrev pub explore_drawn : App
-explore_drawn = with_rule (with_rule (new_app (codes "explore")) (option (codes "seed"))) (option (codes "steps"))
+-- `explore` with hosts and replicas, then with the size of segments too
+abbrev pub explore_placed : App
+explore_placed = with_rule (with_rule (drawn (codes "explore")) (option (codes "hosts"))) (option (codes "factor"))
 
 abbrev pub explore_sized : App
-explore_sized = with_rule (with_rule (with_rule explore_drawn (option (codes "hosts"))) (option (codes "factor")))
-    (option (codes "segment"))
+explore_sized = with_rule explore_placed (option (codes "segment"))
 
 abbrev pub explore : App
 explore = with_rule (with_rule explore_sized (flag (codes "free"))) (flag (codes "save"))
@@ -55,10 +57,15 @@ abbrev pub alone : App
 alone = on_top (λ top. record top { has_version = true; no_binary_name = true; subcommand_required = true })
     (new_app (codes "ramseg"))
 
+-- with the commands that read, then with those up to `threads` too
+abbrev pub reading : App
+reading = with_subcommand (with_subcommand (with_subcommand alone run.top) trace.top) audit.top
+
+abbrev pub running : App
+running = with_subcommand (with_subcommand (with_subcommand reading fuzz.top) stops.top) threads.top
+
 abbrev pub ramseg : App
-ramseg = with_subcommand (with_subcommand (with_subcommand (with_subcommand (with_subcommand (with_subcommand
-    (with_subcommand (with_subcommand alone run.top) trace.top) audit.top) fuzz.top) stops.top) threads.top)
-    explore.top) explain.top
+ramseg = with_subcommand (with_subcommand running explore.top) explain.top
 
 -- a command that is built so, and has no option for its subcommands
 abbrev pub IsBuiltAs : App → Command → Type 0

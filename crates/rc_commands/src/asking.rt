@@ -7,7 +7,7 @@ ghost use Rattle.clap.specs.Words.{app_of, found_of, kind_of, rows_of, subcomman
 ghost use Rattle.rc_types.specs.declared.faults.Fault.TheVariants.{OutOfMemory};
 ghost use Rattle.rc_commands.specs.Asking.{IsInRange, Tells, as_command, asked_in, asks_for_text, command_in};
 ghost use Rattle.rc_commands.specs.Asking.{explain_in, explore_in, fuzz_in, fuzz_line, heap_line, option_zip_with};
-ghost use Rattle.rc_commands.specs.Asking.{is_alone, is_plain, is_request, is_text, run_in, stops_in, stops_line};
+ghost use Rattle.rc_commands.specs.Asking.{is_alone, is_plain, is_request, is_text, run_in, stops_in, stops_line, unread_in};
 ghost use Rattle.rc_commands.specs.Asking.{threads_in};
 ghost use Rattle.rc_commands.specs.Numbers.{decimal_in};
 ghost use Rattle.rc_commands.specs.Commands.{ramseg};
@@ -20,7 +20,7 @@ use rc_types::Fault;
 use std::alloc::Global;
 
 /// What a command line asks for.
-#[derive(Debug, PartialEq, Drop)]
+#[derive(Drop)]
 pub enum Asked {
     /// Replay a scenario; where a heap is given, the coordinator's tree stands in one of so many bytes.
     Run {
@@ -132,14 +132,39 @@ fn command_of<'a>(matches: &ArgMatches<'a>) -> Result<Asked, BadWord<'a>>
     ensures ranges { IfOk result IsInRange }
 {
     match matches.subcommand() {
-        Some(("run", given)) => run_of(given),
-        Some(("trace", _)) => Ok(Asked::Trace),
-        Some(("audit", _)) => Ok(Asked::Audit),
-        Some(("fuzz", given)) => fuzz_of(given),
-        Some(("stops", given)) => stops_of(given),
-        Some(("threads", given)) => threads_of(given),
-        Some(("explore", given)) => explore_of(given),
-        Some(("explain", given)) => explain_of(given),
+        Some((name, given)) => command_named(name, given),
+        None => Err(BadWord::NoCommand),
+    }
+}
+
+/// The command of this name with its options.
+fn command_named<'a>(name: &str, given: &ArgMatches<'a>) -> Result<Asked, BadWord<'a>>
+    ensures command { let asked = command_in name.now (rows_of (found_of given.now)) in
+        MatchResult result (λ a. as_command a ≡ asked) (λ _. asked ≡ None) }
+    ensures text { IfOk result (λ a. is_text a ≡ false) }
+    ensures ranges { IfOk result IsInRange }
+{
+    match name {
+        "run" => run_of(given),
+        "trace" => Ok(Asked::Trace),
+        "audit" => Ok(Asked::Audit),
+        _ => unread_named(name, given),
+    }
+}
+
+/// The command of this name with its options, of those that read nothing from standard input.
+fn unread_named<'a>(name: &str, given: &ArgMatches<'a>) -> Result<Asked, BadWord<'a>>
+    ensures command { let asked = unread_in name.now (rows_of (found_of given.now)) in
+        MatchResult result (λ a. as_command a ≡ asked) (λ _. asked ≡ None) }
+    ensures text { IfOk result (λ a. is_text a ≡ false) }
+    ensures ranges { IfOk result IsInRange }
+{
+    match name {
+        "fuzz" => fuzz_of(given),
+        "stops" => stops_of(given),
+        "threads" => threads_of(given),
+        "explore" => explore_of(given),
+        "explain" => explain_of(given),
         _ => Err(BadWord::NoCommand),
     }
 }

@@ -1,7 +1,7 @@
 //! The program's commands and their options, for `clap`.
 
 ghost use Rattle.std.specs.Prelude.{◌≡◌, IfOk, codes, false};
-ghost use Rattle.clap.specs.Words.{app_of, new_app, rule_of};
+ghost use Rattle.clap.specs.Words.{App, app_of, new_app, rule_of, with_subcommand};
 ghost use Rattle.rc_commands.specs.Commands as spec;
 ghost use Rattle.rc_commands.specs.Commands.{IsBuiltAs, ramseg};
 
@@ -12,20 +12,57 @@ use std::alloc::{AllocError, Global};
 pub fn program<'a>(alloc: Global) -> Result<Command<'a>, AllocError>
     ensures { IfOk result (λ command. app_of command ≡ ramseg) }
 {
-    Command::new(alloc, "ramseg")
-        .bin_name("ramseg")?
-        .version("0.1.0")
-        .about("A replicated log, simulated event by event")
-        .no_binary_name(true)
-        .subcommand_required(true)
-        .subcommand(run(alloc)?)?
-        .subcommand(trace(alloc))?
-        .subcommand(audit(alloc))?
-        .subcommand(fuzz(alloc)?)?
-        .subcommand(stops(alloc)?)?
-        .subcommand(threads(alloc)?)?
-        .subcommand(explore(alloc)?)?
-        .subcommand(explain(alloc)?)
+    let running = running(alloc)?;
+    let exploring = with(running, explore(alloc))?;
+    with(exploring, explain(alloc))
+}
+
+/// The program with the commands up to `threads`.
+fn running<'a>(alloc: Global) -> Result<Command<'a>, AllocError>
+    ensures { IfOk result (λ command. app_of command ≡ spec.running) }
+{
+    let reading = reading(alloc)?;
+    let drawing = with(reading, fuzz(alloc))?;
+    let stopping = with(drawing, stops(alloc))?;
+    with(stopping, threads(alloc))
+}
+
+/// The program with the commands that read from standard input.
+fn reading<'a>(alloc: Global) -> Result<Command<'a>, AllocError>
+    ensures { IfOk result (λ command. app_of command ≡ spec.reading) }
+{
+    let alone = alone(alloc)?;
+    let replaying = with(alone, run(alloc))?;
+    let tracing = with(replaying, Ok(trace(alloc)))?;
+    with(tracing, Ok(audit(alloc)))
+}
+
+/// The program with one command more, if that could be made.
+fn with<'a>(
+    program: Command<'a>,
+    command: Result<Command<'a>, AllocError>,
+) -> Result<Command<'a>, AllocError>
+    ensures { IfOk result (λ p. (app : App) → IfOk command.entry (IsBuiltAs app)
+        → app_of p ≡ with_subcommand (app_of program.entry) app.top) }
+{
+    match command {
+        Ok(command) => program.subcommand(command),
+        Err(error) => Err(error),
+    }
+}
+
+/// The program without its commands.
+fn alone<'a>(alloc: Global) -> Result<Command<'a>, AllocError>
+    ensures { IfOk result (λ command. app_of command ≡ spec.alone) }
+{
+    let named = Command::new(alloc, "ramseg").bin_name("ramseg")?;
+    Ok(
+        named
+            .version("0.1.0")
+            .about("A replicated log, simulated event by event")
+            .no_binary_name(true)
+            .subcommand_required(true),
+    )
 }
 
 /// A command without options. Its help ends with an example.
@@ -81,19 +118,13 @@ fn audit<'a>(alloc: Global) -> Command<'a>
 fn fuzz<'a>(alloc: Global) -> Result<Command<'a>, AllocError>
     ensures { IfOk result (IsBuiltAs spec.fuzz) }
 {
-    command(
+    drawn(
         alloc,
         "fuzz",
         "Runs events that are drawn from a seed, and prints the report",
         "Example: ramseg fuzz --seed 7 --steps 200 --free",
-    )
-    .arg(seed(alloc))?
-    .arg(option(
-        alloc,
-        "steps",
-        "N",
         "How many steps are drawn, 0 to 100000; 1000 if not given",
-    ))?
+    )?
     .arg(flag(alloc, "free", "Lets masters free segments"))
 }
 
@@ -101,19 +132,13 @@ fn fuzz<'a>(alloc: Global) -> Result<Command<'a>, AllocError>
 fn stops<'a>(alloc: Global) -> Result<Command<'a>, AllocError>
     ensures { IfOk result (IsBuiltAs spec.stops) }
 {
-    command(
+    drawn(
         alloc,
         "stops",
         "Cuts the power after each of the events that are drawn from a seed, and counts the breaches",
         "Example: ramseg stops --seed 7 --steps 20",
-    )
-    .arg(seed(alloc))?
-    .arg(option(
-        alloc,
-        "steps",
-        "N",
         "How many steps are drawn, 0 to 1000; 300 if not given",
-    ))
+    )
 }
 
 /// `threads` with its options.
@@ -153,48 +178,56 @@ fn explore<'a>(alloc: Global) -> Result<Command<'a>, AllocError>
         ))
 }
 
-/// `explore` with the options of its drawing and of its nodes.
+/// `explore` with all its options that have a value.
 fn explore_sized<'a>(alloc: Global) -> Result<Command<'a>, AllocError>
     ensures { IfOk result (IsBuiltAs spec.explore_sized) }
 {
-    explore_drawn(alloc)?
-        .arg(option(
-            alloc,
-            "hosts",
-            "N",
-            "How many hosts there are, 1 to 16; 5 if not given",
-        ))?
-        .arg(option(
-            alloc,
-            "factor",
-            "N",
-            "How many replicas each segment has, 1 to 5; 2 if not given",
-        ))?
-        .arg(option(
-            alloc,
-            "segment",
-            "N",
-            "How many entries a segment takes, 1 to 1024; 2 if not given",
-        ))
+    explore_placed(alloc)?.arg(option(
+        alloc,
+        "segment",
+        "N",
+        "How many entries a segment takes, 1 to 1024; 2 if not given",
+    ))
 }
 
-/// `explore` with the options of its drawing.
-fn explore_drawn<'a>(alloc: Global) -> Result<Command<'a>, AllocError>
-    ensures { IfOk result (IsBuiltAs spec.explore_drawn) }
+/// `explore` with the options of its drawing, and with hosts and replicas.
+fn explore_placed<'a>(alloc: Global) -> Result<Command<'a>, AllocError>
+    ensures { IfOk result (IsBuiltAs spec.explore_placed) }
 {
-    command(
+    drawn(
         alloc,
         "explore",
         "Runs events drawn so that much happens, and prints the report and what the run has reached",
         "Example: ramseg explore --seed 7 --steps 2000 --free",
-    )
-    .arg(seed(alloc))?
+        "How many steps are drawn, 0 to 100000; 2000 if not given",
+    )?
     .arg(option(
         alloc,
-        "steps",
+        "hosts",
         "N",
-        "How many steps are drawn, 0 to 100000; 2000 if not given",
+        "How many hosts there are, 1 to 16; 5 if not given",
+    ))?
+    .arg(option(
+        alloc,
+        "factor",
+        "N",
+        "How many replicas each segment has, 1 to 5; 2 if not given",
     ))
+}
+
+/// A command of this name that draws events: with the options of its drawing, the seed and the steps.
+fn drawn<'a>(
+    alloc: Global,
+    name: &'a str,
+    about: &'a str,
+    example: &'a str,
+    steps: &'a str,
+) -> Result<Command<'a>, AllocError>
+    ensures { IfOk result (IsBuiltAs (spec.drawn name.now)) }
+{
+    command(alloc, name, about, example)
+        .arg(option(alloc, "seed", "N", "The seed, below 2^64; 1 if not given"))?
+        .arg(option(alloc, "steps", "N", steps))
 }
 
 /// `explain` with the code that it explains.
@@ -212,13 +245,6 @@ fn explain<'a>(alloc: Global) -> Result<Command<'a>, AllocError>
             .value_name("CODE")
             .help("The code, as F18; if not given, all codes are listed"),
     )
-}
-
-/// The seed of a command that draws events.
-fn seed<'a>(alloc: Global) -> Arg<'a>
-    ensures { (rule_of result ≡ spec.option (codes "seed")) × (result.global ≡ false) }
-{
-    option(alloc, "seed", "N", "The seed, below 2^64; 1 if not given")
 }
 
 /// A flag `--NAME`.

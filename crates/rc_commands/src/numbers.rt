@@ -10,7 +10,7 @@ use clap::ArgMatches;
 use std::fmt;
 
 /// A text that was given, and is not what it stands for.
-#[derive(Debug, PartialEq, Clone, Copy)]
+#[derive(Clone, Copy)]
 pub enum BadWord<'a> {
     /// No number that this option takes.
     Number {
