@@ -7,8 +7,8 @@ ghost use Rattle.clap.specs.Words.{app_of, found_of, kind_of, rows_of, subcomman
 ghost use Rattle.rc_types.specs.declared.faults.Fault.TheVariants.{OutOfMemory};
 ghost use Rattle.rc_commands.specs.Asking.{IsInRange, Tells, as_command, asked_in, asks_for_text, command_in};
 ghost use Rattle.rc_commands.specs.Asking.{explain_in, explore_in, fuzz_in, fuzz_line, heap_line, option_zip_with};
-ghost use Rattle.rc_commands.specs.Asking.{is_alone, is_plain, is_request, is_text, run_in, stops_in, stops_line, unread_in};
-ghost use Rattle.rc_commands.specs.Asking.{threads_in};
+ghost use Rattle.rc_commands.specs.Asking.{is_alone, is_plain, is_request, is_text, run_in, stops_in, stops_line};
+ghost use Rattle.rc_commands.specs.Asking.{threads_in, unread_in};
 ghost use Rattle.rc_commands.specs.Numbers.{decimal_in};
 ghost use Rattle.rc_commands.specs.Commands.{ramseg};
 
