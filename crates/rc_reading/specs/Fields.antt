@@ -1,5 +1,5 @@
 -- What the members of an event say, a member at a time.
-use Rattle.std.specs.Prelude.{ℕ, true, false, if◌then◌else◌, List, [], Option, Some, None, option_map}
+use Rattle.std.specs.Prelude.{ℕ, Bool, true, false, if◌then◌else◌, List, [], Option, Some, None, option_map}
 use Rattle.std.specs.Prelude.{option_and_then, codes}
 use Rattle.std.specs.Str.{bytes_eq}
 use Rattle.rc_types.specs.declared.ids.ServerId.{ServerId}
@@ -139,20 +139,37 @@ server_in (Some Coordinator) = None
 server_in (Some (Server id)) = Some id
 server_in (Some Outside) = None
 
+-- whether this event has all the members that have come
+abbrev pub allowed : EventName → Only → Bool
+allowed event.Start only = only.start
+allowed event.Stop only = only.id
+allowed event.Suspect only = only.id
+allowed event.Decide only = only.id
+allowed event.Tick only = only.id
+allowed event.Write only = only.write
+allowed event.Read only = only.read
+allowed event.Deliver only = only.deliver
+allowed event.Settle only = only.settle
+allowed event.Create only = only.create
+allowed event.Split only = only.split
+
+-- the event of this name, where the members that it needs say something
+abbrev pub needed : EventName → Fields → Option ScenarioEvent
+needed event.Start fields = given2 Start fields.host fields.kept
+needed event.Stop fields = option_map Stop (server_in fields.addr)
+needed event.Suspect fields = option_map Suspect (server_in fields.addr)
+needed event.Decide fields = option_map Decide (server_in fields.addr)
+needed event.Tick fields = option_map Tick fields.addr
+needed event.Write fields = given4 Write fields.to fields.table fields.key fields.value
+needed event.Read fields = given3 Read fields.to fields.table fields.key
+needed event.Deliver fields = option_map Deliver fields.number
+needed event.Settle fields = given2 Settle fields.kinds fields.hosts
+needed event.Create fields = given2 Create fields.table fields.owner
+needed event.Split fields = given2 Split fields.table fields.at
+
 -- the event that the members say
 abbrev pub event_from : EventName → Fields → Option ScenarioEvent
-event_from event.Start fields = if fields.only.start then given2 Start fields.host fields.kept else None
-event_from event.Stop fields = if fields.only.id then option_map Stop (server_in fields.addr) else None
-event_from event.Suspect fields = if fields.only.id then option_map Suspect (server_in fields.addr) else None
-event_from event.Decide fields = if fields.only.id then option_map Decide (server_in fields.addr) else None
-event_from event.Tick fields = if fields.only.id then option_map Tick fields.addr else None
-event_from event.Write fields =
-    if fields.only.write then given4 Write fields.to fields.table fields.key fields.value else None
-event_from event.Read fields = if fields.only.read then given3 Read fields.to fields.table fields.key else None
-event_from event.Deliver fields = if fields.only.deliver then option_map Deliver fields.number else None
-event_from event.Settle fields = if fields.only.settle then given2 Settle fields.kinds fields.hosts else None
-event_from event.Create fields = if fields.only.create then given2 Create fields.table fields.owner else None
-event_from event.Split fields = if fields.only.split then given2 Split fields.table fields.at else None
+event_from name fields = if allowed name fields.only then needed name fields else None
 
 abbrev pub event_in : Fields → Option ScenarioEvent
 event_in fields = option_and_then (λ name. event_from name fields) fields.event

@@ -3,10 +3,12 @@
 ghost use Rattle.std.specs.Prelude.{◌≡◌, ◌<◌, ℕ, length, Some, None, Err, IfOk, OnOk, OnErr};
 ghost use Rattle.rc_reading.specs.declared.scenarios.ReadFault.TheVariants.{BadScenario};
 ghost use Rattle.serde_json.specs.Data.{object, no_members};
-ghost use Rattle.rc_reading.specs.Values.{written, table_of, message_of};
+ghost use Rattle.rc_reading.specs.declared.scenarios.ScenarioEvent.TheVariants.{Start, Write, Read, Create, Split};
+ghost use Rattle.rc_reading.specs.declared.scenarios.ScenarioEvent.TheVariants.{Settle};
+ghost use Rattle.rc_reading.specs.Values.{written, table_of, message_of, given2, given3, given4};
 ghost use Rattle.rc_reading.specs.Scenario.{event_of};
-ghost use Rattle.rc_reading.specs.Fields.{member_named, narrowed, all_events, noted, fields_of, event_in, event_from};
-ghost use Rattle.rc_reading.specs.Fields.{server_in};
+ghost use Rattle.rc_reading.specs.Fields.{member_named, narrowed, all_events, noted, fields_of, event_in, allowed};
+ghost use Rattle.rc_reading.specs.Fields.{server_in, needed, no_event};
 ghost use Rattle.rc_reading.specs.Ahead.{data_at, members_at, says, told};
 
 use crate::hosts::Hosts;
@@ -93,11 +95,10 @@ impl Only {
         }
     }
 
-    /// One more member has come; `None` is one that no event has.
-    fn narrowed(self, name: Option<MemberName>) -> Only
-        ensures { result ≡ narrowed name self }
+    fn none() -> Only
+        ensures { result ≡ no_event }
     {
-        let none = Only {
+        Only {
             start: false,
             id: false,
             write: false,
@@ -106,51 +107,52 @@ impl Only {
             settle: false,
             create: false,
             split: false,
-        };
-        match name {
-            Some(MemberName::Event) => self,
-            Some(MemberName::Host | MemberName::Kept) => Only {
-                start: self.start,
-                ..none
-            },
-            Some(MemberName::Id) => Only {
-                id: self.id,
-                ..none
-            },
-            Some(MemberName::To | MemberName::Key) => Only {
-                write: self.write,
-                read: self.read,
-                ..none
-            },
-            Some(MemberName::Table) => Only {
-                write: self.write,
-                read: self.read,
-                create: self.create,
-                split: self.split,
-                ..none
-            },
-            Some(MemberName::Value) => Only {
-                write: self.write,
-                ..none
-            },
-            Some(MemberName::Number) => Only {
-                deliver: self.deliver,
-                ..none
-            },
-            Some(MemberName::Kinds | MemberName::Hosts) => Only {
-                settle: self.settle,
-                ..none
-            },
-            Some(MemberName::Owner) => Only {
-                create: self.create,
-                ..none
-            },
-            Some(MemberName::At) => Only {
-                split: self.split,
-                ..none
-            },
-            None => none,
         }
+    }
+
+    /// Whether this event has all the members that have come.
+    fn allows(self, name: EventName) -> bool
+        ensures { result ≡ allowed name self }
+    {
+        match name {
+            EventName::Start => self.start,
+            EventName::Stop | EventName::Suspect | EventName::Decide | EventName::Tick => self.id,
+            EventName::Write => self.write,
+            EventName::Read => self.read,
+            EventName::Deliver => self.deliver,
+            EventName::Settle => self.settle,
+            EventName::Create => self.create,
+            EventName::Split => self.split,
+        }
+    }
+
+    /// One more member has come; `None` is one that no event has.
+    fn narrowed(self, name: Option<MemberName>) -> Only
+        ensures { result ≡ narrowed name self }
+    {
+        let mut only = Only::none();
+        match name {
+            Some(MemberName::Event) => only = self,
+            Some(MemberName::Host | MemberName::Kept) => only.start = self.start,
+            Some(MemberName::Id) => only.id = self.id,
+            Some(MemberName::To | MemberName::Key) => {
+                only.write = self.write;
+                only.read = self.read;
+            }
+            Some(MemberName::Table) => {
+                only.write = self.write;
+                only.read = self.read;
+                only.create = self.create;
+                only.split = self.split;
+            }
+            Some(MemberName::Value) => only.write = self.write,
+            Some(MemberName::Number) => only.deliver = self.deliver,
+            Some(MemberName::Kinds | MemberName::Hosts) => only.settle = self.settle,
+            Some(MemberName::Owner) => only.create = self.create,
+            Some(MemberName::At) => only.split = self.split,
+            None => {}
+        }
+        only
     }
 }
 
@@ -279,47 +281,96 @@ impl Fields {
         }
     }
 
+    /// The event of this name, where the members that it needs say something.
+    fn needed(self, name: EventName) -> Option<ScenarioEvent>
+        ensures { result ≡ needed name self }
+    {
+        match name {
+            EventName::Start => start_event(self.host, self.kept),
+            EventName::Stop => self.server().map(ScenarioEvent::Stop),
+            EventName::Suspect => self.server().map(ScenarioEvent::Suspect),
+            EventName::Decide => self.server().map(ScenarioEvent::Decide),
+            EventName::Tick => self.addr.map(ScenarioEvent::Tick),
+            EventName::Write => write_event(self.to, self.table, self.key, self.value),
+            EventName::Read => read_event(self.to, self.table, self.key),
+            EventName::Deliver => self.number.map(ScenarioEvent::Deliver),
+            EventName::Settle => settle_event(self.kinds, self.hosts),
+            EventName::Create => create_event(self.table, self.owner),
+            EventName::Split => split_event(self.table, self.at),
+        }
+    }
+
     /// The event that the members say.
     fn event(self) -> Option<ScenarioEvent>
         ensures { result ≡ event_in self }
     {
-        let only = self.only;
-        match self.event? {
-            EventName::Start if only.start => Some(ScenarioEvent::Start {
-                host: self.host?,
-                kept: self.kept?,
-            }),
-            EventName::Stop if only.id => Some(ScenarioEvent::Stop(self.server()?)),
-            EventName::Suspect if only.id => Some(ScenarioEvent::Suspect(self.server()?)),
-            EventName::Decide if only.id => Some(ScenarioEvent::Decide(self.server()?)),
-            EventName::Tick if only.id => Some(ScenarioEvent::Tick(self.addr?)),
-            EventName::Write if only.write => Some(ScenarioEvent::Write {
-                to: self.to?,
-                table: self.table?,
-                key: self.key?,
-                value: self.value?,
-            }),
-            EventName::Read if only.read => Some(ScenarioEvent::Read {
-                to: self.to?,
-                table: self.table?,
-                key: self.key?,
-            }),
-            EventName::Deliver if only.deliver => Some(ScenarioEvent::Deliver(self.number?)),
-            EventName::Settle if only.settle => Some(ScenarioEvent::Settle {
-                kinds: self.kinds?,
-                hosts: self.hosts?,
-            }),
-            EventName::Create if only.create => Some(ScenarioEvent::Create {
-                table: self.table?,
-                owner: self.owner?,
-            }),
-            EventName::Split if only.split => Some(ScenarioEvent::Split {
-                table: self.table?,
-                at: self.at?,
-            }),
+        match self.event {
+            Some(name) if self.only.allows(name) => self.needed(name),
             _ => None,
         }
     }
+}
+
+fn start_event(host: Option<u8>, kept: Option<Seq<(ServerId, u16)>>) -> Option<ScenarioEvent>
+    ensures { result ≡ given2 Start host kept }
+{
+    let (Some(host), Some(kept)) = (host, kept) else {
+        return None;
+    };
+    Some(ScenarioEvent::Start { host, kept })
+}
+
+fn write_event(
+    to: Option<ServerId>,
+    table: Option<u32>,
+    key: Option<u64>,
+    value: Option<Option<Seq<u8>>>,
+) -> Option<ScenarioEvent>
+    ensures { result ≡ given4 Write to table key value }
+{
+    Some(ScenarioEvent::Write {
+        to: to?,
+        table: table?,
+        key: key?,
+        value: value?,
+    })
+}
+
+fn read_event(to: Option<ServerId>, table: Option<u32>, key: Option<u64>) -> Option<ScenarioEvent>
+    ensures { result ≡ given3 Read to table key }
+{
+    Some(ScenarioEvent::Read {
+        to: to?,
+        table: table?,
+        key: key?,
+    })
+}
+
+fn settle_event(kinds: Option<Kinds>, hosts: Option<Hosts>) -> Option<ScenarioEvent>
+    ensures { result ≡ given2 Settle kinds hosts }
+{
+    Some(ScenarioEvent::Settle {
+        kinds: kinds?,
+        hosts: hosts?,
+    })
+}
+
+fn create_event(table: Option<u32>, owner: Option<ServerId>) -> Option<ScenarioEvent>
+    ensures { result ≡ given2 Create table owner }
+{
+    Some(ScenarioEvent::Create {
+        table: table?,
+        owner: owner?,
+    })
+}
+
+fn split_event(table: Option<u32>, at: Option<u64>) -> Option<ScenarioEvent>
+    ensures { result ≡ given2 Split table at }
+{
+    Some(ScenarioEvent::Split {
+        table: table?,
+        at: at?,
+    })
 }
 
 /// The members of an event, up to the end of its object.
