@@ -48,27 +48,27 @@ fn take_kind(alloc: Global, kind: u8, bytes: &[u8]) -> Result<(Event, &[u8]), De
 {
     match kind {
         0 => take_ask(alloc, bytes),
-        1 => {
-            let (number, rest) = usize::take(alloc, bytes)?;
-            Ok((Event::Deliver(number), rest))
-        }
-        2 => {
-            let (addr, rest) = Addr::take(alloc, bytes)?;
-            Ok((Event::Tick(addr), rest))
-        }
-        3 => {
-            let (id, rest) = ServerId::take(alloc, bytes)?;
-            Ok((Event::Stop(id), rest))
-        }
+        1 => match usize::take(alloc, bytes) {
+            Ok((number, rest)) => Ok((Event::Deliver(number), rest)),
+            Err(fault) => Err(fault),
+        },
+        2 => match Addr::take(alloc, bytes) {
+            Ok((addr, rest)) => Ok((Event::Tick(addr), rest)),
+            Err(fault) => Err(fault),
+        },
+        3 => match ServerId::take(alloc, bytes) {
+            Ok((id, rest)) => Ok((Event::Stop(id), rest)),
+            Err(fault) => Err(fault),
+        },
         4 => take_start(alloc, bytes),
-        5 => {
-            let (id, rest) = ServerId::take(alloc, bytes)?;
-            Ok((Event::Suspect(id), rest))
-        }
-        6 => {
-            let (id, rest) = ServerId::take(alloc, bytes)?;
-            Ok((Event::Decide(id), rest))
-        }
+        5 => match ServerId::take(alloc, bytes) {
+            Ok((id, rest)) => Ok((Event::Suspect(id), rest)),
+            Err(fault) => Err(fault),
+        },
+        6 => match ServerId::take(alloc, bytes) {
+            Ok((id, rest)) => Ok((Event::Decide(id), rest)),
+            Err(fault) => Err(fault),
+        },
         7 => take_create(alloc, bytes),
         8 => take_split(alloc, bytes),
         _ => Err(DecodeFault::Malformed),
