@@ -1,11 +1,12 @@
 //! What a message says: the kind in one byte, and its fields.
 
+ghost use Rattle.std.specs.Prelude.{◌∷◌};
 ghost use Rattle.rc_codec.specs.Reading.{Gives};
 ghost use Rattle.rc_codec.specs.Readers.{write_at, read_at, write_ok_at, read_ok_at, refused_at, place_at, append_at};
 ghost use Rattle.rc_codec.specs.Readers.{close_at, stored_at, commit_at, commit_ok_at, list_at, gather_at, replicas_at};
-ghost use Rattle.rc_codec.specs.Readers.{plan_at, fetch_at, data_at, recovered_at, own_at, split_ok_at, free_at};
+ghost use Rattle.rc_codec.specs.Readers.{plan_at, fetch_at, data_at, recovered_at, own_at, split_ok_at, free_at, body_at};
 
-use crate::coded::{Put, Take};
+use crate::coded::{Put, Take, put_kind};
 use crate::faults::DecodeFault;
 use rc_types::{Body, Code, Entry, Part, PlanRow, Row, Seq, ServerId};
 use std::alloc::{AllocError, Global};
@@ -16,9 +17,13 @@ impl Put for Body {
     ghost code = { body_code };
 
     fn put(&self, out: &mut Vec<u8>) -> Result<(), AllocError> {
-        match self {
-            Body::Write { table, key, value } => (0u8, (table, key, value)).put(out),
-            Body::Read { table, key } => (1u8, (table, key)).put(out),
+        match *self {
+            Body::Write {
+                table,
+                key,
+                ref value,
+            } => put_kind(0, (table, key, value), out),
+            Body::Read { table, key } => put_kind(1, (table, key), out),
             Body::WriteOk {
                 seg,
                 offset,
@@ -26,61 +31,61 @@ impl Put for Body {
                 table,
                 key,
                 version,
-            } => (2u8, (seg, offset, term, table, key, version)).put(out),
+            } => put_kind(2, (seg, offset, term, table, key, version), out),
             Body::ReadOk {
                 table,
                 key,
                 version,
-                value,
-            } => (3u8, (table, key, version, value)).put(out),
-            Body::Refused { code } => (4u8, code).put(out),
+                ref value,
+            } => put_kind(3, (table, key, version, value), out),
+            Body::Refused { code } => put_kind(4, code, out),
             Body::Place {
                 seg,
                 epoch,
-                digest,
-                entries,
+                ref digest,
+                ref entries,
                 closed,
-            } => (5u8, (seg, epoch, digest, entries, closed)).put(out),
+            } => put_kind(5, (seg, epoch, digest, entries, closed), out),
             Body::Append {
                 seg,
                 offset,
-                entries,
-            } => (6u8, (seg, offset, entries)).put(out),
-            Body::Close { seg, len } => (7u8, (seg, len)).put(out),
+                ref entries,
+            } => put_kind(6, (seg, offset, entries), out),
+            Body::Close { seg, len } => put_kind(7, (seg, len), out),
             Body::Stored {
                 seg,
                 epoch,
                 len,
                 closed,
-            } => (8u8, (seg, epoch, len, closed)).put(out),
-            Body::Commit { seg, epoch } => (9u8, (seg, epoch)).put(out),
-            Body::CommitOk { seg, epoch } => (10u8, (seg, epoch)).put(out),
+            } => put_kind(8, (seg, epoch, len, closed), out),
+            Body::Commit { seg, epoch } => put_kind(9, (seg, epoch), out),
+            Body::CommitOk { seg, epoch } => put_kind(10, (seg, epoch), out),
             Body::Enlist => 11u8.put(out),
             Body::Ready => 12u8.put(out),
-            Body::List { version, rows } => (13u8, (version, rows)).put(out),
-            Body::Gather { attempt, master } => (14u8, (attempt, master)).put(out),
-            Body::Replicas { attempt, rows } => (15u8, (attempt, rows)).put(out),
+            Body::List { version, ref rows } => put_kind(13, (version, rows), out),
+            Body::Gather { attempt, master } => put_kind(14, (attempt, master), out),
+            Body::Replicas { attempt, ref rows } => put_kind(15, (attempt, rows), out),
             Body::Plan {
                 attempt,
                 master,
                 head,
-                rows,
-                parts,
-            } => (16u8, (attempt, master, head, rows, parts)).put(out),
+                ref rows,
+                ref parts,
+            } => put_kind(16, (attempt, master, head, rows, parts), out),
             Body::Fetch {
                 attempt,
                 master,
                 seg,
                 len,
                 part,
-            } => (17u8, (attempt, master, seg, len, part)).put(out),
+            } => put_kind(17, (attempt, master, seg, len, part), out),
             Body::Data {
                 attempt,
                 seg,
                 term,
-                entries,
-            } => (18u8, (attempt, seg, term, entries)).put(out),
-            Body::Recovered { attempt, term } => (19u8, (attempt, term)).put(out),
+                ref entries,
+            } => put_kind(18, (attempt, seg, term, entries), out),
+            Body::Recovered { attempt, term } => put_kind(19, (attempt, term), out),
             Body::Own {
                 table,
                 lo,
@@ -88,46 +93,55 @@ impl Put for Body {
                 term,
                 previous,
                 attempt,
-            } => (20u8, (table, lo, hi, term, previous, attempt)).put(out),
-            Body::SplitOk { table, at } => (21u8, (table, at)).put(out),
-            Body::Free { seg } => (22u8, seg).put(out),
+            } => put_kind(20, (table, lo, hi, term, previous, attempt), out),
+            Body::SplitOk { table, at } => put_kind(21, (table, at), out),
+            Body::Free { seg } => put_kind(22, seg, out),
         }
     }
 }
 
 impl Take for Body {
-    ghost use Rattle.rc_codec.specs.Readers.{body_at};
-
     ghost read = { body_at };
 
-    #[tactic(auto, unfolding(crate::specs::Readers::body_at), using(crate::proofs::Choices::past_bodies))]
+    #[tactic(auto, unfolding(crate::specs::Readers::body_at))]
     fn take(alloc: Global, bytes: &[u8]) -> Result<(Body, &[u8]), DecodeFault> {
         match bytes {
-            [0, rest @ ..] => take_write(alloc, rest),
-            [1, rest @ ..] => take_read(alloc, rest),
-            [2, rest @ ..] => take_write_ok(alloc, rest),
-            [3, rest @ ..] => take_read_ok(alloc, rest),
-            [4, rest @ ..] => take_refused(alloc, rest),
-            [5, rest @ ..] => take_place(alloc, rest),
-            [6, rest @ ..] => take_append(alloc, rest),
-            [7, rest @ ..] => take_close(alloc, rest),
-            [8, rest @ ..] => take_stored(alloc, rest),
-            [9, rest @ ..] => take_commit(alloc, rest),
-            [10, rest @ ..] => take_commit_ok(alloc, rest),
-            [11, rest @ ..] => Ok((Body::Enlist, rest)),
-            [12, rest @ ..] => Ok((Body::Ready, rest)),
-            [13, rest @ ..] => take_list(alloc, rest),
-            [14, rest @ ..] => take_gather(alloc, rest),
-            [15, rest @ ..] => take_replicas(alloc, rest),
-            [16, rest @ ..] => take_plan(alloc, rest),
-            [17, rest @ ..] => take_fetch(alloc, rest),
-            [18, rest @ ..] => take_data(alloc, rest),
-            [19, rest @ ..] => take_recovered(alloc, rest),
-            [20, rest @ ..] => take_own(alloc, rest),
-            [21, rest @ ..] => take_split_ok(alloc, rest),
-            [22, rest @ ..] => take_free(alloc, rest),
-            _ => Err(DecodeFault::Malformed),
+            [kind, rest @ ..] => take_kind(alloc, *kind, rest),
+            [] => Err(DecodeFault::Malformed),
         }
+    }
+}
+
+/// What stands behind a kind.
+#[tactic(auto, unfolding(crate::specs::Readers::body_at), using(crate::proofs::Choices::past_bodies))]
+fn take_kind(alloc: Global, kind: u8, bytes: &[u8]) -> Result<(Body, &[u8]), DecodeFault>
+    ensures { Gives (λ x. (x.0, x.1.now)) result (body_at (kind ∷ bytes.now)) }
+{
+    match kind {
+        0 => take_write(alloc, bytes),
+        1 => take_read(alloc, bytes),
+        2 => take_write_ok(alloc, bytes),
+        3 => take_read_ok(alloc, bytes),
+        4 => take_refused(alloc, bytes),
+        5 => take_place(alloc, bytes),
+        6 => take_append(alloc, bytes),
+        7 => take_close(alloc, bytes),
+        8 => take_stored(alloc, bytes),
+        9 => take_commit(alloc, bytes),
+        10 => take_commit_ok(alloc, bytes),
+        11 => Ok((Body::Enlist, bytes)),
+        12 => Ok((Body::Ready, bytes)),
+        13 => take_list(alloc, bytes),
+        14 => take_gather(alloc, bytes),
+        15 => take_replicas(alloc, bytes),
+        16 => take_plan(alloc, bytes),
+        17 => take_fetch(alloc, bytes),
+        18 => take_data(alloc, bytes),
+        19 => take_recovered(alloc, bytes),
+        20 => take_own(alloc, bytes),
+        21 => take_split_ok(alloc, bytes),
+        22 => take_free(alloc, bytes),
+        _ => Err(DecodeFault::Malformed),
     }
 }
 

@@ -1,6 +1,6 @@
 //! What has a coding, and what is read back.
 
-ghost use Rattle.std.specs.Prelude.{◌≡◌, ◌++◌, ℕ, List, Option, OnOk, OnErr};
+ghost use Rattle.std.specs.Prelude.{◌≡◌, ◌++◌, ◌∷◌, ℕ, List, Option, OnOk, OnErr};
 ghost use Rattle.rc_codec.specs.Parts.{Begins};
 ghost use Rattle.rc_codec.specs.Reading.{Gives};
 
@@ -35,4 +35,12 @@ impl<T: Put> Put for &T {
     fn put(&self, out: &mut Vec<u8>) -> Result<(), AllocError> {
         (**self).put(out)
     }
+}
+
+/// A kind in one byte, and its fields.
+pub fn put_kind<F: Put + Drop>(kind: u8, fields: F, out: &mut Vec<u8>) -> Result<(), AllocError>
+    ensures ok { OnOk result (out.new.items ≡ out.old.items ++ kind ∷ F.code fields) }
+    ensures err { OnErr result (Begins out.old.items out.new.items) }
+{
+    (kind, fields).put(out)
 }

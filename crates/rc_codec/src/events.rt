@@ -1,9 +1,10 @@
 //! Events: the kind in one byte, and its fields.
 
+ghost use Rattle.std.specs.Prelude.{◌∷◌};
 ghost use Rattle.rc_codec.specs.Reading.{Gives};
-ghost use Rattle.rc_codec.specs.Readers.{ask_at, start_at, create_at, split_at};
+ghost use Rattle.rc_codec.specs.Readers.{ask_at, start_at, create_at, split_at, event_at};
 
-use crate::coded::{Put, Take};
+use crate::coded::{Put, Take, put_kind};
 use crate::faults::DecodeFault;
 use rc_types::{Addr, Body, Event, Seq, ServerId};
 use std::alloc::{AllocError, Global};
@@ -14,54 +15,63 @@ impl Put for Event {
     ghost code = { event_code };
 
     fn put(&self, out: &mut Vec<u8>) -> Result<(), AllocError> {
-        match self {
-            Event::Ask { to, body } => (0u8, (to, body)).put(out),
-            Event::Deliver(number) => (1u8, number).put(out),
-            Event::Tick(addr) => (2u8, addr).put(out),
-            Event::Stop(id) => (3u8, id).put(out),
-            Event::Start { host, kept } => (4u8, (host, kept)).put(out),
-            Event::Suspect(id) => (5u8, id).put(out),
-            Event::Decide(id) => (6u8, id).put(out),
-            Event::Create { table, owner } => (7u8, (table, owner)).put(out),
-            Event::Split { table, at } => (8u8, (table, at)).put(out),
+        match *self {
+            Event::Ask { to, ref body } => put_kind(0, (to, body), out),
+            Event::Deliver(number) => put_kind(1, number, out),
+            Event::Tick(addr) => put_kind(2, addr, out),
+            Event::Stop(id) => put_kind(3, id, out),
+            Event::Start { host, ref kept } => put_kind(4, (host, kept), out),
+            Event::Suspect(id) => put_kind(5, id, out),
+            Event::Decide(id) => put_kind(6, id, out),
+            Event::Create { table, owner } => put_kind(7, (table, owner), out),
+            Event::Split { table, at } => put_kind(8, (table, at), out),
         }
     }
 }
 
 impl Take for Event {
-    ghost use Rattle.rc_codec.specs.Readers.{event_at};
-
     ghost read = { event_at };
 
-    #[tactic(auto, unfolding(crate::specs::Readers::event_at), using(crate::proofs::Choices::past_events))]
+    #[tactic(auto, unfolding(crate::specs::Readers::event_at))]
     fn take(alloc: Global, bytes: &[u8]) -> Result<(Event, &[u8]), DecodeFault> {
         match bytes {
-            [0, rest @ ..] => take_ask(alloc, rest),
-            [1, rest @ ..] => {
-                let (number, rest) = usize::take(alloc, rest)?;
-                Ok((Event::Deliver(number), rest))
-            }
-            [2, rest @ ..] => {
-                let (addr, rest) = Addr::take(alloc, rest)?;
-                Ok((Event::Tick(addr), rest))
-            }
-            [3, rest @ ..] => {
-                let (id, rest) = ServerId::take(alloc, rest)?;
-                Ok((Event::Stop(id), rest))
-            }
-            [4, rest @ ..] => take_start(alloc, rest),
-            [5, rest @ ..] => {
-                let (id, rest) = ServerId::take(alloc, rest)?;
-                Ok((Event::Suspect(id), rest))
-            }
-            [6, rest @ ..] => {
-                let (id, rest) = ServerId::take(alloc, rest)?;
-                Ok((Event::Decide(id), rest))
-            }
-            [7, rest @ ..] => take_create(alloc, rest),
-            [8, rest @ ..] => take_split(alloc, rest),
-            _ => Err(DecodeFault::Malformed),
+            [kind, rest @ ..] => take_kind(alloc, *kind, rest),
+            [] => Err(DecodeFault::Malformed),
         }
+    }
+}
+
+/// What stands behind a kind.
+#[tactic(auto, unfolding(crate::specs::Readers::event_at), using(crate::proofs::Choices::past_events))]
+fn take_kind(alloc: Global, kind: u8, bytes: &[u8]) -> Result<(Event, &[u8]), DecodeFault>
+    ensures { Gives (λ x. (x.0, x.1.now)) result (event_at (kind ∷ bytes.now)) }
+{
+    match kind {
+        0 => take_ask(alloc, bytes),
+        1 => match usize::take(alloc, bytes) {
+            Ok((number, rest)) => Ok((Event::Deliver(number), rest)),
+            Err(fault) => Err(fault),
+        },
+        2 => match Addr::take(alloc, bytes) {
+            Ok((addr, rest)) => Ok((Event::Tick(addr), rest)),
+            Err(fault) => Err(fault),
+        },
+        3 => match ServerId::take(alloc, bytes) {
+            Ok((id, rest)) => Ok((Event::Stop(id), rest)),
+            Err(fault) => Err(fault),
+        },
+        4 => take_start(alloc, bytes),
+        5 => match ServerId::take(alloc, bytes) {
+            Ok((id, rest)) => Ok((Event::Suspect(id), rest)),
+            Err(fault) => Err(fault),
+        },
+        6 => match ServerId::take(alloc, bytes) {
+            Ok((id, rest)) => Ok((Event::Decide(id), rest)),
+            Err(fault) => Err(fault),
+        },
+        7 => take_create(alloc, bytes),
+        8 => take_split(alloc, bytes),
+        _ => Err(DecodeFault::Malformed),
     }
 }
 

@@ -77,30 +77,34 @@ impl Take for Code {
     ghost read = { refusal_at };
 
     fn take(_alloc: Global, bytes: &[u8]) -> Result<(Code, &[u8]), DecodeFault> {
-        match bytes {
-            [1, rest @ ..] => Ok((Code::OutOfMemory, rest)),
-            [2, rest @ ..] => Ok((Code::NotOwner, rest)),
-            [3, rest @ ..] => Ok((Code::Rolling, rest)),
-            [4, rest @ ..] => Ok((Code::NoBackups, rest)),
-            [5, rest @ ..] => Ok((Code::Deposed, rest)),
-            [6, rest @ ..] => Ok((Code::LogFull, rest)),
-            [7, rest @ ..] => Ok((Code::ValueTooLong, rest)),
-            [8, rest @ ..] => Ok((Code::HeadMissing, rest)),
-            [9, rest @ ..] => Ok((Code::SegmentMissing, rest)),
-            [10, rest @ ..] => Ok((Code::StaleAttempt, rest)),
-            [11, rest @ ..] => Ok((Code::NotReady, rest)),
-            [12, rest @ ..] => Ok((Code::TableExists, rest)),
-            [13, rest @ ..] => Ok((Code::NoTable, rest)),
-            [14, rest @ ..] => Ok((Code::BadSplit, rest)),
-            [15, rest @ ..] => Ok((Code::TooManyTablets, rest)),
-            [16, rest @ ..] => Ok((Code::Recovering, rest)),
-            [17, rest @ ..] => Ok((Code::BadScenario, rest)),
-            [18, rest @ ..] => Ok((Code::BadEvent, rest)),
-            [19, rest @ ..] => Ok((Code::EpochsExhausted, rest)),
-            [20, rest @ ..] => Ok((Code::Pending, rest)),
-            [21, rest @ ..] => Ok((Code::StaleGeneration, rest)),
-            _ => Err(DecodeFault::Malformed),
-        }
+        let [number, rest @ ..] = bytes else {
+            return Err(DecodeFault::Malformed);
+        };
+        let code = match *number {
+            1 => Code::OutOfMemory,
+            2 => Code::NotOwner,
+            3 => Code::Rolling,
+            4 => Code::NoBackups,
+            5 => Code::Deposed,
+            6 => Code::LogFull,
+            7 => Code::ValueTooLong,
+            8 => Code::HeadMissing,
+            9 => Code::SegmentMissing,
+            10 => Code::StaleAttempt,
+            11 => Code::NotReady,
+            12 => Code::TableExists,
+            13 => Code::NoTable,
+            14 => Code::BadSplit,
+            15 => Code::TooManyTablets,
+            16 => Code::Recovering,
+            17 => Code::BadScenario,
+            18 => Code::BadEvent,
+            19 => Code::EpochsExhausted,
+            20 => Code::Pending,
+            21 => Code::StaleGeneration,
+            _ => return Err(DecodeFault::Malformed),
+        };
+        Ok((code, rest))
     }
 }
 
