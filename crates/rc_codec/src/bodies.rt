@@ -4,7 +4,8 @@ ghost use Rattle.std.specs.Prelude.{◌∷◌};
 ghost use Rattle.rc_codec.specs.Reading.{Gives};
 ghost use Rattle.rc_codec.specs.Readers.{write_at, read_at, write_ok_at, read_ok_at, refused_at, place_at, append_at};
 ghost use Rattle.rc_codec.specs.Readers.{close_at, stored_at, commit_at, commit_ok_at, list_at, gather_at, replicas_at};
-ghost use Rattle.rc_codec.specs.Readers.{plan_at, fetch_at, data_at, recovered_at, own_at, split_ok_at, free_at, body_at};
+ghost use Rattle.rc_codec.specs.Readers.{plan_at, fetch_at, data_at, recovered_at, own_at, split_ok_at, free_at};
+ghost use Rattle.rc_codec.specs.Readers.{body_at};
 
 use crate::coded::{Put, Take, put_kind};
 use crate::faults::DecodeFault;
