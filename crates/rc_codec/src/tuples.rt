@@ -63,10 +63,8 @@ impl<A: Take + Drop, B: Take + Drop, C: Take + Drop> Take for (A, B, C) {
     ghost read = { three A.read B.read C.read };
 
     fn take(alloc: Global, bytes: &[u8]) -> Result<((A, B, C), &[u8]), DecodeFault> {
-        match <((A, B), C)>::take(alloc, bytes) {
-            Ok((((a, b), c), rest)) => Ok(((a, b, c), rest)),
-            Err(fault) => Err(fault),
-        }
+        let (((a, b), c), rest) = <((A, B), C)>::take(alloc, bytes)?;
+        Ok(((a, b, c), rest))
     }
 }
 
@@ -74,10 +72,8 @@ impl<A: Take + Drop, B: Take + Drop, C: Take + Drop, D: Take + Drop> Take for (A
     ghost read = { four A.read B.read C.read D.read };
 
     fn take(alloc: Global, bytes: &[u8]) -> Result<((A, B, C, D), &[u8]), DecodeFault> {
-        match <((A, B, C), D)>::take(alloc, bytes) {
-            Ok((((a, b, c), d), rest)) => Ok(((a, b, c, d), rest)),
-            Err(fault) => Err(fault),
-        }
+        let (((a, b, c), d), rest) = <((A, B, C), D)>::take(alloc, bytes)?;
+        Ok(((a, b, c, d), rest))
     }
 }
 
@@ -86,10 +82,8 @@ impl<A: Take + Drop, B: Take + Drop, C: Take + Drop, D: Take + Drop, E: Take + D
     ghost read = { five A.read B.read C.read D.read E.read };
 
     fn take(alloc: Global, bytes: &[u8]) -> Result<((A, B, C, D, E), &[u8]), DecodeFault> {
-        match <((A, B, C, D), E)>::take(alloc, bytes) {
-            Ok((((a, b, c, d), e), rest)) => Ok(((a, b, c, d, e), rest)),
-            Err(fault) => Err(fault),
-        }
+        let (((a, b, c, d), e), rest) = <((A, B, C, D), E)>::take(alloc, bytes)?;
+        Ok(((a, b, c, d, e), rest))
     }
 }
 
@@ -104,9 +98,7 @@ impl<
     ghost read = { six A.read B.read C.read D.read E.read F.read };
 
     fn take(alloc: Global, bytes: &[u8]) -> Result<((A, B, C, D, E, F), &[u8]), DecodeFault> {
-        match <((A, B, C, D, E), F)>::take(alloc, bytes) {
-            Ok((((a, b, c, d, e), f), rest)) => Ok(((a, b, c, d, e, f), rest)),
-            Err(fault) => Err(fault),
-        }
+        let (((a, b, c, d, e), f), rest) = <((A, B, C, D, E), F)>::take(alloc, bytes)?;
+        Ok(((a, b, c, d, e, f), rest))
     }
 }
