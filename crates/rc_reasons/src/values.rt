@@ -102,6 +102,30 @@ impl Want {
             _ => &[],
         }
     }
+
+    /// What it is called, without the bounds of a number.
+    fn words(self) -> &'static str {
+        match self {
+            Want::Whole(_, _) => "a whole number",
+            Want::Host => "a host, a whole number from 0 to 63",
+            Want::Flag => "true or false",
+            Want::Value => "a text, or null, which deletes",
+            Want::Hex => "bytes as pairs of 0 to 9 and a to f, or null",
+            Want::Name => "the name of a message, as \"Ready\"",
+            Want::Id => "an id [host, generation], as [0,1]: host 0 to 63, generation from 1",
+            Want::Addr => "an id [host, generation], as [0,1], or \"c\", the coordinator",
+            Want::Replica => "[id, segment], as [[0,1],1], segment 1 to 65535",
+            Want::Row => "[segment, id, length], as [1,[2,1],1]",
+            Want::Entry => "[term, table, key, version, value], as [1,7,5,1,\"61\"]",
+            Want::Names => "a list of names of messages, as [\"Ready\"]",
+            Want::Hosts => "a list of hosts, as [0,2]",
+            Want::Factors => "a list of at most 64 numbers from 1 to 5",
+            Want::Kept => "a list of [id, segment], as [[[0,1],1]]",
+            Want::Rows => "a list of [segment, id, length], as [[1,[2,1],1]]",
+            Want::Entries => "a list of [term, table, key, version, value]",
+            Want::List => "a list",
+        }
+    }
 }
 
 impl fmt::Display for Want {
@@ -109,29 +133,7 @@ impl fmt::Display for Want {
         match self {
             Want::Whole(least, most) if least == most => write!(f, "{least}"),
             Want::Whole(least, most) => write!(f, "a whole number from {least} to {most}"),
-            Want::Host => write!(f, "a host, a whole number from 0 to 63"),
-            Want::Flag => write!(f, "true or false"),
-            Want::Value => write!(f, "a text, or null, which deletes"),
-            Want::Hex => write!(f, "bytes as pairs of 0 to 9 and a to f, or null"),
-            Want::Name => write!(f, "the name of a message, as \"Ready\""),
-            Want::Id => write!(
-                f,
-                "an id [host, generation], as [0,1]: host 0 to 63, generation from 1"
-            ),
-            Want::Addr => write!(
-                f,
-                "an id [host, generation], as [0,1], or \"c\", the coordinator"
-            ),
-            Want::Replica => write!(f, "[id, segment], as [[0,1],1], segment 1 to 65535"),
-            Want::Row => write!(f, "[segment, id, length], as [1,[2,1],1]"),
-            Want::Entry => write!(f, "[term, table, key, version, value], as [1,7,5,1,\"61\"]"),
-            Want::Names => write!(f, "a list of names of messages, as [\"Ready\"]"),
-            Want::Hosts => write!(f, "a list of hosts, as [0,2]"),
-            Want::Factors => write!(f, "a list of at most 64 numbers from 1 to 5"),
-            Want::Kept => write!(f, "a list of [id, segment], as [[[0,1],1]]"),
-            Want::Rows => write!(f, "a list of [segment, id, length], as [[1,[2,1],1]]"),
-            Want::Entries => write!(f, "a list of [term, table, key, version, value]"),
-            Want::List => write!(f, "a list"),
+            want => f.write_str(want.words()),
         }
     }
 }
