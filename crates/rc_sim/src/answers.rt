@@ -161,7 +161,7 @@ fn add_last_line(
 }
 
 /// The answer to a scenario that is wrong at this place.
-fn bad(alloc: Global, place: usize) -> Result<Answer, SimFault>
+pub(crate) fn bad(alloc: Global, place: usize) -> Result<Answer, SimFault>
     ensures verdict { IfOk result (λ answer. answer.verdict ≡ Bad place) }
     ensures text { IfOk result (λ answer. string_bytes answer.text ≡ error_line place) }
     ensures fault { IfErr result (λ fault. fault ≡ Memory) }

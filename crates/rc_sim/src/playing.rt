@@ -36,7 +36,7 @@ impl Kept {
     }
 
     /// Keeps what was read, and what is told of what was answered.
-    fn note(&mut self, bytes: Vec<u8>, answer: &Answer) {
+    pub(crate) fn note(&mut self, bytes: Vec<u8>, answer: &Answer) {
         self.bytes = bytes;
         self.sent = answer.sent;
     }
