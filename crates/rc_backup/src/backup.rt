@@ -130,6 +130,11 @@ impl Backup {
         self
     }
 
+    /// What it keeps, by master. It takes no memory.
+    pub fn kept(&self) -> &BTreeMap<ServerId, Held> {
+        &self.held
+    }
+
     /// Whether the master is fenced.
     pub fn is_fenced(&self, master: ServerId) -> bool
         ensures { result ≡ ((backup_of self.now).held master).fenced }

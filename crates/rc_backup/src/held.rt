@@ -15,7 +15,7 @@ use std::marker::Model;
 /// The replicas of one master's segments, the segments that it has freed, and whether it is fenced,
 /// so that its replicas stay as they are.
 #[derive(Drop)]
-pub(crate) struct Held {
+pub struct Held {
     fenced: bool,
     replicas: BTreeMap<u16, Replica>,
     freed: BTreeSet<u16>,
@@ -48,8 +48,13 @@ impl Held {
         self.fenced = true;
     }
 
+    /// The replicas, by segment.
+    pub fn replicas(&self) -> &BTreeMap<u16, Replica> {
+        &self.replicas
+    }
+
     /// Whether the master is fenced.
-    pub(crate) fn is_fenced(&self) -> bool
+    pub fn is_fenced(&self) -> bool
         ensures { result ≡ self.now.fenced }
     {
         self.fenced

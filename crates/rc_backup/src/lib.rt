@@ -8,3 +8,4 @@ mod held;
 mod replicas;
 
 pub use backup::Backup;
+pub use held::Held;

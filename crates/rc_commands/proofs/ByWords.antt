@@ -17,19 +17,21 @@ use Rattle.clap.proofs.WalkLemmas.{both}
 use Rattle.rc_commands.specs.declared.asking.Asked.{Asked}
 use Rattle.rc_commands.specs.declared.asking.Asked.TheVariants as asked
 use Rattle.rc_commands.specs.Asking.{Tells, as_command, asked_in, asks_for_text, begins_with_help, command_in, explain_in}
-use Rattle.rc_commands.specs.Asking.{explore_in, exploring, fuzz_in}
+use Rattle.rc_commands.specs.Asking.{explore_in, exploring, fuzz_in, log_in, picture_in}
 use Rattle.rc_commands.specs.Asking.{is_alone, is_command, is_end, is_help, is_option, is_plain, is_request, is_text}
 use Rattle.rc_commands.specs.Asking.{is_version, run_in, stops_in, threads_in, where_taken, heap_line, option_zip_with}
 use Rattle.rc_commands.specs.Asking as line_of
 use Rattle.rc_commands.specs.Commands as command
 use Rattle.rc_commands.specs.Commands.{ramseg}
 use Rattle.rc_commands.proofs.Words.{IsLevel, asks, audit_is, explore_is, fuzz_is, leaf, line_told, run_is, same, stops_is}
+use Rattle.rc_commands.proofs.Words.{log_is, picture_is}
 use Rattle.rc_commands.proofs.Words.{tells, tells_first, text_tells, threads_is, trace_is}
 use Rattle.rc_commands.specs.Numbers.{decimal_in}
 use Rattle.rc_commands.proofs.Heap.{heap_given, none_first}
 use Rattle.rc_commands.proofs.Lines.{audit_found, audit_line, by_command, empty_told, explain_found, explain_line}
 use Rattle.rc_commands.proofs.Lines.{explore_found, explore_line, faults_at, fuzz_found, fuzz_line}
 use Rattle.rc_commands.proofs.Lines.{no_option, run_found, run_line, stops_found, stops_line}
+use Rattle.rc_commands.proofs.Lines.{log_found, log_line, picture_found, picture_line}
 use Rattle.rc_commands.proofs.Lines.{threads_found, threads_line, told, trace_found, trace_line}
 
 -- no error comes exactly where a command stands alone; else each is a request exactly where a text is asked for
@@ -131,6 +133,24 @@ unfolding clap_on_literals
 explore_ended [] = refl
 explore_ended (next ∷ rest) = refl
 
+log_alone : After command.log.top []
+unfolding clap_on_literals
+log_alone = refl
+
+log_ended : (rest : List Text) → After command.log.top (codes "--" ∷ rest)
+unfolding clap_on_literals
+log_ended [] = refl
+log_ended (next ∷ rest) = refl
+
+picture_alone : After command.picture.top []
+unfolding clap_on_literals
+picture_alone = refl
+
+picture_ended : (rest : List Text) → After command.picture.top (codes "--" ∷ rest)
+unfolding clap_on_literals
+picture_ended [] = refl
+picture_ended (next ∷ rest) = refl
+
 explain_alone : After command.explain.top []
 unfolding clap_on_literals
 explain_alone = refl
@@ -189,6 +209,12 @@ line word rest plain = by_command (λ w. is_plain (w ∷ rest) ≡ true → Agre
     (λ e. ap (agrees (is_end rest) (begins_with_help rest)) (explore_line rest)
     ∙ after command.explore.top exploring explore_is explore_alone explore_ended rest
     (plain_after exploring rest (codes "explore") (λ w more h. not_true _ h) e))
+    (λ e. ap (agrees (is_end rest) (begins_with_help rest)) (log_line rest)
+    ∙ after command.log.top (codes "json" ∷ []) log_is log_alone log_ended rest
+    (plain_after (codes "json" ∷ []) rest (codes "log") (λ w more h. not_true _ h) e))
+    (λ e. ap (agrees (is_end rest) (begins_with_help rest)) (picture_line rest)
+    ∙ after command.picture.top (codes "mermaid" ∷ []) picture_is picture_alone picture_ended rest
+    (plain_after (codes "mermaid" ∷ []) rest (codes "picture") (λ w more h. not_true _ h) e))
     (explain_ends rest)
     (λ e. absurd (true≢false (sym e ∙ about rest)))
     (λ w none no_help e.
@@ -257,6 +283,14 @@ asked_threads rest = ap₂ asked_by (threads_line rest) (threads_found rest)
 asked_explore : (rest : List Text) → asked_in (codes "explore" ∷ rest) ≡ where_taken (faults_at command.explore.top rest)
     (explore_in (rows_at (leaf command.explore.top) rest).1)
 asked_explore rest = ap₂ asked_by (explore_line rest) (explore_found rest)
+
+asked_log : (rest : List Text) → asked_in (codes "log" ∷ rest) ≡ where_taken (faults_at command.log.top rest)
+    (log_in (rows_at (leaf command.log.top) rest).1)
+asked_log rest = ap₂ asked_by (log_line rest) (log_found rest)
+
+asked_picture : (rest : List Text) → asked_in (codes "picture" ∷ rest) ≡ where_taken (faults_at command.picture.top rest)
+    (picture_in (rows_at (leaf command.picture.top) rest).1)
+asked_picture rest = ap₂ asked_by (picture_line rest) (picture_found rest)
 
 asked_explain : (rest : List Text) → asked_in (codes "explain" ∷ rest) ≡ where_taken (faults_at command.explain.top rest)
     (explain_in (rows_at (leaf command.explain.top) rest).1)
@@ -340,6 +374,14 @@ module _ (T : Option Asked → Bool) (none : T None ≡ false) where
           (line_of.number_or 2000 (codes "steps") 0 100000 rows) (line_of.number_or 5 (codes "hosts") 1 16 rows)
           (line_of.number_or 2 (codes "factor") 1 5 rows) (line_of.number_or 2 (codes "segment") 1 1024 rows)
 
+  pub no_log : ((json : Bool) → T (Some (asked.Log json)) ≡ false) → (rest : List Text) →
+      T (asked_in (codes "log" ∷ rest)) ≡ false
+  no_log each rest = ap T (asked_log rest) ∙ never _ _ (each _)
+
+  pub no_picture : ((mermaid : Bool) → T (Some (asked.Picture mermaid)) ≡ false) → (rest : List Text) →
+      T (asked_in (codes "picture" ∷ rest)) ≡ false
+  no_picture each rest = ap T (asked_picture rest) ∙ never _ _ (each _)
+
   pub no_explain : ((code : Option ℕ) → T (Some (asked.Explain code)) ≡ false) → (rest : List Text) →
       T (asked_in (codes "explain" ∷ rest)) ≡ false
   no_explain each rest = ap T (asked_explain rest) ∙ never _ _ (go _)
@@ -384,6 +426,8 @@ trace_only (word ∷ rest) h = by_command (λ w. is_trace (asked_in (w ∷ rest)
     (λ e. absurd (true≢false (sym e ∙ no_stops is_trace refl (λ seed steps. refl) rest)))
     (λ e. absurd (true≢false (sym e ∙ no_threads is_trace refl (λ hosts writes. refl) rest)))
     (λ e. absurd (true≢false (sym e ∙ no_explore is_trace refl (λ seed steps hosts factor segment free save. refl) rest)))
+    (λ e. absurd (true≢false (sym e ∙ no_log is_trace refl (λ json. refl) rest)))
+    (λ e. absurd (true≢false (sym e ∙ no_picture is_trace refl (λ mermaid. refl) rest)))
     (λ e. absurd (true≢false (sym e ∙ no_explain is_trace refl (λ code. refl) rest)))
     (λ e. absurd (true≢false (sym e ∙ no_help is_trace refl rest)))
     (λ w no_name no_about e. absurd (true≢false (sym e ∙ no_other is_trace refl rest w no_name no_about))) word h
@@ -426,6 +470,8 @@ run_only (word ∷ rest) h = by_command (λ w. is_bare_run (asked_in (w ∷ rest
     (λ e. absurd (true≢false (sym e ∙ no_stops is_bare_run refl (λ seed steps. refl) rest)))
     (λ e. absurd (true≢false (sym e ∙ no_threads is_bare_run refl (λ hosts writes. refl) rest)))
     (λ e. absurd (true≢false (sym e ∙ no_explore is_bare_run refl (λ seed steps hosts factor segment free save. refl) rest)))
+    (λ e. absurd (true≢false (sym e ∙ no_log is_bare_run refl (λ json. refl) rest)))
+    (λ e. absurd (true≢false (sym e ∙ no_picture is_bare_run refl (λ mermaid. refl) rest)))
     (λ e. absurd (true≢false (sym e ∙ no_explain is_bare_run refl (λ code. refl) rest)))
     (λ e. absurd (true≢false (sym e ∙ no_help is_bare_run refl rest)))
     (λ w no_name no_about e. absurd (true≢false (sym e ∙ no_other is_bare_run refl rest w no_name no_about))) word h
@@ -441,6 +487,8 @@ audit_only (word ∷ rest) h = by_command (λ w. is_audit (asked_in (w ∷ rest)
     (λ e. absurd (true≢false (sym e ∙ no_stops is_audit refl (λ seed steps. refl) rest)))
     (λ e. absurd (true≢false (sym e ∙ no_threads is_audit refl (λ hosts writes. refl) rest)))
     (λ e. absurd (true≢false (sym e ∙ no_explore is_audit refl (λ seed steps hosts factor segment free save. refl) rest)))
+    (λ e. absurd (true≢false (sym e ∙ no_log is_audit refl (λ json. refl) rest)))
+    (λ e. absurd (true≢false (sym e ∙ no_picture is_audit refl (λ mermaid. refl) rest)))
     (λ e. absurd (true≢false (sym e ∙ no_explain is_audit refl (λ code. refl) rest)))
     (λ e. absurd (true≢false (sym e ∙ no_help is_audit refl rest)))
     (λ w no_name no_about e. absurd (true≢false (sym e ∙ no_other is_audit refl rest w no_name no_about))) word h
@@ -487,6 +535,14 @@ pub explore_gives : (words : List Text) → is_alone (codes "explore") words ≡
     asked_in words ≡ Some (asked.Explore 1 2000 5 2 2 false false)
 unfolding clap_on_literals
 explore_gives = alone_gives (codes "explore") (asked.Explore 1 2000 5 2 2 false false) refl refl
+
+pub log_gives : (words : List Text) → is_alone (codes "log") words ≡ true → asked_in words ≡ Some (asked.Log false)
+unfolding clap_on_literals
+log_gives = alone_gives (codes "log") (asked.Log false) refl refl
+
+pub picture_gives : (words : List Text) → is_alone (codes "picture") words ≡ true → asked_in words ≡ Some (asked.Picture false)
+unfolding clap_on_literals
+picture_gives = alone_gives (codes "picture") (asked.Picture false) refl refl
 
 pub explain_gives : (words : List Text) → is_alone (codes "explain") words ≡ true → asked_in words ≡ Some (asked.Explain None)
 unfolding clap_on_literals
@@ -550,6 +606,8 @@ is_answer a b e = go a e
     go (asked.Stops seed steps) e = ap (λ o. unwrap_or o b) e
     go (asked.Threads hosts writes) e = ap (λ o. unwrap_or o b) e
     go (asked.Explore seed steps hosts factor segment free save) e = ap (λ o. unwrap_or o b) e
+    go (asked.Log json) e = ap (λ o. unwrap_or o b) e
+    go (asked.Picture mermaid) e = ap (λ o. unwrap_or o b) e
     go (asked.Explain code) e = ap (λ o. unwrap_or o b) e
 
 module _ (words : List Text) (a : Asked) (asks : as_command a ≡ asked_in words) where
@@ -577,6 +635,12 @@ module _ (words : List Text) (a : Asked) (asks : as_command a ≡ asked_in words
 
   pub explore_told : is_alone (codes "explore") words ≡ true → a ≡ asked.Explore 1 2000 5 2 2 false false
   explore_told h = is_answer a (asked.Explore 1 2000 5 2 2 false false) (asks ∙ explore_gives words h)
+
+  pub log_told : is_alone (codes "log") words ≡ true → a ≡ asked.Log false
+  log_told h = is_answer a (asked.Log false) (asks ∙ log_gives words h)
+
+  pub picture_told : is_alone (codes "picture") words ≡ true → a ≡ asked.Picture false
+  picture_told h = is_answer a (asked.Picture false) (asks ∙ picture_gives words h)
 
   pub explain_told : is_alone (codes "explain") words ≡ true → a ≡ asked.Explain None
   explain_told h = is_answer a (asked.Explain None) (asks ∙ explain_gives words h)

@@ -74,6 +74,16 @@ unfolding walked walk_fault defaults_fault
 threads_line words = ap₂ fault_at (stopped_fault top top_names (walk_from nothing_held) (codes "threads", []) words)
     (sym (walk_stopped top.rules top_names (walk_from nothing_held) (codes "threads") [] words))
 
+pub log_line : (words : List Text) → fault_of ramseg (codes "log" ∷ words) ≡ faults_at command.log.top words
+unfolding walked walk_fault defaults_fault
+log_line words = ap₂ fault_at (stopped_fault top top_names (walk_from nothing_held) (codes "log", []) words)
+    (sym (walk_stopped top.rules top_names (walk_from nothing_held) (codes "log") [] words))
+
+pub picture_line : (words : List Text) → fault_of ramseg (codes "picture" ∷ words) ≡ faults_at command.picture.top words
+unfolding walked walk_fault defaults_fault
+picture_line words = ap₂ fault_at (stopped_fault top top_names (walk_from nothing_held) (codes "picture", []) words)
+    (sym (walk_stopped top.rules top_names (walk_from nothing_held) (codes "picture") [] words))
+
 pub explore_line : (words : List Text) → fault_of ramseg (codes "explore" ∷ words) ≡ faults_at command.explore.top words
 unfolding walked walk_fault defaults_fault
 explore_line words = ap₂ fault_at (stopped_fault top top_names (walk_from nothing_held) (codes "explore", []) words)
@@ -108,6 +118,16 @@ pub threads_found : (words : List Text) → subcommand_of ramseg (codes "threads
     ≡ Some (rows_at (leaf command.threads.top) words)
 unfolding walked
 threads_found words = ap found_at (sym (walk_stopped top.rules top_names (walk_from nothing_held) (codes "threads") [] words))
+
+pub log_found : (words : List Text) → subcommand_of ramseg (codes "log" ∷ words)
+    ≡ Some (rows_at (leaf command.log.top) words)
+unfolding walked
+log_found words = ap found_at (sym (walk_stopped top.rules top_names (walk_from nothing_held) (codes "log") [] words))
+
+pub picture_found : (words : List Text) → subcommand_of ramseg (codes "picture" ∷ words)
+    ≡ Some (rows_at (leaf command.picture.top) words)
+unfolding walked
+picture_found words = ap found_at (sym (walk_stopped top.rules top_names (walk_from nothing_held) (codes "picture") [] words))
 
 pub explore_found : (words : List Text) → subcommand_of ramseg (codes "explore" ∷ words)
     ≡ Some (rows_at (leaf command.explore.top) words)
@@ -145,17 +165,21 @@ no_option word = go (long_of word)
     go None = refl
     go (Some flag) = refl
 
-none_of : (a b c d e f g h : Bool) → (a || (b || (c || (d || (e || (f || (g || (h || false)))))))) ≡ false →
+none_of : (a b c d e f g h i j : Bool) →
+    (a || (b || (c || (d || (e || (f || (g || (h || (i || (j || false)))))))))) ≡ false →
     (a ≡ false) × (b ≡ false) × (c ≡ false) × (d ≡ false) × (e ≡ false) × (f ≡ false) × (g ≡ false) × (h ≡ false)
-none_of true b c d e f g h none = absurd (true≢false none)
-none_of false true c d e f g h none = absurd (true≢false none)
-none_of false false true d e f g h none = absurd (true≢false none)
-none_of false false false true e f g h none = absurd (true≢false none)
-none_of false false false false true f g h none = absurd (true≢false none)
-none_of false false false false false true g h none = absurd (true≢false none)
-none_of false false false false false false true h none = absurd (true≢false none)
-none_of false false false false false false false true none = absurd (true≢false none)
-none_of false false false false false false false false none = (refl, refl, refl, refl, refl, refl, refl, refl)
+    × (i ≡ false) × (j ≡ false)
+none_of true b c d e f g h i j none = absurd (true≢false none)
+none_of false true c d e f g h i j none = absurd (true≢false none)
+none_of false false true d e f g h i j none = absurd (true≢false none)
+none_of false false false true e f g h i j none = absurd (true≢false none)
+none_of false false false false true f g h i j none = absurd (true≢false none)
+none_of false false false false false true g h i j none = absurd (true≢false none)
+none_of false false false false false false true h i j none = absurd (true≢false none)
+none_of false false false false false false false true i j none = absurd (true≢false none)
+none_of false false false false false false false false true j none = absurd (true≢false none)
+none_of false false false false false false false false false true none = absurd (true≢false none)
+none_of false false false false false false false false false false none = (refl, refl, refl, refl, refl, refl, refl, refl, refl, refl)
 
 module _ (word : Text) (rest : List Text) (none : is_command word ≡ false) (no_help : bytes_eq (codes "help") word ≡ false) where
   no_command : subcommand_met top_names idle word ≡ None
@@ -163,8 +187,8 @@ module _ (word : Text) (rest : List Text) (none : is_command word ≡ false) (no
       let p = none_of (bytes_eq (codes "run") word) (bytes_eq (codes "trace") word) (bytes_eq (codes "audit") word)
       (bytes_eq (codes "fuzz") word)
       (bytes_eq (codes "stops") word) (bytes_eq (codes "threads") word) (bytes_eq (codes "explore") word)
-      (bytes_eq (codes "explain") word) none in
-      rw (p.0, p.1, p.2, p.3, p.4, p.5, p.6, p.7, no_help) refl
+      (bytes_eq (codes "log") word) (bytes_eq (codes "picture") word) (bytes_eq (codes "explain") word) none in
+      rw (p.0, p.1, p.2, p.3, p.4, p.5, p.6, p.7, p.8, p.9, no_help) refl
 
   pub told : Told word rest
   told = ⊎_elim {C = Told word rest} (λ h. subst (λ w. Told w rest) (sym h.1) (ended rest))
@@ -174,9 +198,10 @@ module _ (word : Text) (rest : List Text) (none : is_command word ≡ false) (no
 
 -- what holds of a line by its first word, if it holds of each command's, of those of `help`, and of those of neither
 pub by_command : (P : Text → Type 0) → P (codes "run") → P (codes "trace") → P (codes "audit") → P (codes "fuzz") →
-    P (codes "stops") → P (codes "threads") → P (codes "explore") → P (codes "explain") → P (codes "help")
+    P (codes "stops") → P (codes "threads") → P (codes "explore") → P (codes "log") → P (codes "picture") → P (codes "explain") →
+    P (codes "help")
     → ((word : Text) → is_command word ≡ false → bytes_eq (codes "help") word ≡ false → P word) → (word : Text) → P word
-by_command P run trace audit fuzz stops threads explore explain help other word =
+by_command P run trace audit fuzz stops threads explore log picture explain help other word =
     ⊎_elim (λ it. subst P it.1 run) (λ a.
     ⊎_elim (λ it. subst P it.1 trace) (λ b.
     ⊎_elim (λ it. subst P it.1 audit) (λ c.
@@ -184,9 +209,13 @@ by_command P run trace audit fuzz stops threads explore explain help other word 
     ⊎_elim (λ it. subst P it.1 stops) (λ e.
     ⊎_elim (λ it. subst P it.1 threads) (λ f.
     ⊎_elim (λ it. subst P it.1 explore) (λ g.
-    ⊎_elim (λ it. subst P it.1 explain) (λ h.
-    ⊎_elim (λ it. subst P it.1 help) (λ no_help. other word (no_name a b c d e f g h) no_help)
+    ⊎_elim (λ it. subst P it.1 log) (λ h.
+    ⊎_elim (λ it. subst P it.1 picture) (λ i.
+    ⊎_elim (λ it. subst P it.1 explain) (λ j.
+    ⊎_elim (λ it. subst P it.1 help) (λ no_help. other word (no_name a b c d e f g h i j) no_help)
     (text_tells (codes "help") word)) (text_tells (codes "explain") word))
+    (text_tells (codes "picture") word))
+    (text_tells (codes "log") word))
     (text_tells (codes "explore") word))
     (text_tells (codes "threads") word))
     (text_tells (codes "stops") word))
@@ -202,6 +231,8 @@ by_command P run trace audit fuzz stops threads explore explain help other word 
         bytes_eq (codes "stops") word ≡ false →
         bytes_eq (codes "threads") word ≡ false →
         bytes_eq (codes "explore") word ≡ false →
+        bytes_eq (codes "log") word ≡ false →
+        bytes_eq (codes "picture") word ≡ false →
         bytes_eq (codes "explain") word ≡ false →
         is_command word ≡ false
-    no_name a b c d e f g h = rw (a, b, c, d, e, f, g, h) refl
+    no_name a b c d e f g h i j = rw (a, b, c, d, e, f, g, h, i, j) refl

@@ -146,6 +146,24 @@ threads_is = record { long = long; short = λ x. refl; strays = refl; positional
         let p = or_parts _ _ e in
         passed (bytes_eq (codes "hosts") name) _ _ p.0 ∙ passed (bytes_eq (codes "writes") name) _ _ (or_parts _ _ p.1).0
 
+pub log_is : IsLevel (leaf command.log.top) false (codes "json" ∷ [])
+unfolding clap_on_literals
+log_is = record {
+  long = λ name e. passed (bytes_eq (codes "json") name) _ _ (or_parts _ _ e).0;
+  short = λ x. refl;
+  strays = refl;
+  positional = refl;
+}
+
+pub picture_is : IsLevel (leaf command.picture.top) false (codes "mermaid" ∷ [])
+unfolding clap_on_literals
+picture_is = record {
+  long = λ name e. passed (bytes_eq (codes "mermaid") name) _ _ (or_parts _ _ e).0;
+  short = λ x. refl;
+  strays = refl;
+  positional = refl;
+}
+
 pub explore_is : IsLevel (leaf command.explore.top) false exploring
 unfolding clap_on_literals
 explore_is = record { long = long; short = λ x. refl; strays = refl; positional = refl }

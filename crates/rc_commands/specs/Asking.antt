@@ -85,6 +85,12 @@ explore_in rows =
     (number_or 5 (codes "hosts") 1 16 rows)) (number_or 2000 (codes "steps") 0 100000 rows))
     (number_or 1 (codes "seed") 0 18446744073709551615 rows)
 
+abbrev pub log_in : List Row → Option Asked
+log_in rows = Some (asked.Log (has_flag (codes "json") rows))
+
+abbrev pub picture_in : List Row → Option Asked
+picture_in rows = Some (asked.Picture (has_flag (codes "mermaid") rows))
+
 -- the number of a code that is written as F and decimal digits
 abbrev pub code_in : Text → Option ℕ
 code_in [] = None
@@ -111,7 +117,9 @@ command_in name rows =
     if bytes_eq name (codes "run") then run_in rows
     else (if bytes_eq name (codes "trace") then Some asked.Trace
     else (if bytes_eq name (codes "audit") then Some asked.Audit
-    else unread_in name rows))
+    else (if bytes_eq name (codes "log") then log_in rows
+    else (if bytes_eq name (codes "picture") then picture_in rows
+    else unread_in name rows))))
 
 -- nothing, where `clap` finds a fault in the words
 abbrev pub where_taken : Kinds → Option Asked → Option Asked
@@ -151,7 +159,7 @@ is_alone name (word ∷ rest) = bytes_eq name word && is_end rest
 
 abbrev pub names : List Text
 names = codes "run" ∷ codes "trace" ∷ codes "audit" ∷ codes "fuzz" ∷ codes "stops" ∷ codes "threads" ∷ codes "explore"
-    ∷ codes "explain" ∷ []
+    ∷ codes "log" ∷ codes "picture" ∷ codes "explain" ∷ []
 
 abbrev pub is_command : Text → Bool
 is_command word = list_any (λ name. bytes_eq name word) names
@@ -189,7 +197,9 @@ options_of name =
     else (if bytes_eq (codes "fuzz") name then codes "seed" ∷ codes "steps" ∷ codes "free" ∷ []
     else (if bytes_eq (codes "stops") name then codes "seed" ∷ codes "steps" ∷ []
     else (if bytes_eq (codes "threads") name then codes "hosts" ∷ codes "writes" ∷ []
-    else (if bytes_eq (codes "explore") name then exploring else []))))
+    else (if bytes_eq (codes "explore") name then exploring
+    else (if bytes_eq (codes "log") name then codes "json" ∷ []
+    else (if bytes_eq (codes "picture") name then codes "mermaid" ∷ [] else []))))))
 
 -- `--NAME` or `--NAME=VALUE`, for one of these options
 abbrev pub is_option : List Text → Text → Bool

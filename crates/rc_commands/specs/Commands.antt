@@ -50,6 +50,12 @@ explore_sized = with_rule explore_placed (option (codes "segment"))
 abbrev pub explore : App
 explore = with_rule (with_rule explore_sized (flag (codes "free"))) (flag (codes "save"))
 
+abbrev pub log : App
+log = with_rule (new_app (codes "log")) (flag (codes "json"))
+
+abbrev pub picture : App
+picture = with_rule (new_app (codes "picture")) (flag (codes "mermaid"))
+
 abbrev pub explain : App
 explain = with_rule (new_app (codes "explain")) (word (codes "code"))
 
@@ -59,7 +65,8 @@ alone = on_top (λ top. record top { has_version = true; no_binary_name = true; 
 
 -- with the commands that read, then with those up to `threads` too
 abbrev pub reading : App
-reading = with_subcommand (with_subcommand (with_subcommand alone run.top) trace.top) audit.top
+reading = with_subcommand (with_subcommand (with_subcommand (with_subcommand (with_subcommand alone run.top) trace.top)
+    audit.top) log.top) picture.top
 
 abbrev pub running : App
 running = with_subcommand (with_subcommand (with_subcommand reading fuzz.top) stops.top) threads.top

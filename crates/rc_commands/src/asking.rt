@@ -56,6 +56,14 @@ pub enum Asked {
         free: bool,
         save: bool,
     },
+    /// Replay a scenario, and tell each event and each message; as JSON, where `json` says so.
+    Log {
+        json: bool,
+    },
+    /// Replay a scenario, and draw the run as a page; or for Mermaid, where `mermaid` says so.
+    Picture {
+        mermaid: bool,
+    },
     /// Say what the code of this number means, or what all codes mean.
     Explain {
         code: Option<u8>,
@@ -88,6 +96,10 @@ pub fn asked_for(alloc: Global, words: &[String]) -> Result<Asked, Fault>
         (λ a. is_alone (codes "threads") (map string_bytes words.now) ≡ true → a ≡ Asked.Threads 4 10) }
     ensures explore { IfOk result (λ a. is_alone (codes "explore") (map string_bytes words.now) ≡ true
         → a ≡ Asked.Explore 1 2000 5 2 2 false false) }
+    ensures log { IfOk result
+        (λ a. is_alone (codes "log") (map string_bytes words.now) ≡ true → a ≡ Asked.Log false) }
+    ensures picture { IfOk result
+        (λ a. is_alone (codes "picture") (map string_bytes words.now) ≡ true → a ≡ Asked.Picture false) }
     ensures explain { IfOk result
         (λ a. is_alone (codes "explain") (map string_bytes words.now) ≡ true → a ≡ Asked.Explain None) }
     ensures texts { IfOk result (λ a. is_plain (map string_bytes words.now) ≡ true
@@ -148,6 +160,12 @@ fn command_named<'a>(name: &str, given: &ArgMatches<'a>) -> Result<Asked, BadWor
         "run" => run_of(given),
         "trace" => Ok(Asked::Trace),
         "audit" => Ok(Asked::Audit),
+        "log" => Ok(Asked::Log {
+            json: has_flag(given, "json"),
+        }),
+        "picture" => Ok(Asked::Picture {
+            mermaid: has_flag(given, "mermaid"),
+        }),
         _ => unread_named(name, given),
     }
 }

@@ -34,7 +34,9 @@ fn reading<'a>(alloc: Global) -> Result<Command<'a>, AllocError>
     let alone = alone(alloc)?;
     let replaying = with(alone, run(alloc))?;
     let tracing = with(replaying, Ok(trace(alloc)))?;
-    with(tracing, Ok(audit(alloc)))
+    let judging = with(tracing, Ok(audit(alloc)))?;
+    let telling = with(judging, log(alloc))?;
+    with(telling, picture(alloc))
 }
 
 /// The program with one command more, if that could be made.
@@ -228,6 +230,36 @@ fn drawn<'a>(
     command(alloc, name, about, example)
         .arg(option(alloc, "seed", "N", "The seed, below 2^64; 1 if not given"))?
         .arg(option(alloc, "steps", "N", steps))
+}
+
+/// `log` with its flag.
+fn log<'a>(alloc: Global) -> Result<Command<'a>, AllocError>
+    ensures { IfOk result (IsBuiltAs spec.log) }
+{
+    command(
+        alloc,
+        "log",
+        "Replays a scenario that it reads from standard input, and tells each event and each message",
+        "Example: ramseg log < examples/first-write.json",
+    )
+    .arg(flag(alloc, "json", "Tells it as one JSON value"))
+}
+
+/// `picture` with its flag.
+fn picture<'a>(alloc: Global) -> Result<Command<'a>, AllocError>
+    ensures { IfOk result (IsBuiltAs spec.picture) }
+{
+    command(
+        alloc,
+        "picture",
+        "Replays a scenario that it reads from standard input, and draws the run as a page for a browser",
+        "Example: ramseg picture < examples/first-write.json > run.html",
+    )
+    .arg(flag(
+        alloc,
+        "mermaid",
+        "Draws a sequence diagram as text for Mermaid in place of the page",
+    ))
 }
 
 /// `explain` with the code that it explains.

@@ -10,6 +10,7 @@ ghost use Rattle.rc_master.specs.Numbers.{HasVersions};
 ghost use Rattle.rc_master.specs.Steps.{steps};
 
 use crate::state::State;
+use rc_headroll::LogHead;
 use rc_types::{Addr, Body, Fault, Input, Message, ServerId};
 use std::alloc::Global;
 use std::marker::Model;
@@ -54,6 +55,11 @@ impl Master {
         ensures { result ≡ (master_of self.now).log.own }
     {
         self.state.log.own()
+    }
+
+    /// Its log: the phase, and each segment with its members and what these have told. It takes no memory.
+    pub fn log(&self) -> &LogHead {
+        &self.state.log
     }
 
     /// Whether it has learnt that the coordinator holds it for dead.

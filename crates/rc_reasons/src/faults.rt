@@ -1,14 +1,12 @@
 //! Why a scenario or a trace is wrong at a place (F17).
 
 use crate::dialects::{Dialect, MESSAGES, may_be_absent};
-use crate::names::nearest;
-use crate::pieces::{Member, Piece, items, line_and_column, members, named};
-use crate::syntax::add_text_fault;
-use crate::values::{Want, Wrong, unquoted, wrong_in};
+use crate::pieces::{Member, Piece, items, members, named};
+use crate::showing::{ask_for_nearest, show, show_quoted, tell_names, tell_place, tell_quoted};
+use crate::syntax::tell_text_fault;
+use crate::values::{Want, Wrong, tell_want, unquoted, wrong_in};
+use rc_pen::{Pen, Spelling};
 use std::alloc::{AllocError, Global};
-
-/// How many characters of a value are shown.
-const SHOWN: usize = 40;
 
 /// Why a text is wrong at this place, in a line or two. Fails only where memory was refused.
 pub fn reason_of_fault(
@@ -18,66 +16,70 @@ pub fn reason_of_fault(
     place: usize,
 ) -> Result<String, AllocError> {
     let mut said = String::new(alloc);
-    match place {
-        0 => add_text_fault(alloc, dialect, text, &mut said)?,
-        1 => add_whole_fault(alloc, dialect, text, &mut said)?,
-        _ => add_item_fault(alloc, dialect, text, place - 2, &mut said)?,
-    }
-    said.push_str("\n`ramseg explain F17` says what the place stands for.\n")?;
+    let mut pen = Pen::at(&mut said, Spelling::Plain);
+    tell_fault(alloc, dialect, text, place, &mut pen)?;
+    pen.say("\n`ramseg explain F17` says what the place stands for.\n");
+    pen.end()?;
     Ok(said)
 }
 
-/// Tells where something stands.
-pub(crate) fn add_place(said: &mut String, text: &[u8], at: usize) -> Result<(), AllocError> {
-    let (line, column) = line_and_column(text, at);
-    write!(said, "line {line}, column {column}: ")
-}
-
-/// Shows a piece of the text, or the front of it.
-fn add_shown(said: &mut String, text: &[u8], piece: Piece) -> Result<(), AllocError> {
-    let characters = piece.text(text);
-    for character in characters.chars().take(SHOWN) {
-        said.push(if character.is_control() {
-            ' '
-        } else {
-            character
-        })?;
-    }
-    if characters.chars().nth(SHOWN).is_some() {
-        said.push_str("..")?;
-    }
-    Ok(())
-}
-
-/// Why what stands round the list is wrong.
-fn add_whole_fault(
+/// Why a text is wrong at this place.
+fn tell_fault(
     alloc: Global,
     dialect: Dialect,
     text: &[u8],
-    said: &mut String,
+    place: usize,
+    pen: &mut Pen<'_>,
+) -> Result<(), AllocError> {
+    match place {
+        0 => tell_text_fault(alloc, dialect, text, pen),
+        1 => tell_whole_fault(alloc, dialect, text, pen),
+        _ => tell_item_fault(alloc, dialect, text, place - 2, pen),
+    }
+}
+
+/// Why what stands round the list is wrong.
+fn tell_whole_fault(
+    alloc: Global,
+    dialect: Dialect,
+    text: &[u8],
+    pen: &mut Pen<'_>,
 ) -> Result<(), AllocError> {
     let whole = Piece::all(text);
-    let name = dialect.whole();
     if whole.first(text) != b'{' {
-        add_place(said, text, whole.from)?;
-        let example = dialect.example();
-        return write!(said, "{name} has to be an object, as {example}");
+        tell_place(pen, text, whole.from);
+        pen.say(dialect.whole());
+        pen.say(" has to be an object, as ");
+        pen.say(dialect.example());
+        return Ok(());
     }
     let found = members(alloc, text, whole)?;
-    let format = named(text, found.as_slice(), "format");
-    if is_first(dialect, text, format) && has_second_alone(text, found.as_slice()) {
-        add_place(said, text, whole.from)?;
-        return said.push_str(
-            "the members \"factors\" and \"free\" belong to format 2; this is \"format\":1",
-        );
+    tell_outer_fault(alloc, dialect, text, found.as_slice(), pen)
+}
+
+/// Why the outermost object is wrong, which has these members.
+fn tell_outer_fault(
+    alloc: Global,
+    dialect: Dialect,
+    text: &[u8],
+    found: &[Member],
+    pen: &mut Pen<'_>,
+) -> Result<(), AllocError> {
+    let whole = Piece::all(text);
+    let is_first = is_first(dialect, text, named(text, found, "format"));
+    if is_first && has_second_alone(text, found) {
+        tell_place(pen, text, whole.from);
+        pen.say("the members \"factors\" and \"free\" belong to format 2; this is \"format\":1");
+        return Ok(());
     }
     let object = Object {
         whole,
+        name: Name::Whole(dialect),
         kind: dialect.list(),
-        wanted: dialect.members(!is_first(dialect, text, format)),
+        wanted: dialect.members(!is_first),
         first: "",
     };
-    add_members_fault(alloc, text, name, &object, found.as_slice(), said)
+    tell_members_fault(alloc, text, &object, found, pen)
 }
 
 /// Whether this is the format of a scenario of format 1.
@@ -93,10 +95,20 @@ fn has_second_alone(text: &[u8], members: &[Member]) -> bool {
     named(text, members, "factors").is_some() || named(text, members, "free").is_some()
 }
 
+/// What an object is called.
+#[derive(Clone, Copy)]
+enum Name<'a> {
+    /// The whole of this dialect.
+    Whole(Dialect),
+    /// The item of this number, of this kind.
+    Item(Dialect, usize, &'a str),
+}
+
 /// An object whose members are looked at.
 #[derive(Clone, Copy)]
 struct Object<'a> {
     whole: Piece,
+    name: Name<'a>,
     kind: &'a str,
     /// The names of its members, apart from spaces.
     wanted: &'static str,
@@ -104,109 +116,158 @@ struct Object<'a> {
     first: &'static str,
 }
 
+/// What the object is called.
+fn tell_name(pen: &mut Pen<'_>, object: &Object<'_>) {
+    match object.name {
+        Name::Whole(dialect) => pen.say(dialect.whole()),
+        Name::Item(dialect, number, kind) => {
+            tell_item(pen, dialect, number);
+            pen.say(" (");
+            pen.say(kind);
+            pen.say(")");
+        }
+    }
+}
+
+/// An item, by its number.
+fn tell_item(pen: &mut Pen<'_>, dialect: Dialect, number: usize) {
+    pen.say(dialect.item());
+    pen.number(" ", number as u64);
+}
+
 /// Tells of the first member that is strange, missing or wrong.
-fn add_members_fault(
+fn tell_members_fault(
     alloc: Global,
     text: &[u8],
-    name: &str,
     object: &Object<'_>,
     found: &[Member],
-    said: &mut String,
+    pen: &mut Pen<'_>,
 ) -> Result<(), AllocError> {
-    for member in found {
-        let spelt = member.name.text(text);
-        if spelt != object.first && !object.wanted.split(' ').any(|other| other == spelt) {
-            return add_strange(alloc, text, name, object, member, said);
-        }
+    if let Some(member) = strange_member(text, object, found) {
+        return tell_strange(alloc, text, object, &member, pen);
     }
     for wanted in object.wanted.split(' ') {
-        let want = Want::of(object.kind, wanted);
-        match named(text, found, wanted) {
-            Some(member) => {
-                if let Some(wrong) = wrong_in(alloc, text, member.value, want)? {
-                    add_wrong(said, text, name, &member, &wrong)?;
-                    return add_meant(alloc, text, &wrong, said);
-                }
-            }
-            None if may_be_absent(wanted) => {}
-            None => {
-                add_place(said, text, object.whole.from)?;
-                return write!(said, "{name} lacks the member \"{wanted}\": {want}");
-            }
+        if tell_member_fault(alloc, text, object, found, wanted, pen)? {
+            return Ok(());
         }
     }
-    add_place(said, text, object.whole.from)?;
-    write!(said, "{name} is wrong")
+    tell_place(pen, text, object.whole.from);
+    tell_name(pen, object);
+    pen.say(" is wrong");
+    Ok(())
+}
+
+/// The first member that the object does not have.
+fn strange_member(text: &[u8], object: &Object<'_>, found: &[Member]) -> Option<Member> {
+    found
+        .iter()
+        .find(|member| !is_member(object, member.name.text(text)))
+        .copied()
+}
+
+/// Whether the object has a member of this name.
+fn is_member(object: &Object<'_>, name: &str) -> bool {
+    name == object.first || object.wanted.split(' ').any(|other| other == name)
+}
+
+/// Tells what is wrong with the member of this name, and gives whether something is.
+fn tell_member_fault(
+    alloc: Global,
+    text: &[u8],
+    object: &Object<'_>,
+    found: &[Member],
+    wanted: &str,
+    pen: &mut Pen<'_>,
+) -> Result<bool, AllocError> {
+    let want = Want::of(object.kind, wanted);
+    let Some(member) = named(text, found, wanted) else {
+        return Ok(tell_absent(text, object, wanted, want, pen));
+    };
+    let Some(wrong) = wrong_in(alloc, text, member.value, want)? else {
+        return Ok(false);
+    };
+    tell_wrong(pen, text, object, &member, &wrong);
+    tell_meant(alloc, text, &wrong, pen)?;
+    Ok(true)
+}
+
+/// Tells that a member is absent, unless it may be; gives whether it has told that.
+fn tell_absent(
+    text: &[u8],
+    object: &Object<'_>,
+    wanted: &str,
+    want: Want,
+    pen: &mut Pen<'_>,
+) -> bool {
+    if may_be_absent(wanted) {
+        return false;
+    }
+    tell_place(pen, text, object.whole.from);
+    tell_name(pen, object);
+    pen.say(" lacks the member ");
+    tell_quoted(pen, wanted);
+    pen.say(": ");
+    tell_want(pen, want);
+    true
 }
 
 /// Tells of a member that does not belong here.
-fn add_strange(
+fn tell_strange(
     alloc: Global,
     text: &[u8],
-    name: &str,
     object: &Object<'_>,
     member: &Member,
-    said: &mut String,
+    pen: &mut Pen<'_>,
 ) -> Result<(), AllocError> {
-    add_place(said, text, member.name.from.saturating_sub(1))?;
-    write!(said, "{name} has no member \"")?;
-    add_shown(said, text, member.name)?;
-    said.push_str("\"")?;
+    tell_place(pen, text, member.name.from.saturating_sub(1));
+    tell_name(pen, object);
+    pen.say(" has no member ");
+    show_quoted(pen, text, member.name);
     let names: Vec<&str> = object.wanted.split(' ').collect(alloc)?;
-    match nearest(alloc, member.name.text(text), names.as_slice())? {
-        Some(near) => write!(said, "; did you mean \"{near}\"?"),
-        None => add_names(said, "; its members are", names.as_slice()),
-    }
+    let spelt = member.name.text(text);
+    tell_nearest(alloc, pen, spelt, "; its members are", names.as_slice())
 }
 
-/// Adds these names, with commas.
-fn add_names(said: &mut String, before: &str, names: &[&str]) -> Result<(), AllocError> {
-    said.push_str(before)?;
-    for (number, name) in names.iter().enumerate() {
-        let comma = if number == 0 { "" } else { "," };
-        write!(said, "{comma} {name}")?;
+/// Asks whether the nearest of these names was meant, or tells all of them.
+fn tell_nearest(
+    alloc: Global,
+    pen: &mut Pen<'_>,
+    spelt: &str,
+    before: &str,
+    names: &[&str],
+) -> Result<(), AllocError> {
+    if !ask_for_nearest(alloc, pen, spelt, names)? {
+        tell_names(pen, before, names);
     }
     Ok(())
 }
 
 /// Tells of a value that is not what it has to be.
-fn add_wrong(
-    said: &mut String,
-    text: &[u8],
-    name: &str,
-    member: &Member,
-    wrong: &Wrong,
-) -> Result<(), AllocError> {
-    add_place(said, text, wrong.at)?;
-    write!(said, "{name}: ")?;
-    if wrong.shown.from == member.value.from {
-        said.push_str("\"")?;
-        add_shown(said, text, member.name)?;
-        said.push_str("\" is ")?;
-    } else {
-        said.push_str("in \"")?;
-        add_shown(said, text, member.name)?;
-        said.push_str("\" stands ")?;
-    }
-    add_shown(said, text, wrong.shown)?;
-    write!(said, "; expected {}", wrong.want)
+fn tell_wrong(pen: &mut Pen<'_>, text: &[u8], object: &Object<'_>, member: &Member, wrong: &Wrong) {
+    tell_place(pen, text, wrong.at);
+    tell_name(pen, object);
+    pen.say(": ");
+    let is_whole = wrong.shown.from == member.value.from;
+    pen.either(is_whole, "", "in ");
+    show_quoted(pen, text, member.name);
+    pen.either(is_whole, " is ", " stands ");
+    show(pen, text, wrong.shown);
+    pen.say("; expected ");
+    tell_want(pen, wrong.want);
 }
 
 /// Asks whether another name was meant.
-fn add_meant(
+fn tell_meant(
     alloc: Global,
     text: &[u8],
     wrong: &Wrong,
-    said: &mut String,
+    pen: &mut Pen<'_>,
 ) -> Result<(), AllocError> {
-    let Want::Name = wrong.want else {
-        return Ok(());
-    };
-    let spelt = unquoted(wrong.shown.text(text)).unwrap_or("");
-    match nearest(alloc, spelt, &MESSAGES)? {
-        Some(near) => write!(said, "; did you mean \"{near}\"?"),
-        None => Ok(()),
+    if let Want::Name = wrong.want {
+        let spelt = unquoted(wrong.shown.text(text)).unwrap_or("");
+        ask_for_nearest(alloc, pen, spelt, &MESSAGES)?;
     }
+    Ok(())
 }
 
 /// The item of this number.
@@ -216,81 +277,121 @@ pub(crate) fn item_of(
     text: &[u8],
     number: usize,
 ) -> Result<Option<Piece>, AllocError> {
+    match list_of(alloc, dialect, text)? {
+        Some(list) => item_in(alloc, text, list, number),
+        None => Ok(None),
+    }
+}
+
+/// The list of items.
+pub(crate) fn list_of(
+    alloc: Global,
+    dialect: Dialect,
+    text: &[u8],
+) -> Result<Option<Piece>, AllocError> {
     let found = members(alloc, text, Piece::all(text))?;
-    let Some(list) = named(text, found.as_slice(), dialect.list()) else {
-        return Ok(None);
-    };
-    let items = items(alloc, text, list.value)?;
-    Ok(items.as_slice().get(number).copied())
+    let list = named(text, found.as_slice(), dialect.list());
+    Ok(list.map(|member| member.value))
+}
+
+/// The item of this number in a list.
+fn item_in(
+    alloc: Global,
+    text: &[u8],
+    list: Piece,
+    number: usize,
+) -> Result<Option<Piece>, AllocError> {
+    let found = items(alloc, text, list)?;
+    Ok(found.as_slice().get(number).copied())
 }
 
 /// Why an item of the list is wrong.
-fn add_item_fault(
+fn tell_item_fault(
     alloc: Global,
     dialect: Dialect,
     text: &[u8],
     number: usize,
-    said: &mut String,
+    pen: &mut Pen<'_>,
 ) -> Result<(), AllocError> {
-    let (item, kind) = (dialect.item(), dialect.kind());
     let Some(whole) = item_of(alloc, dialect, text, number)? else {
-        return write!(said, "{item} {number} is wrong");
+        tell_item(pen, dialect, number);
+        pen.say(" is wrong");
+        return Ok(());
     };
     if whole.first(text) != b'{' {
-        add_place(said, text, whole.from)?;
-        write!(said, "{item} {number} is ")?;
-        add_shown(said, text, whole)?;
-        return write!(
-            said,
-            "; expected an object, as {{\"{kind}\":\"{}\", ..}}",
-            example(dialect)
-        );
+        tell_no_object(pen, dialect, text, number, whole);
+        return Ok(());
     }
     let found = members(alloc, text, whole)?;
-    let Some(member) = named(text, found.as_slice(), kind) else {
-        add_place(said, text, whole.from)?;
-        write!(
-            said,
-            "{item} {number} lacks the member \"{kind}\", which says what it is"
-        )?;
-        return add_names(said, ":", dialect.kinds());
+    tell_object_fault(alloc, dialect, text, number, whole, found.as_slice(), pen)
+}
+
+/// An item is no object.
+fn tell_no_object(pen: &mut Pen<'_>, dialect: Dialect, text: &[u8], number: usize, whole: Piece) {
+    tell_place(pen, text, whole.from);
+    tell_item(pen, dialect, number);
+    pen.say(" is ");
+    show(pen, text, whole);
+    pen.say("; expected an object, as {");
+    tell_quoted(pen, dialect.kind());
+    pen.say(":");
+    tell_quoted(pen, dialect.kinds().first().copied().unwrap_or(""));
+    pen.say(", ..}");
+}
+
+/// Why an item is wrong that is an object with these members.
+fn tell_object_fault(
+    alloc: Global,
+    dialect: Dialect,
+    text: &[u8],
+    number: usize,
+    whole: Piece,
+    found: &[Member],
+    pen: &mut Pen<'_>,
+) -> Result<(), AllocError> {
+    let Some(member) = named(text, found, dialect.kind()) else {
+        tell_no_kind(pen, dialect, text, number, whole);
+        return Ok(());
     };
-    let spelt = unquoted(member.value.text(text)).unwrap_or("");
-    let Some(wanted) = dialect.members_of(spelt) else {
-        return add_strange_kind(alloc, dialect, text, number, &member, said);
+    let kind = unquoted(member.value.text(text)).unwrap_or("");
+    let Some(wanted) = dialect.members_of(kind) else {
+        tell_strange_kind(pen, dialect, text, number, &member);
+        return tell_nearest(alloc, pen, kind, "; these are:", dialect.kinds());
     };
-    let name = format!(in alloc; "{item} {number} ({spelt})")?;
     let object = Object {
         whole,
-        kind: spelt,
+        name: Name::Item(dialect, number, kind),
+        kind,
         wanted,
-        first: kind,
+        first: dialect.kind(),
     };
-    add_members_fault(alloc, text, name.as_str(), &object, found.as_slice(), said)
+    tell_members_fault(alloc, text, &object, found, pen)
 }
 
-/// A kind of item.
-fn example(dialect: Dialect) -> &'static str {
-    dialect.kinds().first().copied().unwrap_or("")
+/// An item does not say what it is.
+fn tell_no_kind(pen: &mut Pen<'_>, dialect: Dialect, text: &[u8], number: usize, whole: Piece) {
+    tell_place(pen, text, whole.from);
+    tell_item(pen, dialect, number);
+    pen.say(" lacks the member ");
+    tell_quoted(pen, dialect.kind());
+    pen.say(", which says what it is");
+    tell_names(pen, ":", dialect.kinds());
 }
 
-/// Tells of a kind of item that is not known.
-fn add_strange_kind(
-    alloc: Global,
+/// An item is of a kind that is not known.
+fn tell_strange_kind(
+    pen: &mut Pen<'_>,
     dialect: Dialect,
     text: &[u8],
     number: usize,
     member: &Member,
-    said: &mut String,
-) -> Result<(), AllocError> {
-    let (item, kind) = (dialect.item(), dialect.kind());
-    add_place(said, text, member.value.from)?;
-    write!(said, "{item} {number}: \"{kind}\" is ")?;
-    add_shown(said, text, member.value)?;
-    write!(said, ", which is no kind of {item}")?;
-    let spelt = unquoted(member.value.text(text)).unwrap_or("");
-    match nearest(alloc, spelt, dialect.kinds())? {
-        Some(near) => write!(said, "; did you mean \"{near}\"?"),
-        None => add_names(said, "; these are:", dialect.kinds()),
-    }
+) {
+    tell_place(pen, text, member.value.from);
+    tell_item(pen, dialect, number);
+    pen.say(": ");
+    tell_quoted(pen, dialect.kind());
+    pen.say(" is ");
+    show(pen, text, member.value);
+    pen.say(", which is no kind of ");
+    pen.say(dialect.item());
 }

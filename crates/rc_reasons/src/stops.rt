@@ -1,10 +1,12 @@
 //! Why an event of a scenario was not possible (F18).
 
 use crate::dialects::Dialect;
-use crate::faults::{add_place, item_of};
-use crate::histories::History;
-use crate::pieces::{members, named};
+use crate::faults::item_of;
+use crate::histories::{History, Host};
+use crate::pieces::{Piece, members, named};
+use crate::showing::tell_place;
 use crate::values::unquoted;
+use rc_pen::{Pen, Spelling};
 use rc_reading::{ReadFault, ScenarioEvent, read_scenario};
 use rc_types::limits::MAX_EVENTS;
 use rc_types::{Addr, ServerId};
@@ -19,110 +21,157 @@ pub fn reason_of_stop(
     sent: usize,
 ) -> Result<String, AllocError> {
     let mut said = String::new(alloc);
-    add_event(alloc, text, number, &mut said)?;
-    match read_scenario(alloc, text) {
-        Ok(scenario) => {
-            let events = scenario.events.as_slice();
-            let history = History::of(&events[..number.min(events.len())]);
-            add_cause(events.get(number), &history, sent, &mut said)?;
-        }
-        Err(ReadFault::OutOfMemory) => return Err(AllocError),
-        Err(ReadFault::BadScenario(_)) => said.push_str("it is not possible")?,
-    }
-    said.push_str("\n`ramseg explain F18` says more.\n")?;
+    let mut pen = Pen::at(&mut said, Spelling::Plain);
+    tell_event(alloc, text, number, &mut pen)?;
+    tell_stop(alloc, text, number, sent, &mut pen)?;
+    pen.say("\n`ramseg explain F18` says more.\n");
+    pen.end()?;
     Ok(said)
 }
 
 /// Names the event, and where it stands.
-fn add_event(
+fn tell_event(
     alloc: Global,
     text: &[u8],
     number: usize,
-    said: &mut String,
+    pen: &mut Pen<'_>,
 ) -> Result<(), AllocError> {
-    let Some(whole) = item_of(alloc, Dialect::Scenario, text, number)? else {
-        return write!(said, "event {number}: ");
-    };
-    add_place(said, text, whole.from)?;
+    match item_of(alloc, Dialect::Scenario, text, number)? {
+        Some(whole) => tell_kind(alloc, text, number, whole, pen),
+        None => {
+            pen.number("event ", number as u64);
+            pen.say(": ");
+            Ok(())
+        }
+    }
+}
+
+/// Names the event that stands here.
+fn tell_kind(
+    alloc: Global,
+    text: &[u8],
+    number: usize,
+    whole: Piece,
+    pen: &mut Pen<'_>,
+) -> Result<(), AllocError> {
     let found = members(alloc, text, whole)?;
     let kind = match named(text, found.as_slice(), "e") {
         Some(member) => unquoted(member.value.text(text)).unwrap_or(""),
         None => "",
     };
-    write!(said, "event {number} ({kind}): ")
+    tell_place(pen, text, whole.from);
+    pen.number("event ", number as u64);
+    pen.say(" (");
+    pen.say(kind);
+    pen.say("): ");
+    Ok(())
+}
+
+/// Says why the event of this number was not possible.
+fn tell_stop(
+    alloc: Global,
+    text: &[u8],
+    number: usize,
+    sent: usize,
+    pen: &mut Pen<'_>,
+) -> Result<(), AllocError> {
+    match read_scenario(alloc, text) {
+        Ok(scenario) => {
+            tell_stop_in(scenario.events.as_slice(), number, sent, pen);
+            Ok(())
+        }
+        Err(ReadFault::OutOfMemory) => Err(AllocError),
+        Err(ReadFault::BadScenario(_)) => {
+            pen.say("it is not possible");
+            Ok(())
+        }
+    }
+}
+
+/// Says why the event of this number was not possible, of these.
+fn tell_stop_in(events: &[ScenarioEvent], number: usize, sent: usize, pen: &mut Pen<'_>) {
+    let history = History::of(&events[..number.min(events.len())]);
+    tell_cause(events.get(number), &history, sent, pen);
 }
 
 /// Says why the event was not possible.
-fn add_cause(
-    event: Option<&ScenarioEvent>,
-    history: &History,
-    sent: usize,
-    said: &mut String,
-) -> Result<(), AllocError> {
+fn tell_cause(event: Option<&ScenarioEvent>, history: &History, sent: usize, pen: &mut Pen<'_>) {
     match event {
-        Some(ScenarioEvent::Start { host, .. }) => add_running(*host, history, said),
-        Some(ScenarioEvent::Stop(id) | ScenarioEvent::Tick(Addr::Server(id))) => add_absent(
-            *id, history, said,
-        ),
-        Some(ScenarioEvent::Deliver(n)) if *n as usize >= sent => add_unsent(*n, sent, said),
-        _ => add_limit(said),
+        Some(ScenarioEvent::Start { host, .. }) => tell_running(*host, history, pen),
+        Some(ScenarioEvent::Stop(id) | ScenarioEvent::Tick(Addr::Server(id))) => {
+            tell_absent(*id, history, pen);
+        }
+        Some(ScenarioEvent::Deliver(n)) if *n as usize >= sent => tell_unsent(*n, sent, pen),
+        _ => tell_limit(pen),
     }
 }
 
 /// A message that is to be delivered was not sent.
-fn add_unsent(number: u32, sent: usize, said: &mut String) -> Result<(), AllocError> {
-    write!(said, "message {number} was not sent; ")?;
+fn tell_unsent(number: u32, sent: usize, pen: &mut Pen<'_>) {
+    pen.number("message ", u64::from(number));
+    pen.say(" was not sent; ");
     match sent {
-        0 => said.push_str("none was until then"),
-        1 => said.push_str("only message 0 was until then"),
-        _ => write!(said, "{sent} were until then, 0 to {}", sent - 1),
+        0 => pen.say("none was until then"),
+        1 => pen.say("only message 0 was until then"),
+        _ => {
+            pen.number("", sent as u64);
+            pen.number(" were until then, 0 to ", sent.saturating_sub(1) as u64);
+        }
     }
 }
 
 /// No event is possible any more.
-fn add_limit(said: &mut String) -> Result<(), AllocError> {
-    write!(
-        said,
-        "{MAX_EVENTS} events have happened, of which each delivery of a settle is one; a world takes no more"
-    )
+fn tell_limit(pen: &mut Pen<'_>) {
+    pen.number("", MAX_EVENTS as u64);
+    pen.say(
+        " events have happened, of which each delivery of a settle is one; a world takes no more",
+    );
 }
 
 /// A host that is to start runs.
-fn add_running(index: u8, history: &History, said: &mut String) -> Result<(), AllocError> {
+fn tell_running(index: u8, history: &History, pen: &mut Pen<'_>) {
     match history.host(index) {
-        Some(host) if host.is_running => write!(
-            said,
-            "host {index} runs already, as {index}.{}, since event {}; it can start again once that is stopped",
-            host.generation, host.since
-        ),
-        _ => add_limit(said),
+        Some(host) if host.is_running => {
+            pen.number("host ", u64::from(index));
+            pen.id(" runs already, as ", newest(index, host));
+            pen.number(", since event ", host.since as u64);
+            pen.say("; it can start again once that is stopped");
+        }
+        _ => tell_limit(pen),
+    }
+}
+
+/// The newest server of a host.
+fn newest(index: u8, host: Host) -> ServerId {
+    ServerId {
+        index,
+        generation: host.generation,
     }
 }
 
 /// A server that is to stop or to tick does not run.
-fn add_absent(id: ServerId, history: &History, said: &mut String) -> Result<(), AllocError> {
-    let index = id.index;
-    let Some(host) = history.host(index) else {
-        return add_limit(said);
-    };
+fn tell_absent(id: ServerId, history: &History, pen: &mut Pen<'_>) {
+    match history.host(id.index) {
+        Some(host) if host.is_running && host.generation == id.generation => tell_limit(pen),
+        Some(host) => {
+            pen.id("", id);
+            pen.number(" does not run: host ", u64::from(id.index));
+            tell_instead(id.index, host, pen);
+        }
+        None => tell_limit(pen),
+    }
+}
+
+/// What runs on a host, or ran last.
+fn tell_instead(index: u8, host: Host, pen: &mut Pen<'_>) {
     if host.generation == 0 {
-        return write!(
-            said,
-            "{id} does not run: host {index} has never been started"
-        );
+        pen.say(" has never been started");
+    } else if host.is_running {
+        pen.id(" runs as ", newest(index, host));
+        pen.number(", since event ", host.since as u64);
+    } else {
+        pen.id(" ran last as ", newest(index, host));
+        pen.number(", which event ", host.since as u64);
+        pen.say(" stopped");
     }
-    let (newest, since) = (host.generation, host.since);
-    if host.is_running && newest == id.generation {
-        return add_limit(said);
-    }
-    if host.is_running {
-        return write!(
-            said,
-            "{id} does not run: host {index} runs as {index}.{newest}, since event {since}"
-        );
-    }
-    write!(
-        said,
-        "{id} does not run: host {index} ran last as {index}.{newest}, which event {since} stopped"
-    )
 }

@@ -1,46 +1,69 @@
 //! What may be wrong where a text is no JSON.
 
 use crate::dialects::Dialect;
-use crate::faults::add_place;
 use crate::pieces::Piece;
+use crate::showing::tell_place;
+use rc_pen::Pen;
 use rc_reading::limits::MOST_BYTES;
 use serde_json::Value;
 use std::alloc::{AllocError, Global};
 
 /// Why the bytes are no JSON text.
-pub fn add_text_fault(
+pub(crate) fn tell_text_fault(
     alloc: Global,
     dialect: Dialect,
     text: &[u8],
-    said: &mut String,
+    pen: &mut Pen<'_>,
 ) -> Result<(), AllocError> {
-    let whole = dialect.whole();
     if text.len() > MOST_BYTES {
-        return write!(said, "{whole} has more than {MOST_BYTES} bytes");
+        tell_too_long(dialect, pen);
+        return Ok(());
     }
     if Piece::all(text).of(text).is_empty() {
-        let example = dialect.example();
-        return write!(said, "the input is empty; expected an object, as {example}");
+        pen.say("the input is empty; expected an object, as ");
+        pen.say(dialect.example());
+        return Ok(());
     }
-    let characters = match std::str::from_utf8(text) {
-        Ok(characters) => characters,
+    match std::str::from_utf8(text) {
+        Ok(characters) => tell_json_fault(alloc, text, characters, pen),
         Err(error) => {
-            add_place(said, text, error.valid_up_to())?;
-            return write!(said, "the bytes are not UTF-8 from here on");
+            tell_place(pen, text, error.valid_up_to());
+            pen.say("the bytes are not UTF-8 from here on");
+            Ok(())
         }
-    };
+    }
+}
+
+/// The text has too many bytes.
+fn tell_too_long(dialect: Dialect, pen: &mut Pen<'_>) {
+    pen.say(dialect.whole());
+    pen.number(" has more than ", MOST_BYTES as u64);
+    pen.say(" bytes");
+}
+
+/// Why characters are no JSON text.
+fn tell_json_fault(
+    alloc: Global,
+    text: &[u8],
+    characters: &str,
+    pen: &mut Pen<'_>,
+) -> Result<(), AllocError> {
     match Value::from_str(alloc, characters) {
-        Ok(_) => write!(said, "the bytes are no JSON text"),
-        Err(error) if error.is_memory() => Err(AllocError),
-        Err(error) if error.is_eof() => said.push_str(
-            "the text ends before all of its quotes and brackets are closed",
-        ),
-        Err(error) => {
-            let at = offset_of(text, error.line(), error.column());
-            add_place(said, text, at)?;
-            said.push_str(guess_at(text, at))
+        Ok(_) => pen.say("the bytes are no JSON text"),
+        Err(error) if error.is_memory() => return Err(AllocError),
+        Err(error) if error.is_eof() => {
+            pen.say("the text ends before all of its quotes and brackets are closed");
         }
+        Err(error) => tell_guess(text, error.line(), error.column(), pen),
     }
+    Ok(())
+}
+
+/// What may be wrong at this line and this column, both from 1, where a column is a byte.
+fn tell_guess(text: &[u8], line: usize, column: usize, pen: &mut Pen<'_>) {
+    let at = offset_of(text, line, column);
+    tell_place(pen, text, at);
+    pen.say(guess_at(text, at));
 }
 
 /// The byte at this line and this column, both from 1, where a column is a byte.

@@ -2,8 +2,8 @@
 
 use crate::dialects::MESSAGES;
 use crate::pieces::{Piece, items};
+use rc_pen::Pen;
 use std::alloc::{AllocError, Global};
-use std::fmt;
 
 /// What a value has to be.
 #[derive(Clone, Copy)]
@@ -128,13 +128,15 @@ impl Want {
     }
 }
 
-impl fmt::Display for Want {
-    fn fmt<W: fmt::Write>(&self, f: &mut fmt::Formatter<W>) -> fmt::Result {
-        match self {
-            Want::Whole(least, most) if least == most => write!(f, "{least}"),
-            Want::Whole(least, most) => write!(f, "a whole number from {least} to {most}"),
-            want => f.write_str(want.words()),
+/// What a value has to be.
+pub(crate) fn tell_want(pen: &mut Pen<'_>, want: Want) {
+    match want {
+        Want::Whole(least, most) if least == most => pen.number("", least),
+        Want::Whole(least, most) => {
+            pen.number("a whole number from ", least);
+            pen.number(" to ", most);
         }
+        want => pen.say(want.words()),
     }
 }
 

@@ -2,3 +2,9 @@ pub mod Runs
 pub mod Printed
 pub mod Claims
 pub mod Worked
+pub mod First
+pub mod Rolls
+pub mod Epochs
+pub mod Recoveries
+pub mod Doubts
+pub mod Wrong

@@ -82,6 +82,8 @@ not_begun (asked.Stops seed steps) status input known is = (Err Memory, is, keep
 not_begun (asked.Threads hosts writes) status input known is = (Err Memory, is, keeps_same known)
 not_begun (asked.Explore seed steps hosts factor segment free save) status input known is =
     (Err Memory, is, keeps_same known)
+not_begun (asked.Log json) status input known is = (Err Memory, is, keeps_same known)
+not_begun (asked.Picture mermaid) status input known is = (Err Memory, is, keeps_same known)
 not_begun (asked.Explain code) status input known is = tt
 not_begun (asked.Tell text) status input known is = tt
 not_begun (asked.Wrong text) status input known is = tt

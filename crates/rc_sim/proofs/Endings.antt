@@ -17,7 +17,7 @@ use Rattle.rc_reading.specs.declared.scenarios.Scenario.{Scenario}
 use Rattle.rc_reading.specs.declared.scenarios.ScenarioEvent.{ScenarioEvent}
 use Rattle.rc_reading.specs.Scenario.{of_value, value_in}
 use Rattle.rc_traces.specs.Trace as trace
-use Rattle.rc_judging.specs.Judged.{finding_of, text_of}
+use Rattle.rc_report.specs.Judged.{finding_of, text_of}
 use Rattle.rc_scenes.specs.Runs.{scenario_run, run_within}
 use Rattle.rc_scenes.proofs.Runs.{scenario_is_run}
 use Rattle.rc_world.specs.Happened.{Happened, replayed, sent_in}
@@ -32,7 +32,7 @@ use Rattle.rc_sim.specs.declared.answers.Answer.{Answer}
 use Rattle.rc_runs.specs.Steps.{RunsThrough, StopsAt}
 use Rattle.rc_sim.specs.Written.{IsWritten, IsBegun}
 use Rattle.rc_sim.specs.Verdicts.{verdict_of, printed_of, last_line, unless_stopped, ended_verdict, ended_output}
-use Rattle.rc_sim.specs.Verdicts.{found_verdict, Comes, Played, Judged, Drawn}
+use Rattle.rc_sim.specs.Verdicts.{found_verdict, Comes, Played, Storied, Narrated, Judged, Drawn}
 
 -- nothing has happened yet
 abbrev pub start_of : Scenario → Happened
@@ -182,6 +182,10 @@ pub judged_so : (verdict : Verdict) (text : List ℕ) (one other : List ℕ) →
     Judged one verdict text → Judged other verdict text
 judged_so verdict text one other same h =
     subst (λ d. (verdict ≡ found_verdict (finding_of (trace.of_value d))) × (text ≡ text_of (trace.of_value d))) same h
+
+pub narrated_so : (verdict : Verdict) (text : List ℕ) (one other : List ℕ) → value_in one ≡ value_in other →
+    Narrated one verdict text → Narrated other verdict text
+narrated_so verdict text one other same h = subst (λ d. Storied (of_value d) verdict text) same h
 
 -- the report of a drawing is that of its world
 pub drawn_of : {E : Type 0} (result : Result Answer E) (world : Happened) (seed steps : ℕ) (free : Bool) →

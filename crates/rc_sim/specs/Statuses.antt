@@ -10,7 +10,7 @@ use Rattle.rc_sim.specs.declared.verdicts.Verdict.{Verdict}
 use Rattle.rc_sim.specs.declared.verdicts.Verdict.TheVariants.{Clean, Breach, Bad, Stopped}
 use Rattle.rc_sim.specs.declared.verdicts.SimFault.{SimFault}
 use Rattle.rc_sim.specs.declared.verdicts.SimFault.TheVariants.{Memory, Read, Write}
-use Rattle.rc_sim.specs.Verdicts.{Played, Judged, Drawn, PowerCut, Threaded, Explored}
+use Rattle.rc_sim.specs.Verdicts.{Played, Narrated, Judged, Drawn, PowerCut, Threaded, Explored}
 use Rattle.rc_sim.specs.Written.{IsWritten, IsBegun}
 
 abbrev pub verdict_status : Verdict → ℕ
@@ -53,4 +53,6 @@ Does (asked.Stops seed steps) status input old new = EndsBy (λ _. PowerCut seed
 Does (asked.Threads hosts writes) status input old new = EndsBy (λ _. Threaded) status input old new
 Does (asked.Explore seed steps hosts factor segment free save) status input old new =
     EndsBy (λ _. Explored save) status input old new
+Does (asked.Log json) status input old new = EndsBy Narrated status input old new
+Does (asked.Picture mermaid) status input old new = EndsBy Narrated status input old new
 Does _ status input old new = ⊤

@@ -1,5 +1,5 @@
 -- What comes of a scenario, a trace, drawn events, or nodes on threads: what is printed, and what is answered.
-use Rattle.std.specs.Prelude.{◌≡◌, ◌⊎◌, ◌≤◌, ◌*◌, ℕ, Bool, true, false, List, [], ◌++◌, length, codes}
+use Rattle.std.specs.Prelude.{◌≡◌, ◌⊎◌, ◌≤◌, ◌*◌, ⊤, ℕ, Bool, true, false, List, [], ◌++◌, length, codes}
 use Rattle.std.specs.Prelude.{Option, Some, None, Result, Ok, Err}
 use Rattle.rc_types.specs.declared.faults.Code.{Code}
 use Rattle.rc_types.specs.declared.faults.Code.TheVariants.{OutOfMemory, BadEvent}
@@ -14,9 +14,9 @@ use Rattle.rc_report.specs.Ends.{stopped_line, error_line}
 use Rattle.rc_scenes.specs.Runs.{Ended, scenario_run, run_within}
 use Rattle.rc_traces.specs.Trace as trace
 use Rattle.rc_traces.specs.Written.{trace_text}
-use Rattle.rc_judging.specs.declared.judging.Finding.{Finding}
-use Rattle.rc_judging.specs.declared.judging.Finding.TheVariants as finding
-use Rattle.rc_judging.specs.Judged.{finding_of, text_of}
+use Rattle.rc_report.specs.declared.judging.Finding.{Finding}
+use Rattle.rc_report.specs.declared.judging.Finding.TheVariants as finding
+use Rattle.rc_report.specs.Judged.{finding_of, text_of}
 use Rattle.rc_world.specs.Happened.{Happened, sent_in}
 use Rattle.rc_draw.specs.Draw.{drawn_world, drawn}
 use Rattle.rc_workload.specs.Workload.{threads_setup}
@@ -82,6 +82,15 @@ Comes output (Err place) verdict text = (verdict ≡ Bad place) × (text ≡ err
 -- of these bytes as a scenario
 abbrev pub Played : Output → List ℕ → Verdict → List ℕ → Type 0
 Played output bytes verdict text = Comes output (reading bytes) verdict text
+
+-- what can be told of what was read as a scenario: nothing is claimed of a story
+abbrev pub Storied : Result Scenario ℕ → Verdict → List ℕ → Type 0
+Storied (Ok scenario) verdict text = ⊤
+Storied (Err place) verdict text = (verdict ≡ Bad place) × (text ≡ error_line place)
+
+-- of these bytes as a scenario
+abbrev pub Narrated : List ℕ → Verdict → List ℕ → Type 0
+Narrated bytes verdict text = Storied (reading bytes) verdict text
 
 abbrev pub found_verdict : Finding → Verdict
 found_verdict finding.Clean = Clean

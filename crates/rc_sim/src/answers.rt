@@ -11,11 +11,11 @@ ghost use Rattle.rc_sim.specs.declared.verdicts.SimFault.TheVariants.{Memory};
 ghost use Rattle.rc_sim.specs.declared.verdicts.Verdict.TheVariants.{Bad, Stopped};
 ghost use Rattle.rc_sim.specs.Verdicts.{audited, verdict_of, printed_of, last_line, Comes, Judged};
 
+use crate::playing::Kept;
 use crate::verdicts::{Output, SimFault, Verdict};
 use rc_audit::audit;
-use rc_judging::Finding;
 use rc_reading::{ReadFault, Scenario, read_scenario};
-use rc_report::{add_stopped, error_text, report_of};
+use rc_report::{Finding, add_stopped, error_text, report_of};
 use rc_runs::Run;
 use rc_traces::write_trace;
 use rc_types::{Code, Message};
@@ -32,18 +32,19 @@ pub struct Answer {
 }
 
 /// The answer to these bytes as a scenario. The run's tablets lie in memory of the second allocator. It
-/// fails only where memory was refused outside a step of the run.
-pub fn answer_to<A: Allocator + Clone>(
+/// fails only where memory was refused outside a step of the run. What may not have been meant in the run is kept.
+pub(crate) fn answer_to<A: Allocator + Clone>(
     alloc: Global,
     bytes: &[u8],
     tablets: A,
     output: Output,
+    kept: &mut Kept,
 ) -> Result<Answer, SimFault>
     ensures ok { IfOk result (λ answer. Comes output (reading bytes.now) answer.verdict (string_bytes answer.text)) }
     ensures fault { IfErr result (λ fault. fault ≡ Memory) }
 {
     match read_scenario(alloc, bytes) {
-        Ok(scenario) => played(alloc, scenario, tablets, output),
+        Ok(scenario) => played(alloc, scenario, tablets, output, kept),
         Err(ReadFault::OutOfMemory) => Err(SimFault::Memory),
         Err(ReadFault::BadScenario(place)) => bad(alloc, place),
     }
@@ -55,15 +56,21 @@ fn played<A: Allocator + Clone>(
     scenario: Scenario,
     tablets: A,
     output: Output,
+    kept: &mut Kept,
 ) -> Result<Answer, SimFault>
     requires { IsWithinLimits scenario.setup }
     ensures ok { IfOk result (λ answer. Comes output (Ok scenario) answer.verdict (string_bytes answer.text)) }
     ensures fault { IfErr result (λ fault. fault ≡ Memory) }
 {
     let Scenario { setup, events } = scenario;
+    let factor = setup.factor;
     let mut run = Run::new(alloc, setup, tablets);
     match run.play_all(alloc, events.as_slice()) {
-        Ok(()) => ended(alloc, run.world(), output),
+        Ok(()) => {
+            let world = run.world();
+            kept.hint(alloc, factor, world);
+            ended(alloc, world, output)
+        }
         Err((place, fault)) => stopped(alloc, run.world(), output, place, fault.code()),
     }
 }
@@ -161,7 +168,7 @@ fn add_last_line(
 }
 
 /// The answer to a scenario that is wrong at this place.
-fn bad(alloc: Global, place: usize) -> Result<Answer, SimFault>
+pub(crate) fn bad(alloc: Global, place: usize) -> Result<Answer, SimFault>
     ensures verdict { IfOk result (λ answer. answer.verdict ≡ Bad place) }
     ensures text { IfOk result (λ answer. string_bytes answer.text ≡ error_line place) }
     ensures fault { IfErr result (λ fault. fault ≡ Memory) }
@@ -180,7 +187,7 @@ pub fn judgement_of(alloc: Global, bytes: &[u8]) -> Result<Answer, SimFault>
     ensures ok { IfOk result (λ answer. Judged bytes.now answer.verdict (string_bytes answer.text)) }
     ensures fault { IfErr result (λ fault. fault ≡ Memory) }
 {
-    let judged = rc_judging::judge(alloc, bytes).map_err(|_| SimFault::Memory)?;
+    let judged = rc_report::judge(alloc, bytes).map_err(|_| SimFault::Memory)?;
     let verdict = match judged.finding {
         Finding::Clean => Verdict::Clean,
         Finding::Breach => Verdict::Breach,

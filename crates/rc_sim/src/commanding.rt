@@ -5,11 +5,12 @@ ghost use Rattle.rc_commands.specs.declared.asking.Asked.{Asked as AskedModel};
 ghost use Rattle.rc_commands.specs.Asking.{asked_in};
 ghost use Rattle.rc_sim.specs.declared.verdicts.Output.TheVariants.{Report};
 ghost use Rattle.rc_sim.specs.Statuses.{fault_status, outcome_status, EndsBy, Does};
-ghost use Rattle.rc_sim.specs.Verdicts.{Played, Judged};
+ghost use Rattle.rc_sim.specs.Verdicts.{Played, Narrated, Judged};
 
 use crate::counted::Counted;
 use crate::drawing::{fuzz, stops};
 use crate::exploring::explore;
+use crate::narrating::{Telling, narrate};
 use crate::outlets::write_all;
 use crate::playing::{Kept, play, weigh};
 use crate::telling::tell_why;
@@ -29,8 +30,9 @@ use std::thread;
 /// well, 1 where an audit found a breach, 2 for a wrong command line, scenario or trace and for an event
 /// that was not possible, 3 where memory was refused, 4 where a read or a write failed.
 ///
-/// `run` and `trace` run the scenario that the reader gives (see [`simulate`](crate::simulate)), `audit` judges the
-/// trace that it gives ([`judge`](crate::judge)); `fuzz`, `stops`, `threads`, `explore` and `explain` read nothing.
+/// `run` and `trace` run the scenario that the reader gives (see [`simulate`](crate::simulate)), `log` and `picture`
+/// tell its story, `audit` judges the trace that it gives ([`judge`](crate::judge)); `fuzz`, `stops`, `threads`,
+/// `explore` and `explain` read nothing.
 /// Help and the version go to the writer. What is wrong with the command line, the line of a
 /// fault (`memory`, `read`, `write N`), and why a scenario or a trace was refused, go to `errors`; where that can not
 /// be written, the status alone tells. Only `threads` starts threads and waits.
@@ -80,6 +82,10 @@ pub fn command<H: thread::Threads + Wait + Sync, R: Read, W: Write, E: Write>(
                 free,
             };
             ended(explore(alloc, &options, save, writer), errors)
+        }
+        Ok(Asked::Log { json }) => narrated(alloc, Telling::of_log(json), reader, writer, errors),
+        Ok(Asked::Picture { mermaid }) => {
+            narrated(alloc, Telling::of_picture(mermaid), reader, writer, errors)
         }
         Ok(Asked::Explain { code }) => explained(alloc, code, writer, errors),
         Ok(Asked::Tell(text)) => tell(text.as_str(), writer, errors),
@@ -143,6 +149,24 @@ fn audited<R: Read, W: Write, E: Write>(
     let mut kept = Kept::new(alloc);
     let outcome = weigh(alloc, reader, writer, &mut kept);
     tell_why(alloc, Dialect::Trace, &outcome, &kept, errors);
+    ended(outcome, errors)
+}
+
+/// Tells the story of the scenario that the reader gives, and what is wrong with it.
+fn narrated<R: Read, W: Write, E: Write>(
+    alloc: Global,
+    telling: Telling,
+    reader: &mut Counted<R>,
+    writer: &mut Counted<W>,
+    errors: &mut Counted<E>,
+) -> u8
+    ensures done { EndsBy Narrated result (R.remaining reader.old.inner) (W.contents writer.old.inner)
+        (W.contents writer.new.inner) }
+    ensures known { result ≤ 4 }
+{
+    let mut kept = Kept::new(alloc);
+    let outcome = narrate(alloc, reader, writer, telling, &mut kept);
+    tell_why(alloc, Dialect::Scenario, &outcome, &kept, errors);
     ended(outcome, errors)
 }
 

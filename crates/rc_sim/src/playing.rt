@@ -14,6 +14,8 @@ use crate::counted::Counted;
 use crate::outlets::read_all;
 use crate::simulating::write_answer;
 use crate::verdicts::{Output, SimFault, Verdict};
+use rc_telling::hints;
+use rc_world::World;
 use std::alloc::{Allocator, Global};
 use std::io::{Read, Write};
 
@@ -24,6 +26,8 @@ pub(crate) struct Kept {
     pub(crate) bytes: Vec<u8>,
     /// How many messages were sent.
     pub(crate) sent: usize,
+    /// What may not have been meant in it.
+    pub(crate) hints: String,
 }
 
 impl Kept {
@@ -32,11 +36,24 @@ impl Kept {
         Kept {
             bytes: Vec::new(alloc),
             sent: 0,
+            hints: String::new(alloc),
+        }
+    }
+
+    /// Keeps what may not have been meant in a run that went through; nothing, where memory is refused for it.
+    pub(crate) fn hint<A: Allocator + Clone>(
+        &mut self,
+        alloc: Global,
+        factor: u8,
+        world: &World<A>,
+    ) {
+        if let Ok(hints) = hints(alloc, factor, world.events(), world.sent()) {
+            self.hints = hints;
         }
     }
 
     /// Keeps what was read, and what is told of what was answered.
-    fn note(&mut self, bytes: Vec<u8>, answer: &Answer) {
+    pub(crate) fn note(&mut self, bytes: Vec<u8>, answer: &Answer) {
         self.bytes = bytes;
         self.sent = answer.sent;
     }
@@ -66,7 +83,7 @@ pub(crate) fn play<R: Read, W: Write, A: Allocator + Clone>(
     ensures no_breach { output ≡ Report → result ≢ Ok Breach }
 {
     let bytes = read_all(alloc, reader)?;
-    let answer = answer_to(alloc, bytes.as_slice(), tablets, output)?;
+    let answer = answer_to(alloc, bytes.as_slice(), tablets, output, kept)?;
     kept.note(bytes, &answer);
     write_answer(writer, &answer)
 }

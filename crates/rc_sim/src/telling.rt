@@ -1,16 +1,17 @@
-//! What standard error is told of a scenario or a trace that is wrong, and of a run that stopped.
+//! What standard error is told of a scenario or a trace that is wrong, of a run that stopped, and of one in which
+//! something may not have been meant.
 
 use crate::counted::Counted;
 use crate::outlets::write_all;
 use crate::playing::Kept;
 use crate::verdicts::{SimFault, Verdict};
-use rc_reasons::{Dialect, reason_of_fault, reason_of_stop};
+use rc_reasons::{Dialect, hint_of_twice, reason_of_fault, reason_of_stop};
 use rc_types::Code;
 use std::alloc::{AllocError, Global};
 use std::io::Write;
 
-/// Tells why a scenario or a trace is wrong, or a run stopped. Where that finds no memory, the line `memory` says so;
-/// where it can't be written, nothing is told.
+/// Tells why a scenario or a trace is wrong, or a run stopped; or what may not have been meant in a run. Where that
+/// finds no memory, the line `memory` says so; where it can't be written, nothing is told.
 pub(crate) fn tell_why<E: Write>(
     alloc: Global,
     dialect: Dialect,
@@ -24,6 +25,10 @@ pub(crate) fn tell_why<E: Write>(
         Ok(Verdict::Stopped(number, Code::BadEvent)) => reason_of_stop(
             alloc, text, *number, kept.sent,
         ),
+        Ok(Verdict::Clean | Verdict::Breach) => {
+            hint(alloc, dialect, kept, errors);
+            return;
+        }
         _ => return,
     };
     tell(reason, errors);
@@ -39,4 +44,12 @@ fn tell<E: Write>(reason: Result<String, AllocError>, errors: &mut Counted<E>) {
             let _ = write_all(errors, b"memory\n");
         }
     }
+}
+
+/// Tells what may not have been meant, as far as there is memory for it.
+fn hint<E: Write>(alloc: Global, dialect: Dialect, kept: &Kept, errors: &mut Counted<E>) {
+    if let Ok(hint) = hint_of_twice(alloc, dialect, kept.bytes.as_slice()) {
+        let _ = write_all(errors, hint.as_bytes());
+    }
+    let _ = write_all(errors, kept.hints.as_bytes());
 }

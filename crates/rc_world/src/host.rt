@@ -97,6 +97,16 @@ impl Host {
         self.master.is_some()
     }
 
+    /// The master that runs on the host, if one does.
+    pub(crate) fn master(&self) -> Option<&Master> {
+        self.master.as_ref()
+    }
+
+    /// What the host keeps as a backup.
+    pub(crate) fn backup(&self) -> &Backup {
+        &self.backup
+    }
+
     /// Whether the host can be started: its index is one of those that there are, and it does not run.
     pub(crate) fn can_start(&self) -> bool
         ensures { result ≡ host_can (host_of self.now) (Start []) }

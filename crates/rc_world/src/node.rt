@@ -16,7 +16,9 @@ ghost use Rattle.rc_world.specs.declared.work.NodeWork.TheVariants.{Deliver};
 use crate::host::Host;
 use crate::outside::{ask, can_ask};
 use crate::work::NodeWork;
+use rc_backup::Backup;
 use rc_coordinator::Coordinator;
+use rc_master::Master;
 use rc_types::{Fault, Input, Message, ServerId, Setup};
 use std::alloc::{Allocator, Global};
 use std::marker::Model;
@@ -89,6 +91,23 @@ impl<A: Allocator + Clone> NodeState<A> {
         match &self.node {
             Node::Outside | Node::Coordinator(_) => no_server(),
             Node::Host(host) => host.server(),
+        }
+    }
+
+    /// The master that runs on the host, to be looked at; none where no server runs there, or the node is no host.
+    /// It takes no memory.
+    pub fn master(&self) -> Option<&Master> {
+        match &self.node {
+            Node::Outside | Node::Coordinator(_) => None,
+            Node::Host(host) => host.master(),
+        }
+    }
+
+    /// What the host keeps as a backup, to be looked at; none where the node is no host. It takes no memory.
+    pub fn backup(&self) -> Option<&Backup> {
+        match &self.node {
+            Node::Outside | Node::Coordinator(_) => None,
+            Node::Host(host) => Some(host.backup()),
         }
     }
 

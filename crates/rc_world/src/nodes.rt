@@ -67,6 +67,11 @@ impl<A: Allocator + Clone> Nodes<A> {
         }
     }
 
+    /// The host of this index, if it was ever started.
+    pub(crate) fn host(&self, index: u8) -> Option<&Host> {
+        self.hosts.get(&index)
+    }
+
     /// The names of the host's open replicas, in order of master and then of segment.
     pub(crate) fn open_replicas(&self, host: u8) -> Result<Vec<(ServerId, u16)>, Fault>
         ensures ok { IfOk result (λ names. names.items ≡ open_names (hosts_in self.now host).backup) }

@@ -15,6 +15,8 @@ ghost use Rattle.rc_world.specs.Served.{IsServed};
 ghost use Rattle.rc_world.specs.Happened.{opened, replayed, with_events, sent_in, can_happen, AllHappen};
 
 use crate::nodes::Nodes;
+use rc_backup::Backup;
+use rc_master::Master;
 use rc_types::limits::MAX_EVENTS;
 use rc_types::{Event, Fault, Message, ServerId, Setup, TryClone};
 use std::alloc::{Allocator, Global};
@@ -96,6 +98,22 @@ impl<A: Allocator + Clone> World<A> {
         ensures { result ≡ ((replayed self.now).hosts host).generation }
     {
         self.nodes.newest(host)
+    }
+
+    /// The master that runs on the host, to be looked at; none where no server runs there. It takes no memory.
+    pub fn master(&self, host: u8) -> Option<&Master> {
+        match self.nodes.host(host) {
+            Some(host) => host.master(),
+            None => None,
+        }
+    }
+
+    /// What the host keeps as a backup, to be looked at; none where it was never started. It takes no memory.
+    pub fn backup(&self, host: u8) -> Option<&Backup> {
+        match self.nodes.host(host) {
+            Some(host) => Some(host.backup()),
+            None => None,
+        }
     }
 
     /// The names of the host's open replicas, master and segment, in order of master and then of

@@ -7,6 +7,7 @@ use Rattle.rc_commands.specs.Asking.{Tells}
 use Rattle.rc_commands.specs.Commands.{ramseg}
 use Rattle.rc_commands.proofs.Parsed.{gives_command, none_asked, refused, taken, told_among}
 use Rattle.rc_commands.proofs.ByWords.{audit_told, cut_told, drawn_told, explain_told, explore_told, fuzz_told, heap_told}
+use Rattle.rc_commands.proofs.ByWords.{log_told, picture_told}
 use Rattle.rc_commands.proofs.ByWords.{run_told, stops_told, texts_told, threads_told, trace_told}
 use Rattle.rc_commands.proofs.asking.asked_for.Goals as goal
 
@@ -125,6 +126,22 @@ returns-in-Ok-clause-explore c =
 pub returns-in-Err-clause-explore : goal.returns-in-Err-clause-explore
 returns-in-Err-clause-explore c =
     IfOk-weaker c.refused.result _ _ (explore_told (map string_bytes c.args.words.now)) (returns-in-Err-clause-command c)
+
+pub returns-in-Ok-clause-log : goal.returns-in-Ok-clause-log
+returns-in-Ok-clause-log c =
+    IfOk-weaker c.found.result _ _ (log_told (map string_bytes c.args.words.now)) (returns-in-Ok-clause-command c)
+
+pub returns-in-Err-clause-log : goal.returns-in-Err-clause-log
+returns-in-Err-clause-log c =
+    IfOk-weaker c.refused.result _ _ (log_told (map string_bytes c.args.words.now)) (returns-in-Err-clause-command c)
+
+pub returns-in-Ok-clause-picture : goal.returns-in-Ok-clause-picture
+returns-in-Ok-clause-picture c =
+    IfOk-weaker c.found.result _ _ (picture_told (map string_bytes c.args.words.now)) (returns-in-Ok-clause-command c)
+
+pub returns-in-Err-clause-picture : goal.returns-in-Err-clause-picture
+returns-in-Err-clause-picture c =
+    IfOk-weaker c.refused.result _ _ (picture_told (map string_bytes c.args.words.now)) (returns-in-Err-clause-command c)
 
 pub returns-in-Ok-clause-explain : goal.returns-in-Ok-clause-explain
 returns-in-Ok-clause-explain c =

@@ -1,0 +1,195 @@
+//! The life of a cluster, as its seed draws it.
+
+use crate::client::TABLE;
+use crate::cluster::{COORDINATOR, Cluster, HOSTS, OUTSIDE};
+use crate::outcome::Outcome;
+use rc_audit::audit;
+use rc_types::{Fault, ServerId};
+use rc_world::NodeWork;
+use std::alloc::Global;
+
+/// How many steps are drawn.
+const STEPS: usize = 2_000;
+
+/// The most deliveries that bring all to rest.
+const MOST: usize = 2_000;
+
+/// So many messages are on their way in a run that has fallen behind.
+const MANY: usize = 12;
+
+/// How often all is tried again in the end.
+const ROUNDS: usize = 2;
+
+/// What came of a seed: hosts are started and a table is made; then so much happens as is drawn; in the end all
+/// processes come back, and what was begun is done.
+pub(crate) fn run(alloc: Global, seed: u64) -> Result<Outcome, Fault> {
+    let mut cluster = Cluster::new(alloc, seed);
+    live(alloc, &mut cluster)?;
+    let is_clean = audit(alloc, cluster.sent.as_slice())?.is_none();
+    Ok(Outcome::of(alloc, seed, &cluster, is_clean)?)
+}
+
+/// From the first start to the last rest.
+fn live(alloc: Global, cluster: &mut Cluster) -> Result<(), Fault> {
+    begin(alloc, cluster)?;
+    cluster.is_calm = false;
+    for _ in 0..STEPS {
+        step(alloc, cluster)?;
+    }
+    cluster.is_calm = true;
+    for _ in 0..ROUNDS {
+        try_again(alloc, cluster)?;
+    }
+    Ok(())
+}
+
+/// All hosts are started, and a table is made.
+fn begin(alloc: Global, cluster: &mut Cluster) -> Result<(), Fault> {
+    for host in 0..HOSTS {
+        cluster.start(alloc, host, Vec::new(alloc))?;
+    }
+    settle(alloc, cluster)?;
+    let owner = cluster.newest(0);
+    let create = NodeWork::Create {
+        table: TABLE,
+        owner,
+    };
+    cluster.give(alloc, COORDINATOR, &create)?;
+    settle(alloc, cluster)
+}
+
+/// Delivers what is on its way.
+fn settle(alloc: Global, cluster: &mut Cluster) -> Result<(), Fault> {
+    for _ in 0..MOST {
+        if cluster.flying() == 0 {
+            return Ok(());
+        }
+        cluster.deliver(alloc)?;
+    }
+    Ok(())
+}
+
+/// One step that is drawn.
+fn step(alloc: Global, cluster: &mut Cluster) -> Result<(), Fault> {
+    if cluster.flying() > MANY && !cluster.dice.once_in(8) {
+        return cluster.deliver(alloc);
+    }
+    let host = cluster.dice.below(HOSTS);
+    match cluster.dice.below(200) {
+        0..=99 => cluster.deliver(alloc),
+        100..=119 => write(alloc, cluster),
+        120..=127 => read(alloc, cluster),
+        128..=151 => cluster.give(alloc, host, &NodeWork::Tick),
+        152..=158 => cluster.give(alloc, COORDINATOR, &NodeWork::Tick),
+        159 => crash(alloc, cluster, host),
+        160 => crash(alloc, cluster, COORDINATOR),
+        161..=170 => cluster.come_back(alloc, host),
+        171..=178 => cluster.come_back(alloc, COORDINATOR),
+        179..=182 => suspect(alloc, cluster, host),
+        _ => decide(alloc, cluster, host),
+    }
+}
+
+/// A process ends.
+fn crash(alloc: Global, cluster: &mut Cluster, place: usize) -> Result<(), Fault> {
+    cluster.crash(alloc, place);
+    Ok(())
+}
+
+/// The outside asks for a write.
+fn write(alloc: Global, cluster: &mut Cluster) -> Result<(), Fault> {
+    let to = asked(cluster);
+    let body = cluster.client.write(alloc, &mut cluster.dice)?;
+    cluster.give(alloc, OUTSIDE, &NodeWork::Ask { to, body })
+}
+
+/// The outside asks for a read.
+fn read(alloc: Global, cluster: &mut Cluster) -> Result<(), Fault> {
+    let to = asked(cluster);
+    let body = cluster.client.read(&mut cluster.dice);
+    cluster.give(alloc, OUTSIDE, &NodeWork::Ask { to, body })
+}
+
+/// Whom the outside asks.
+fn asked(cluster: &mut Cluster) -> ServerId {
+    let host = cluster.dice.below(HOSTS);
+    cluster.client.asked(cluster.newest(host))
+}
+
+/// A server is believed dead whose process has ended; now and then one that lives.
+fn suspect(alloc: Global, cluster: &mut Cluster, host: usize) -> Result<(), Fault> {
+    if cluster.is_down(host) || cluster.dice.once_in(30) {
+        let id = cluster.newest(host);
+        return cluster.give(alloc, COORDINATOR, &NodeWork::Suspect(id));
+    }
+    Ok(())
+}
+
+/// The recovery of one of the last servers of a host is to be decided. Most of these come too early or too late, which
+/// does no harm.
+fn decide(alloc: Global, cluster: &mut Cluster, host: usize) -> Result<(), Fault> {
+    let mut id = cluster.newest(host);
+    let back = match cluster.dice.below(3) {
+        0 => 0,
+        1 => 1,
+        _ => 2,
+    };
+    id.generation = id.generation.saturating_sub(back);
+    cluster.give(alloc, COORDINATOR, &NodeWork::Decide(id))
+}
+
+/// All processes are back, what was lost is sent again, and then the hosts are begun anew, one after another: also
+/// those whose servers were replaced and do not know it.
+fn try_again(alloc: Global, cluster: &mut Cluster) -> Result<(), Fault> {
+    cluster.come_back(alloc, COORDINATOR)?;
+    for host in 0..HOSTS {
+        cluster.come_back(alloc, host)?;
+    }
+    for host in 0..HOSTS {
+        renew(alloc, cluster, host)?;
+    }
+    for _ in 0..MANY {
+        write(alloc, cluster)?;
+        tick(alloc, cluster)?;
+    }
+    Ok(())
+}
+
+/// A host is begun anew, and what has crashed meanwhile is recovered.
+fn renew(alloc: Global, cluster: &mut Cluster, host: usize) -> Result<(), Fault> {
+    settle(alloc, cluster)?;
+    cluster.crash(alloc, host);
+    cluster.come_back(alloc, host)?;
+    settle(alloc, cluster)?;
+    tick(alloc, cluster)?;
+    for crashed in 0..HOSTS {
+        recover(alloc, cluster, crashed)?;
+    }
+    Ok(())
+}
+
+/// Delivers what is on its way, and lets all timers go off: what has come in a wrong order is sent again.
+fn tick(alloc: Global, cluster: &mut Cluster) -> Result<(), Fault> {
+    settle(alloc, cluster)?;
+    for place in 0..OUTSIDE {
+        cluster.give(alloc, place, &NodeWork::Tick)?;
+        settle(alloc, cluster)?;
+    }
+    Ok(())
+}
+
+/// The former servers of a host are recovered, if they still own something.
+fn recover(alloc: Global, cluster: &mut Cluster, host: usize) -> Result<(), Fault> {
+    let newest = cluster.newest(host);
+    for generation in 1..newest.generation {
+        let id = ServerId {
+            index: newest.index,
+            generation,
+        };
+        cluster.give(alloc, COORDINATOR, &NodeWork::Suspect(id))?;
+        settle(alloc, cluster)?;
+        cluster.give(alloc, COORDINATOR, &NodeWork::Decide(id))?;
+        tick(alloc, cluster)?;
+    }
+    Ok(())
+}

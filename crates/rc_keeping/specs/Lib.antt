@@ -1,0 +1,4 @@
+pub mod Keeping
+pub mod Spelling
+pub mod Readers
+pub mod Claims

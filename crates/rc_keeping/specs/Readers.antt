@@ -1,0 +1,58 @@
+-- Reading of works and of records.
+use Rattle.std.specs.Prelude.{ℕ, List, [], ◌∷◌, length, take, drop, Option, Some, None, nat_eq, nat_lt, if◌then◌else◌}
+use Rattle.rc_codec.specs.Reading.{◌>>=◌, Reader, made, ◌⊗◌, nothing_at, listed_at}
+use Rattle.rc_codec.specs.Readers.{u32_at, u64_at, id_at, kept_at, body_at, message_at, chosen_at, versioned_at}
+use Rattle.rc_world.specs.declared.work.NodeWork.{NodeWork}
+use Rattle.rc_world.specs.declared.work.NodeWork.TheVariants as work
+use Rattle.rc_keeping.specs.Spelling.{sum_of}
+
+abbrev pub ask_at : Reader NodeWork
+ask_at = made (id_at ⊗ body_at) (λ p. work.Ask p.0 p.1)
+
+abbrev pub deliver_at : Reader NodeWork
+deliver_at = made message_at work.Deliver
+
+abbrev pub start_at : Reader NodeWork
+start_at = made (listed_at kept_at) work.Start
+
+abbrev pub suspect_at : Reader NodeWork
+suspect_at = made id_at work.Suspect
+
+abbrev pub decide_at : Reader NodeWork
+decide_at = made id_at work.Decide
+
+abbrev pub create_at : Reader NodeWork
+create_at = made (u32_at ⊗ id_at) (λ p. work.Create p.0 p.1)
+
+abbrev pub split_at : Reader NodeWork
+split_at = made (u32_at ⊗ u64_at) (λ p. work.Split p.0 p.1)
+
+abbrev pub works : List (Reader NodeWork)
+works = ask_at ∷ deliver_at ∷ made nothing_at (λ _. work.Tick) ∷ made nothing_at (λ _. work.Stop) ∷ start_at
+    ∷ suspect_at ∷ decide_at ∷ create_at ∷ split_at ∷ []
+
+unfoldable pub node_work_at : Reader NodeWork
+node_work_at = chosen_at works
+
+abbrev pub coded_at : Reader NodeWork
+coded_at = versioned_at node_work_at
+
+-- what was read, where nothing is left
+abbrev pub alone : {A : Type 0} → A × List ℕ → Option A
+alone (x, []) = Some x
+alone (x, b ∷ rest) = None
+
+unfoldable pub alone_at : List ℕ → Option NodeWork
+alone_at code = coded_at code >>= alone
+
+-- the work of bytes that have this sum
+unfoldable pub summed_at : ℕ → List ℕ → Option NodeWork
+summed_at sum code = if nat_eq (sum_of code) sum then alone_at code else None
+
+-- so many bytes, that have this sum
+unfoldable pub sealed_at : ℕ → ℕ → Reader NodeWork
+sealed_at count sum xs =
+    if nat_lt (length xs) count then None else summed_at sum (take count xs) >>= λ w. Some (w, drop count xs)
+
+unfoldable pub record_at : Reader NodeWork
+record_at xs = (u64_at ⊗ u32_at) xs >>= λ head. sealed_at head.0.0 head.0.1 head.1

@@ -1,0 +1,42 @@
+-- The bytes of a work, of a record, and of a journal. `docs/FORMATS.md` has the same in prose.
+use Rattle.std.specs.Prelude.{ℕ, ◌+◌, ◌*◌, ◌%◌, List, [], ◌∷◌, ◌++◌, length}
+use Rattle.rc_codec.specs.Parts.{four_bytes, eight_bytes, listed}
+use Rattle.rc_codec.specs.Spelling.{id_code, kept_code, body_code, message_code}
+use Rattle.rc_world.specs.declared.work.NodeWork.{NodeWork}
+use Rattle.rc_world.specs.declared.work.NodeWork.TheVariants as work
+
+-- the kind in one byte, and the fields in their order
+abbrev pub work_code : NodeWork → List ℕ
+work_code (work.Ask to body) = 0 ∷ id_code to ++ body_code body
+work_code (work.Deliver message) = 1 ∷ message_code message
+work_code work.Tick = 2 ∷ []
+work_code work.Stop = 3 ∷ []
+work_code (work.Start kept) = 4 ∷ listed kept_code kept
+work_code (work.Suspect id) = 5 ∷ id_code id
+work_code (work.Decide id) = 6 ∷ id_code id
+work_code (work.Create table owner) = 7 ∷ four_bytes table ++ id_code owner
+work_code (work.Split table at) = 8 ∷ four_bytes table ++ eight_bytes at
+
+-- what is written as a whole: the version of the format, 1, and then the work
+abbrev pub coded_work : NodeWork → List ℕ
+coded_work w = 1 ∷ work_code w
+
+-- a sum over bytes that goes on from another one
+unfoldable pub sum_from : ℕ → List ℕ → ℕ
+sum_from sum [] = sum
+sum_from sum (b ∷ rest) = sum_from ((sum * 16777619 + b) % 4294967296) rest
+
+abbrev pub sum_of : List ℕ → ℕ
+sum_of bytes = sum_from 2166136261 bytes
+
+-- how many bytes there are, in eight bytes, the sum over them, in four, and the bytes
+abbrev pub sealed : List ℕ → List ℕ
+sealed code = eight_bytes (length code) ++ four_bytes (sum_of code) ++ code
+
+abbrev pub record_of : NodeWork → List ℕ
+record_of w = sealed (coded_work w)
+
+-- a record for each work
+abbrev pub journal_of : List NodeWork → List ℕ
+journal_of [] = []
+journal_of (w ∷ works) = record_of w ++ journal_of works

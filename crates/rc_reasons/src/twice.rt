@@ -1,0 +1,103 @@
+//! A member that comes twice in an object, of which the last one counts: JSON allows it, and it is seldom meant.
+
+use crate::dialects::Dialect;
+use crate::faults::list_of;
+use crate::pieces::{Member, Piece, items, members};
+use crate::showing::{show_quoted, tell_place};
+use rc_pen::{Pen, Spelling};
+use std::alloc::{AllocError, Global};
+
+/// How long a text may be in which members are looked for: longer ones come from programs.
+const MOST_BYTES: usize = 65_536;
+
+/// A hint, as a line, at the first member that comes twice in the outermost object or in an item of the list; else
+/// nothing. Fails only where memory was refused.
+pub fn hint_of_twice(alloc: Global, dialect: Dialect, text: &[u8]) -> Result<String, AllocError> {
+    let mut said = String::new(alloc);
+    let mut pen = Pen::at(&mut said, Spelling::Plain);
+    if text.len() <= MOST_BYTES && !tell_twice(alloc, text, Piece::all(text), &mut pen)? {
+        tell_twice_in_list(alloc, dialect, text, &mut pen)?;
+    }
+    pen.end()?;
+    Ok(said)
+}
+
+/// Tells of the first item in which a member comes twice.
+fn tell_twice_in_list(
+    alloc: Global,
+    dialect: Dialect,
+    text: &[u8],
+    pen: &mut Pen<'_>,
+) -> Result<(), AllocError> {
+    match list_of(alloc, dialect, text)? {
+        Some(list) => tell_twice_in_items(alloc, text, list, pen),
+        None => Ok(()),
+    }
+}
+
+/// Tells of the first item of this list in which a member comes twice.
+fn tell_twice_in_items(
+    alloc: Global,
+    text: &[u8],
+    list: Piece,
+    pen: &mut Pen<'_>,
+) -> Result<(), AllocError> {
+    let found = items(alloc, text, list)?;
+    tell_twice_among(alloc, text, found.as_slice(), pen)
+}
+
+/// Tells of the first of these items in which a member comes twice.
+fn tell_twice_among(
+    alloc: Global,
+    text: &[u8],
+    found: &[Piece],
+    pen: &mut Pen<'_>,
+) -> Result<(), AllocError> {
+    for item in found {
+        if tell_twice(alloc, text, *item, pen)? {
+            break;
+        }
+    }
+    Ok(())
+}
+
+/// Tells of the first member of this object that comes twice, and gives whether one does.
+fn tell_twice(
+    alloc: Global,
+    text: &[u8],
+    whole: Piece,
+    pen: &mut Pen<'_>,
+) -> Result<bool, AllocError> {
+    let found = members(alloc, text, whole)?;
+    Ok(tell_second(text, found.as_slice(), pen))
+}
+
+/// Tells of the first of these members whose name stands before it already, and gives whether there is one.
+fn tell_second(text: &[u8], found: &[Member], pen: &mut Pen<'_>) -> bool {
+    let Some(member) = second(text, found) else {
+        return false;
+    };
+    pen.say("hint: ");
+    tell_place(pen, text, member.name.from.saturating_sub(1));
+    pen.say("the member ");
+    show_quoted(pen, text, member.name);
+    pen.say(" comes twice in this object; the last one counts\n");
+    true
+}
+
+/// The first of these members whose name stands before it already.
+fn second(text: &[u8], found: &[Member]) -> Option<Member> {
+    for (place, member) in found.iter().enumerate() {
+        if has_name(text, &found[..place], member) {
+            return Some(*member);
+        }
+    }
+    None
+}
+
+/// Whether one of these members has this one's name.
+fn has_name(text: &[u8], found: &[Member], member: &Member) -> bool {
+    found
+        .iter()
+        .any(|other| other.name.of(text) == member.name.of(text))
+}

@@ -1,0 +1,13 @@
+//! Recoveries to their end, and reads.
+
+ghost use Rattle.rc_scenes.specs.Recoveries.{LeftoversPrints, ReadPrints};
+
+/// What a failed recovery left is not replayed by the next ones. Passes leave a kind alone.
+pub fn leftovers()
+    ensures { LeftoversPrints }
+{}
+
+/// A written value is read.
+pub fn read()
+    ensures { ReadPrints }
+{}

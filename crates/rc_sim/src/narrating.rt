@@ -1,0 +1,138 @@
+//! From the bytes of a scenario to the story of its run.
+
+ghost use Rattle.std.specs.Prelude.{◌≡◌, ℕ, string_bytes, IfOk, IfErr, IfSome, Err};
+ghost use Rattle.std.specs.Io.KnownBytes.{Keeps};
+ghost use Rattle.rc_reading.specs.Scenario.{reading};
+ghost use Rattle.rc_world.specs.HostView.{IsWithinLimits};
+ghost use Rattle.rc_sim.specs.declared.verdicts.SimFault.TheVariants.{Memory, Read as ReadFailed, Write as WriteFailed};
+ghost use Rattle.rc_sim.specs.Failures.{failed_reads, failed_writes};
+ghost use Rattle.rc_sim.specs.Verdicts.{Narrated, Storied};
+ghost use Rattle.rc_sim.specs.Written.{IsWritten, IsBegun};
+
+use crate::answers::{Answer, bad};
+use crate::counted::Counted;
+use crate::outlets::read_all;
+use crate::playing::Kept;
+use crate::simulating::write_answer;
+use crate::verdicts::{SimFault, Verdict};
+use rc_reading::{ReadFault, Scenario, read_scenario};
+use rc_story::Played;
+use rc_telling::{Story, log, log_json, mermaid, page};
+use rc_types::Code;
+use std::alloc::Global;
+use std::io::{Read, Write};
+
+/// How the story of a run is told.
+#[derive(Clone, Copy)]
+pub enum Telling {
+    /// In lines for a reader.
+    Log,
+    /// As one JSON value.
+    Json,
+    /// As a page for a browser.
+    Page,
+    /// As a sequence diagram for Mermaid.
+    Mermaid,
+}
+
+impl Telling {
+    /// As `log` tells it, with or without its flag.
+    pub fn of_log(json: bool) -> Telling {
+        if json { Telling::Json } else { Telling::Log }
+    }
+
+    /// As `picture` draws it, with or without its flag.
+    pub fn of_picture(mermaid: bool) -> Telling {
+        if mermaid {
+            Telling::Mermaid
+        } else {
+            Telling::Page
+        }
+    }
+}
+
+/// Reads a scenario, runs it, and writes the story of the run, or the one line of a scenario that is wrong. Nothing is
+/// claimed of the story. The bytes are kept once it is there.
+///
+/// It fails as [`simulate`](crate::simulate) does.
+pub(crate) fn narrate<R: Read, W: Write>(
+    alloc: Global,
+    reader: &mut Counted<R>,
+    writer: &mut Counted<W>,
+    telling: Telling,
+    kept: &mut Kept,
+) -> Result<Verdict, SimFault>
+    ensures ok { IfOk result (λ verdict. IfSome (R.remaining reader.old.inner)
+        (λ bytes. IsWritten (Narrated bytes) verdict (W.contents writer.old.inner) (W.contents writer.new.inner))) }
+    ensures cut_short { (count : ℕ) → result ≡ Err (WriteFailed count) → IfSome (R.remaining reader.old.inner)
+        (λ bytes. IsBegun (Narrated bytes) count (W.contents writer.old.inner) (W.contents writer.new.inner)) }
+    ensures nothing_without_memory { result ≡ Err Memory →
+        Keeps (W.contents writer.old.inner) (W.contents writer.new.inner) }
+    ensures nothing_unread { result ≡ Err ReadFailed →
+        Keeps (W.contents writer.old.inner) (W.contents writer.new.inner) }
+    ensures reads { reader.new.failures ≡ failed_reads result reader.old.failures }
+    ensures writes { writer.new.failures ≡ failed_writes result writer.old.failures }
+{
+    let bytes = read_all(alloc, reader)?;
+    let answer = story_of(alloc, bytes.as_slice(), telling)?;
+    kept.note(bytes, &answer);
+    write_answer(writer, &answer)
+}
+
+/// What is told of these bytes as a scenario.
+fn story_of(alloc: Global, bytes: &[u8], telling: Telling) -> Result<Answer, SimFault>
+    ensures ok { IfOk result (λ answer. Narrated bytes.now answer.verdict (string_bytes answer.text)) }
+    ensures fault { IfErr result (λ fault. fault ≡ Memory) }
+{
+    match read_scenario(alloc, bytes) {
+        Ok(scenario) => told(alloc, &scenario, telling),
+        Err(ReadFault::OutOfMemory) => Err(SimFault::Memory),
+        Err(ReadFault::BadScenario(place)) => bad(alloc, place),
+    }
+}
+
+/// What is told of a scenario.
+fn told(alloc: Global, scenario: &Scenario, telling: Telling) -> Result<Answer, SimFault>
+    requires { IsWithinLimits scenario.now.setup }
+    ensures fault { IfErr result (λ fault. fault ≡ Memory) }
+{
+    match Played::of(alloc, &scenario.setup, scenario.events.as_slice()) {
+        Ok(played) => answer_of(alloc, &played, telling),
+        Err(_) => Err(SimFault::Memory),
+    }
+}
+
+/// What is told of a run.
+fn answer_of(alloc: Global, played: &Played, telling: Telling) -> Result<Answer, SimFault>
+    ensures fault { IfErr result (λ fault. fault ≡ Memory) }
+{
+    match text_of(alloc, &played.story(), telling) {
+        Ok(text) => Ok(Answer {
+            verdict: verdict_of(played.stopped()),
+            text,
+            sent: played.sent(),
+        }),
+        Err(_) => Err(SimFault::Memory),
+    }
+}
+
+/// The verdict on a run that stopped here, or went through.
+fn verdict_of(stopped: Option<(usize, Code)>) -> Verdict {
+    match stopped {
+        Some((place, code)) => Verdict::Stopped(place, code),
+        None => Verdict::Clean,
+    }
+}
+
+/// The story as it is to be told.
+fn text_of(alloc: Global, story: &Story<'_>, telling: Telling) -> Result<String, SimFault>
+    ensures fault { IfErr result (λ fault. fault ≡ Memory) }
+{
+    let text = match telling {
+        Telling::Log => log(alloc, story),
+        Telling::Json => log_json(alloc, story),
+        Telling::Page => page(alloc, story),
+        Telling::Mermaid => mermaid(alloc, story),
+    };
+    text.map_err(|_| SimFault::Memory)
+}

@@ -1,0 +1,120 @@
+//! The events of a run once more, one after another, with a note of what each of them did.
+
+use crate::changing::Watch;
+use rc_telling::{Changes, Notes, Step};
+use rc_types::{Addr, Event, ServerId};
+use rc_world::World;
+use std::alloc::{AllocError, Global};
+
+/// What is noted of the events.
+#[derive(Drop)]
+pub(crate) struct Retold {
+    notes: Notes,
+    changes: Changes,
+    watch: Watch,
+    /// How many events were noted.
+    count: usize,
+}
+
+impl Retold {
+    /// Nothing yet.
+    pub(crate) fn new(alloc: Global) -> Retold {
+        Retold {
+            notes: Notes::new(alloc),
+            changes: Changes::new(alloc),
+            watch: Watch::new(),
+            count: 0,
+        }
+    }
+
+    /// What each event did.
+    pub(crate) fn notes(&self) -> &Notes {
+        &self.notes
+    }
+
+    /// How masters and replicas have changed.
+    pub(crate) fn changes(&self) -> &Changes {
+        &self.changes
+    }
+
+    /// One more event, which has happened in the world.
+    fn note(
+        &mut self,
+        alloc: Global,
+        event: &Event,
+        step: Step,
+        world: &World<Global>,
+    ) -> Result<(), AllocError> {
+        self.watch
+            .note(self.count, event, world, &mut self.changes)?;
+        self.count = self.count.saturating_add(1);
+        self.notes.take(alloc, event, step, world.sent())
+    }
+}
+
+/// Takes the events, each from its place in the scenario, and notes what they do.
+pub(crate) fn retell(
+    alloc: Global,
+    events: &[Event],
+    places: &[usize],
+    world: &mut World<Global>,
+    retold: &mut Retold,
+) -> Result<(), AllocError> {
+    for (event, place) in events.iter().zip(places) {
+        take(alloc, event, *place, world, retold)?;
+    }
+    Ok(())
+}
+
+/// One more event, which was possible when the scenario was played.
+fn take(
+    alloc: Global,
+    event: &Event,
+    place: usize,
+    world: &mut World<Global>,
+    retold: &mut Retold,
+) -> Result<(), AllocError> {
+    let first = world.sent().len();
+    let arrives = will_arrive(world, event);
+    let Ok(()) = world.take(alloc, event) else {
+        return Err(AllocError);
+    };
+    let step = Step {
+        place,
+        first,
+        end: world.sent().len(),
+        started: started_by(world, event),
+        arrives,
+    };
+    retold.note(alloc, event, step, world)
+}
+
+/// Whether what the event delivers will find its addressee running.
+fn will_arrive(world: &World<Global>, event: &Event) -> bool {
+    match event {
+        Event::Deliver(number) => is_there(world, *number),
+        _ => true,
+    }
+}
+
+/// Whether the addressee of the message of this number runs.
+fn is_there(world: &World<Global>, number: usize) -> bool {
+    let Some(message) = world.sent().get(number) else {
+        return false;
+    };
+    match message.to {
+        Addr::Server(id) => world.is_running(id),
+        Addr::Coordinator | Addr::Outside => true,
+    }
+}
+
+/// The server that the event, the last one, started.
+fn started_by(world: &World<Global>, event: &Event) -> Option<ServerId> {
+    match event {
+        Event::Start { host, .. } => Some(ServerId {
+            index: *host,
+            generation: world.newest(*host),
+        }),
+        _ => None,
+    }
+}

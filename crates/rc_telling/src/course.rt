@@ -1,0 +1,112 @@
+//! What ran in the course of a run, and what was delivered.
+
+use rc_types::limits::MAX_HOSTS;
+use rc_types::{Addr, Event, Message, ServerId};
+use std::alloc::{AllocError, Global};
+
+/// What ran, and what was delivered.
+#[derive(Drop)]
+pub(crate) struct Course {
+    /// Of each message, whether it was delivered.
+    pub(crate) delivered: Vec<bool>,
+    /// How often each host was started.
+    generations: [u32; MAX_HOSTS as usize],
+    /// Whether each host runs.
+    running: [bool; MAX_HOSTS as usize],
+    /// The first server that was asked while it did not run.
+    pub(crate) unheard: Option<ServerId>,
+    /// How many such requests there were.
+    pub(crate) requests: u64,
+}
+
+impl Course {
+    /// Nothing yet.
+    pub(crate) fn new(alloc: Global) -> Course {
+        Course {
+            delivered: Vec::new(alloc),
+            generations: [0; MAX_HOSTS as usize],
+            running: [false; MAX_HOSTS as usize],
+            unheard: None,
+            requests: 0,
+        }
+    }
+
+    /// None of so many messages was delivered yet.
+    pub(crate) fn begin(&mut self, count: usize) -> Result<(), AllocError> {
+        self.delivered.resize(count, false)?;
+        Ok(())
+    }
+
+    /// These events have happened.
+    pub(crate) fn take_all(&mut self, events: &[Event]) {
+        for event in events {
+            self.take(event);
+        }
+    }
+
+    /// An event has happened.
+    fn take(&mut self, event: &Event) {
+        match event {
+            Event::Deliver(number) => self.deliver(*number),
+            Event::Start { host, .. } => self.start(*host),
+            Event::Stop(id) => self.stop(id.index),
+            Event::Ask { to, .. } if !self.runs(*to) => self.miss(*to),
+            _ => {}
+        }
+    }
+
+    /// A message was delivered.
+    fn deliver(&mut self, number: usize) {
+        if let Some(mark) = self.delivered.get_mut(number) {
+            *mark = true;
+        }
+    }
+
+    /// A host was started.
+    fn start(&mut self, host: u8) {
+        let host = usize::from(host);
+        if let Some(generation) = self.generations.get_mut(host) {
+            *generation = generation.saturating_add(1);
+        }
+        if let Some(mark) = self.running.get_mut(host) {
+            *mark = true;
+        }
+    }
+
+    /// A host was stopped.
+    fn stop(&mut self, host: u8) {
+        if let Some(mark) = self.running.get_mut(usize::from(host)) {
+            *mark = false;
+        }
+    }
+
+    /// Whether a server runs.
+    pub(crate) fn runs(&self, id: ServerId) -> bool {
+        let host = usize::from(id.index);
+        let runs = self.running.get(host).copied().unwrap_or(false);
+        runs && self.generations.get(host).copied().unwrap_or(0) == id.generation
+    }
+
+    /// A server was asked that does not run.
+    fn miss(&mut self, id: ServerId) {
+        if self.unheard.is_none() {
+            self.unheard = Some(id);
+        }
+        self.requests = self.requests.saturating_add(1);
+    }
+
+    /// Whether this message waits: it was not delivered, and its addressee is there.
+    pub(crate) fn waits(&self, number: usize, message: &Message) -> bool {
+        let is_there = match message.to {
+            Addr::Server(id) => self.runs(id),
+            Addr::Coordinator => true,
+            Addr::Outside => false,
+        };
+        is_there && !self.delivered.get(number).copied().unwrap_or(true)
+    }
+
+    /// How many hosts run.
+    pub(crate) fn running(&self) -> usize {
+        self.running.iter().filter(|runs| **runs).count()
+    }
+}

@@ -1,0 +1,125 @@
+//! The story as a sequence diagram for Mermaid.
+
+use crate::fields::{tell_event, tell_fields_if_any};
+use crate::kinds::body_name;
+use crate::silences::tell_silence;
+use crate::story::{Step, Story, Turn};
+use rc_pen::{Pen, Spelling};
+use rc_types::{Addr, Event, Message};
+use std::alloc::{AllocError, Global};
+
+/// The story as a sequence diagram: an arrow for each message where it is delivered, or, where it goes to the outside
+/// or is never delivered, where it is sent.
+///
+/// # Errors
+///
+/// Memory was refused.
+pub fn mermaid(alloc: Global, story: &Story<'_>) -> Result<String, AllocError> {
+    let mut text = String::new(alloc);
+    let mut pen = Pen::at(&mut text, Spelling::Mermaid);
+    pen.put("sequenceDiagram\n    participant out as Outside\n    participant c as Coordinator\n");
+    for server in story.notes.servers().as_slice() {
+        put_name(&mut pen, "    participant ", Addr::Server(server.id));
+        pen.put_node(" as ", Addr::Server(server.id));
+        pen.put("\n");
+    }
+    for (number, (event, turn)) in story.events.iter().zip(story.notes.turns()).enumerate() {
+        put_turn(&mut pen, story, number, event, turn);
+    }
+    if let Some((place, code)) = story.stopped {
+        pen.put_code("    Note over out,c: stopped ", code);
+        pen.put_number(" at event ", place as u64);
+        pen.put("\n");
+    }
+    pen.end()?;
+    Ok(text)
+}
+
+/// These letters, and a node as Mermaid names it.
+fn put_name(pen: &mut Pen<'_>, letters: &str, node: Addr) {
+    pen.put(letters);
+    match node {
+        Addr::Server(id) => {
+            pen.put_number("s", u64::from(id.index));
+            pen.put_number("_", u64::from(id.generation));
+        }
+        Addr::Coordinator | Addr::Outside => pen.put_node("", node),
+    }
+}
+
+/// An event, and those messages that it sent which no event delivers.
+fn put_turn(pen: &mut Pen<'_>, story: &Story<'_>, number: usize, event: &Event, turn: &Turn) {
+    match event {
+        Event::Ask { .. } => {}
+        Event::Deliver(message) => put_delivery(pen, story, number, *message, turn),
+        _ => put_note(pen, event, &turn.step),
+    }
+    put_sent(pen, story, &turn.step);
+}
+
+/// The messages that an event sent and that no event delivers.
+fn put_sent(pen: &mut Pen<'_>, story: &Story<'_>, step: &Step) {
+    for place in step.first..step.end {
+        if let Some(message) = story.messages.get(place) {
+            put_undelivered(pen, story, place, message);
+        }
+    }
+}
+
+/// A message, if no event delivers it.
+fn put_undelivered(pen: &mut Pen<'_>, story: &Story<'_>, place: usize, message: &Message) {
+    if message.to == Addr::Outside {
+        put_arrow(pen, "->>", place, message);
+        pen.put("\n");
+    } else if story.notes.passages().is_lost(place) {
+        put_arrow(pen, "-x", place, message);
+        pen.put(", never delivered\n");
+    }
+}
+
+/// A delivery. What goes to the outside stands where it was sent.
+fn put_delivery(pen: &mut Pen<'_>, story: &Story<'_>, number: usize, message: usize, turn: &Turn) {
+    let Some(delivered) = story.messages.get(message) else {
+        return;
+    };
+    if delivered.to == Addr::Outside {
+        return;
+    }
+    let arrow = match turn.silence {
+        Some(_) => "-x",
+        None => "->>",
+    };
+    put_arrow(pen, arrow, message, delivered);
+    if story.notes.passages().is_delivered_before(message, number) {
+        pen.put(", once more");
+    }
+    if let Some(silence) = turn.silence {
+        pen.put(", ");
+        tell_silence(pen, silence, delivered);
+    }
+    pen.put("\n");
+}
+
+/// An event that is no message.
+fn put_note(pen: &mut Pen<'_>, event: &Event, step: &Step) {
+    let at = match (event, step.started) {
+        (_, Some(id)) => Addr::Server(id),
+        (Event::Stop(id), None) => Addr::Server(*id),
+        (Event::Tick(addr), None) => *addr,
+        _ => Addr::Coordinator,
+    };
+    put_name(pen, "    Note over ", at);
+    pen.put(": ");
+    tell_event(pen, event, step.started);
+    pen.put("\n");
+}
+
+/// A message as an arrow of this form.
+fn put_arrow(pen: &mut Pen<'_>, arrow: &str, number: usize, message: &Message) {
+    put_name(pen, "    ", message.from);
+    put_name(pen, arrow, message.to);
+    pen.put_number(": ", number as u64);
+    pen.put(" ");
+    pen.put(body_name(&message.body));
+    tell_fields_if_any(pen, &message.body);
+}

@@ -1,0 +1,169 @@
+//! How things stand at the end of a story: what was never delivered, what the outside was told, who owns which range,
+//! and what was last acknowledged of each key.
+
+use crate::kinds::{body_name, body_place};
+use crate::story::Story;
+use indexmap::IndexMap;
+use rc_types::{Addr, Body, Message};
+use std::alloc::{AllocError, Global};
+
+/// Messages of one kind to one addressee.
+#[derive(Clone, Copy)]
+pub(crate) struct Group {
+    /// The name of the kind.
+    pub(crate) kind: &'static str,
+    /// To whom.
+    pub(crate) to: Addr,
+    /// How many there are.
+    pub(crate) count: u64,
+}
+
+/// The last grant of a range.
+#[derive(Clone, Copy)]
+pub(crate) struct Range {
+    /// The table.
+    pub(crate) table: u32,
+    /// The first key.
+    pub(crate) lo: u64,
+    /// The last key.
+    pub(crate) hi: u64,
+    /// The term of the grant.
+    pub(crate) term: u32,
+    /// To whom it was granted.
+    pub(crate) owner: Addr,
+}
+
+/// The newest version of a key that was acknowledged.
+#[derive(Clone, Copy)]
+pub(crate) struct Newest {
+    /// The table.
+    pub(crate) table: u32,
+    /// The key.
+    pub(crate) key: u64,
+    /// The version.
+    pub(crate) version: u64,
+    /// The term under which it was written.
+    pub(crate) term: u32,
+    /// Who acknowledged it.
+    pub(crate) by: Addr,
+}
+
+/// How things stand at the end.
+#[derive(Drop)]
+pub(crate) struct Ending {
+    /// What was never delivered to a server or to the coordinator, by kind and addressee.
+    lost: IndexMap<(usize, Addr), Group>,
+    /// What was sent to the outside, by kind.
+    told: IndexMap<(usize, Addr), Group>,
+    ranges: IndexMap<(u32, u64, u64), Range>,
+    newest: IndexMap<(u32, u64), Newest>,
+}
+
+impl Ending {
+    /// How things stand at the end of this story.
+    pub(crate) fn of(alloc: Global, story: &Story<'_>) -> Result<Ending, AllocError> {
+        let mut ending = Ending {
+            lost: IndexMap::new(alloc),
+            told: IndexMap::new(alloc),
+            ranges: IndexMap::new(alloc),
+            newest: IndexMap::new(alloc),
+        };
+        for (number, message) in story.messages.iter().enumerate() {
+            if message.to == Addr::Outside {
+                count(&mut ending.told, message)?;
+            } else if story.notes.passages().is_lost(number) {
+                count(&mut ending.lost, message)?;
+            }
+            ending.note(message)?;
+        }
+        Ok(ending)
+    }
+
+    /// Notes what a message grants or acknowledges.
+    fn note(&mut self, message: &Message) -> Result<(), AllocError> {
+        match &message.body {
+            Body::Own {
+                table,
+                lo,
+                hi,
+                term,
+                ..
+            } => {
+                let range = Range {
+                    table: *table,
+                    lo: *lo,
+                    hi: *hi,
+                    term: *term,
+                    owner: message.to,
+                };
+                self.ranges.insert((*table, *lo, *hi), range)?;
+                Ok(())
+            }
+            Body::WriteOk {
+                term,
+                table,
+                key,
+                version,
+                ..
+            } => self.acknowledge(Newest {
+                table: *table,
+                key: *key,
+                version: *version,
+                term: *term,
+                by: message.from,
+            }),
+            _ => Ok(()),
+        }
+    }
+
+    /// A version of a key was acknowledged. It counts where no greater one was.
+    fn acknowledge(&mut self, newest: Newest) -> Result<(), AllocError> {
+        let place = (newest.table, newest.key);
+        if let Some(before) = self.newest.get(&place) {
+            if before.version > newest.version {
+                return Ok(());
+            }
+        }
+        self.newest.insert(place, newest)?;
+        Ok(())
+    }
+
+    /// What was never delivered to a server or to the coordinator, by kind and addressee.
+    pub(crate) fn lost(&self) -> &IndexMap<(usize, Addr), Group> {
+        &self.lost
+    }
+
+    /// What was sent to the outside, by kind.
+    pub(crate) fn told(&self) -> &IndexMap<(usize, Addr), Group> {
+        &self.told
+    }
+
+    /// The last grant of each range, in order of its first one.
+    pub(crate) fn ranges(&self) -> &IndexMap<(u32, u64, u64), Range> {
+        &self.ranges
+    }
+
+    /// The newest acknowledged version of each key, in order of its first one.
+    pub(crate) fn newest(&self) -> &IndexMap<(u32, u64), Newest> {
+        &self.newest
+    }
+}
+
+/// One more message in its group.
+pub(crate) fn count(
+    groups: &mut IndexMap<(usize, Addr), Group>,
+    message: &Message,
+) -> Result<(), AllocError> {
+    let place = (body_place(&message.body), message.to);
+    let before = match groups.get(&place) {
+        Some(group) => group.count,
+        None => 0,
+    };
+    let group = Group {
+        kind: body_name(&message.body),
+        to: message.to,
+        count: before.saturating_add(1),
+    };
+    groups.insert(place, group)?;
+    Ok(())
+}

@@ -1,0 +1,41 @@
+//! How the story of a run is told: as a log, as JSON, as a page for a browser, and as a sequence diagram for Mermaid.
+//!
+//! A story is the events and messages of a world, and what was noted of them one after another; it is told from these
+//! alone. By which words it is told is no promise; that telling it ends, and fails only without memory, is one.
+//!
+//! To be read in this order: `passages`, what became of a message; `silences`, why a delivery came to nothing;
+//! `servers`, who ran when; `standing`, how masters and backups stand at the end; `changes`, what became of them on
+//! the way; `story`, the whole; `kinds` and `fields`, a message as text; `ending`, what else stands at the end; then
+//! the four ways to tell it: `logs` with `standings` and `waits`, `json` with `json_standing`, `diagrams` and `pages`.
+//! Apart from all this stands `hinting`, with `course` and `recoveries`: what may not have been meant in a run.
+#![tactic(auto)]
+
+mod changes;
+mod course;
+mod diagrams;
+mod ending;
+mod fields;
+mod hinting;
+mod json;
+mod json_standing;
+mod kinds;
+mod logs;
+mod page_parts;
+mod pages;
+mod passages;
+mod recoveries;
+mod servers;
+mod silences;
+mod standing;
+mod standings;
+mod story;
+mod waits;
+
+pub use changes::Changes;
+pub use diagrams::mermaid;
+pub use hinting::hints;
+pub use json::log_json;
+pub use logs::log;
+pub use pages::page;
+pub use standing::{MasterStanding, ReplicaStanding, SegmentStanding, Standing};
+pub use story::{Notes, Step, Story};

@@ -1,0 +1,265 @@
+//! Why a delivery came to nothing: whom a backup had fenced by then, what it had freed, which epoch a segment had,
+//! which attempt to recover a master was the newest, and who was deposed.
+
+use indexmap::IndexMap;
+use rc_pen::Pen;
+use rc_types::{Addr, Body, Code, Message, ServerId};
+use std::alloc::{AllocError, Global};
+
+/// Why a delivery came to nothing.
+#[derive(Clone, Copy)]
+pub(crate) enum Silence {
+    /// The addressee did not run.
+    NotRunning,
+    /// The backup had fenced the sender, for this attempt.
+    Fenced(u32),
+    /// The backup had freed this segment.
+    Freed(u16),
+    /// The backup keeps no such replica, or the entries before these are not there.
+    NoReplica,
+    /// The segment has this later epoch.
+    OlderEpoch(u16),
+    /// The master's recovery has this later attempt.
+    StaleAttempt(u32),
+    /// The addressee has this later list.
+    OlderList(u32),
+    /// The addressee is deposed.
+    Deposed,
+}
+
+/// What has to be known of what was sent and delivered so far.
+#[derive(Drop)]
+pub(crate) struct Known {
+    /// By backup and master: the attempt for which the one fenced the other.
+    fences: IndexMap<(ServerId, ServerId), u32>,
+    /// By backup, master and segment: what was freed.
+    freed: IndexMap<(ServerId, ServerId, u16), bool>,
+    /// By master and segment: the epoch of the last Place.
+    epochs: IndexMap<(ServerId, u16), u16>,
+    /// By attempt: whose recovery it is.
+    attempts: IndexMap<u32, ServerId>,
+    /// By master: its newest attempt.
+    newest: IndexMap<ServerId, u32>,
+    /// By server: the version of the greatest list that it was given.
+    lists: IndexMap<ServerId, u32>,
+    /// By server: who was deposed.
+    deposed: IndexMap<ServerId, bool>,
+}
+
+impl Known {
+    /// Nothing yet.
+    pub(crate) fn new(alloc: Global) -> Known {
+        Known {
+            fences: IndexMap::new(alloc),
+            freed: IndexMap::new(alloc),
+            epochs: IndexMap::new(alloc),
+            attempts: IndexMap::new(alloc),
+            newest: IndexMap::new(alloc),
+            lists: IndexMap::new(alloc),
+            deposed: IndexMap::new(alloc),
+        }
+    }
+
+    /// A message was sent.
+    pub(crate) fn send(&mut self, message: &Message) -> Result<(), AllocError> {
+        match (message.from, &message.body) {
+            (Addr::Server(master), Body::Place { seg, epoch, .. }) => {
+                self.place(master, *seg, *epoch)
+            }
+            (_, Body::Gather { attempt, master }) => self.attempt(*attempt, *master),
+            _ => Ok(()),
+        }
+    }
+
+    /// A master places a segment under this epoch.
+    fn place(&mut self, master: ServerId, seg: u16, epoch: u16) -> Result<(), AllocError> {
+        self.epochs.insert((master, seg), epoch)?;
+        Ok(())
+    }
+
+    /// An attempt asks for replicas of this master.
+    fn attempt(&mut self, attempt: u32, master: ServerId) -> Result<(), AllocError> {
+        self.attempts.insert(attempt, master)?;
+        self.newest.insert(master, attempt)?;
+        Ok(())
+    }
+
+    /// A message has reached its addressee, which runs.
+    pub(crate) fn deliver(&mut self, message: &Message) -> Result<(), AllocError> {
+        let Addr::Server(to) = message.to else {
+            return Ok(());
+        };
+        match (message.from, &message.body) {
+            (_, Body::Gather { attempt, master }) => self.fence(to, *master, *attempt),
+            (Addr::Server(master), Body::Free { seg }) => self.free(to, master, *seg),
+            (_, Body::List { version, .. }) => self.list(to, *version),
+            (
+                Addr::Coordinator,
+                Body::Refused {
+                    code: Code::Deposed,
+                },
+            ) => self.depose(to),
+            _ => Ok(()),
+        }
+    }
+
+    /// A backup fences a master.
+    fn fence(
+        &mut self,
+        backup: ServerId,
+        master: ServerId,
+        attempt: u32,
+    ) -> Result<(), AllocError> {
+        if self.fences.get(&(backup, master)).is_none() {
+            self.fences.insert((backup, master), attempt)?;
+        }
+        Ok(())
+    }
+
+    /// A backup frees a segment, if it has not fenced its master.
+    fn free(&mut self, backup: ServerId, master: ServerId, seg: u16) -> Result<(), AllocError> {
+        if self.fences.get(&(backup, master)).is_none() {
+            self.freed.insert((backup, master, seg), true)?;
+        }
+        Ok(())
+    }
+
+    /// A server is given a list.
+    fn list(&mut self, to: ServerId, version: u32) -> Result<(), AllocError> {
+        if self.list_of(to) < version {
+            self.lists.insert(to, version)?;
+        }
+        Ok(())
+    }
+
+    /// A server learns that it was replaced.
+    fn depose(&mut self, id: ServerId) -> Result<(), AllocError> {
+        self.deposed.insert(id, true)?;
+        Ok(())
+    }
+
+    /// The version of the greatest list that this server was given.
+    fn list_of(&self, id: ServerId) -> u32 {
+        self.lists.get(&id).copied().unwrap_or(0)
+    }
+
+    /// Why this message, when it reaches its addressee, which runs, will come to nothing, if that can be told.
+    pub(crate) fn why(&self, message: &Message) -> Option<Silence> {
+        match message.to {
+            Addr::Server(to) => match message.from {
+                Addr::Server(from) => self.why_between(from, to, &message.body),
+                Addr::Coordinator | Addr::Outside => self.why_at(to, &message.body),
+            },
+            Addr::Coordinator => self.why_at_coordinator(&message.body),
+            Addr::Outside => None,
+        }
+    }
+
+    /// Of a message from one server to another.
+    fn why_between(&self, from: ServerId, to: ServerId, body: &Body) -> Option<Silence> {
+        match body {
+            Body::Place { seg, .. } | Body::Append { seg, .. } | Body::Close { seg, .. } => {
+                self.why_not_stored(from, to, *seg)
+            }
+            Body::Stored { seg, epoch, .. } => self.why_not_noted(to, *seg, *epoch),
+            _ => self.why_not_heard(to),
+        }
+    }
+
+    /// Of what a backup is to store.
+    fn why_not_stored(&self, master: ServerId, backup: ServerId, seg: u16) -> Option<Silence> {
+        match self.fences.get(&(backup, master)) {
+            Some(attempt) => Some(Silence::Fenced(*attempt)),
+            None if self.freed.get(&(backup, master, seg)).is_some() => Some(Silence::Freed(seg)),
+            None => Some(Silence::NoReplica),
+        }
+    }
+
+    /// Of what a master is told of a segment.
+    fn why_not_noted(&self, master: ServerId, seg: u16, epoch: u16) -> Option<Silence> {
+        match self.epochs.get(&(master, seg)) {
+            Some(newest) if *newest > epoch => Some(Silence::OlderEpoch(*newest)),
+            _ => self.why_not_heard(master),
+        }
+    }
+
+    /// Of what comes to a master that may be deposed.
+    fn why_not_heard(&self, master: ServerId) -> Option<Silence> {
+        if self.deposed.get(&master).is_some() {
+            Some(Silence::Deposed)
+        } else {
+            None
+        }
+    }
+
+    /// Of a message from the coordinator or the outside to a server.
+    fn why_at(&self, to: ServerId, body: &Body) -> Option<Silence> {
+        let known = self.list_of(to);
+        match body {
+            Body::List { version, .. } if *version <= known => Some(Silence::OlderList(known)),
+            Body::CommitOk { seg, epoch } => self.why_not_noted(to, *seg, *epoch),
+            _ => self.why_not_heard(to),
+        }
+    }
+
+    /// Of a message to the coordinator.
+    fn why_at_coordinator(&self, body: &Body) -> Option<Silence> {
+        let Body::Replicas { attempt, .. } = body else {
+            return None;
+        };
+        let master = self.attempts.get(attempt)?;
+        match self.newest.get(master) {
+            Some(newest) if *newest > *attempt => Some(Silence::StaleAttempt(*newest)),
+            _ => None,
+        }
+    }
+}
+
+impl Silence {
+    /// Whether the addressee ran.
+    pub(crate) fn is_running(self) -> bool {
+        !matches!(self, Silence::NotRunning)
+    }
+}
+
+/// Why this message came to nothing.
+pub(crate) fn tell_silence(pen: &mut Pen<'_>, silence: Silence, message: &Message) {
+    match silence {
+        Silence::NotRunning => {
+            pen.put_node("", message.to);
+            pen.say(" was not running");
+        }
+        Silence::Fenced(attempt) => tell_fence(pen, message, attempt),
+        Silence::Freed(seg) => tell_freed(pen, message, seg),
+        Silence::NoReplica => {
+            pen.put_node("", message.to);
+            pen.say(" has no open replica that it fits");
+        }
+        Silence::OlderEpoch(epoch) => pen.number(
+            "the segment had already epoch ",
+            u64::from(epoch),
+        ),
+        Silence::StaleAttempt(attempt) => pen.number(
+            "its attempt was replaced by ",
+            u64::from(attempt),
+        ),
+        Silence::OlderList(version) => pen.number("it had already version ", u64::from(version)),
+        Silence::Deposed => {
+            pen.put_node("", message.to);
+            pen.say(" was deposed");
+        }
+    }
+}
+
+/// The addressee had fenced the sender.
+fn tell_fence(pen: &mut Pen<'_>, message: &Message, attempt: u32) {
+    pen.put_node("", message.to);
+    pen.put_node(" had fenced ", message.from);
+    pen.number(" for attempt ", u64::from(attempt));
+}
+
+/// The addressee had freed the segment.
+fn tell_freed(pen: &mut Pen<'_>, message: &Message, seg: u16) {
+    pen.put_node("", message.to);
+    pen.number(" had freed segment ", u64::from(seg));
+}

@@ -1,0 +1,183 @@
+//! The story of a run: its events and messages, and what was noted of them.
+
+use crate::changes::Changes;
+use crate::passages::Passages;
+use crate::servers::Servers;
+use crate::silences::{Known, Silence};
+use crate::standing::Standing;
+use rc_types::{Body, Code, Event, Message, ServerId};
+use std::alloc::{AllocError, Global};
+
+/// One event of the world, and what it did.
+#[derive(Clone, Copy)]
+pub struct Step {
+    /// The place in the scenario of what it comes from, from 0.
+    pub place: usize,
+    /// The number of the first message that it sent.
+    pub first: usize,
+    /// The number after the last message that it sent.
+    pub end: usize,
+    /// The server that it started.
+    pub started: Option<ServerId>,
+    /// Whether what it delivers, if it delivers, finds its addressee running.
+    pub arrives: bool,
+}
+
+/// One event of the world, and why it came to nothing, where it is a delivery that did.
+#[derive(Clone, Copy)]
+pub(crate) struct Turn {
+    /// What the event did.
+    pub(crate) step: Step,
+    /// Why it came to nothing, as far as can be told.
+    pub(crate) silence: Option<Silence>,
+}
+
+/// What is noted of a run, event by event.
+#[derive(Drop)]
+pub struct Notes {
+    turns: Vec<Turn>,
+    passages: Passages,
+    servers: Servers,
+    known: Known,
+}
+
+impl Notes {
+    /// Of no event yet.
+    pub fn new(alloc: Global) -> Notes {
+        Notes {
+            turns: Vec::new(alloc),
+            passages: Passages::new(alloc),
+            servers: Servers::new(alloc),
+            known: Known::new(alloc),
+        }
+    }
+
+    /// One more event of the world, which did this. These are all messages that were sent until now.
+    ///
+    /// # Errors
+    ///
+    /// Memory was refused.
+    pub fn take(
+        &mut self,
+        alloc: Global,
+        event: &Event,
+        step: Step,
+        messages: &[Message],
+    ) -> Result<(), AllocError> {
+        let number = self.turns.len();
+        let silence = self.silence_of(event, &step, messages);
+        self.note(event, &step, number, messages)?;
+        self.note_sent(alloc, number, &step, messages)?;
+        self.turns.push(Turn { step, silence })?;
+        Ok(())
+    }
+
+    /// Why an event came to nothing, where it is a delivery that did.
+    fn silence_of(&self, event: &Event, step: &Step, messages: &[Message]) -> Option<Silence> {
+        let Event::Deliver(number) = event else {
+            return None;
+        };
+        if !step.arrives {
+            return Some(Silence::NotRunning);
+        }
+        if step.first < step.end {
+            return None;
+        }
+        self.known.why(messages.get(*number)?)
+    }
+
+    /// Notes what the event of this number did to a server or to a message.
+    fn note(
+        &mut self,
+        event: &Event,
+        step: &Step,
+        number: usize,
+        messages: &[Message],
+    ) -> Result<(), AllocError> {
+        match event {
+            Event::Stop(id) => {
+                self.servers.stop(id.index, number);
+                Ok(())
+            }
+            Event::Start { .. } => match step.started {
+                Some(id) => self.servers.start(id, number),
+                None => Ok(()),
+            },
+            Event::Deliver(message) => self.note_delivery(*message, step, number, messages),
+            _ => Ok(()),
+        }
+    }
+
+    /// Notes that the event of this number delivered a message.
+    fn note_delivery(
+        &mut self,
+        message: usize,
+        step: &Step,
+        number: usize,
+        messages: &[Message],
+    ) -> Result<(), AllocError> {
+        self.passages.deliver(message, number)?;
+        match messages.get(message) {
+            Some(delivered) if step.arrives => self.known.deliver(delivered),
+            _ => Ok(()),
+        }
+    }
+
+    /// Notes what the event of this number sent.
+    fn note_sent(
+        &mut self,
+        alloc: Global,
+        number: usize,
+        step: &Step,
+        messages: &[Message],
+    ) -> Result<(), AllocError> {
+        let sent = messages.get(step.first..).unwrap_or(&[]);
+        self.passages.send(alloc, number, sent.len())?;
+        self.note_acknowledged(sent);
+        for message in sent {
+            self.known.send(message)?;
+        }
+        Ok(())
+    }
+
+    /// Notes which writes were acknowledged by these messages.
+    fn note_acknowledged(&mut self, sent: &[Message]) {
+        for message in sent {
+            if let Body::WriteOk { .. } = &message.body {
+                self.servers.acknowledge(message.from);
+            }
+        }
+    }
+
+    /// What each event did, in order.
+    pub(crate) fn turns(&self) -> &[Turn] {
+        self.turns.as_slice()
+    }
+
+    /// What became of the messages.
+    pub(crate) fn passages(&self) -> &Passages {
+        &self.passages
+    }
+
+    /// The servers.
+    pub(crate) fn servers(&self) -> &Servers {
+        &self.servers
+    }
+}
+
+/// The story of a run.
+#[derive(Clone, Copy)]
+pub struct Story<'a> {
+    /// The events of the world, in order.
+    pub events: &'a [Event],
+    /// All messages, by number.
+    pub messages: &'a [Message],
+    /// What was noted of them.
+    pub notes: &'a Notes,
+    /// How masters and backups stand at the end.
+    pub standing: &'a Standing,
+    /// How they have changed.
+    pub changes: &'a Changes,
+    /// The event of the scenario at which the run stopped, by place from 0, and why.
+    pub stopped: Option<(usize, Code)>,
+}
