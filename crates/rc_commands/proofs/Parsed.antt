@@ -21,7 +21,7 @@ use Rattle.rc_commands.specs.Commands as command
 use Rattle.rc_commands.specs.Commands.{ramseg}
 use Rattle.rc_commands.proofs.Words.{asks, leaf, tells}
 use Rattle.rc_commands.proofs.Lines.{about_fails, audit_found, by_command, empty_told, explain_found, explore_found, fuzz_found}
-use Rattle.rc_commands.proofs.Lines.{is_known, is_plain, log_found, picture_found, run_found, stops_found, threads_found, told, trace_found}
+use Rattle.rc_commands.proofs.Lines.{is_known, is_plain, log_found, picture_found, run_found, shrink_found, stops_found, threads_found, told, trace_found}
 
 -- ---- where no fault comes, the line begins with a command
 
@@ -41,6 +41,7 @@ commanded (word ∷ rest) e = by_command (λ w. fault_of ramseg (w ∷ rest) ≡
     (λ _. (rows_at (leaf command.log.top) rest, log_found rest, refl))
     (λ _. (rows_at (leaf command.picture.top) rest, picture_found rest, refl))
     (λ _. (rows_at (leaf command.explain.top) rest, explain_found rest, refl))
+    (λ _. (rows_at (leaf command.shrink.top) rest, shrink_found rest, refl))
     (λ e. absurd (true≢false (sym (ap is_empty e) ∙ about_fails rest)))
     (λ w none no_help e. absurd (true≢false (sym (told w rest none no_help) ∙ ap (tells (asks true w)) e))) word e
 

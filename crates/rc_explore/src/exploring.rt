@@ -1,55 +1,85 @@
 //! A run that is drawn so that much happens.
 
-ghost use Rattle.std.specs.Prelude.{◌≡◌, IfErr};
-ghost use Rattle.rc_types.specs.declared.faults.Fault.TheVariants.{OutOfMemory};
-
 use crate::choosing::{Choice, Words};
 use crate::mail::Mail;
 use crate::options::Options;
 use crate::roster::{KEYS, Roster};
 use rand_pcg::Pcg32;
+use rc_survey::{Counts, Survey};
 use rc_types::{Addr, Body, Event, Fault, Seq, ServerId};
 use rc_world::World;
 use std::alloc::Global;
 
-/// A world, and what the drawing knows of it.
+/// A run that is drawn: its world so far, what it has reached, and what the drawing knows of it.
 #[derive(Drop)]
-struct Explorer {
+pub struct Exploration {
     world: World<Global>,
+    survey: Survey,
     mail: Mail,
     noticed: usize,
     roster: Roster,
+    generator: Pcg32,
+    step: usize,
+    steps: usize,
     calm: usize,
 }
 
 /// The most deliveries that bring the beginning to rest.
 const MOST_AT_FIRST: usize = 2_000;
 
-/// The world after the hosts were started, a table was created, and so many steps were drawn.
-///
-/// # Errors
-///
-/// `OutOfMemory` (F1): memory was refused.
-pub fn explore(alloc: Global, options: &Options) -> Result<World<Global>, Fault> {
-    let mut explorer = Explorer {
-        world: World::new(alloc, options.setup(alloc), alloc),
-        mail: Mail::new(alloc),
-        noticed: 0,
-        roster: Roster::new(alloc, options.hosts, options.factor),
-        calm: options.steps - options.steps / 6,
-    };
-    explorer.begin(alloc)?;
-    let mut generator = Pcg32::new(options.seed, 54);
-    for number in 0..options.steps {
-        let words = Words::take(&mut generator);
-        explorer.step(alloc, number, words)?;
+impl Exploration {
+    /// The run in which the hosts were started and a table was created, and no step was drawn yet.
+    ///
+    /// # Errors
+    ///
+    /// `OutOfMemory` (F1): memory was refused.
+    pub fn begin(alloc: Global, options: &Options) -> Result<Exploration, Fault> {
+        let mut run = Exploration {
+            world: World::new(alloc, options.setup(alloc), alloc),
+            survey: Survey::new(alloc),
+            mail: Mail::new(alloc),
+            noticed: 0,
+            roster: Roster::new(alloc, options.hosts, options.factor),
+            generator: Pcg32::new(options.seed, 54),
+            step: 0,
+            steps: options.steps,
+            calm: options.steps - options.steps / 6,
+        };
+        run.open(alloc)?;
+        Ok(run)
     }
-    Ok(explorer.world)
-}
 
-impl Explorer {
+    /// So many steps more, but no more than the options ask for.
+    ///
+    /// # Errors
+    ///
+    /// `OutOfMemory` (F1): memory was refused.
+    pub fn go_on(&mut self, alloc: Global, steps: usize) -> Result<(), Fault> {
+        for _ in 0..steps.min(self.steps.saturating_sub(self.step)) {
+            let words = Words::take(&mut self.generator);
+            self.draw(alloc, self.step, words)?;
+            self.step = self.step.saturating_add(1);
+        }
+        Ok(())
+    }
+
+    /// How many steps were drawn.
+    pub fn step(&self) -> usize {
+        self.step
+    }
+
+    /// The world.
+    pub fn world(&self) -> &World<Global> {
+        &self.world
+    }
+
+    /// What was reached.
+    pub fn counts(&self) -> &Counts {
+        self.survey.counts()
+    }
+
     /// The hosts are started, and a table is created.
-    fn begin(&mut self, alloc: Global) -> Result<(), Fault> {
+    fn open(&mut self, alloc: Global) -> Result<(), Fault> {
         for host in 0..self.roster.hosts() {
             self.take(
                 alloc,
@@ -80,15 +110,16 @@ impl Explorer {
     /// One more event, if it is possible; and what it sends waits.
     fn take(&mut self, alloc: Global, event: &Event) -> Result<(), Fault> {
         match self.world.take(alloc, event) {
-            Ok(()) => self.notice(),
+            Ok(()) => self.notice(event),
             Err(Fault::BadEvent) => Ok(()),
             Err(fault) => Err(fault),
         }
     }
 
-    /// Notes what was sent since.
-    fn notice(&mut self) -> Result<(), Fault> {
+    /// Notes what was sent by this event.
+    fn notice(&mut self, event: &Event) -> Result<(), Fault> {
         let sent = self.world.sent();
+        self.survey.note(event, sent, self.noticed)?;
         for number in self.noticed..sent.len() {
             let message = &sent[number];
             self.roster.notice(message)?;
@@ -101,7 +132,7 @@ impl Explorer {
     }
 
     /// One step, of this number.
-    fn step(&mut self, alloc: Global, number: usize, words: Words) -> Result<(), Fault> {
+    fn draw(&mut self, alloc: Global, number: usize, words: Words) -> Result<(), Fault> {
         match self.event_of(alloc, number, words)? {
             Some(event) => self.take(alloc, &event),
             None => Ok(()),
