@@ -6,6 +6,15 @@ use rc_reading::ScenarioEvent;
 use rc_types::{Addr, Body, Event, Setup};
 use std::alloc::{AllocError, Global};
 
+/// An event of a scenario that is left.
+#[derive(Clone, Copy)]
+pub struct Left {
+    /// Its place in the scenario.
+    pub place: usize,
+    /// The message that it delivers, if it is a delivery.
+    pub message: usize,
+}
+
 /// A scenario of format 2 with these events of a world: one event in each line.
 ///
 /// # Errors
@@ -24,7 +33,7 @@ pub fn saved_events(alloc: Global, setup: &Setup, events: &[Event]) -> Result<St
     Ok(text)
 }
 
-/// A scenario of format 2 with those of these events that are marked: one event in each line.
+/// A scenario of format 2 with those of these events that are left: one event in each line.
 ///
 /// # Errors
 ///
@@ -33,17 +42,15 @@ pub fn saved_scenario(
     alloc: Global,
     setup: &Setup,
     events: &[ScenarioEvent],
-    marks: &[bool],
+    left: &[Left],
 ) -> Result<String, AllocError> {
     let mut text = String::new(alloc);
     let mut pen = Pen::at(&mut text, Spelling::Json);
     lines::begin(&mut pen, setup);
-    let mut first = true;
-    for (event, mark) in events.iter().zip(marks) {
-        if *mark {
-            lines::separate(&mut pen, first);
-            put_scenario_event(&mut pen, event);
-            first = false;
+    for (number, one) in left.iter().enumerate() {
+        if let Some(event) = events.get(one.place) {
+            lines::separate(&mut pen, number == 0);
+            put_scenario_event(&mut pen, event, one.message);
         }
     }
     lines::end(&mut pen);
@@ -72,8 +79,8 @@ fn put_event(pen: &mut Pen<'_>, event: &Event) {
     }
 }
 
-/// An event of a scenario.
-fn put_scenario_event(pen: &mut Pen<'_>, event: &ScenarioEvent) {
+/// An event of a scenario; if it is a delivery, of this message.
+fn put_scenario_event(pen: &mut Pen<'_>, event: &ScenarioEvent, message: usize) {
     match event {
         ScenarioEvent::Write {
             to,
@@ -82,7 +89,7 @@ fn put_scenario_event(pen: &mut Pen<'_>, event: &ScenarioEvent) {
             value,
         } => lines::put_write(pen, *to, *table, *key, value.as_ref()),
         ScenarioEvent::Read { to, table, key } => lines::put_read(pen, *to, *table, *key),
-        ScenarioEvent::Deliver(number) => lines::put_deliver(pen, *number as u64),
+        ScenarioEvent::Deliver(_) => lines::put_deliver(pen, message as u64),
         ScenarioEvent::Tick(addr) => put_tick(pen, *addr),
         ScenarioEvent::Stop(id) => lines::put_named(pen, "stop", *id),
         ScenarioEvent::Start { host, kept } => lines::put_start(pen, *host, kept),

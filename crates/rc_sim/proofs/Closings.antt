@@ -80,8 +80,11 @@ not_begun asked.Audit status input known is = (Err Memory, is, keeps_same known)
 not_begun (asked.Fuzz seed steps free) status input known is = (Err Memory, is, keeps_same known)
 not_begun (asked.Stops seed steps) status input known is = (Err Memory, is, keeps_same known)
 not_begun (asked.Threads hosts writes) status input known is = (Err Memory, is, keeps_same known)
-not_begun (asked.Explore seed steps hosts factor segment free save) status input known is =
+not_begun (asked.Explore seed steps hosts factor segment free save progress) status input known is =
     (Err Memory, is, keeps_same known)
+not_begun (asked.Survey first last steps hosts factor segment free progress) status input known is =
+    (Err Memory, is, keeps_same known)
+not_begun (asked.Shrink keep) status input known is = (Err Memory, is, keeps_same known)
 not_begun (asked.Log json) status input known is = (Err Memory, is, keeps_same known)
 not_begun (asked.Picture mermaid) status input known is = (Err Memory, is, keeps_same known)
 not_begun (asked.Explain code) status input known is = tt
