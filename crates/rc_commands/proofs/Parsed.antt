@@ -21,7 +21,8 @@ use Rattle.rc_commands.specs.Commands as command
 use Rattle.rc_commands.specs.Commands.{ramseg}
 use Rattle.rc_commands.proofs.Words.{asks, leaf, tells}
 use Rattle.rc_commands.proofs.Lines.{about_fails, audit_found, by_command, empty_told, explain_found, explore_found, fuzz_found}
-use Rattle.rc_commands.proofs.Lines.{is_known, is_plain, log_found, picture_found, run_found, shrink_found, stops_found, threads_found, told, trace_found}
+use Rattle.rc_commands.proofs.Lines.{is_known, is_plain, log_found, picture_found, run_found, shrink_found, stops_found}
+use Rattle.rc_commands.proofs.Lines.{threads_found, told, trace_found}
 
 -- ---- where no fault comes, the line begins with a command
 

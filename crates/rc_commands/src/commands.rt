@@ -255,7 +255,7 @@ fn shrink<'a>(alloc: Global) -> Result<Command<'a>, AllocError>
         alloc,
         "shrink",
         "Leaves out of a scenario what its report does not need to keep a line, and prints it",
-        "Example: ramseg shrink --keep entry < examples/first-write.json",
+        "Example: ramseg shrink --keep 'ack 0.1' < examples/first-write.json",
     )
     .arg(option(
         alloc,

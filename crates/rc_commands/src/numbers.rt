@@ -53,7 +53,7 @@ impl fmt::Display for BadWord<'_> {
             )?,
             BadWord::Range { text } => write!(
                 f,
-                "error: '{text}' is no value for '--seeds': A..B, A at most B, both below 2^64, at most {MOST_SEEDS} seeds\n"
+                "error: '{text}' is no value for '--seeds': A..B, A at most B, at most {MOST_SEEDS} seeds\n"
             )?,
             BadWord::NotTogether => write!(
                 f,

@@ -43,7 +43,7 @@ impl Exploration {
             generator: Pcg32::new(options.seed, 54),
             step: 0,
             steps: options.steps,
-            calm: options.steps - options.steps / 6,
+            calm: options.steps - options.steps / 4,
         };
         run.open(alloc)?;
         Ok(run)
@@ -165,10 +165,12 @@ impl Exploration {
         }
     }
 
-    /// The kind of event. In the last sixth of the steps nothing crashes any more: what was begun is decided.
+    /// The kind of event. In the last quarter of the steps nothing crashes any more, and nothing is lost or held back:
+    /// what was begun is decided.
     fn choice(&self, number: usize, words: Words) -> Choice {
         match Choice::of(words.kind, self.mail.len()) {
             Choice::Stop | Choice::Suspect if number >= self.calm => Choice::Decide,
+            Choice::Lose | Choice::Hold if number >= self.calm => Choice::Deliver,
             choice => choice,
         }
     }
@@ -273,11 +275,11 @@ impl Exploration {
         }))
     }
 
-    /// A suspicion of a server that has stopped, or of one that lives.
+    /// A suspicion of a server that has stopped, or of one that lives; or once more of one that waits to be recovered.
     fn suspect(&mut self, words: Words) -> Result<Option<Event>, Fault> {
         let id = self.suspected(words);
         if id.generation == 0 || self.roster.is_suspected(id) {
-            return Ok(None);
+            return Ok(self.roster.crashed(words.detail / 2).map(Event::Suspect));
         }
         if self.world.is_running(id) && !self.roster.can_spare(&self.world) {
             return Ok(None);

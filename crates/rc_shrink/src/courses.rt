@@ -7,7 +7,7 @@ use std::alloc::{AllocError, Global};
 #[derive(Clone, Copy)]
 pub(crate) struct Item {
     pub(crate) left: Left,
-    /// If it is a delivery: which of those that are left sent the message, and how many messages that one sent before it.
+    /// If it is a delivery: which event sent the message.
     pub(crate) origin: Origin,
 }
 
@@ -21,7 +21,10 @@ pub(crate) struct Origin {
 }
 
 /// Of no message.
-pub(crate) const NOWHERE: Origin = Origin { item: 0, before: 0 };
+pub(crate) const NOWHERE: Origin = Origin {
+    item: usize::MAX,
+    before: 0,
+};
 
 /// What is left of a scenario.
 #[derive(Drop)]

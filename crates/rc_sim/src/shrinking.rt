@@ -19,8 +19,8 @@ use std::alloc::Global;
 use std::io::{Read, Write};
 
 /// Reads a scenario, and writes a smallest one whose report still has a line that begins with the text, or the one line
-/// of a scenario that is wrong. Where its own report has no such line, nothing is written. The bytes are kept once it is
-/// there.
+/// of a scenario that is wrong. Where its own report has no such line, nothing is written. The bytes are kept once that
+/// is there.
 ///
 /// It fails as [`simulate`](crate::simulate) does.
 pub(crate) fn shrink<R: Read, W: Write>(

@@ -14,6 +14,6 @@ returns-in_default-clause-command c =
 pub returns-clause-command : goal.returns-clause-command
 returns-clause-command c =
     let kept : c.from_vec-keep.result ≡ c.in-Some.text.now =
-        c.from_vec-keep.ensures ∙ c.in_ok-to_vec.ensures.items_if_clones_equal (λ x y h. h) ∙ c.as_bytes.ensures.value in
+    c.from_vec-keep.ensures ∙ c.in_ok-to_vec.ensures.items_if_clones_equal (λ x y h. h) ∙ c.as_bytes.ensures.value in
     ap (λ keep. Some (asked.Shrink keep)) kept
     ∙ sym (as_mapped asked.Shrink (found_of c.args.given.now) (codes "keep") (Some c.in-Some.text) c.in-Some.ensures)
