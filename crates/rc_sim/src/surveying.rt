@@ -19,8 +19,8 @@ use std::alloc::{AllocError, Global};
 use std::io::Write;
 
 /// Runs events that are drawn from each seed, from the first to the last, one after another, and writes a line for
-/// each, and what they have reached together. With `progress` it tells `errors` at each seed how far it is. It keeps one
-/// run at a time, and of those before the counts and the lines.
+/// each, and what they have reached together. With `progress` it tells `errors` at each seed how far it is. It keeps
+/// one run at a time, and of those before the counts and the lines.
 ///
 /// It fails as `fuzz` does.
 pub fn survey<W: Write, E: Write>(
