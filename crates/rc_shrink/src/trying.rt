@@ -35,26 +35,56 @@ pub(crate) fn without(
 ) -> Result<Option<Course>, Fault>
     requires { IsWithinLimits task.setup.now }
 {
-    let mut run = Run::new(alloc, task.setup.try_clone(alloc)?, alloc);
     let mut moved = Move::new(alloc);
-    let mut stopped = None;
+    match keeps_line(alloc, task, course, cut, &mut moved) {
+        Ok(true) => Ok(Some(moved.next)),
+        Ok(false) => Ok(None),
+        Err(fault) => Err(fault),
+    }
+}
+
+/// Plays what is left after this cut: whether the report still has such a line.
+fn keeps_line(
+    alloc: Global,
+    task: Task<'_>,
+    course: &Course,
+    cut: Cut,
+    moved: &mut Move,
+) -> Result<bool, Fault>
+    requires { IsWithinLimits task.setup.now }
+{
+    let setup = match task.setup.try_clone(alloc) {
+        Ok(setup) => setup,
+        Err(fault) => return Err(fault),
+    };
+    let mut run = Run::new(alloc, setup, alloc);
+    match play_left(alloc, task, course, cut, &mut run, moved) {
+        Ok(stopped) => has_line(alloc, task.keep, run.world().sent(), stopped),
+        Err(fault) => Err(fault),
+    }
+}
+
+/// Plays what is left after this cut: at which event it stopped, if it did.
+fn play_left(
+    alloc: Global,
+    task: Task<'_>,
+    course: &Course,
+    cut: Cut,
+    run: &mut Run<Global>,
+    moved: &mut Move,
+) -> Result<Option<usize>, Fault> {
     for at in 0..course.items.len() {
         let item = course.items[at];
         let is_cut = cut.from <= at && at < cut.to;
-        if !is_cut && go_on(alloc, task, &mut run, &mut moved, item, cut.moves)? {
+        if !is_cut && go_on(alloc, task, run, moved, item, cut.moves)? {
             moved.sent(run.world().sent().len())?;
         } else if moved.is_stopped {
-            stopped = Some(moved.next.len().saturating_sub(1));
-            break;
+            return Ok(Some(moved.next.len().saturating_sub(1)));
         } else {
             moved.leave_out()?;
         }
     }
-    if has_line(alloc, task.keep, run.world().sent(), stopped)? {
-        Ok(Some(moved.next))
-    } else {
-        Ok(None)
-    }
+    Ok(None)
 }
 
 /// Plays this event, if it is not a delivery of a message that is gone: whether it has happened.
