@@ -55,7 +55,7 @@ Does (asked.Threads hosts writes) status input old new = EndsBy (λ _. Threaded)
 Does (asked.Explore seed steps hosts factor segment free save progress) status input old new =
     EndsBy (λ _. Explored save) status input old new
 Does (asked.Survey first last steps hosts factor segment free progress) status input old new =
-    EndsBy (λ _. Surveyed first last) status input old new
+    EndsBy (λ _. Surveyed) status input old new
 Does (asked.Shrink keep) status input old new = EndsBy Shrunk status input old new
 Does (asked.Log json) status input old new = EndsBy Narrated status input old new
 Does (asked.Picture mermaid) status input old new = EndsBy Narrated status input old new

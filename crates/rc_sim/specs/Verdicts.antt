@@ -1,7 +1,5 @@
 -- What comes of a scenario, a trace, drawn events, or nodes on threads: what is printed, and what is answered.
-use Rattle.std.specs.Prelude.{◌≡◌, ◌⊎◌, ◌≤◌, ◌+◌, ◌-◌, ◌*◌, ⊤, ℕ, Bool, true, false, List, [], ◌++◌, length, codes}
-use Rattle.std.specs.Prelude.{is_some}
-use Rattle.std.specs.List.{list_any}
+use Rattle.std.specs.Prelude.{◌≡◌, ◌⊎◌, ◌≤◌, ◌*◌, ⊤, ℕ, Bool, true, false, List, [], ◌++◌, length, codes}
 use Rattle.std.specs.Prelude.{Option, Some, None, Result, Ok, Err}
 use Rattle.rc_types.specs.declared.faults.Code.{Code}
 use Rattle.rc_types.specs.declared.faults.Code.TheVariants.{OutOfMemory, BadEvent}
@@ -116,25 +114,15 @@ Explored true verdict text = verdict ≡ Clean
 Explored false verdict text = (world : Happened) × (lines : List ℕ) ×
     (verdict ≡ audited (breach (sent_in world))) × (text ≡ report (sent_in world) ++ lines)
 
--- whether some world has a breach
-abbrev pub is_breached : Happened → Bool
-is_breached world = is_some (breach (sent_in world))
-
-abbrev pub IsRun : Bool → Type 0
-IsRun found = (world : Happened) × (found ≡ is_breached world)
-
+-- of runs of which one has a breach, or none
 abbrev pub told_of : Bool → Verdict
 told_of true = Breach
 told_of false = Clean
 
--- of so many worlds: a breach where one of them has one
-abbrev pub AreRun : ℕ → Verdict → Type 0
-AreRun count verdict =
-    (worlds : List Happened) × (length worlds ≡ count) × (verdict ≡ told_of (list_any is_breached worlds))
-
--- of worlds that were drawn to reach much, one for each of these seeds; nothing is claimed of what is told of them
-abbrev pub Surveyed : ℕ → ℕ → Verdict → List ℕ → Type 0
-Surveyed first last verdict text = AreRun (last - first + 1) verdict
+-- of worlds that were drawn to reach much, one for each of several seeds: none has a breach; nothing is claimed of what
+-- is told of them
+abbrev pub Surveyed : Verdict → List ℕ → Type 0
+Surveyed verdict text = verdict ≡ Clean
 
 -- a smaller scenario, or nothing
 abbrev pub IsShrunk : Verdict → List ℕ → Type 0
