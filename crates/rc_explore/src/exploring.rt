@@ -43,7 +43,7 @@ impl Exploration {
             generator: Pcg32::new(options.seed, 54),
             step: 0,
             steps: options.steps,
-            calm: options.steps - options.steps / 4,
+            calm: options.steps - options.steps / 3,
         };
         run.open(alloc)?;
         Ok(run)
@@ -155,7 +155,7 @@ impl Exploration {
             Choice::Stop => Ok(self.stop(words)),
             Choice::Start => self.start(alloc, words),
             Choice::Suspect => self.suspect(words),
-            Choice::Decide => Ok(self.roster.crashed(words.target).map(Event::Decide)),
+            Choice::Decide => Ok(self.decide(words)),
             Choice::Split => Ok(Some(Event::Split {
                 table: self.roster.table(),
                 at: u64::from(words.target % KEYS as u32),
@@ -165,7 +165,7 @@ impl Exploration {
         }
     }
 
-    /// The kind of event. In the last quarter of the steps nothing crashes any more, and nothing is lost or held back:
+    /// The kind of event. In the last third of the steps nothing crashes any more, and nothing is lost or held back:
     /// what was begun is decided.
     fn choice(&self, number: usize, words: Words) -> Choice {
         match Choice::of(words.kind, self.mail.len()) {
@@ -286,6 +286,14 @@ impl Exploration {
         }
         self.roster.suspect(id)?;
         Ok(Some(Event::Suspect(id)))
+    }
+
+    /// A decision; or now and then once more a suspicion of a server of whose plan nothing was granted yet.
+    fn decide(&mut self, words: Words) -> Option<Event> {
+        if words.detail % 32 == 0 {
+            return self.roster.planned().map(Event::Suspect);
+        }
+        self.roster.crashed(words.target).map(Event::Decide)
     }
 
     /// Another table, now and then.
