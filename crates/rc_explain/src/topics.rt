@@ -40,9 +40,10 @@ pub static TOPICS: [Topic; 21] = [
         name: "Rolling",
         short: "the master has no head to write to at the moment",
         when: "A master, to a write: its first head is not open yet, or its head is full and the next one is \
-            being opened. The write was not appended.",
-        remedy: "Settle, so that the backups of the new head answer, and send the write again. If it is refused \
-            for ever, too few hosts are up: see F4.",
+            being opened, or the old one is not closed yet at each of its backups. The write was not appended.",
+        remedy: "Settle, so that the backups of both heads answer, and send the write again. If it is refused \
+            for ever, `log` tells at its end what the master waits for: a message that was not delivered, a backup \
+            that has stopped and was not suspected, or, with too few hosts, see F4.",
     },
     Topic {
         number: 4,

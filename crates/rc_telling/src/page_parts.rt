@@ -36,11 +36,12 @@ input { width: 84px; }
   outline: 2px solid var(--message); outline-offset: 1px; }
 #details { display: block; margin: 8px 0 14px; padding: 8px 10px; height: 112px; overflow: auto;
   background: var(--panel); border-radius: 8px; overflow-wrap: anywhere; white-space: pre-line; }
-#ending { display: grid; grid-template-columns: repeat(auto-fit, minmax(min(100%, 310px), 1fr)); gap: 14px; }
-#ending > section { overflow-x: auto; }
-table { border-collapse: collapse; width: 100%; font-variant-numeric: tabular-nums; }
-th, td { text-align: left; padding: 2px 8px 2px 0; border-bottom: 1px solid var(--line); }
+#ending { display: flex; flex-wrap: wrap; gap: 14px 36px; }
+#ending > section { overflow-x: auto; max-width: 100%; }
+table { border-collapse: collapse; font-variant-numeric: tabular-nums; }
+th, td { text-align: left; padding: 2px 12px 2px 0; border-bottom: 1px solid var(--line); vertical-align: top; }
 td { white-space: nowrap; }
+td.long { white-space: normal; min-width: 13em; }
 th { color: var(--soft); font-weight: 600; white-space: nowrap; }
 svg text { font: 11px system-ui, sans-serif; fill: var(--ink); }
 svg .number { fill: var(--soft); text-anchor: end; }
@@ -159,7 +160,11 @@ function messageText(message) {
   } else if (message.lost) {
     fate = "never delivered";
   }
-  return `${messageLine(message)}\nsent by event ${message.sent}, ${fate}`;
+  return `${messageLine(message)}\nsent by event ${message.sent}, ${causeText(events[message.sent])}\n${fate}`;
+}
+
+function causeText(event) {
+  return event.kind === "deliver" ? `which delivered ${messageLine(messages[event.message])}` : event.text;
 }
 
 function eventText(event) {
@@ -502,7 +507,8 @@ fill("kind", [...new Set(messages.map((message) => message.kind))].sort(), (kind
 pub(crate) const ENDING: &str = r##"
 // How things stand at the end.
 function table(caption, heads, lines) {
-  const cells = (tag, line) => line.map((cell) => `<${tag}>${escaped(cell)}</${tag}>`).join("");
+  const long = (cell) => String(cell).length > 30 ? ' class="long"' : "";
+  const cells = (tag, line) => line.map((cell) => `<${tag}${long(cell)}>${escaped(cell)}</${tag}>`).join("");
   const body = lines.map((line) => `<tr>${cells("td", line)}</tr>`).join("");
   const whole = lines.length === 0 ? "<p>none</p>" :
     `<table><thead><tr>${cells("th", heads)}</tr></thead><tbody>${body}</tbody></table>`;
@@ -533,11 +539,15 @@ table("Owners, by the last grant of each range", ["Table", "Keys", "Term", "Owne
     stands(range) ? "" : "passed on"]));
 table("Last acknowledged version of each key", ["Table", "Key", "Version", "Term", "By"],
   story.keys.map((key) => [key.table, key.key, key.version, key.term, key.by]));
-table("Servers", ["Server", "Started", "Stopped", "Acknowledged"],
+table("Writes delivered and not acknowledged", ["Message", "", "Delivered", "What became of it"],
+  story.unacknowledged.map((write) => [write.message,
+    `to ${messages[write.message].to} ${messages[write.message].text}`, `event ${write.event}`, write.fate]));
+table("Servers", ["Server", "Started", "Stopped", "Suspected", "Acknowledged"],
   story.servers.map((server) => [server.id, `event ${server.started}`,
-    server.stopped === null ? "runs" : `event ${server.stopped}`, server.acknowledged]));
-table("Masters", ["Server", "Phase", "Head", "Durable places"],
-  story.masters.map((master) => [master.id, master.phase, master.head, master.durable]));
+    server.stopped === null ? "runs" : `event ${server.stopped}`,
+    server.suspected === null ? "" : `event ${server.suspected}`, server.acknowledged]));
+table("Masters", ["Server", "Phase", "Head", "Durable places", "Waits"],
+  story.masters.map((master) => [master.id, master.phase, master.head, master.durable, master.waits || ""]));
 table("Segments", ["Segment", "Epoch", "Entries", "", "Members, and what they have told"],
   story.masters.flatMap((master) => master.segments.map((segment) => [`${master.id} ${segment.seg}`,
     segment.epoch + (segment.committed ? "" : ", not committed"), segment.len, segment.shut ? "shut" : "open",
@@ -546,7 +556,8 @@ table("Replicas", ["At", "Of", "Segment", "Epoch", "Entries", ""],
   story.replicas.map((replica) => [replica.at, replica.of, replica.seg, replica.epoch, replica.len,
     (replica.closed ? "closed" : "open") + (replica.fenced ? ", fenced" : "")]));
 table("Never delivered", ["Kind", "To", "Messages"],
-  story.lost.map((group) => [group.kind, group.to, group.count]));
+  story.lost.map((group) => [group.kind, group.to, messages.filter((message) => message.lost &&
+    message.kind === group.kind && message.to === group.to).map((message) => message.n).join(" ")]));
 byId("summary").textContent = `${events.length} events, ${messages.length} messages, ` +
   `${story.servers.length} servers` +
   (story.stopped ? `; stopped ${story.stopped.code} at event ${story.stopped.place} of the scenario` : "");
