@@ -42,6 +42,10 @@ table { border-collapse: collapse; font-variant-numeric: tabular-nums; }
 th, td { text-align: left; padding: 2px 12px 2px 0; border-bottom: 1px solid var(--line); vertical-align: top; }
 td { white-space: nowrap; }
 td.long { white-space: normal; min-width: 13em; }
+@media (max-width: 600px) {
+  td { white-space: normal; }
+  td.long { min-width: 0; }
+}
 th { color: var(--soft); font-weight: 600; white-space: nowrap; }
 svg text { font: 11px system-ui, sans-serif; fill: var(--ink); }
 svg .number { fill: var(--soft); text-anchor: end; }
@@ -57,6 +61,7 @@ svg .copy.closed { fill: var(--copy); }
 svg .copy.fenced { stroke-dasharray: 3 3; }
 svg .copy.fenced.closed { fill: url(#hatched); }
 #legend span { display: inline-block; width: 12px; height: 10px; margin: 0 4px 0 10px; border: 1px solid var(--line); }
+#legend i { font-style: normal; white-space: nowrap; }
 #legend .copy { width: 5px; border-color: var(--copy); }
 svg .row { fill: var(--chosen); }
 svg .ground { fill: var(--ground); }
@@ -83,11 +88,13 @@ svg .message:focus-visible path.touch { stroke: var(--chosen); }
 <body>
 <h1>Story of a run</h1>
 <p id="summary"></p>
-<p id="legend">Masters:<span style="background: var(--opening)"></span>opening<span
-style="background: var(--closing)"></span>closing<span style="background: var(--band)"></span>writing<span
-style="background: var(--deposed)"></span>deposed. Replicas beside them:<span class="copy"></span>open<span
-class="copy" style="background: var(--copy)"></span>closed<span class="copy" style="border-style: dashed"></span>of a
-fenced master</p>
+<p id="legend">Masters: <i><span style="background: var(--opening)"></span>opening</i>
+<i><span style="background: var(--closing)"></span>closing</i>
+<i><span style="background: var(--band)"></span>writing</i>
+<i><span style="background: var(--deposed)"></span>deposed</i>. Replicas beside them:
+<i><span class="copy"></span>open</i>
+<i><span class="copy" style="background: var(--copy)"></span>closed</i>
+<i><span class="copy" style="border-style: dashed"></span>of a fenced master</i></p>
 <div id="tools">
 <button id="previous" type="button">Previous (k)</button>
 <button id="next" type="button">Next (j)</button>
@@ -521,6 +528,11 @@ function stands(range) {
     BigInt(other.lo) <= BigInt(range.hi) && BigInt(range.lo) <= BigInt(other.hi));
 }
 
+function ownerText(owner) {
+  const server = story.servers.find((server) => server.id === owner);
+  return server && server.suspected !== null ? "suspected" : "";
+}
+
 function keysOf(range) {
   const last = "18446744073709551615";
   if (range.hi === last) {
@@ -536,7 +548,7 @@ function memberText(member) {
 
 table("Owners, by the last grant of each range", ["Table", "Keys", "Term", "Owner", ""],
   story.ranges.map((range) => [range.table, keysOf(range), range.term, range.owner,
-    stands(range) ? "" : "passed on"]));
+    stands(range) ? ownerText(range.owner) : "passed on"]));
 table("Last acknowledged version of each key", ["Table", "Key", "Version", "Term", "By"],
   story.keys.map((key) => [key.table, key.key, key.version, key.term, key.by]));
 table("Writes delivered and not acknowledged", ["Message", "", "Delivered", "What became of it"],
