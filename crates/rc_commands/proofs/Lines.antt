@@ -5,7 +5,7 @@ use Rattle.std.specs.Str.{bytes_eq}
 use Rattle.clap.specs.Kinds.{Kinds, or_else}
 use Rattle.clap.specs.Lexer.{long_of}
 use Rattle.std.specs.Option.{option_map_or}
-use Rattle.clap.specs.Walk.{Row, finished, is_empty, settled, walked, Names, Text, Walk, nothing_held, walk_from, idle, subcommand_met}
+use Rattle.clap.specs.Walk.{Row, finished, settled, walked, Names, Text, Walk, nothing_held, walk_from, idle, subcommand_met}
 use Rattle.clap.specs.Simple.{Shape, entered, names_of, built, is_simple, rows_at, subcommand_of}
 use Rattle.clap.specs.Faults.{check_fault, defaults_fault, settle_fault, fault_of, is_simple_and_free, walk_fault}
 use Rattle.clap.specs.Faults.{level_fault, entered_fault}
@@ -149,10 +149,6 @@ ended : (rest : List Text) → Told (codes "--") rest
 unfolding clap_on_literals
 ended [] = refl
 ended (word ∷ rest) = refl
-
-pub about_fails : (rest : List Text) → is_empty (fault_of ramseg (codes "help" ∷ rest)) ≡ false
-unfolding clap_on_literals
-about_fails rest = refl
 
 pub empty_told : tells false (fault_of ramseg []) ≡ true
 unfolding clap_on_literals

@@ -138,11 +138,6 @@ never_breach read verdict text comes same = true≢false (sym (ap is_breach same
     told : is_breach Breach ≡ true
     told = refl
 
--- what a call told, where it is a verdict
-abbrev pub told_verdict : Result Verdict SimFault → Verdict
-told_verdict (Ok verdict) = verdict
-told_verdict (Err e) = Clean
-
 -- or the fault
 abbrev pub told_fault : {T : Type 0} → Result T SimFault → SimFault
 told_fault (Ok x) = sim_fault.Memory

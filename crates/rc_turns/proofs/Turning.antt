@@ -2,7 +2,7 @@
 use Rattle.std.proofs.Common.{◌≡◌, ℕ, zero, suc, ◌+◌, ◌<◌, ◌≤◌, nat_lt, nat_eq, Bool, true, false, cond, ◌&&◌, ◌||◌, not}
 use Rattle.std.proofs.Common.{List, [], ◌∷◌, ◌++◌, take, length, Option, Some, None, slice_get, slice_index_or}
 use Rattle.std.proofs.Common.{refl, sym, ap, ◌∙◌, subst, append_assoc, arith}
-use Rattle.std.specs.Prelude.{Result, Ok, Err, OnOk, OnErr, is_some}
+use Rattle.std.specs.Prelude.{Result, Ok, Err, OnOk}
 use Rattle.std.specs.Option.{IfSome}
 use Rattle.std.proofs.lemmas.Bool.{and_parts, eq-eqb}
 use Rattle.std.proofs.lemmas.List.{append-nil}
@@ -22,8 +22,8 @@ use Rattle.rc_journal.specs.Numbers.{least_to}
 use Rattle.rc_seats.specs.declared.work.Work.{Work}
 use Rattle.rc_seats.specs.declared.work.Work.TheVariants as work
 use Rattle.rc_seats.specs.SeatView.{SeatData, Offered, offered_events, node_name, world_at, node_at}
-use Rattle.rc_seats.specs.Calls.{Later, Finds, Misses, Fetches, Commits}
-use Rattle.rc_seats.specs.Works.{event_for, is_delivery_of, was_delivered, Prepares}
+use Rattle.rc_seats.specs.Calls.{Later, Finds, Misses, Fetches}
+use Rattle.rc_seats.specs.Works.{event_for, is_delivery_of, was_delivered}
 use Rattle.rc_turns.specs.declared.steps.Step.{Step}
 use Rattle.rc_turns.specs.declared.steps.Step.TheVariants.{Do, Settle}
 use Rattle.rc_turns.specs.Runs.{own_work, listed, works_for, is_fetched, none_fetched, work_in, works_in, is_new, all_new}
@@ -448,53 +448,3 @@ finds-of setup old number found new is f = subst (λ (b : Bool). Fetches setup o
 pub misses-of : (setup : Setup) (old : SeatData) (number : ℕ) (found : Bool) (new : SeatData) → found ≡ false →
     Fetches setup old number found new → Misses setup old number new
 misses-of setup old number found new is f = subst (λ (b : Bool). Fetches setup old number b new) is f
-
--- A step, from its work to its commit
-
-some-same : (a b : Offered) → Some a ≡ Some b → a ≡ b
-some-same a b e = cc
-
-pub pending-prepared : (setup : Setup) (old : SeatData) (given : Work) (now : SeatData) → Prepares setup old given now →
-    is_some now.pending ≡ true
-pending-prepared setup old given now p = ap (λ (s : SeatData). is_some s.pending) p.after
-
-pub grows-prepared : (setup : Setup) (old : SeatData) (given : Work) (now : SeatData) → Prepares setup old given now → Grows old now
-grows-prepared setup old given now p = record {
-  name = ap (λ (s : SeatData). s.name) p.after;
-  seen = subst (λ (l : List Event). StartsWith l old.seen) (sym (ap (λ (s : SeatData). s.seen) p.after)) (starts-same old.seen);
-  mine = subst (λ (l : List Event). StartsWith l old.mine) (sym (ap (λ (s : SeatData). s.mine) p.after)) (starts-same old.mine);
-}
-
-pub takes-committed : (setup : Setup) (old : SeatData) (given : Work) (ready : SeatData) (number : ℕ) (new : SeatData) →
-    Prepares setup old given ready → Commits setup ready number new → Takes setup old given new
-takes-committed setup old given ready number new p c =
-    let same : p.offered ≡ c.offered = some-same p.offered c.offered (sym (ap (λ (s : SeatData). s.pending) p.after) ∙ c.pending) in
-    let before : StartsWith c.earlier old.seen =
-    subst (λ (l : List Event). StartsWith c.earlier l) (ap (λ (s : SeatData). s.seen) p.after) c.seen in
-    record {
-      event = c.offered.event;
-      is = p.event ∙ ap (λ (o : Offered). Some o.event) same;
-      name = ap (λ (s : SeatData). s.name) c.after ∙ ap (λ (s : SeatData). s.name) p.after;
-      seen = starts-through new.seen c.earlier old.seen
-          (record { rest = c.offered.event ∷ []; same = ap (λ (s : SeatData). s.seen) c.after }) before;
-      mine = ap (λ (s : SeatData). s.mine) c.after
-          ∙ ap (λ (l : List Event). l ++ c.offered.event ∷ []) (ap (λ (s : SeatData). s.mine) p.after);
-      idle = ap (λ (s : SeatData). s.pending) c.after;
-    }
-
-pub grows-equal : (old new : SeatData) → new ≡ old → Grows old new
-grows-equal old new same = subst (λ (s : SeatData). Grows old s) (sym same) (grows-same old)
-
-pub grows-either : {E : Type 0} (setup : Setup) (old : SeatData) (given : Work) (new : SeatData) (r : Result (Unit {0}) E) →
-    OnOk r (Takes setup old given new) → OnErr r (Grows old new) → Grows old new
-grows-either setup old given new (Ok done) takes grows = grows-takes setup old given new takes
-grows-either setup old given new (Err fault) takes grows = grows
-
-pub grows-fetched : (setup : Setup) (old : SeatData) (number : ℕ) (found : Bool) (new : SeatData) → Fetches setup old number found new →
-    Grows old new
-grows-fetched setup old number true new f = record {
-  name = ap (λ (s : SeatData). s.name) f.after;
-  seen = f.seen;
-  mine = subst (λ (m : List Event). StartsWith m old.mine) (sym (ap (λ (s : SeatData). s.mine) f.after)) (starts-same old.mine);
-}
-grows-fetched setup old number false new f = grows-later old new f.later
