@@ -10,5 +10,3 @@ pub mod KeptSegments
 pub mod SoundBefore
 pub mod StillBefore
 pub mod Stood
-pub mod ConcernedLemmas
-pub mod ListRuleLemmas

@@ -4,4 +4,3 @@ pub mod Soundness
 pub mod Freeing
 pub mod Places
 pub mod Before
-pub mod Concerned

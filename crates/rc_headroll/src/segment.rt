@@ -47,7 +47,6 @@ impl Segment {
     ghost use Rattle.rc_model.specs.MasterTick.{awaits_commit};
     ghost use Rattle.rc_headroll.specs.Losing.{segment_loses};
     ghost use Rattle.rc_headroll.specs.Before.{state_of, with_state};
-    ghost use Rattle.rc_headroll.specs.Concerned.{is_concerned};
 
     /// A segment as it is opened with this digest on these members. It takes no memory.
     pub(crate) fn new(alloc: Global, seg: u16, digest: Vec<u16>, ids: &[ServerId]) -> Segment
@@ -98,13 +97,6 @@ impl Segment {
         ensures { result.now ≡ self.now.config }
     {
         &self.config
-    }
-
-    /// Whether a Commit was sent under the present epoch.
-    pub fn is_commit_sent(&self) -> bool
-        ensures { result ≡ self.now.commit_sent }
-    {
-        self.commit_sent
     }
 
     /// Whether no Close was sent to this member under the present epoch.
@@ -165,16 +157,6 @@ impl Segment {
         ensures { result ≡ awaits_commit self.now }
     {
         self.commit_sent && (!self.config.is_committed() && self.config.all_placed())
-    }
-
-    /// Whether a member is lost, or the list shows one crashed.
-    pub fn is_concerned(&self, servers: &ServerList) -> bool
-        ensures { result ≡ is_concerned servers.now self.now }
-    {
-        self.config
-            .members()
-            .iter()
-            .any(|member| member.lost || servers.has_crashed(member.id))
     }
 
     /// How many of its entries all members have.
