@@ -28,7 +28,8 @@ fn unless_memory(fault: Fault) -> Result<(), Fault>
 }
 
 impl State {
-    /// Takes a server list, if it is newer than the known one, and obeys it.
+    /// Takes a server list, if it is newer than the known one, and obeys it. Of one that isn't, the version alone is
+    /// looked at.
     pub(crate) fn take_list(
         &mut self,
         version: u32,
@@ -45,10 +46,10 @@ impl State {
         ensures before { before_step self.new ≡ before_step self.old }
         ensures no_memory { IfErr result (λ fault. fault ≡ OutOfMemory) }
     {
-        let servers = ServerList::from_rows(self.alloc, version, rows)?;
-        if !servers.newer_than(&self.known) {
+        if version <= self.known.version() {
             return Ok(());
         }
+        let servers = ServerList::from_rows(self.alloc, version, rows)?;
         let earlier = mem::replace(&mut self.known, servers);
         self.earlier = Some(earlier);
         self.obey_list(sent)
