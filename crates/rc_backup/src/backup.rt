@@ -15,6 +15,7 @@ use crate::replicas::Request;
 use rc_types::{Addr, Body, Fault, Message, Row, Seq, ServerId};
 use std::alloc::{AllocError, Global};
 use std::collections::BTreeMap;
+use std::fmt;
 use std::marker::Model;
 
 /// What a server does as a backup: it keeps replicas of the segments of masters, and once it has
@@ -34,6 +35,13 @@ impl Drop for Backup {
             id: _,
             held: _,
         } = self;
+    }
+}
+
+/// For a debugger it is its id, and of how many masters it keeps something.
+impl fmt::Debug for Backup {
+    fn fmt<W: fmt::Write>(&self, f: &mut fmt::Formatter<W>) -> fmt::Result {
+        write!(f, "backup {} of {} masters", self.id, self.held.len())
     }
 }
 

@@ -10,6 +10,7 @@ ghost use Rattle.rc_coordinator.specs.Steps.{steps, HasNumbers};
 use crate::state::State;
 use rc_types::{Fault, Input, Message};
 use std::alloc::{Allocator, Global};
+use std::fmt;
 use std::marker::Model;
 
 /// The one coordinator. It enlists servers and spreads the list of them, creates and splits tables
@@ -24,6 +25,15 @@ pub struct Coordinator<A: Allocator> {
 impl<A: Allocator> Drop for Coordinator<A> {
     fn drop(self) {
         let Coordinator { state: _ } = self;
+    }
+}
+
+/// For a debugger it is how many servers it knows, and how many attempts it has begun.
+impl<A: Allocator> fmt::Debug for Coordinator<A> {
+    fn fmt<W: fmt::Write>(&self, f: &mut fmt::Formatter<W>) -> fmt::Result {
+        let servers = self.state.servers.len();
+        let attempts = self.state.recoveries.attempts.len();
+        write!(f, "coordinator of {servers} servers, {attempts} attempts")
     }
 }
 

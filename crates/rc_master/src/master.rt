@@ -13,6 +13,7 @@ use crate::state::State;
 use rc_headroll::LogHead;
 use rc_types::{Addr, Body, Fault, Input, Message, ServerId};
 use std::alloc::Global;
+use std::fmt;
 use std::marker::Model;
 
 /// One master. It keeps a log of which each segment has replicas on other hosts, takes writes and
@@ -25,6 +26,20 @@ pub struct Master {
 impl Drop for Master {
     fn drop(self) {
         let Master { state: _ } = self;
+    }
+}
+
+/// For a debugger it is its id, its head, and how many places of its log are durable.
+impl fmt::Debug for Master {
+    fn fmt<W: fmt::Write>(&self, f: &mut fmt::Formatter<W>) -> fmt::Result {
+        let log = self.log();
+        write!(
+            f,
+            "master {} with head {}, {} durable",
+            log.own(),
+            log.head(),
+            log.durable()
+        )
     }
 }
 

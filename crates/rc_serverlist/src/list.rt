@@ -7,6 +7,7 @@ use crate::marks;
 use indexmap::IndexMap;
 use rc_types::{Fault, ServerId};
 use std::alloc::Global;
+use std::fmt;
 use std::marker::Model;
 
 /// Every id that was ever enlisted, in the order of enlisting, each marked up or crashed, and a
@@ -22,6 +23,13 @@ impl Drop for ServerList {
             version: _,
             rows: _,
         } = self;
+    }
+}
+
+/// For a debugger it is its version, and how many ids it has.
+impl fmt::Debug for ServerList {
+    fn fmt<W: fmt::Write>(&self, f: &mut fmt::Formatter<W>) -> fmt::Result {
+        write!(f, "list {} of {} ids", self.version, self.rows.len())
     }
 }
 

@@ -16,7 +16,7 @@ use rc_types::limits::MAX_HOSTS;
 use rc_types::{Addr, Body, Fault, Message, ServerId, Setup};
 use std::alloc::Global;
 use std::marker::Model;
-use std::mem;
+use std::{fmt, mem};
 
 /// A host: what its masters are made with, how often it was started, what it keeps as a backup, and
 /// its master where it runs.
@@ -108,6 +108,16 @@ impl Host {
             Some(master) => master.has_room(),
             None => true,
         }
+    }
+
+    /// For a debugger: its server, and whether that runs.
+    pub(crate) fn tell<W: fmt::Write>(&self, f: &mut fmt::Formatter<W>) -> fmt::Result {
+        let state = if self.master.is_some() {
+            "runs"
+        } else {
+            "is stopped"
+        };
+        write!(f, "host {}.{}, {state}", self.index, self.generation)
     }
 
     /// The master that runs on the host, if one does.

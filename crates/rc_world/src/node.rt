@@ -22,6 +22,7 @@ use rc_coordinator::Coordinator;
 use rc_master::Master;
 use rc_types::{Fault, Input, Message, ServerId, Setup};
 use std::alloc::{Allocator, Global};
+use std::fmt;
 use std::marker::Model;
 
 /// One node: the outside, the coordinator, or a host with its generation, its backup and, where it
@@ -43,6 +44,17 @@ enum Node<A: Allocator> {
     Outside,
     Coordinator(Coordinator<A>),
     Host(Host),
+}
+
+/// For a debugger it is which node it is; of a host also its generation, and whether it runs.
+impl<A: Allocator> fmt::Debug for NodeState<A> {
+    fn fmt<W: fmt::Write>(&self, f: &mut fmt::Formatter<W>) -> fmt::Result {
+        match &self.node {
+            Node::Outside => write!(f, "outside"),
+            Node::Coordinator(_) => write!(f, "coordinator"),
+            Node::Host(host) => host.tell(f),
+        }
+    }
 }
 
 impl<A: Allocator> Model for NodeState<A> {

@@ -20,6 +20,7 @@ use rc_master::Master;
 use rc_types::limits::MAX_EVENTS;
 use rc_types::{Event, Fault, Message, ServerId, Setup, TryClone};
 use std::alloc::{Allocator, Global};
+use std::fmt;
 use std::marker::Model;
 
 /// All nodes, and all that has happened. As a value it is what it was opened with and its list of
@@ -37,6 +38,18 @@ impl<A: Allocator> Drop for World<A> {
             sent: _,
             events: _,
         } = self;
+    }
+}
+
+/// For a debugger it is how much has happened, and how much was sent.
+impl<A: Allocator> fmt::Debug for World<A> {
+    fn fmt<W: fmt::Write>(&self, f: &mut fmt::Formatter<W>) -> fmt::Result {
+        let events = self.events.len();
+        write!(
+            f,
+            "world after {events} events, {} messages",
+            self.sent.len()
+        )
     }
 }
 
