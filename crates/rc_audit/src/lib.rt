@@ -1,6 +1,6 @@
-//! The judge of a list of messages: it knows of no node, only of what was sent, as `rc_evidence` sorts it. What a breach
-//! is, `rc_model`'s `Breach` says as the answer of a search, and its `Headline` in words. Each of the three kinds of
-//! breach has a module: `missing`, `invented`, `falling`.
+//! The judge of a list of messages: it knows of no node, only of what was sent, as `rc_evidence` sorts it. What a
+//! breach is, `rc_model`'s `Breach` says as the answer of a search, and its `Headline` in words. Each of the three
+//! kinds of breach has a module: `missing`, `invented`, `falling`.
 #![tactic(auto)]
 
 ghost use Rattle.std.specs.Prelude.{◌≡◌, IfOk, IfErr};

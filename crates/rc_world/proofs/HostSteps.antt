@@ -1,5 +1,6 @@
 -- What a host's master does is what the host does.
-use Rattle.std.proofs.Common.{◌≡◌, ◌∙◌, ◌↔◌, ◌-◌, ◌^◌, ◌<◌, Bool, true, subst, unwrap_or, Option, Some, None, Result, Ok, Err, OnOk, OnErr, refl, sym, ap, option_map}
+use Rattle.std.proofs.Common.{◌≡◌, ◌∙◌, ◌↔◌, ◌-◌, ◌^◌, ◌<◌, Bool, true, subst, unwrap_or, Option, Some, None}
+use Rattle.std.proofs.Common.{Result, Ok, Err, OnOk, OnErr, refl, sym, ap, option_map}
 use Rattle.rc_model.specs.Nodes.{ticks_if_running}
 use Rattle.rc_model.specs.Master.{Master}
 use Rattle.rc_model.specs.MasterStep.{master_ticks}
@@ -50,7 +51,9 @@ room-of-running host master tells is generation room = (
   λ yes. record {
     generation = generation;
     versions = λ (other : Master) same.
-        subst HasVersions (ap (λ (o : Option Master). unwrap_or o (master_of master)) (sym (ap (option_map master_of) is) ∙ same)) (room.0 yes);
+        subst HasVersions
+        (ap (λ (o : Option Master). unwrap_or o (master_of master)) (sym (ap (option_map master_of) is) ∙ same))
+        (room.0 yes);
   },
   λ has. room.1 (has.versions (master_of master) (ap (option_map master_of) is)),
 )

@@ -113,8 +113,8 @@ impl<A: Allocator + Clone> NodeState<A> {
     }
 
     /// Whether the node's numbers suffice for one more step, which the steps ask for: of a host its generation, and the
-    /// versions in its log; of the coordinator the numbers of its lists, attempts and terms. It takes no memory, and its
-    /// cost does not grow with what has happened.
+    /// versions in its log; of the coordinator the numbers of its lists, attempts and terms. It takes no memory, and
+    /// its cost does not grow with what has happened.
     pub fn has_room(&self) -> bool
         ensures { (result ≡ true) ↔ NodeHasRoom (node_of self.now) }
     {
