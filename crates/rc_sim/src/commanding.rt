@@ -55,7 +55,8 @@ pub fn command<H: thread::Threads + Wait + Sync, R: Read, W: Write, E: Write>(
         Ok(Asked::Trace) => played(alloc, alloc, Output::Trace, reader, writer, errors),
         Ok(Asked::Audit) => audited(alloc, reader, writer, errors),
         Ok(Asked::Fuzz { seed, steps, free }) => {
-            ended(fuzz(alloc, seed, steps as usize, free, writer), errors)
+            let outcome = fuzz(alloc, seed, steps as usize, free, writer, errors);
+            ended(outcome, errors)
         }
         Ok(Asked::Stops { seed, steps }) => {
             ended(stops(alloc, seed, steps as usize, writer), errors)
