@@ -1,11 +1,11 @@
 //! All nodes, and what is on its way between them.
 
 use crate::client::Client;
-use crate::counted::Who;
 use crate::dice::Dice;
 use crate::network::Network;
 use crate::node::Node;
 use crate::outcome::Counts;
+use crate::who::Who;
 use rc_codec::{DecodeFault, decode_message};
 use rc_types::{Addr, Fault, Message, Seq, ServerId, TryClone};
 use rc_world::NodeWork;

@@ -6,19 +6,18 @@
 //! the works and the messages, and what the audit of all messages says.
 //!
 //! To be read in this order: `node`, a node with its journal: write down, step, sync; `cluster`, all of them: send,
-//! deliver, crash, come back; `life`, a run of a seed. The rest serves these: `counted`, a node whose numbers have
-//! room; `network`, what is on its way; `client`, whom the outside asks; `dice`, what is drawn; `outcome`, what came of
-//! it.
+//! deliver, crash, come back; `life`, a run of a seed. The rest serves these: `who`, which node it is; `network`, what is
+//! on its way; `client`, whom the outside asks; `dice`, what is drawn; `outcome`, what came of it.
 #![tactic(auto)]
 
 mod client;
 mod cluster;
-mod counted;
 mod dice;
 mod life;
 mod network;
 mod node;
 mod outcome;
+mod who;
 
 use life::run;
 use outcome::Outcome;

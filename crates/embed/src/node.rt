@@ -1,9 +1,9 @@
 //! A node with its journal.
 
-use crate::counted::{Counted, Who};
+use crate::who::Who;
 use rc_keeping::{Role, keeps, read_back, write_down};
 use rc_types::{Addr, Body, Fault, Message, ServerId};
-use rc_world::NodeWork;
+use rc_world::{NodeState, NodeWork, StepFault};
 use std::alloc::{AllocError, Global};
 
 /// A node, what was written down of its works, and how many bytes of that are safe: they are there again after its
@@ -11,7 +11,7 @@ use std::alloc::{AllocError, Global};
 #[derive(Drop)]
 pub(crate) struct Node {
     who: Who,
-    state: Counted,
+    state: NodeState<Global>,
     journal: Vec<u8>,
     synced: usize,
     is_down: bool,
@@ -22,7 +22,7 @@ impl Node {
     pub(crate) fn new(alloc: Global, who: Who) -> Node {
         Node {
             who,
-            state: Counted::new(alloc, who),
+            state: who.begun(alloc),
             journal: Vec::new(alloc),
             synced: 0,
             is_down: false,
@@ -62,12 +62,21 @@ impl Node {
     ) -> Result<(), Fault> {
         let length = self.journal.len();
         self.write_down(alloc, work)?;
-        match self.state.try_step(work, sent) {
+        match self.take(work, sent) {
             Ok(()) => Ok(()),
             Err(fault) => {
                 self.journal.truncate(length);
                 Err(fault)
             }
+        }
+    }
+
+    /// Gives the node a work. One for which its numbers do not suffice any more is refused as one that can't be done.
+    fn take(&mut self, work: &NodeWork, sent: &mut Vec<Message>) -> Result<(), Fault> {
+        match self.state.try_step_into(work, sent) {
+            Ok(()) => Ok(()),
+            Err(StepFault::Refused(fault)) => Err(fault),
+            Err(StepFault::NoRoom) => Err(Fault::BadEvent),
         }
     }
 
@@ -86,7 +95,7 @@ impl Node {
 
     /// The process ends. What it had in memory is gone, and so is what was not synced, but for so many bytes of it.
     pub(crate) fn crash(&mut self, alloc: Global, torn: usize) {
-        self.state = Counted::new(alloc, self.who);
+        self.state = self.who.begun(alloc);
         self.journal.truncate(self.synced.saturating_add(torn));
         self.is_down = true;
     }
@@ -99,7 +108,7 @@ impl Node {
     ///
     /// F1. The node is still down.
     pub(crate) fn come_back(&mut self, alloc: Global) -> Result<Vec<(ServerId, u16)>, Fault> {
-        self.state = Counted::new(alloc, self.who);
+        self.state = self.who.begun(alloc);
         let (works, good) = read_back(alloc, self.journal.as_slice())?;
         self.journal.truncate(good);
         self.synced = good;
@@ -112,7 +121,7 @@ impl Node {
     fn take_again(&mut self, alloc: Global, works: &[NodeWork]) -> Result<(), Fault> {
         let mut dropped = Vec::new(alloc);
         for work in works {
-            self.state.try_step(work, &mut dropped)?;
+            self.take(work, &mut dropped)?;
             dropped.clear();
         }
         Ok(())

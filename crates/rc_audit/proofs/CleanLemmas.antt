@@ -18,10 +18,10 @@ use Rattle.rc_model.specs.Made.{made}
 use Rattle.rc_model.specs.Ids.{same_id, is_server}
 use Rattle.rc_model.proofs.Said.{same_id-true}
 use Rattle.rc_audit.specs.declared.missing.Clean.{Clean}
-use Rattle.rc_audit.specs.Places.{id_order}
+use Rattle.rc_evidence.specs.Places.{id_order}
 use Rattle.rc_audit.specs.Clean.{AreClean}
-use Rattle.rc_audit.proofs.PlaceLemmas.{id_from}
-use Rattle.rc_audit.proofs.SenderLemmas.{drop_step}
+use Rattle.rc_evidence.proofs.PlaceLemmas.{id_from}
+use Rattle.rc_evidence.proofs.SenderLemmas.{drop_step}
 
 -- what is superseded hangs on no number of an attempt
 superseded_any : (sent : List Message) (m : ServerId) (rows : List PlanRow) (one other : ℕ) (ack : Ack) →

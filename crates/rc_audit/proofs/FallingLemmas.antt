@@ -10,9 +10,9 @@ use Rattle.rc_model.specs.Recovered.{Ack, ack_in, all_acknowledged}
 use Rattle.rc_model.specs.Owners.{is_earlier}
 use Rattle.rc_model.specs.Breach.{falls, first_fall, falls_of, or_else}
 use Rattle.rc_model.specs.Headline.{In}
-use Rattle.rc_audit.specs.Highs.{ack_key, is_level}
-use Rattle.rc_audit.specs.Bars.{IsBar}
-use Rattle.rc_audit.proofs.SenderLemmas.{drop_step}
+use Rattle.rc_evidence.specs.Highs.{ack_key, is_level}
+use Rattle.rc_evidence.specs.Bars.{IsBar}
+use Rattle.rc_evidence.proofs.SenderLemmas.{drop_step}
 
 -- what is acknowledged from a message on
 pub acks_from : (sent : List Message) (i : ℕ) (message : Message) → i < length sent → message ≡ get_or sent i message →

@@ -1,12 +1,3 @@
-pub mod PlaceLemmas
-pub mod RecoveryLemmas
-pub mod RunLemmas
-pub mod StandingLemmas
 pub mod MissingLemmas
-pub mod SenderLemmas
-pub mod SupersededLemmas
-pub mod GrantLemmas
-pub mod EarlierLemmas
-pub mod BarLemmas
 pub mod FallingLemmas
 pub mod CleanLemmas

@@ -15,9 +15,9 @@ use Rattle.rc_types.specs.declared.verdicts.Breach.TheVariants.{Missing}
 use Rattle.rc_model.specs.Made.{made}
 use Rattle.rc_model.specs.Recovered.{Ack, ack_in, all_acknowledged, Accepted, reach, is_recovered}
 use Rattle.rc_model.specs.Breach.{all_agree, is_missing, is_superseded, first_missing}
-use Rattle.rc_audit.specs.Standings.{acked_below, all_kept, one_above}
-use Rattle.rc_audit.proofs.SupersededLemmas.{got_through}
-use Rattle.rc_audit.proofs.SenderLemmas.{drop_step}
+use Rattle.rc_evidence.specs.Standings.{acked_below, all_kept, one_above}
+use Rattle.rc_evidence.proofs.SupersededLemmas.{got_through}
+use Rattle.rc_evidence.proofs.SenderLemmas.{drop_step}
 
 -- each entry's number is below the limit of its key
 abbrev pub AllBelow : (ℕ → ℕ) → List (ℕ × ℕ) → Type 0

@@ -6,7 +6,7 @@ use Rattle.rc_types.specs.declared.messages.Message.{Message}
 use Rattle.rc_model.specs.Recovered.{acknowledged}
 use Rattle.rc_model.specs.Breach.{first_missing}
 use Rattle.rc_audit.specs.declared.missing.Clean.{Clean}
-use Rattle.rc_audit.specs.Places.{id_order}
+use Rattle.rc_evidence.specs.Places.{id_order}
 
 -- a recovery of the master with these rows misses nothing, whatever its attempt
 pub record AreClean (table : BTreeMap ServerId Clean) (sent : List Message) : Type 0 where

@@ -1,35 +1,24 @@
-//! The judge of a list of messages: it knows of no node, only of what was sent. What a breach is,
-//! `rc_model`'s `Breach` says as the answer of a search, and its `Headline` in words.
+//! The judge of a list of messages: it knows of no node, only of what was sent, as `rc_evidence` sorts it. What a breach
+//! is, `rc_model`'s `Breach` says as the answer of a search, and its `Headline` in words. Each of the three kinds of
+//! breach has a module: `missing`, `invented`, `falling`.
 #![tactic(auto)]
 
 ghost use Rattle.std.specs.Prelude.{◌≡◌, IfOk, IfErr};
 ghost use Rattle.rc_types.specs.declared.faults.Fault.TheVariants.{OutOfMemory};
 ghost use Rattle.rc_model.specs.Breach.{breach};
 
-mod bars;
-mod earlier;
-mod evidence;
 mod falling;
-mod grants;
-mod highs;
 mod invented;
 mod missing;
-mod places;
-mod recoveries;
-mod runs;
-mod senders;
-mod standing;
-mod superseded;
-mod writes;
 
-use evidence::Evidence;
 use falling::falling_version;
 use invented::invented_place;
 use missing::missing_write;
+use rc_evidence::evidence::Evidence;
+use rc_evidence::runs::runs_in;
+use rc_evidence::senders::senders_in;
+use rc_evidence::standing::standings_in;
 use rc_types::{Breach, Fault, Message};
-use runs::runs_in;
-use senders::senders_in;
-use standing::standings_in;
 use std::alloc::Global;
 
 /// The first breach of the headline in these messages, or `None`: for each accepted recovery, in

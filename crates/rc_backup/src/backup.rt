@@ -21,11 +21,20 @@ use std::marker::Model;
 /// fenced a master, on the coordinator's demand, it takes nothing more from it and sends what it has
 /// to those who recover it. Contracts see it as its id, what it keeps of each master, and the
 /// masters of which it has ever kept anything, in order.
-#[derive(Drop)]
 pub struct Backup {
     alloc: Global,
     id: ServerId,
     held: BTreeMap<ServerId, Held>,
+}
+
+impl Drop for Backup {
+    fn drop(self) {
+        let Backup {
+            alloc: _,
+            id: _,
+            held: _,
+        } = self;
+    }
 }
 
 impl Model for Backup {

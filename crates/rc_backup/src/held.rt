@@ -14,11 +14,20 @@ use std::marker::Model;
 
 /// The replicas of one master's segments, the segments that it has freed, and whether it is fenced,
 /// so that its replicas stay as they are.
-#[derive(Drop)]
 pub struct Held {
     fenced: bool,
     replicas: BTreeMap<u16, Replica>,
     freed: BTreeSet<u16>,
+}
+
+impl Drop for Held {
+    fn drop(self) {
+        let Held {
+            fenced: _,
+            replicas: _,
+            freed: _,
+        } = self;
+    }
 }
 
 impl Model for Held {

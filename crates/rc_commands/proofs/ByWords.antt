@@ -1,6 +1,6 @@
 -- What lines without options ask for, by their words.
 use Rattle.std.proofs.Common.{◌≡◌, ◌∙◌, ◌↔◌, ◌&&◌, ◌||◌, ⊎_elim, ℕ, Bool, true, false, not, List, [], ◌∷◌, Option}
-use Rattle.std.proofs.Common.{Some, None, codes, refl, sym, ap, ap₂, subst, true≢false, option_map, is_some}
+use Rattle.std.proofs.Common.{Some, None, codes, refl, sym, ap, ap₂, subst, true≢false, option_map, is_some, cond}
 use Rattle.std.specs.Option.{option_map_or}
 use Rattle.std.proofs.Math.Bool.{or-false}
 use Rattle.std.specs.Prelude.{⊤, option_and_then, unwrap_or, if◌then◌else◌}
@@ -17,21 +17,21 @@ use Rattle.clap.proofs.WalkLemmas.{both}
 use Rattle.rc_commands.specs.declared.asking.Asked.{Asked}
 use Rattle.rc_commands.specs.declared.asking.Asked.TheVariants as asked
 use Rattle.rc_commands.specs.Asking.{Tells, as_command, asked_in, asks_for_text, begins_with_help, command_in, explain_in}
-use Rattle.rc_commands.specs.Asking.{explore_in, exploring, fuzz_in, log_in, picture_in}
+use Rattle.rc_commands.specs.Asking.{explore_by, explore_in, exploring, fuzz_in, log_in, picture_in, seeds_given, shrink_in}
 use Rattle.rc_commands.specs.Asking.{is_alone, is_command, is_end, is_help, is_option, is_plain, is_request, is_text}
 use Rattle.rc_commands.specs.Asking.{is_version, run_in, stops_in, threads_in, where_taken, heap_line, option_zip_with}
 use Rattle.rc_commands.specs.Asking as line_of
 use Rattle.rc_commands.specs.Commands as command
 use Rattle.rc_commands.specs.Commands.{ramseg}
 use Rattle.rc_commands.proofs.Words.{IsLevel, asks, audit_is, explore_is, fuzz_is, leaf, line_told, run_is, same, stops_is}
-use Rattle.rc_commands.proofs.Words.{log_is, picture_is}
+use Rattle.rc_commands.proofs.Words.{log_is, picture_is, shrink_is}
 use Rattle.rc_commands.proofs.Words.{tells, tells_first, text_tells, threads_is, trace_is}
 use Rattle.rc_commands.specs.Numbers.{decimal_in}
 use Rattle.rc_commands.proofs.Heap.{heap_given, none_first}
 use Rattle.rc_commands.proofs.Lines.{audit_found, audit_line, by_command, empty_told, explain_found, explain_line}
 use Rattle.rc_commands.proofs.Lines.{explore_found, explore_line, faults_at, fuzz_found, fuzz_line}
 use Rattle.rc_commands.proofs.Lines.{no_option, run_found, run_line, stops_found, stops_line}
-use Rattle.rc_commands.proofs.Lines.{log_found, log_line, picture_found, picture_line}
+use Rattle.rc_commands.proofs.Lines.{log_found, log_line, picture_found, picture_line, shrink_found, shrink_line}
 use Rattle.rc_commands.proofs.Lines.{threads_found, threads_line, told, trace_found, trace_line}
 
 -- no error comes exactly where a command stands alone; else each is a request exactly where a text is asked for
@@ -151,6 +151,15 @@ unfolding clap_on_literals
 picture_ended [] = refl
 picture_ended (next ∷ rest) = refl
 
+shrink_alone : After command.shrink.top []
+unfolding clap_on_literals
+shrink_alone = refl
+
+shrink_ended : (rest : List Text) → After command.shrink.top (codes "--" ∷ rest)
+unfolding clap_on_literals
+shrink_ended [] = refl
+shrink_ended (next ∷ rest) = refl
+
 explain_alone : After command.explain.top []
 unfolding clap_on_literals
 explain_alone = refl
@@ -216,6 +225,9 @@ line word rest plain = by_command (λ w. is_plain (w ∷ rest) ≡ true → Agre
     ∙ after command.picture.top (codes "mermaid" ∷ []) picture_is picture_alone picture_ended rest
     (plain_after (codes "mermaid" ∷ []) rest (codes "picture") (λ w more h. not_true _ h) e))
     (explain_ends rest)
+    (λ e. ap (agrees (is_end rest) (begins_with_help rest)) (shrink_line rest)
+    ∙ after command.shrink.top (codes "keep" ∷ []) shrink_is shrink_alone shrink_ended rest
+    (plain_after (codes "keep" ∷ []) rest (codes "shrink") (λ w more h. not_true _ h) e))
     (λ e. absurd (true≢false (sym e ∙ about rest)))
     (λ w none no_help e.
     ap (λ b. agrees (b && is_end rest) (if b then begins_with_help rest else (is_help w || is_version w)) (fault_of ramseg (w ∷ rest))) none
@@ -296,6 +308,10 @@ asked_explain : (rest : List Text) → asked_in (codes "explain" ∷ rest) ≡ w
     (explain_in (rows_at (leaf command.explain.top) rest).1)
 asked_explain rest = ap₂ asked_by (explain_line rest) (explain_found rest)
 
+asked_shrink : (rest : List Text) → asked_in (codes "shrink" ∷ rest) ≡ where_taken (faults_at command.shrink.top rest)
+    (shrink_in (rows_at (leaf command.shrink.top) rest).1)
+asked_shrink rest = ap₂ asked_by (shrink_line rest) (shrink_found rest)
+
 -- of which command an answer is not
 module _ (T : Option Asked → Bool) (none : T None ≡ false) where
   never : (faults : Kinds) (x : Option Asked) → T x ≡ false → T (where_taken faults x) ≡ false
@@ -353,26 +369,60 @@ module _ (T : Option Asked → Bool) (none : T None ≡ false) where
       by_rows : (rows : List Row) → T (threads_in rows) ≡ false
       by_rows rows = go (line_of.number_or 4 (codes "hosts") 3 16 rows) (line_of.number_or 10 (codes "writes") 0 1000 rows)
 
-  pub no_explore : ((seed steps hosts factor segment : ℕ) (free save : Bool) →
-      T (Some (asked.Explore seed steps hosts factor segment free save)) ≡ false) → (rest : List Text) →
+  pub no_explore : ((seed steps hosts factor segment : ℕ) (free save progress : Bool) →
+      T (Some (asked.Explore seed steps hosts factor segment free save progress)) ≡ false) →
+      ((first last steps hosts factor segment : ℕ) (free progress : Bool) →
+      T (Some (asked.Survey first last steps hosts factor segment free progress)) ≡ false) → (rest : List Text) →
       T (asked_in (codes "explore" ∷ rest)) ≡ false
-  no_explore each rest = ap T (asked_explore rest) ∙ never _ _ (by_rows (rows_at (leaf command.explore.top) rest).1)
+  no_explore each all rest = ap T (asked_explore rest) ∙ never _ _ (by_rows (rows_at (leaf command.explore.top) rest).1)
     where
-      go : (free save : Bool) (seed steps hosts factor segment : Option ℕ) →
+      one : (free save progress : Bool) (seed steps hosts factor segment : Option ℕ) →
           T (option_and_then (λ a. option_and_then (λ b. option_and_then (λ c. option_and_then (λ d. option_map
-          (λ e. asked.Explore a b c d e free save) segment) factor) hosts) steps) seed) ≡ false
-      go free save None steps hosts factor segment = none
-      go free save (Some a) None hosts factor segment = none
-      go free save (Some a) (Some b) None factor segment = none
-      go free save (Some a) (Some b) (Some c) None segment = none
-      go free save (Some a) (Some b) (Some c) (Some d) None = none
-      go free save (Some a) (Some b) (Some c) (Some d) (Some e) = each _ _ _ _ _ _ _
+          (λ e. asked.Explore a b c d e free save progress) segment) factor) hosts) steps) seed) ≡ false
+      one free save progress None steps hosts factor segment = none
+      one free save progress (Some a) None hosts factor segment = none
+      one free save progress (Some a) (Some b) None factor segment = none
+      one free save progress (Some a) (Some b) (Some c) None segment = none
+      one free save progress (Some a) (Some b) (Some c) (Some d) None = none
+      one free save progress (Some a) (Some b) (Some c) (Some d) (Some e) = each _ _ _ _ _ _ _ _
 
-      by_rows : (rows : List Row) → T (explore_in rows) ≡ false
-      by_rows rows = go (line_of.has_flag (codes "free") rows) (line_of.has_flag (codes "save") rows)
+      many : (seeds : ℕ × ℕ) (free progress : Bool) (steps hosts factor segment : Option ℕ) →
+          T (option_and_then (λ b. option_and_then (λ c. option_and_then (λ d. option_map
+          (λ e. asked.Survey seeds.0 seeds.1 b c d e free progress) segment) factor) hosts) steps) ≡ false
+      many seeds free progress None hosts factor segment = none
+      many seeds free progress (Some b) None factor segment = none
+      many seeds free progress (Some b) (Some c) None segment = none
+      many seeds free progress (Some b) (Some c) (Some d) None = none
+      many seeds free progress (Some b) (Some c) (Some d) (Some e) = all _ _ _ _ _ _ _ _
+
+      unless : (apart : Bool) (x : Option Asked) → T x ≡ false → T (cond apart None x) ≡ false
+      unless true x e = none
+      unless false x e = e
+
+      by_seeds : (rows : List Row) (given : Option (Option (ℕ × ℕ))) →
+          T (option_and_then (λ seeds. explore_by seeds rows) given) ≡ false
+      by_seeds rows None = none
+      by_seeds rows (Some None) = one (line_of.has_flag (codes "free") rows) (line_of.has_flag (codes "save") rows)
+          (line_of.has_flag (codes "progress") rows)
           (line_of.number_or 1 (codes "seed") 0 18446744073709551615 rows)
           (line_of.number_or 2000 (codes "steps") 0 100000 rows) (line_of.number_or 5 (codes "hosts") 1 16 rows)
           (line_of.number_or 2 (codes "factor") 1 5 rows) (line_of.number_or 2 (codes "segment") 1 1024 rows)
+      by_seeds rows (Some (Some seeds)) =
+          unless (line_of.has_option (codes "seed") rows || line_of.has_flag (codes "save") rows) _
+          (many seeds (line_of.has_flag (codes "free") rows) (line_of.has_flag (codes "progress") rows)
+          (line_of.number_or 2000 (codes "steps") 0 100000 rows) (line_of.number_or 5 (codes "hosts") 1 16 rows)
+          (line_of.number_or 2 (codes "factor") 1 5 rows) (line_of.number_or 2 (codes "segment") 1 1024 rows))
+
+      by_rows : (rows : List Row) → T (explore_in rows) ≡ false
+      by_rows rows = by_seeds rows (seeds_given rows)
+
+  pub no_shrink : ((keep : Text) → T (Some (asked.Shrink keep)) ≡ false) → (rest : List Text) →
+      T (asked_in (codes "shrink" ∷ rest)) ≡ false
+  no_shrink each rest = ap T (asked_shrink rest) ∙ never _ _ (go _)
+    where
+      go : (o : Option Text) → T (option_map asked.Shrink o) ≡ false
+      go None = none
+      go (Some keep) = each keep
 
   pub no_log : ((json : Bool) → T (Some (asked.Log json)) ≡ false) → (rest : List Text) →
       T (asked_in (codes "log" ∷ rest)) ≡ false
@@ -425,10 +475,13 @@ trace_only (word ∷ rest) h = by_command (λ w. is_trace (asked_in (w ∷ rest)
     (λ e. absurd (true≢false (sym e ∙ no_fuzz is_trace refl (λ seed steps free. refl) rest)))
     (λ e. absurd (true≢false (sym e ∙ no_stops is_trace refl (λ seed steps. refl) rest)))
     (λ e. absurd (true≢false (sym e ∙ no_threads is_trace refl (λ hosts writes. refl) rest)))
-    (λ e. absurd (true≢false (sym e ∙ no_explore is_trace refl (λ seed steps hosts factor segment free save. refl) rest)))
+    (λ e. absurd (true≢false (sym e ∙ no_explore is_trace refl
+    (λ seed steps hosts factor segment free save progress. refl)
+    (λ first last steps hosts factor segment free progress. refl) rest)))
     (λ e. absurd (true≢false (sym e ∙ no_log is_trace refl (λ json. refl) rest)))
     (λ e. absurd (true≢false (sym e ∙ no_picture is_trace refl (λ mermaid. refl) rest)))
     (λ e. absurd (true≢false (sym e ∙ no_explain is_trace refl (λ code. refl) rest)))
+    (λ e. absurd (true≢false (sym e ∙ no_shrink is_trace refl (λ keep. refl) rest)))
     (λ e. absurd (true≢false (sym e ∙ no_help is_trace refl rest)))
     (λ w no_name no_about e. absurd (true≢false (sym e ∙ no_other is_trace refl rest w no_name no_about))) word h
 
@@ -469,10 +522,13 @@ run_only (word ∷ rest) h = by_command (λ w. is_bare_run (asked_in (w ∷ rest
     (λ e. absurd (true≢false (sym e ∙ no_fuzz is_bare_run refl (λ seed steps free. refl) rest)))
     (λ e. absurd (true≢false (sym e ∙ no_stops is_bare_run refl (λ seed steps. refl) rest)))
     (λ e. absurd (true≢false (sym e ∙ no_threads is_bare_run refl (λ hosts writes. refl) rest)))
-    (λ e. absurd (true≢false (sym e ∙ no_explore is_bare_run refl (λ seed steps hosts factor segment free save. refl) rest)))
+    (λ e. absurd (true≢false (sym e ∙ no_explore is_bare_run refl
+    (λ seed steps hosts factor segment free save progress. refl)
+    (λ first last steps hosts factor segment free progress. refl) rest)))
     (λ e. absurd (true≢false (sym e ∙ no_log is_bare_run refl (λ json. refl) rest)))
     (λ e. absurd (true≢false (sym e ∙ no_picture is_bare_run refl (λ mermaid. refl) rest)))
     (λ e. absurd (true≢false (sym e ∙ no_explain is_bare_run refl (λ code. refl) rest)))
+    (λ e. absurd (true≢false (sym e ∙ no_shrink is_bare_run refl (λ keep. refl) rest)))
     (λ e. absurd (true≢false (sym e ∙ no_help is_bare_run refl rest)))
     (λ w no_name no_about e. absurd (true≢false (sym e ∙ no_other is_bare_run refl rest w no_name no_about))) word h
 
@@ -486,10 +542,13 @@ audit_only (word ∷ rest) h = by_command (λ w. is_audit (asked_in (w ∷ rest)
     (λ e. absurd (true≢false (sym e ∙ no_fuzz is_audit refl (λ seed steps free. refl) rest)))
     (λ e. absurd (true≢false (sym e ∙ no_stops is_audit refl (λ seed steps. refl) rest)))
     (λ e. absurd (true≢false (sym e ∙ no_threads is_audit refl (λ hosts writes. refl) rest)))
-    (λ e. absurd (true≢false (sym e ∙ no_explore is_audit refl (λ seed steps hosts factor segment free save. refl) rest)))
+    (λ e. absurd (true≢false (sym e ∙ no_explore is_audit refl
+    (λ seed steps hosts factor segment free save progress. refl)
+    (λ first last steps hosts factor segment free progress. refl) rest)))
     (λ e. absurd (true≢false (sym e ∙ no_log is_audit refl (λ json. refl) rest)))
     (λ e. absurd (true≢false (sym e ∙ no_picture is_audit refl (λ mermaid. refl) rest)))
     (λ e. absurd (true≢false (sym e ∙ no_explain is_audit refl (λ code. refl) rest)))
+    (λ e. absurd (true≢false (sym e ∙ no_shrink is_audit refl (λ keep. refl) rest)))
     (λ e. absurd (true≢false (sym e ∙ no_help is_audit refl rest)))
     (λ w no_name no_about e. absurd (true≢false (sym e ∙ no_other is_audit refl rest w no_name no_about))) word h
 
@@ -532,9 +591,9 @@ unfolding clap_on_literals
 threads_gives = alone_gives (codes "threads") (asked.Threads 4 10) refl refl
 
 pub explore_gives : (words : List Text) → is_alone (codes "explore") words ≡ true →
-    asked_in words ≡ Some (asked.Explore 1 2000 5 2 2 false false)
+    asked_in words ≡ Some (asked.Explore 1 2000 5 2 2 false false false)
 unfolding clap_on_literals
-explore_gives = alone_gives (codes "explore") (asked.Explore 1 2000 5 2 2 false false) refl refl
+explore_gives = alone_gives (codes "explore") (asked.Explore 1 2000 5 2 2 false false false) refl refl
 
 pub log_gives : (words : List Text) → is_alone (codes "log") words ≡ true → asked_in words ≡ Some (asked.Log false)
 unfolding clap_on_literals
@@ -605,7 +664,9 @@ is_answer a b e = go a e
     go (asked.Fuzz seed steps free) e = ap (λ o. unwrap_or o b) e
     go (asked.Stops seed steps) e = ap (λ o. unwrap_or o b) e
     go (asked.Threads hosts writes) e = ap (λ o. unwrap_or o b) e
-    go (asked.Explore seed steps hosts factor segment free save) e = ap (λ o. unwrap_or o b) e
+    go (asked.Explore seed steps hosts factor segment free save progress) e = ap (λ o. unwrap_or o b) e
+    go (asked.Survey first last steps hosts factor segment free progress) e = ap (λ o. unwrap_or o b) e
+    go (asked.Shrink keep) e = ap (λ o. unwrap_or o b) e
     go (asked.Log json) e = ap (λ o. unwrap_or o b) e
     go (asked.Picture mermaid) e = ap (λ o. unwrap_or o b) e
     go (asked.Explain code) e = ap (λ o. unwrap_or o b) e
@@ -633,8 +694,8 @@ module _ (words : List Text) (a : Asked) (asks : as_command a ≡ asked_in words
   pub threads_told : is_alone (codes "threads") words ≡ true → a ≡ asked.Threads 4 10
   threads_told h = is_answer a (asked.Threads 4 10) (asks ∙ threads_gives words h)
 
-  pub explore_told : is_alone (codes "explore") words ≡ true → a ≡ asked.Explore 1 2000 5 2 2 false false
-  explore_told h = is_answer a (asked.Explore 1 2000 5 2 2 false false) (asks ∙ explore_gives words h)
+  pub explore_told : is_alone (codes "explore") words ≡ true → a ≡ asked.Explore 1 2000 5 2 2 false false false
+  explore_told h = is_answer a (asked.Explore 1 2000 5 2 2 false false false) (asks ∙ explore_gives words h)
 
   pub log_told : is_alone (codes "log") words ≡ true → a ≡ asked.Log false
   log_told h = is_answer a (asked.Log false) (asks ∙ log_gives words h)

@@ -63,3 +63,9 @@ pub as_given : {X : Type 0} (read : Text → X) (default : X) (f : Found) (name 
     option_map (λ s. s.now) o ≡ first_value f name
     → option_map_or read (first_of name (rows_of f)) default ≡ option_map_or read (option_map (λ s. s.now) o) default
 as_given read default f name o is = ap (λ t. option_map_or read t default) (sym (is ∙ first_value-rows f name))
+
+-- the text that was given, by the rows
+pub as_mapped : {X : Type 0} (read : Text → X) (f : Found) (name : Text) (o : Option (Bor Text)) →
+    option_map (λ s. s.now) o ≡ first_value f name
+    → option_map read (first_of name (rows_of f)) ≡ option_map read (option_map (λ s. s.now) o)
+as_mapped read f name o is = ap (option_map read) (sym (is ∙ first_value-rows f name))

@@ -77,10 +77,6 @@ fails_first : (a b : Kinds) → fails a ≡ true → fails (or_else a b) ≡ tru
 fails_first [] b e = absurd (true≢false (sym e))
 fails_first (k ∷ ks) b e = refl
 
-or_true : (b : Bool) → (b || true) ≡ true
-or_true true = refl
-or_true false = refl
-
 -- a value that was written is there
 first_more : (values rest : List Text) (v : Text) → is_some (slice_get (values ++ v ∷ rest) 0) ≡ true
 first_more [] rest v = refl

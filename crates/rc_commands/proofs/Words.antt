@@ -164,6 +164,15 @@ picture_is = record {
   positional = refl;
 }
 
+pub shrink_is : IsLevel (leaf command.shrink.top) false (codes "keep" ∷ [])
+unfolding clap_on_literals
+shrink_is = record {
+  long = λ name e. passed (bytes_eq (codes "keep") name) _ _ (or_parts _ _ e).0;
+  short = λ x. refl;
+  strays = refl;
+  positional = refl;
+}
+
 pub explore_is : IsLevel (leaf command.explore.top) false exploring
 unfolding clap_on_literals
 explore_is = record { long = long; short = λ x. refl; strays = refl; positional = refl }
@@ -177,10 +186,13 @@ explore_is = record { long = long; short = λ x. refl; strays = refl; positional
         let s = or_parts _ _ r.1 in
         let t = or_parts _ _ s.1 in
         let u = or_parts _ _ t.1 in
+        let v = or_parts _ _ u.1 in
+        let w = or_parts _ _ v.1 in
         passed (bytes_eq (codes "seed") name) _ _ p.0 ∙ passed (bytes_eq (codes "steps") name) _ _ q.0
         ∙ passed (bytes_eq (codes "hosts") name) _ _ r.0 ∙ passed (bytes_eq (codes "factor") name) _ _ s.0
         ∙ passed (bytes_eq (codes "segment") name) _ _ t.0 ∙ passed (bytes_eq (codes "free") name) _ _ u.0
-        ∙ passed (bytes_eq (codes "save") name) _ _ (or_parts _ _ u.1).0
+        ∙ passed (bytes_eq (codes "save") name) _ _ v.0 ∙ passed (bytes_eq (codes "seeds") name) _ _ w.0
+        ∙ passed (bytes_eq (codes "progress") name) _ _ (or_parts _ _ w.1).0
 
 pub fuzz_is : IsLevel (leaf command.fuzz.top) false (codes "seed" ∷ codes "steps" ∷ codes "free" ∷ [])
 unfolding clap_on_literals

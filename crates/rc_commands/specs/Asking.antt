@@ -1,8 +1,8 @@
 -- What a command line asks for, by its words, of which the program's name is none.
-use Rattle.std.specs.Prelude.{◌≡◌, ◌≤◌, ◌==◌, ◌&&◌, ◌||◌, ⊤, ℕ, Bool, true, false, not, List, [], ◌∷◌, ◌++◌}
+use Rattle.std.specs.Prelude.{◌≡◌, ◌<◌, ◌≤◌, ◌+◌, ◌==◌, ◌&&◌, ◌||◌, ⊤, ℕ, Bool, true, false, not, List, [], ◌∷◌, ◌++◌}
 use Rattle.std.specs.Prelude.{Option, Some, None, codes, slice_get, unwrap_or, option_map, option_and_then}
-use Rattle.std.specs.Prelude.{if◌then◌else◌, nat_eq}
-use Rattle.std.specs.List.{list_any}
+use Rattle.std.specs.Prelude.{if◌then◌else◌, eqb, nat_eq, nat_le, nat_lt}
+use Rattle.std.specs.List.{after_first, before_first, list_any}
 use Rattle.std.specs.Option.{option_map_or}
 use Rattle.std.specs.Str.{byte, bytes_eq, chars}
 use Rattle.clap.specs.Lexer.{long_of, short_of}
@@ -29,14 +29,24 @@ as_command (asked.Tell text) = None
 as_command (asked.Wrong text) = None
 as_command command = Some command
 
+-- what a drawn run is asked for with is in its ranges
+abbrev pub IsSized : ℕ → ℕ → ℕ → ℕ → Type 0
+IsSized steps hosts factor segment = (steps ≤ 100000) × (1 ≤ hosts) × (hosts ≤ 16)
+    × (1 ≤ factor) × (factor ≤ 5) × (1 ≤ segment) × (segment ≤ 1024)
+
+-- a range of seeds
+abbrev pub IsFew : ℕ × ℕ → Type 0
+IsFew seeds = (seeds.0 ≤ seeds.1) × (seeds.1 < seeds.0 + 10000)
+
 -- the numbers of a command are in their ranges
 abbrev pub IsInRange : Asked → Type 0
 IsInRange (asked.Run heap) = IsWithin 16 1048576 heap
 IsInRange (asked.Fuzz seed steps free) = steps ≤ 100000
 IsInRange (asked.Stops seed steps) = steps ≤ 1000
 IsInRange (asked.Threads hosts writes) = (3 ≤ hosts) × (hosts ≤ 16) × (writes ≤ 1000)
-IsInRange (asked.Explore seed steps hosts factor segment free save) = (steps ≤ 100000) × (1 ≤ hosts) × (hosts ≤ 16)
-    × (1 ≤ factor) × (factor ≤ 5) × (1 ≤ segment) × (segment ≤ 1024)
+IsInRange (asked.Explore seed steps hosts factor segment free save progress) = IsSized steps hosts factor segment
+IsInRange (asked.Survey first last steps hosts factor segment free progress) =
+    IsFew (first, last) × IsSized steps hosts factor segment
 IsInRange (asked.Explain code) = IsWithin 1 21 code
 IsInRange _ = ⊤
 
@@ -76,14 +86,55 @@ abbrev pub threads_in : List Row → Option Asked
 threads_in rows = option_and_then (λ hosts. option_map (λ writes. asked.Threads hosts writes)
     (number_or 10 (codes "writes") 0 1000 rows)) (number_or 4 (codes "hosts") 3 16 rows)
 
-abbrev pub explore_in : List Row → Option Asked
-explore_in rows =
+-- the range that two numbers make, of at most 10,000 numbers
+abbrev pub range_between : ℕ → ℕ → Option (ℕ × ℕ)
+range_between first last = if nat_le first last && nat_lt last (first + 10000) then Some (first, last) else None
+
+-- the range of seeds whose first one is written so, and what stands after it and a point
+abbrev pub range_of : Text → Text → Option (ℕ × ℕ)
+range_of first [] = None
+range_of first (point ∷ last) = if nat_eq point (byte ".") then option_and_then (λ a. option_and_then (range_between a)
+    (decimal_in 0 18446744073709551615 last)) (decimal_in 0 18446744073709551615 first) else None
+
+-- the range of seeds that is written as two numbers with two points between them
+abbrev pub range_in : Text → Option (ℕ × ℕ)
+range_in text = range_of (before_first (λ b. eqb b (byte ".")) text) (after_first (λ b. eqb b (byte ".")) text)
+
+-- the seeds that were given, if they were; None where they are no range
+abbrev pub seeds_given : List Row → Option (Option (ℕ × ℕ))
+seeds_given rows = option_map_or (λ text. option_map Some (range_in text)) (first_of (codes "seeds") rows) (Some None)
+
+abbrev pub has_option : Text → List Row → Bool
+has_option name rows = option_map_or (λ _. true) (first_of name rows) false
+
+-- `explore` of one seed
+abbrev pub single_in : List Row → Option Asked
+single_in rows =
     option_and_then (λ seed. option_and_then (λ steps. option_and_then (λ hosts. option_and_then (λ factor. option_map
     (λ segment. asked.Explore seed steps hosts factor segment (has_flag (codes "free") rows)
-    (has_flag (codes "save") rows))
+    (has_flag (codes "save") rows) (has_flag (codes "progress") rows))
     (number_or 2 (codes "segment") 1 1024 rows)) (number_or 2 (codes "factor") 1 5 rows))
     (number_or 5 (codes "hosts") 1 16 rows)) (number_or 2000 (codes "steps") 0 100000 rows))
     (number_or 1 (codes "seed") 0 18446744073709551615 rows)
+
+-- `explore` of these seeds, which goes with neither `--seed` nor `--save`
+abbrev pub survey_in : ℕ × ℕ → List Row → Option Asked
+survey_in seeds rows = if has_option (codes "seed") rows || has_flag (codes "save") rows then None else
+    option_and_then (λ steps. option_and_then (λ hosts. option_and_then (λ factor. option_map
+    (λ segment. asked.Survey seeds.0 seeds.1 steps hosts factor segment (has_flag (codes "free") rows)
+    (has_flag (codes "progress") rows))
+    (number_or 2 (codes "segment") 1 1024 rows)) (number_or 2 (codes "factor") 1 5 rows))
+    (number_or 5 (codes "hosts") 1 16 rows)) (number_or 2000 (codes "steps") 0 100000 rows)
+
+abbrev pub explore_by : Option (ℕ × ℕ) → List Row → Option Asked
+explore_by None rows = single_in rows
+explore_by (Some seeds) rows = survey_in seeds rows
+
+abbrev pub explore_in : List Row → Option Asked
+explore_in rows = option_and_then (λ seeds. explore_by seeds rows) (seeds_given rows)
+
+abbrev pub shrink_in : List Row → Option Asked
+shrink_in rows = option_map asked.Shrink (first_of (codes "keep") rows)
 
 abbrev pub log_in : List Row → Option Asked
 log_in rows = Some (asked.Log (has_flag (codes "json") rows))
@@ -112,14 +163,18 @@ unread_in name rows =
     else (if bytes_eq name (codes "explore") then explore_in rows
     else (if bytes_eq name (codes "explain") then explain_in rows else None))))
 
-abbrev pub command_in : Text → List Row → Option Asked
-command_in name rows =
+-- a command that needs no memory of its own
+abbrev pub named_in : Text → List Row → Option Asked
+named_in name rows =
     if bytes_eq name (codes "run") then run_in rows
     else (if bytes_eq name (codes "trace") then Some asked.Trace
     else (if bytes_eq name (codes "audit") then Some asked.Audit
     else (if bytes_eq name (codes "log") then log_in rows
     else (if bytes_eq name (codes "picture") then picture_in rows
     else unread_in name rows))))
+
+abbrev pub command_in : Text → List Row → Option Asked
+command_in name rows = if bytes_eq name (codes "shrink") then shrink_in rows else named_in name rows
 
 -- nothing, where `clap` finds a fault in the words
 abbrev pub where_taken : Kinds → Option Asked → Option Asked
@@ -159,7 +214,7 @@ is_alone name (word ∷ rest) = bytes_eq name word && is_end rest
 
 abbrev pub names : List Text
 names = codes "run" ∷ codes "trace" ∷ codes "audit" ∷ codes "fuzz" ∷ codes "stops" ∷ codes "threads" ∷ codes "explore"
-    ∷ codes "log" ∷ codes "picture" ∷ codes "explain" ∷ []
+    ∷ codes "log" ∷ codes "picture" ∷ codes "explain" ∷ codes "shrink" ∷ []
 
 abbrev pub is_command : Text → Bool
 is_command word = list_any (λ name. bytes_eq name word) names
@@ -188,7 +243,7 @@ asks_for_text (word ∷ rest) = if is_command word then begins_with_help rest el
 
 abbrev pub exploring : List Text
 exploring = codes "seed" ∷ codes "steps" ∷ codes "hosts" ∷ codes "factor" ∷ codes "segment" ∷ codes "free"
-    ∷ codes "save" ∷ []
+    ∷ codes "save" ∷ codes "seeds" ∷ codes "progress" ∷ []
 
 -- the options of a command
 abbrev pub options_of : Text → List Text
@@ -199,7 +254,8 @@ options_of name =
     else (if bytes_eq (codes "threads") name then codes "hosts" ∷ codes "writes" ∷ []
     else (if bytes_eq (codes "explore") name then exploring
     else (if bytes_eq (codes "log") name then codes "json" ∷ []
-    else (if bytes_eq (codes "picture") name then codes "mermaid" ∷ [] else []))))))
+    else (if bytes_eq (codes "picture") name then codes "mermaid" ∷ []
+    else (if bytes_eq (codes "shrink") name then codes "keep" ∷ [] else [])))))))
 
 -- `--NAME` or `--NAME=VALUE`, for one of these options
 abbrev pub is_option : List Text → Text → Bool

@@ -47,8 +47,14 @@ explore_placed = with_rule (with_rule (drawn (codes "explore")) (option (codes "
 abbrev pub explore_sized : App
 explore_sized = with_rule explore_placed (option (codes "segment"))
 
+abbrev pub explore_flagged : App
+explore_flagged = with_rule (with_rule explore_sized (flag (codes "free"))) (flag (codes "save"))
+
 abbrev pub explore : App
-explore = with_rule (with_rule explore_sized (flag (codes "free"))) (flag (codes "save"))
+explore = with_rule (with_rule explore_flagged (option (codes "seeds"))) (flag (codes "progress"))
+
+abbrev pub shrink : App
+shrink = with_rule (new_app (codes "shrink")) (option (codes "keep"))
 
 abbrev pub log : App
 log = with_rule (new_app (codes "log")) (flag (codes "json"))
@@ -72,7 +78,7 @@ abbrev pub running : App
 running = with_subcommand (with_subcommand (with_subcommand reading fuzz.top) stops.top) threads.top
 
 abbrev pub ramseg : App
-ramseg = with_subcommand (with_subcommand running explore.top) explain.top
+ramseg = with_subcommand (with_subcommand (with_subcommand running explore.top) shrink.top) explain.top
 
 -- a command that is built so, and has no option for its subcommands
 abbrev pub IsBuiltAs : App → Command → Type 0

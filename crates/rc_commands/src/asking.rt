@@ -7,16 +7,17 @@ ghost use Rattle.clap.specs.Words.{app_of, found_of, kind_of, rows_of, subcomman
 ghost use Rattle.rc_types.specs.declared.faults.Fault.TheVariants.{OutOfMemory};
 ghost use Rattle.rc_commands.specs.Asking.{IsInRange, Tells, as_command, asked_in, asks_for_text, command_in};
 ghost use Rattle.rc_commands.specs.Asking.{explain_in, explore_in, fuzz_in, fuzz_line, heap_line, option_zip_with};
-ghost use Rattle.rc_commands.specs.Asking.{is_alone, is_plain, is_request, is_text, run_in, stops_in, stops_line};
-ghost use Rattle.rc_commands.specs.Asking.{threads_in, unread_in};
+ghost use Rattle.rc_commands.specs.Asking.{is_alone, is_plain, is_request, is_text, named_in, run_in, shrink_in};
+ghost use Rattle.rc_commands.specs.Asking.{single_in, stops_in, stops_line, survey_in, threads_in, unread_in};
+ghost use Rattle.rc_commands.specs.Asking.{IsFew};
 ghost use Rattle.rc_commands.specs.Numbers.{decimal_in};
 ghost use Rattle.rc_commands.specs.Commands.{ramseg};
 
 use crate::commands::program;
-use crate::numbers::{BadWord, code_of, has_flag, number_of};
+use crate::numbers::{BadWord, code_of, has_flag, has_option, number_of, seeds_of};
 use clap::error::ErrorKind;
 use clap::{ArgMatches, Error};
-use rc_types::Fault;
+use rc_types::{Fault, Seq};
 use std::alloc::Global;
 
 /// What a command line asks for.
@@ -55,6 +56,22 @@ pub enum Asked {
         segment: u16,
         free: bool,
         save: bool,
+        progress: bool,
+    },
+    /// Run events that are drawn so from each of these seeds, the first to the last, and sum up what was reached.
+    Survey {
+        first: u64,
+        last: u64,
+        steps: u32,
+        hosts: u8,
+        factor: u8,
+        segment: u16,
+        free: bool,
+        progress: bool,
+    },
+    /// Look for a smallest scenario whose report still has a line that begins with this text.
+    Shrink {
+        keep: Seq<u8>,
     },
     /// Replay a scenario, and tell each event and each message; as JSON, where `json` says so.
     Log {
@@ -95,7 +112,7 @@ pub fn asked_for(alloc: Global, words: &[String]) -> Result<Asked, Fault>
     ensures threads { IfOk result
         (λ a. is_alone (codes "threads") (map string_bytes words.now) ≡ true → a ≡ Asked.Threads 4 10) }
     ensures explore { IfOk result (λ a. is_alone (codes "explore") (map string_bytes words.now) ≡ true
-        → a ≡ Asked.Explore 1 2000 5 2 2 false false) }
+        → a ≡ Asked.Explore 1 2000 5 2 2 false false false) }
     ensures log { IfOk result
         (λ a. is_alone (codes "log") (map string_bytes words.now) ≡ true → a ≡ Asked.Log false) }
     ensures picture { IfOk result
@@ -130,28 +147,55 @@ fn found(alloc: Global, matches: &ArgMatches<'_>) -> Result<Asked, Fault>
     ensures ranges { IfOk result IsInRange }
     ensures memory { IfErr result (λ e. e ≡ OutOfMemory) }
 {
-    match command_of(matches) {
-        Ok(command) => Ok(command),
-        Err(word) => Ok(Asked::Wrong(word.to_string(alloc)?)),
+    match matches.subcommand() {
+        Some((name, given)) => found_named(alloc, name, given),
+        None => wrong(alloc, &BadWord::NoCommand),
     }
 }
 
-/// The command with its options.
-fn command_of<'a>(matches: &ArgMatches<'a>) -> Result<Asked, BadWord<'a>>
-    ensures command { let asked = option_and_then (λ p. command_in p.0 p.1) (subcommand_rows_of matches.now) in
-        MatchResult result (λ a. as_command a ≡ asked) (λ _. asked ≡ None) }
+/// The command of this name, or what is wrong with what was given for it.
+fn found_named(alloc: Global, name: &str, given: &ArgMatches<'_>) -> Result<Asked, Fault>
+    ensures command { IfOk result (λ a. as_command a ≡ command_in name.now (rows_of (found_of given.now))) }
     ensures text { IfOk result (λ a. is_text a ≡ false) }
     ensures ranges { IfOk result IsInRange }
+    ensures memory { IfErr result (λ e. e ≡ OutOfMemory) }
 {
-    match matches.subcommand() {
-        Some((name, given)) => command_named(name, given),
-        None => Err(BadWord::NoCommand),
+    match name {
+        "shrink" => shrink_of(alloc, given),
+        _ => match command_named(name, given) {
+            Ok(command) => Ok(command),
+            Err(word) => wrong(alloc, &word),
+        },
     }
 }
 
-/// The command of this name with its options.
+/// What is wrong with a word.
+fn wrong(alloc: Global, word: &BadWord<'_>) -> Result<Asked, Fault>
+    ensures command { IfOk result (λ a. as_command a ≡ None) }
+    ensures text { IfOk result (λ a. is_text a ≡ false) }
+    ensures ranges { IfOk result IsInRange }
+    ensures memory { IfErr result (λ e. e ≡ OutOfMemory) }
+{
+    Ok(Asked::Wrong(word.to_string(alloc)?))
+}
+
+/// `shrink` with its text.
+fn shrink_of(alloc: Global, given: &ArgMatches<'_>) -> Result<Asked, Fault>
+    ensures command { IfOk result (λ a. as_command a ≡ shrink_in (rows_of (found_of given.now))) }
+    ensures text { IfOk result (λ a. is_text a ≡ false) }
+    ensures ranges { IfOk result IsInRange }
+    ensures memory { IfErr result (λ e. e ≡ OutOfMemory) }
+{
+    let Some(text) = given.get_str("keep") else {
+        return wrong(alloc, &BadWord::NoText);
+    };
+    let keep = Seq::from_vec(text.as_bytes().to_vec(alloc)?);
+    Ok(Asked::Shrink { keep })
+}
+
+/// The command of this name with its options, of those that need no memory for it.
 fn command_named<'a>(name: &str, given: &ArgMatches<'a>) -> Result<Asked, BadWord<'a>>
-    ensures command { let asked = command_in name.now (rows_of (found_of given.now)) in
+    ensures command { let asked = named_in name.now (rows_of (found_of given.now)) in
         MatchResult result (λ a. as_command a ≡ asked) (λ _. asked ≡ None) }
     ensures text { IfOk result (λ a. is_text a ≡ false) }
     ensures ranges { IfOk result IsInRange }
@@ -245,6 +289,49 @@ fn explore_of<'a>(given: &ArgMatches<'a>) -> Result<Asked, BadWord<'a>>
     ensures text { IfOk result (λ a. is_text a ≡ false) }
     ensures ranges { IfOk result IsInRange }
 {
+    match seeds_of(given)? {
+        Some(seeds) => survey_of(given, seeds),
+        None => single_of(given),
+    }
+}
+
+/// `explore` of these seeds with its other options.
+fn survey_of<'a>(given: &ArgMatches<'a>, seeds: (u64, u64)) -> Result<Asked, BadWord<'a>>
+    requires few { IsFew seeds }
+    ensures command { let asked = survey_in seeds (rows_of (found_of given.now)) in
+        MatchResult result (λ a. as_command a ≡ asked) (λ _. asked ≡ None) }
+    ensures text { IfOk result (λ a. is_text a ≡ false) }
+    ensures ranges { IfOk result IsInRange }
+{
+    if has_option(given, "seed") || has_flag(given, "save") {
+        return Err(BadWord::NotTogether);
+    }
+    let (first, last) = seeds;
+    let steps = number_of(given, "steps", 0, 100_000)?.unwrap_or(2_000) as u32;
+    let hosts = number_of(given, "hosts", 1, 16)?.unwrap_or(5) as u8;
+    let factor = number_of(given, "factor", 1, 5)?.unwrap_or(2) as u8;
+    let segment = number_of(given, "segment", 1, 1_024)?.unwrap_or(2) as u16;
+    let free = has_flag(given, "free");
+    let progress = has_flag(given, "progress");
+    Ok(Asked::Survey {
+        first,
+        last,
+        steps,
+        hosts,
+        factor,
+        segment,
+        free,
+        progress,
+    })
+}
+
+/// `explore` of one seed with its options.
+fn single_of<'a>(given: &ArgMatches<'a>) -> Result<Asked, BadWord<'a>>
+    ensures command { let asked = single_in (rows_of (found_of given.now)) in
+        MatchResult result (λ a. as_command a ≡ asked) (λ _. asked ≡ None) }
+    ensures text { IfOk result (λ a. is_text a ≡ false) }
+    ensures ranges { IfOk result IsInRange }
+{
     let seed = number_of(given, "seed", 0, u64::MAX)?.unwrap_or(1);
     let steps = number_of(given, "steps", 0, 100_000)?.unwrap_or(2_000) as u32;
     let hosts = number_of(given, "hosts", 1, 16)?.unwrap_or(5) as u8;
@@ -252,6 +339,7 @@ fn explore_of<'a>(given: &ArgMatches<'a>) -> Result<Asked, BadWord<'a>>
     let segment = number_of(given, "segment", 1, 1_024)?.unwrap_or(2) as u16;
     let free = has_flag(given, "free");
     let save = has_flag(given, "save");
+    let progress = has_flag(given, "progress");
     Ok(Asked::Explore {
         seed,
         steps,
@@ -260,6 +348,7 @@ fn explore_of<'a>(given: &ArgMatches<'a>) -> Result<Asked, BadWord<'a>>
         segment,
         free,
         save,
+        progress,
     })
 }
 

@@ -14,7 +14,8 @@ pub fn program<'a>(alloc: Global) -> Result<Command<'a>, AllocError>
 {
     let running = running(alloc)?;
     let exploring = with(running, explore(alloc))?;
-    with(exploring, explain(alloc))
+    let shrinking = with(exploring, shrink(alloc))?;
+    with(shrinking, explain(alloc))
 }
 
 /// The program with the commands up to `threads`.
@@ -171,6 +172,20 @@ fn threads<'a>(alloc: Global) -> Result<Command<'a>, AllocError>
 fn explore<'a>(alloc: Global) -> Result<Command<'a>, AllocError>
     ensures { IfOk result (IsBuiltAs spec.explore) }
 {
+    explore_flagged(alloc)?
+        .arg(option(
+            alloc,
+            "seeds",
+            "A..B",
+            "Runs each seed from A to B, at most 10000, and sums up what they have reached",
+        ))?
+        .arg(flag(alloc, "progress", "Tells on standard error how far it is"))
+}
+
+/// `explore` with its options for one run.
+fn explore_flagged<'a>(alloc: Global) -> Result<Command<'a>, AllocError>
+    ensures { IfOk result (IsBuiltAs spec.explore_flagged) }
+{
     explore_sized(alloc)?
         .arg(flag(alloc, "free", "Lets masters free segments"))?
         .arg(flag(
@@ -230,6 +245,24 @@ fn drawn<'a>(
     command(alloc, name, about, example)
         .arg(option(alloc, "seed", "N", "The seed, below 2^64; 1 if not given"))?
         .arg(option(alloc, "steps", "N", steps))
+}
+
+/// `shrink` with its text.
+fn shrink<'a>(alloc: Global) -> Result<Command<'a>, AllocError>
+    ensures { IfOk result (IsBuiltAs spec.shrink) }
+{
+    command(
+        alloc,
+        "shrink",
+        "Leaves out of a scenario what its report does not need to keep a line, and prints it",
+        "Example: ramseg shrink --keep 'ack 0.1' < examples/first-write.json",
+    )
+    .arg(option(
+        alloc,
+        "keep",
+        "TEXT",
+        "The report keeps a line that begins with this text",
+    ))
 }
 
 /// `log` with its flag.

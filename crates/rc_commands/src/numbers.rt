@@ -1,9 +1,9 @@
 //! Numbers on the command line: decimal digits alone, or after the `F` of a code.
 
-ghost use Rattle.std.specs.Prelude.{◌≡◌, Some, None, IfOk, MatchResult};
+ghost use Rattle.std.specs.Prelude.{◌≡◌, Some, None, IfOk, IfSome, MatchResult};
 ghost use Rattle.clap.specs.Words.{found_of, rows_of};
 ghost use Rattle.rc_commands.specs.Asking as spec;
-ghost use Rattle.rc_commands.specs.Asking.{code_given, number_given};
+ghost use Rattle.rc_commands.specs.Asking.{IsFew, code_given, number_given, seeds_given};
 ghost use Rattle.rc_commands.specs.Numbers.{IsWithin, decimal_in};
 
 use clap::ArgMatches;
@@ -23,6 +23,14 @@ pub enum BadWord<'a> {
     Code {
         text: &'a str,
     },
+    /// No range of seeds.
+    Range {
+        text: &'a str,
+    },
+    /// Options that do not go with a range of seeds.
+    NotTogether,
+    /// `shrink` without its text.
+    NoText,
     /// There is no command.
     NoCommand,
 }
@@ -43,11 +51,23 @@ impl fmt::Display for BadWord<'_> {
                 f,
                 "error: '{text}' is no code: F1 to F{MOST_CODE}\n"
             )?,
+            BadWord::Range { text } => write!(
+                f,
+                "error: '{text}' is no value for '--seeds': A..B, A at most B, at most {MOST_SEEDS} seeds\n"
+            )?,
+            BadWord::NotTogether => write!(
+                f,
+                "error: neither '--seed' nor '--save' goes with '--seeds'\n"
+            )?,
+            BadWord::NoText => write!(f, "error: '--keep' with a text is wanted\n")?,
             BadWord::NoCommand => write!(f, "error: a command is wanted\n")?,
         }
         write!(f, "\nFor more information, try '--help'.\n")
     }
 }
+
+/// The most seeds of one command.
+const MOST_SEEDS: u64 = 10_000;
 
 /// The number of the last code.
 const MOST_CODE: u64 = 21;
@@ -84,6 +104,63 @@ pub fn has_flag(given: &ArgMatches<'_>, name: &str) -> bool
     match given.get_str(name) {
         Some(text) => text == "true",
         None => false,
+    }
+}
+
+/// Whether this option was given.
+pub fn has_option(given: &ArgMatches<'_>, name: &str) -> bool
+    ensures { result ≡ spec.has_option name.now (rows_of (found_of given.now)) }
+{
+    match given.get_str(name) {
+        Some(_) => true,
+        None => false,
+    }
+}
+
+/// The first and the last one of the seeds that were given, if they were.
+pub fn seeds_of<'a>(given: &ArgMatches<'a>) -> Result<Option<(u64, u64)>, BadWord<'a>>
+    ensures number { let seeds = seeds_given (rows_of (found_of given.now)) in
+        MatchResult result (λ found. seeds ≡ Some found) (λ _. seeds ≡ None) }
+    ensures range { IfOk result (λ found. IfSome found IsFew) }
+{
+    let Some(text) = given.get_str("seeds") else {
+        return Ok(None);
+    };
+    match range_in(text) {
+        Some(seeds) => Ok(Some(seeds)),
+        None => Err(BadWord::Range { text }),
+    }
+}
+
+/// The range that is written as two numbers with two points between them.
+fn range_in(text: &str) -> Option<(u64, u64)>
+    ensures number { result ≡ spec.range_in text.now }
+    ensures range { IfSome result IsFew }
+{
+    let (first, rest) = text.split_once('.')?;
+    range_of(first, rest)
+}
+
+/// The range whose first number is written so, and what stands after it and a point.
+fn range_of(first: &str, rest: &str) -> Option<(u64, u64)>
+    ensures number { result ≡ spec.range_of first.now rest.now }
+    ensures range { IfSome result IsFew }
+{
+    let last = rest.strip_prefix(".")?;
+    let first = number_in(first, 0, u64::MAX)?;
+    let last = number_in(last, 0, u64::MAX)?;
+    range_between(first, last)
+}
+
+/// The range from one number to another, if it has few.
+fn range_between(first: u64, last: u64) -> Option<(u64, u64)>
+    ensures number { result ≡ spec.range_between first last }
+    ensures range { IfSome result IsFew }
+{
+    if first <= last && last - first < MOST_SEEDS {
+        Some((first, last))
+    } else {
+        None
     }
 }
 

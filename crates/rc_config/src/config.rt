@@ -28,7 +28,6 @@ const NOBODY: Member = Member {
 /// The members of one segment under an epoch, each with a mark whether it is known lost and what it
 /// has told under that epoch, and whether the epoch is committed. "The members of a segment" in
 /// `docs/PROTOCOL.md` has the rules.
-#[derive(Drop)]
 pub struct Config {
     seg: u16,
     /// The members, and whatever stands behind the last one.
@@ -36,6 +35,18 @@ pub struct Config {
     count: usize,
     epoch: u16,
     committed: bool,
+}
+
+impl Drop for Config {
+    fn drop(self) {
+        let Config {
+            seg: _,
+            slots: _,
+            count: _,
+            epoch: _,
+            committed: _,
+        } = self;
+    }
 }
 
 impl Model for Config {

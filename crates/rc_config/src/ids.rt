@@ -16,11 +16,16 @@ const NO_ID: ServerId = ServerId {
 };
 
 /// The ids of a segment's members at one moment. A copy takes no memory.
-#[derive(Drop)]
 pub struct MemberIds {
     /// The ids, and whatever stands behind the last one.
     slots: [ServerId; MAX_MEMBERS],
     count: usize,
+}
+
+impl Drop for MemberIds {
+    fn drop(self) {
+        let MemberIds { slots: _, count: _ } = self;
+    }
 }
 
 impl Model for MemberIds {

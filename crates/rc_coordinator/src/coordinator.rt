@@ -1,6 +1,6 @@
 //! The coordinator, as its callers see it.
 
-ghost use Rattle.std.specs.Prelude.{◌≡◌, ◌++◌, IfOk, OnOk, OnErr, IfErr};
+ghost use Rattle.std.specs.Prelude.{◌≡◌, ◌↔◌, ◌++◌, true, IfOk, OnOk, OnErr, IfErr};
 ghost use Rattle.rc_types.specs.declared.faults.Fault.TheVariants.{OutOfMemory};
 ghost use Rattle.rc_model.specs.Coordinator.{new_coordinator};
 ghost use Rattle.rc_model.specs.CoordinatorStep.{coordinator_takes};
@@ -17,9 +17,14 @@ use std::marker::Model;
 /// tablets from what the backups tell of its log. The tablets lie in memory of the allocator `A`,
 /// and everything else in that of `Global`. Contracts see it as a book: its tables as the lists of
 /// their entries.
-#[derive(Drop)]
 pub struct Coordinator<A: Allocator> {
     state: State<A>,
+}
+
+impl<A: Allocator> Drop for Coordinator<A> {
+    fn drop(self) {
+        let Coordinator { state: _ } = self;
+    }
 }
 
 impl<A: Allocator> Model for Coordinator<A> {
@@ -40,6 +45,14 @@ impl<A: Allocator + Clone> Coordinator<A> {
         Coordinator {
             state: State::new(alloc, tablets_alloc),
         }
+    }
+
+    /// Whether its numbers suffice for one more step, as the steps ask for: those of lists, attempts and terms. It
+    /// takes no memory, and its cost does not grow with what it knows.
+    pub fn has_room(&self) -> bool
+        ensures { (result ≡ true) ↔ HasNumbers (coordinator_of self.now) }
+    {
+        self.state.has_room()
     }
 
     /// Takes an input, and adds what follows to those sent.

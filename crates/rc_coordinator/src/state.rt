@@ -1,6 +1,6 @@
 //! The coordinator's state, and what each input does to it.
 
-ghost use Rattle.std.specs.Prelude.{◌≡◌, ◌⊎◌, ◌+◌, ◌-◌, ◌^◌, ◌<◌, ◌≤◌, ◌++◌, ◌∷◌, [], length, find, nat_eq, nat_lt};
+ghost use Rattle.std.specs.Prelude.{◌≡◌, ◌↔◌, ◌⊎◌, ◌+◌, ◌-◌, ◌^◌, ◌<◌, ◌≤◌, ◌++◌, ◌∷◌, [], length, find, nat_eq, nat_lt};
 ghost use Rattle.std.specs.Prelude.{not, true, ◌&&◌, filter, false, Some, None, IfOk, OnOk, OnErr, IfErr};
 ghost use Rattle.std.specs.List.{list_any};
 ghost use Rattle.rc_types.specs.declared.faults.Fault.TheVariants.{OutOfMemory, Deposed, StaleGeneration};
@@ -59,6 +59,15 @@ impl<A: Allocator + Clone> State<A> {
             grants: Vec::new(alloc),
             last_term: 0,
         }
+    }
+
+    /// Whether its numbers suffice for one more step.
+    pub(crate) fn has_room(&self) -> bool
+        ensures { (result ≡ true) ↔ HasNumbers (state_view self.now) }
+    {
+        self.servers.version() < u32::MAX
+            && self.recoveries.attempts.len() < u32::MAX as usize
+            && (self.last_term as usize).saturating_add(self.tablets.count()) < u32::MAX as usize
     }
 
     /// Takes an input, and adds what follows to those sent. Only memory can be refused (F1), and then

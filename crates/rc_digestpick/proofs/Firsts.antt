@@ -12,10 +12,6 @@ pub All-middle : {X : Type 0} (P : X → Type 0) (earlier : List X) (x : X) (lat
 All-middle P [] x later all = All-head P x later all
 All-middle P (y ∷ earlier) x later all = All-middle P earlier x later (All-tail P y (earlier ++ x ∷ later) all)
 
-pub All-along : {X : Type 0} (P Q : X → Type 0) (xs : List X) → ((x : X) → P x → Q x) → All P xs → All Q xs
-All-along P Q [] f all = All-nil Q
-All-along P Q (x ∷ xs) f all = All-cons Q x xs (f x (All-head P x xs all)) (All-along P Q xs f (All-tail P x xs all))
-
 -- a filter leaves nothing exactly where no element passes
 pub filter_none : {X : Type 0} (test : X → Bool) (xs : List X) → filter test xs ≡ [] → All (λ x. test x ≡ false) xs
 filter_none test [] none = All-nil (λ x. test x ≡ false)

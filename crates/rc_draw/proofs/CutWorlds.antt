@@ -1,7 +1,7 @@
 -- The world after a power failure, part by part.
-use Rattle.std.proofs.Common.{◌≡◌, ℕ, ◌+◌, ◌<◌, ◌≤◌, true, false, nat_lt, ◌&&◌, List, [], ◌∷◌, ◌++◌, length, take, get_or, ap, sym, ◌∙◌}
+use Rattle.std.proofs.Common.{◌≡◌, ℕ, ◌+◌, ◌<◌, true, false, nat_lt, ◌&&◌, List, [], ◌∷◌, ◌++◌, length, take, get_or, ap, sym, ◌∙◌}
 use Rattle.std.proofs.lemmas.Bool.{lt-ltb}
-use Rattle.std.proofs.lemmas.List.{take_more, take_all}
+use Rattle.std.proofs.lemmas.List.{take_more}
 use Rattle.rc_types.specs.declared.events.Setup.{Setup}
 use Rattle.rc_types.specs.declared.events.Event.{Event}
 use Rattle.rc_model.specs.World.{World, is_possible, step, opening, replay_from}
@@ -33,11 +33,6 @@ replay_more start now next events i event below is so_far made =
     take_more events i event below ∙ ap (λ (e : Event). take i events ++ e ∷ []) (sym is) in
     made ∙ ap (λ (w : World). step w event) so_far ∙ sym (replay_from-push start (take i events) event)
     ∙ ap (λ (es : List Event). replay_from start es) (sym longer)
-
--- all of them
-pub replay_all : (start now : World) (events : List Event) (i : ℕ) → length events ≤ i →
-    now ≡ replay_from start (take i events) → now ≡ replay_from start events
-replay_all start now events i all so_far = so_far ∙ ap (λ (es : List Event). replay_from start es) (take_all i events all)
 
 -- the events, and what follows
 pub cut_after : (keeping : Keeping) (events : List Event) (setup : Setup) (start before seen after : Happened) (scene : List ScenarioEvent)

@@ -1,55 +1,100 @@
 //! A run that is drawn so that much happens.
 
-ghost use Rattle.std.specs.Prelude.{◌≡◌, IfErr};
-ghost use Rattle.rc_types.specs.declared.faults.Fault.TheVariants.{OutOfMemory};
-
 use crate::choosing::{Choice, Words};
 use crate::mail::Mail;
 use crate::options::Options;
 use crate::roster::{KEYS, Roster};
 use rand_pcg::Pcg32;
+use rc_survey::{Counts, Survey};
 use rc_types::{Addr, Body, Event, Fault, Seq, ServerId};
 use rc_world::World;
 use std::alloc::Global;
 
-/// A world, and what the drawing knows of it.
-#[derive(Drop)]
-struct Explorer {
+/// A run that is drawn: its world so far, what it has reached, and what the drawing knows of it.
+pub struct Exploration {
     world: World<Global>,
+    survey: Survey,
     mail: Mail,
     noticed: usize,
     roster: Roster,
+    generator: Pcg32,
+    step: usize,
+    steps: usize,
     calm: usize,
+}
+
+impl Drop for Exploration {
+    fn drop(self) {
+        let Exploration {
+            world: _,
+            survey: _,
+            mail: _,
+            noticed: _,
+            roster: _,
+            generator: _,
+            step: _,
+            steps: _,
+            calm: _,
+        } = self;
+    }
 }
 
 /// The most deliveries that bring the beginning to rest.
 const MOST_AT_FIRST: usize = 2_000;
 
-/// The world after the hosts were started, a table was created, and so many steps were drawn.
-///
-/// # Errors
-///
-/// `OutOfMemory` (F1): memory was refused.
-pub fn explore(alloc: Global, options: &Options) -> Result<World<Global>, Fault> {
-    let mut explorer = Explorer {
-        world: World::new(alloc, options.setup(alloc), alloc),
-        mail: Mail::new(alloc),
-        noticed: 0,
-        roster: Roster::new(alloc, options.hosts, options.factor),
-        calm: options.steps - options.steps / 6,
-    };
-    explorer.begin(alloc)?;
-    let mut generator = Pcg32::new(options.seed, 54);
-    for number in 0..options.steps {
-        let words = Words::take(&mut generator);
-        explorer.step(alloc, number, words)?;
+impl Exploration {
+    /// The run in which the hosts were started and a table was created, and no step was drawn yet.
+    ///
+    /// # Errors
+    ///
+    /// `OutOfMemory` (F1): memory was refused.
+    pub fn begin(alloc: Global, options: &Options) -> Result<Exploration, Fault> {
+        let mut run = Exploration {
+            world: World::new(alloc, options.setup(alloc), alloc),
+            survey: Survey::new(alloc),
+            mail: Mail::new(alloc),
+            noticed: 0,
+            roster: Roster::new(alloc, options.hosts, options.factor),
+            generator: Pcg32::new(options.seed, 54),
+            step: 0,
+            steps: options.steps,
+            calm: options.steps - options.steps / 3,
+        };
+        run.open(alloc)?;
+        Ok(run)
     }
-    Ok(explorer.world)
-}
 
-impl Explorer {
+    /// So many steps more, but no more than the options ask for.
+    ///
+    /// # Errors
+    ///
+    /// `OutOfMemory` (F1): memory was refused.
+    pub fn go_on(&mut self, alloc: Global, steps: usize) -> Result<(), Fault> {
+        for _ in 0..steps.min(self.steps.saturating_sub(self.step)) {
+            let words = Words::take(&mut self.generator);
+            self.draw(alloc, self.step, words)?;
+            self.step = self.step.saturating_add(1);
+        }
+        Ok(())
+    }
+
+    /// How many steps were drawn.
+    pub fn step(&self) -> usize {
+        self.step
+    }
+
+    /// The world.
+    pub fn world(&self) -> &World<Global> {
+        &self.world
+    }
+
+    /// What was reached.
+    pub fn counts(&self) -> &Counts {
+        self.survey.counts()
+    }
+
     /// The hosts are started, and a table is created.
-    fn begin(&mut self, alloc: Global) -> Result<(), Fault> {
+    fn open(&mut self, alloc: Global) -> Result<(), Fault> {
         for host in 0..self.roster.hosts() {
             self.take(
                 alloc,
@@ -80,15 +125,16 @@ impl Explorer {
     /// One more event, if it is possible; and what it sends waits.
     fn take(&mut self, alloc: Global, event: &Event) -> Result<(), Fault> {
         match self.world.take(alloc, event) {
-            Ok(()) => self.notice(),
+            Ok(()) => self.notice(event),
             Err(Fault::BadEvent) => Ok(()),
             Err(fault) => Err(fault),
         }
     }
 
-    /// Notes what was sent since.
-    fn notice(&mut self) -> Result<(), Fault> {
+    /// Notes what was sent by this event.
+    fn notice(&mut self, event: &Event) -> Result<(), Fault> {
         let sent = self.world.sent();
+        self.survey.note(event, sent, self.noticed)?;
         for number in self.noticed..sent.len() {
             let message = &sent[number];
             self.roster.notice(message)?;
@@ -101,7 +147,7 @@ impl Explorer {
     }
 
     /// One step, of this number.
-    fn step(&mut self, alloc: Global, number: usize, words: Words) -> Result<(), Fault> {
+    fn draw(&mut self, alloc: Global, number: usize, words: Words) -> Result<(), Fault> {
         match self.event_of(alloc, number, words)? {
             Some(event) => self.take(alloc, &event),
             None => Ok(()),
@@ -124,7 +170,7 @@ impl Explorer {
             Choice::Stop => Ok(self.stop(words)),
             Choice::Start => self.start(alloc, words),
             Choice::Suspect => self.suspect(words),
-            Choice::Decide => Ok(self.roster.crashed(words.target).map(Event::Decide)),
+            Choice::Decide => Ok(self.decide(words)),
             Choice::Split => Ok(Some(Event::Split {
                 table: self.roster.table(),
                 at: u64::from(words.target % KEYS as u32),
@@ -134,10 +180,12 @@ impl Explorer {
         }
     }
 
-    /// The kind of event. In the last sixth of the steps nothing crashes any more: what was begun is decided.
+    /// The kind of event. In the last third of the steps nothing crashes any more, and nothing is lost or held back:
+    /// what was begun is decided.
     fn choice(&self, number: usize, words: Words) -> Choice {
         match Choice::of(words.kind, self.mail.len()) {
             Choice::Stop | Choice::Suspect if number >= self.calm => Choice::Decide,
+            Choice::Lose | Choice::Hold if number >= self.calm => Choice::Deliver,
             choice => choice,
         }
     }
@@ -242,17 +290,25 @@ impl Explorer {
         }))
     }
 
-    /// A suspicion of a server that has stopped, or of one that lives.
+    /// A suspicion of a server that has stopped, or of one that lives; or once more of one that waits to be recovered.
     fn suspect(&mut self, words: Words) -> Result<Option<Event>, Fault> {
         let id = self.suspected(words);
         if id.generation == 0 || self.roster.is_suspected(id) {
-            return Ok(None);
+            return Ok(self.roster.crashed(words.detail / 2).map(Event::Suspect));
         }
         if self.world.is_running(id) && !self.roster.can_spare(&self.world) {
             return Ok(None);
         }
         self.roster.suspect(id)?;
         Ok(Some(Event::Suspect(id)))
+    }
+
+    /// A decision; or now and then once more a suspicion of a server of whose plan nothing was granted yet.
+    fn decide(&mut self, words: Words) -> Option<Event> {
+        if words.detail % 32 == 0 {
+            return self.roster.planned().map(Event::Suspect);
+        }
+        self.roster.crashed(words.target).map(Event::Decide)
     }
 
     /// Another table, now and then.

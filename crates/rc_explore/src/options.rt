@@ -28,7 +28,7 @@ pub(crate) const MOST_HOSTS: usize = 16;
 
 impl Options {
     /// What the world is opened with.
-    pub(crate) fn setup(&self, alloc: Global) -> Setup
+    pub fn setup(&self, alloc: Global) -> Setup
         ensures { IsWithinLimits result }
     {
         Setup {

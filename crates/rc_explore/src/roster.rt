@@ -11,11 +11,19 @@ pub(crate) const KEYS: usize = 4;
 /// How often the recovery of one server is decided, at most.
 const MOST_TRIES: u8 = 12;
 
-/// A server that was suspected, and how often its recovery was decided since.
+/// A server that was suspected, how often its recovery was decided since, and whether that has a plan.
 #[derive(Clone, Copy)]
 struct Crash {
     id: ServerId,
     tries: u8,
+    planned: bool,
+}
+
+/// A part of a plan: its term, and whose it was.
+#[derive(Clone, Copy)]
+struct Given {
+    term: u32,
+    master: ServerId,
 }
 
 /// The owners of a key of a table: the last two.
@@ -32,6 +40,7 @@ pub(crate) struct Roster {
     factor: u8,
     suspected: [u32; MOST_HOSTS],
     crashes: Vec<Crash>,
+    given: Vec<Given>,
     owned: Vec<ServerId>,
     table: u32,
     owners: [Owners; KEYS],
@@ -51,6 +60,7 @@ impl Roster {
             factor,
             suspected: [0; MOST_HOSTS],
             crashes: Vec::new(alloc),
+            given: Vec::new(alloc),
             owned: Vec::new(alloc),
             table: 1,
             owners: [Owners {
@@ -117,7 +127,11 @@ impl Roster {
             self.suspected[at] = id.generation;
         }
         if self.owned.contains(&id) {
-            self.crashes.push(Crash { id, tries: 0 })?;
+            self.crashes.push(Crash {
+                id,
+                tries: 0,
+                planned: false,
+            })?;
         }
         Ok(())
     }
@@ -128,13 +142,27 @@ impl Roster {
             return None;
         }
         let at = word as usize % self.crashes.len();
-        let Crash { id, tries } = self.crashes[at];
+        let Crash { id, tries, planned } = self.crashes[at];
+        if planned {
+            return None;
+        }
         if tries >= MOST_TRIES {
             self.crashes.swap_remove(at);
         } else {
             self.crashes[at].tries = tries + 1;
         }
         Some(id)
+    }
+
+    /// A server whose recovery has a plan, of which no part was granted yet, if there is one. It has none from now on.
+    pub(crate) fn planned(&mut self) -> Option<ServerId> {
+        for crash in self.crashes.iter_mut() {
+            if crash.planned {
+                crash.planned = false;
+                return Some(crash.id);
+            }
+        }
+        None
     }
 
     /// The last owner of this key, where it is the newest server of its host.
@@ -166,13 +194,31 @@ impl Roster {
     /// What a message tells of owners and of plans.
     pub(crate) fn notice(&mut self, message: &Message) -> Result<(), AllocError> {
         match (message.to, &message.body) {
-            (Addr::Server(id), Body::Own { table, lo, hi, .. }) => {
+            (
+                Addr::Server(id),
+                Body::Own {
+                    table,
+                    lo,
+                    hi,
+                    term,
+                    ..
+                },
+            ) => {
                 if !self.owned.contains(&id) {
                     self.owned.push(id)?;
                 }
                 self.grant(id, *table, *lo, *hi);
+                self.forget(*term);
             }
-            (_, Body::Plan { master, .. }) => self.forget(*master),
+            (_, Body::Plan { master, parts, .. }) => {
+                for part in parts.as_slice() {
+                    self.given.push(Given {
+                        term: part.term,
+                        master: *master,
+                    })?;
+                }
+                self.plan(*master);
+            }
             _ => {}
         }
         Ok(())
@@ -193,7 +239,21 @@ impl Roster {
     }
 
     /// The recovery of this server has a plan.
-    fn forget(&mut self, master: ServerId) {
-        self.crashes.retain(|crash| crash.id != master);
+    fn plan(&mut self, master: ServerId) {
+        for crash in self.crashes.iter_mut() {
+            if crash.id == master {
+                crash.planned = true;
+            }
+        }
+    }
+
+    /// The part of this term was granted: whose it was is recovered.
+    fn forget(&mut self, term: u32) {
+        for given in &self.given {
+            if given.term == term {
+                let master = given.master;
+                self.crashes.retain(|crash| crash.id != master);
+            }
+        }
     }
 }

@@ -33,15 +33,6 @@ pub record Extends (x old : Segment) : Type 0 where
   pub longer : length old.entries ≤ length x.entries
   pub beginning : (n : ℕ) → n ≤ length old.entries → take n x.entries ≡ take n old.entries
 
-pub extends_from : (x old y : Segment) → x ≡ y → y.entries ≡ old.entries → y.digest ≡ old.digest → Extends x old
-extends_from x old y e entries digest =
-    let same : x.entries ≡ old.entries = ap (λ (s : Segment). s.entries) e ∙ entries in
-    record {
-      digest = ap (λ (s : Segment). s.digest) e ∙ digest;
-      longer = omega (arith, ap length same);
-      beginning = λ n within. ap (take n) same;
-    }
-
 with_state-same : (s : SegmentState) (x y : Segment) → x.digest ≡ y.digest →
     take s.len x.entries ≡ take s.len y.entries → with_state s x ≡ with_state s y
 with_state-same s x y digest entries j = record {

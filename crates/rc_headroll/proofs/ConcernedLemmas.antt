@@ -22,9 +22,6 @@ or-false : (a b : Bool) → (a || b) ≡ false → (a ≡ false) × (b ≡ false
 or-false true b e = absurd (false≢true (sym e))
 or-false false b e = (refl, e)
 
-is_bad : ServerList → Member → Bool
-is_bad servers member = member.lost || has_crashed servers member.id
-
 -- where no member is lost or crashed, marking the crashed ones changes nothing
 marked-same : (servers : ServerList) (members : List Member) →
     list_any (λ member. member.lost || has_crashed servers member.id) members ≡ false →

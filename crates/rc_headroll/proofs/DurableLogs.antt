@@ -1,6 +1,6 @@
 -- How much of a log is durable, counted from its shut segments on.
 use Rattle.std.proofs.Common.{◌≡◌, ⊎_elim, ℕ, ◌+◌, ◌-◌, ◌*◌, ◌<◌, ◌≤◌, zero, suc, Bool, true, false, cond, not, List}
-use Rattle.std.proofs.Common.{[], ◌∷◌, ◌++◌, length, get_or, map, find, Some, None, refl, ap, sym, ◌∙◌, subst, arith}
+use Rattle.std.proofs.Common.{[], ◌∷◌, ◌++◌, length, get_or, map, find, Some, refl, ap, sym, ◌∙◌, subst, arith}
 use Rattle.std.proofs.Common.{append_assoc, add_assoc, zero-add, add-zero, ltb, leb}
 use Rattle.std.proofs.lemmas.Bool.{cases_eq, and_from, lt-ltb, le-leb}
 use Rattle.std.proofs.lemmas.List.{map-append, append-nil}
@@ -38,15 +38,6 @@ durable_after t (suc s) rest shut =
     ∙ durable_after t s (t (suc s) ∷ rest) (λ seg above below. shut seg above (omega arith))
     ∙ ap (λ (b : Bool). entries_to t s + cond b (length (t (suc s)).entries + durable_among rest) (durable_in (t (suc s)))) here
     ∙ sym (add_assoc (entries_to t s) (length (t (suc s)).entries) (durable_among rest))
-
--- all segments are shut
-pub durable_now-all : (log : Log) (p : ℕ) → p ≡ log.head → ((seg : ℕ) → 0 < seg → seg ≤ p → (log.segments seg).shut ≡ true) →
-    durable_now log ≡ entries_to log.segments p
-durable_now-all log p e shut =
-    ap (λ (n : ℕ). durable_among (map log.segments (numbers_to n))) (sym e)
-    ∙ ap durable_among (sym (append-nil (map log.segments (numbers_to p))))
-    ∙ durable_after log.segments p [] shut
-    ∙ add-zero (entries_to log.segments p)
 
 -- the first open segment
 pub durable_now-open : (log : Log) (p : ℕ) → p < log.head →
@@ -91,13 +82,6 @@ find_after t (suc s) rest shut =
     ap (find (λ seg. not (t seg).shut)) (append_assoc (numbers_to s) (suc s ∷ []) rest)
     ∙ find_after t s (suc s ∷ rest) (λ seg above below. shut seg above (omega arith))
     ∙ ap (λ (b : Bool). cond (not b) (Some (suc s)) (find (λ seg. not (t seg).shut) rest)) here
-
-pub first_open-none : (log : Log) (p : ℕ) → p ≡ log.head →
-    ((seg : ℕ) → 0 < seg → seg ≤ p → (log.segments seg).shut ≡ true) → first_open log ≡ None
-first_open-none log p e shut =
-    ap (λ (n : ℕ). find (λ seg. not (log.segments seg).shut) (numbers_to n)) (sym e)
-    ∙ ap (find (λ seg. not (log.segments seg).shut)) (sym (append-nil (numbers_to p)))
-    ∙ find_after log.segments p [] shut
 
 pub first_open-some : (log : Log) (p : ℕ) → p < log.head →
     ((seg : ℕ) → 0 < seg → seg ≤ p → (log.segments seg).shut ≡ true) → (log.segments (p + 1)).shut ≡ false →

@@ -264,14 +264,6 @@ pub appended : (kept : LogData) (place passed entries : ℕ) (entry : Entry) (cl
 appended kept place passed entries entry client x was sound possible is read e =
     appended-is kept place entry client x was (append-possible (log_of kept) passed entries sound possible).0 is read e
 
--- what is written back unchanged
-pub sound-unchanged : (kept : LogData) (place passed entries : ℕ) (x was : Segment) →
-    IsSound (log_of kept) passed entries → was ≡ get_or kept.segments place was → x ≡ was →
-    IsSound (log_of (record kept { segments = set kept.segments place x })) passed entries
-sound-unchanged kept place passed entries x was sound read e =
-    let same : set kept.segments place x ≡ kept.segments = ap (set kept.segments place) (e ∙ read) ∙ set-get_or kept.segments place was in
-    rw same sound
-
 -- Opening
 
 pub opened-is : (kept : LogData) (digest : List ℕ) (ids : List ServerId) (x : Segment) (segments : List Segment)

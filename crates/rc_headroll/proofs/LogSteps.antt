@@ -7,16 +7,15 @@ use Rattle.std.proofs.lemmas.List.Elements.{All-filter}
 use Rattle.rc_types.specs.declared.kept.Phase.{Phase}
 use Rattle.rc_types.specs.declared.kept.Phase.TheVariants.{Opening, Closing, Writing}
 use Rattle.rc_model.specs.Segment.{Segment, no_segment, is_all_closed, is_ready, has_unclosed, with_closes_sent}
-use Rattle.rc_model.specs.Config.{all_placed}
 use Rattle.rc_model.specs.Tables.{put}
 use Rattle.rc_model.specs.Log.{Log, head_of, old_head_of, has_old_head, has_segment, with_segment, is_opening, is_closing, is_writing}
-use Rattle.rc_model.specs.Heads.{shuts, with_shut, may_start, may_close, may_write, starts, closes_old, writes_on, left_out, with_freed}
+use Rattle.rc_model.specs.Heads.{shuts, with_shut, may_start, may_write, starts, writes_on, left_out, with_freed}
 use Rattle.rc_model.specs.FollowUps.{close_is_due, close_marked}
 use Rattle.rc_headroll.specs.LogData.{LogData, segment_at, log_of}
 use Rattle.rc_headroll.specs.Soundness.{IsKnown, IsSound}
 use Rattle.rc_headroll.specs.Freeing.{freed_in}
 use Rattle.rc_headroll.proofs.SegmentTables.{segment_at-set, segment_at-read, segment_at-zero}
-use Rattle.rc_headroll.proofs.SoundLogs.{sound-put, sound-shut, sound-starts, sound-closes, sound-writes}
+use Rattle.rc_headroll.proofs.SoundLogs.{sound-put, sound-shut, sound-writes}
 use Rattle.rc_headroll.proofs.LogChanges.{log_of-change, seg_place}
 
 -- What the tests say
@@ -42,27 +41,10 @@ left_out-none kept few =
     ap (segment_at kept.segments) none ∙ segment_at-zero kept.segments in
     ap (λ (s : Segment). filter (λ seg. not (list_any (eqb seg) (head_of (log_of kept)).digest)) s.digest) old
 
--- a phase isn't two
-not-writing_opening : (phase : Phase) → is_opening phase ≡ true → is_writing phase ≡ false
-not-writing_opening Opening e = refl
-not-writing_opening Closing e = absurd (false≢true e)
-not-writing_opening Writing e = absurd (false≢true e)
-
 not-writing_closing : (phase : Phase) → is_closing phase ≡ true → is_writing phase ≡ false
 not-writing_closing Closing e = refl
 not-writing_closing Opening e = absurd (false≢true e)
 not-writing_closing Writing e = absurd (false≢true e)
-
-pub sound-started : (log : Log) (passed entries : ℕ) → IsSound log passed entries → may_start log ≡ true →
-    IsSound (starts log) passed entries
-sound-started log passed entries sound e = sound-starts log passed entries sound (may_start-parts log e)
-
-pub sound-closed : (log : Log) (passed entries : ℕ) → IsSound log passed entries → may_close log ≡ true →
-    IsSound (closes_old log) passed entries
-sound-closed log passed entries sound e =
-    let parts = and_parts (is_opening log.phase) (has_old_head log && all_placed (head_of log).config) e in
-    let more : 1 < log.head = ltb-true 1 log.head (and_parts (has_old_head log) (all_placed (head_of log).config) parts.1).0 in
-    sound-closes log passed entries sound (omega arith) (not-writing_opening log.phase parts.0)
 
 -- The old head
 

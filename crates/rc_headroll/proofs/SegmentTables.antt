@@ -10,7 +10,7 @@ use Rattle.rc_model.specs.Tables.{put}
 use Rattle.rc_model.specs.Segment.{Segment, no_segment}
 use Rattle.rc_types.specs.declared.ids.ServerId.{ServerId}
 use Rattle.rc_types.specs.declared.kept.Phase.TheVariants.{Opening}
-use Rattle.rc_model.specs.Log.{Log, new_log, with_segment, has_segment, has_old_head}
+use Rattle.rc_model.specs.Log.{Log, new_log, with_segment, has_segment}
 use Rattle.rc_headroll.specs.Before.{first_mark}
 use Rattle.rc_headroll.specs.LogData.{LogData, segment_at, log_of}
 
@@ -150,9 +150,6 @@ has-parts log seg has =
 
 pub has-from : (log : Log) (seg : ℕ) → 0 < seg → seg ≤ log.head → has_segment log seg ≡ true
 has-from log seg above within = and_from (ltb 0 seg) (leb seg log.head) (lt-ltb 0 seg above) (le-leb seg log.head within)
-
-pub has-old-parts : (log : Log) → has_old_head log ≡ true → 1 < log.head
-has-old-parts log has = ltb-true 1 log.head has
 
 -- the head of a log with no segment
 pub head-none : (segments : List Segment) → length segments ≡ 0 → segment_at segments (length segments) ≡ no_segment 0

@@ -11,7 +11,7 @@ use Rattle.rc_types.specs.declared.limits.TheConstants.{LAST_SEGMENT, MAX_FACTOR
 use Rattle.rc_model.specs.Tables.{put}
 use Rattle.rc_model.specs.Segment.{Segment, new_segment, with_entry}
 use Rattle.rc_model.specs.Log.{Log, new_log, head_of, old_head_of, with_segment, is_writing}
-use Rattle.rc_model.specs.Heads.{opens_head, appends, starts, closes_old}
+use Rattle.rc_model.specs.Heads.{opens_head, appends, starts}
 use Rattle.rc_headroll.specs.Soundness.{IsKnown, IsSoundSegment, IsSound, all_shut_below, entries_to}
 use Rattle.rc_headroll.proofs.SegmentTables.{put-at, put-other, put_each}
 
@@ -176,42 +176,11 @@ sound-opens log digest ids passed entries sound room shut known =
 
 -- The phase goes on
 
-pub sound-starts : (log : Log) (passed entries : ℕ) → IsSound log passed entries → log.head ≡ 1 → IsSound (starts log) passed entries
-sound-starts log passed entries sound one = record {
-  few = sound.few;
-  factor = sound.factor;
-  size = sound.size;
-  opening = λ none. absurd (omega arith);
-  shut = λ seg above below. absurd (omega arith);
-  head_open = sound.head_open;
-  each = sound.each;
-  passed_known = sound.passed_known;
-  passed_shut = sound.passed_shut;
-  passed_entries = sound.passed_entries;
-  passed_durable = sound.passed_durable;
-}
-
 -- while the head doesn't write
 shut_before : (log : Log) (passed entries seg : ℕ) → IsSound log passed entries → is_writing log.phase ≡ false →
     0 < seg → seg < log.head - 1 → (log.segments seg).shut ≡ true
 shut_before log passed entries seg sound quiet above below =
     sound.shut seg above (subst (λ (n : ℕ). seg < n) (sym (cond-false (is_writing log.phase) log.head (log.head - 1) quiet)) below)
-
-pub sound-closes : (log : Log) (passed entries : ℕ) → IsSound log passed entries → 0 < log.head →
-    is_writing log.phase ≡ false → IsSound (closes_old log) passed entries
-sound-closes log passed entries sound some quiet = record {
-  few = sound.few;
-  factor = sound.factor;
-  size = sound.size;
-  opening = λ none. absurd (omega arith);
-  shut = λ seg above below. shut_before log passed entries seg sound quiet above below;
-  head_open = sound.head_open;
-  each = sound.each;
-  passed_known = sound.passed_known;
-  passed_shut = sound.passed_shut;
-  passed_entries = sound.passed_entries;
-  passed_durable = sound.passed_durable;
-}
 
 -- the old head is shut, and the new one writes
 pub sound-writes : (log : Log) (passed entries : ℕ) → IsSound log passed entries → 0 < log.head →

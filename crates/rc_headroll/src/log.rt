@@ -12,7 +12,6 @@ use std::marker::Model;
 
 /// A master's log: its segments, of which the newest is the head, and how much of it is durable.
 /// "The master" in `docs/PROTOCOL.md` has the rules.
-#[derive(Drop)]
 pub struct LogHead {
     pub(crate) own: ServerId,
     pub(crate) factor: u8,
@@ -27,6 +26,22 @@ pub struct LogHead {
     pub(crate) passed_entries: usize,
     /// Where the log goes back to.
     pub(crate) before: Before,
+}
+
+impl Drop for LogHead {
+    fn drop(self) {
+        let LogHead {
+            own: _,
+            factor: _,
+            size: _,
+            segments: _,
+            phase: _,
+            durable: _,
+            passed: _,
+            passed_entries: _,
+            before: _,
+        } = self;
+    }
 }
 
 impl Model for LogHead {

@@ -13,7 +13,6 @@ use std::marker::Model;
 
 /// One segment of a log: its digest, its entries, its members, and how far it has come. "The master" in
 /// `docs/PROTOCOL.md` has the rules.
-#[derive(Drop)]
 pub struct Segment {
     digest: Vec<u16>,
     entries: Vec<(Entry, bool)>,
@@ -22,6 +21,20 @@ pub struct Segment {
     closes_sent: MemberIds,
     shut: bool,
     freed: bool,
+}
+
+impl Drop for Segment {
+    fn drop(self) {
+        let Segment {
+            digest: _,
+            entries: _,
+            config: _,
+            commit_sent: _,
+            closes_sent: _,
+            shut: _,
+            freed: _,
+        } = self;
+    }
 }
 
 impl Model for Segment {

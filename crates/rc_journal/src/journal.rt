@@ -25,13 +25,24 @@ use std::marker::{Model, PhantomData};
 
 /// The events of the wire of this name, with the messages that each sent. As a value it is its list of
 /// events: the messages are what these send.
-#[derive(Drop)]
 pub struct Journal<N: Naming> {
     ledger: Ledger,
     keeper: Pass,
     setup: Setup,
     pages: Pages,
     of: PhantomData<N>,
+}
+
+impl<N: Naming> Drop for Journal<N> {
+    fn drop(self) {
+        let Journal {
+            ledger: _,
+            keeper: _,
+            setup: _,
+            pages: _,
+            of: _,
+        } = self;
+    }
 }
 
 impl<N: Naming> Model for Journal<N> {

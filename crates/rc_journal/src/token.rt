@@ -8,10 +8,15 @@ use std::marker::{Model, PhantomData};
 
 /// The token of a node's seat at the wire of this name, of no bytes. As a value it is what its holder
 /// knows: the node's number, the history as far as it has seen it, and the node's own events in it.
-#[derive(Drop)]
 pub struct Token<N: Naming> {
     pub(crate) pass: Pass,
     of: PhantomData<N>,
+}
+
+impl<N: Naming> Drop for Token<N> {
+    fn drop(self) {
+        let Token { pass: _, of: _ } = self;
+    }
 }
 
 impl<N: Naming> Model for Token<N> {

@@ -1,5 +1,5 @@
 -- What a journal gives back.
-use Rattle.std.proofs.Common.{◌≡◌, ℕ, ◌+◌, ◌-◌, ◌≤◌, ◌<◌, List, [], ◌∷◌, ◌++◌, length, drop, Some, refl, sym, ap}
+use Rattle.std.proofs.Common.{◌≡◌, ℕ, ◌+◌, ◌-◌, ◌<◌, List, [], ◌∷◌, ◌++◌, length, drop, Some, refl, sym, ap}
 use Rattle.std.proofs.Common.{subst, ◌∙◌, append_assoc, arith}
 use Rattle.std.proofs.lemmas.List.{drop_at, length-append, append-nil}
 use Rattle.rc_history.specs.Events.{StartsWith}
@@ -99,12 +99,6 @@ pub less-is-left : (rest : List ℕ) (w : NodeWork) (after : List ℕ) → IsByt
 less-is-left rest w after fits h =
     let long : length rest ≡ length (record_of w) + length after =
     ap length (record_law.takes rest w after fits h) ∙ length-append (record_of w) after in
-    omega (arith, long)
-
-pub left-within : (bytes : List ℕ) (works : List NodeWork) (rest : List ℕ) → bytes ≡ journal_of works ++ rest →
-    length rest ≤ length bytes
-left-within bytes works rest e =
-    let long : length bytes ≡ length (journal_of works) + length rest = ap length e ∙ length-append (journal_of works) rest in
     omega (arith, long)
 
 pub are-read : (bytes : List ℕ) (works : List NodeWork) (rest : List ℕ) → bytes ≡ journal_of works ++ rest →

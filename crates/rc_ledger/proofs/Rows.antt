@@ -1,6 +1,6 @@
 -- Lists of views, by their numbers.
-use Rattle.std.proofs.Common.{◌≡◌, ◌≢◌, ℕ, zero, suc, ◌<◌, ◌⊎◌, inl, inr, ⊎_elim, cond, nat_eq, List, [], ◌∷◌, ◌++◌, length}
-use Rattle.std.proofs.Common.{refl, sym, ap, arith}
+use Rattle.std.proofs.Common.{◌≡◌, ◌≢◌, ℕ, zero, suc, ◌⊎◌, inl, inr, ⊎_elim, cond, nat_eq, List, [], ◌∷◌, ◌++◌, length}
+use Rattle.std.proofs.Common.{refl, sym, ap}
 use Rattle.std.proofs.lemmas.Bool.{eq-eqb, ne_eqb}
 use mathlib.Core.Option.{some, some-injective, some-ne-none}
 use lib.ListN.{get_elem?}
@@ -13,11 +13,6 @@ last-there [] (suc j) a b e = absurd (some-ne-none b (sym e))
 last-there (x ∷ xs) zero a b e = inr e
 last-there (x ∷ xs) (suc j) a b e =
     ⊎_elim (λ (t : (j ≡ length xs) × (a ≡ b)). inl (ap suc t.0, t.1)) (λ (t : get_elem? xs j ≡ some b). inr t) (last-there xs j a b e)
-
-pub there-below : {A : Type 0} (l : List A) (j : ℕ) (b : A) → get_elem? l j ≡ some b → j < length l
-there-below [] j b e = absurd (some-ne-none b (sym e))
-there-below (x ∷ xs) zero b e = omega arith
-there-below (x ∷ xs) (suc j) b e = let h : j < length xs = there-below xs j b e in omega arith
 
 -- a table of numbers with one changed
 pub with_one : (ℕ → ℕ) → ℕ → ℕ → ℕ → ℕ

@@ -10,10 +10,15 @@ use std::alloc::{AllocError, Global};
 
 /// One history, of which the token of the keeper knows all, and the token of each seat a beginning. It
 /// has no bytes but one word, which tells nothing.
-#[derive(Drop)]
 pub struct Ledger {
     table: Table<Event, View, Setup, Law, Global>,
     ghost one_word: { 0 < table.shared.table_id.words },
+}
+
+impl Drop for Ledger {
+    fn drop(self) {
+        let Ledger { table: _ } = self;
+    }
 }
 
 impl Ledger {

@@ -43,8 +43,6 @@ coordinator-still sent messages c good = record {
 module _ (sent : List Message) (masters : ServerId → Master) (hosts : ℕ → HostNode) (c : Coordinator)
     (good : Good sent masters hosts c) (i : ℕ) (after : Backup) (messages : List Message)
     (moved : BackupMoved sent masters (put hosts i (record (hosts i) { backup = after })) c (hosts i) (after, messages)) where
-  abbrev hosts_now : ℕ → HostNode
-  hosts_now = put hosts i (record (hosts i) { backup = after })
 
   was : GoodHost sent masters i (hosts i)
   was = good.hosts_are i

@@ -93,15 +93,6 @@ module _ (sent : List Message) (masters : ServerId → Master) (hosts : ℕ → 
   abbrev sent_now : List Message
   sent_now = sent ++ messages
 
-  abbrev masters_now : ServerId → Master
-  masters_now = put_id masters z after
-
-  abbrev host_now : HostNode
-  host_now = record (hosts i) { master = Some after }
-
-  abbrev hosts_now : ℕ → HostNode
-  hosts_now = put hosts i (record (hosts i) { master = Some after })
-
   more : More sent (sent ++ messages)
   more message at = In-left message sent messages at
 

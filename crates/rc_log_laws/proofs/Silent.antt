@@ -60,16 +60,3 @@ freed-segments log (seg ∷ segs) s at =
         (In s (freed_in (frees_segments log segs)) → In s segs) → (s ≡ seg) ⊎ In s segs
     by (inl here) rec = inl (freed-ids log.own (ids_of (not_lost (log.segments seg).config.members)) seg s here)
     by (inr rest) rec = inr (rec rest)
-
--- a Free among these is one that they free
-pub freed-among : (messages : List Message) (message : Message) (s : ℕ) → In message messages → message.body ≡ Free s →
-    In s (freed_in messages)
-freed-among [] message s at says = absurd at
-freed-among (first ∷ messages) message s (inl same) says =
-    subst (λ (some : List ℕ). In s (some ++ freed_in messages))
-    (sym (ap freed_by (sym (ap (λ (one : Message). one.body) same) ∙ says))) (inl refl)
-freed-among (first ∷ messages) message s (inr rest) says = further (freed_by first.body) (freed-among messages message s rest says)
-  where
-    further : (some : List ℕ) → In s (freed_in messages) → In s (some ++ freed_in messages)
-    further [] there = there
-    further (one ∷ some) there = inr (further some there)

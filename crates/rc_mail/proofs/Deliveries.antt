@@ -62,17 +62,3 @@ pub waits_other : (events : List Event) (sent more : List Message) (one : Event)
 waits_other events sent more one letters waits other =
     fits_after events sent more one letters.delivered letters.delivered letters.waiting waits refl
     (λ n. rw (other n) (sym (or_false (marked letters.delivered n))))
-
--- where nothing has happened, nothing is noted
-pub waits_none : (sent : List Message) → Fits [] sent [] []
-waits_none sent = record {
-  marks = λ n. unmarked n;
-  within = omega arith;
-  ordered = tt;
-  covers = λ passing n lt due.
-      absurd (omega (arith, lt));
-}
-  where
-    unmarked : (n : ℕ) → marked [] n ≡ is_delivered n []
-    unmarked zero = refl
-    unmarked (suc n) = refl

@@ -15,9 +15,14 @@ use std::marker::Model;
 
 /// Which messages are still to be delivered, of those noted so far. It is seen as its marks and the numbers
 /// that wait; `Waits` says that they fit what has happened and what was sent.
-#[derive(Drop)]
 pub struct Mail {
     marks: Marks,
+}
+
+impl Drop for Mail {
+    fn drop(self) {
+        let Mail { marks: _ } = self;
+    }
 }
 
 impl Model for Mail {

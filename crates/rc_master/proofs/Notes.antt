@@ -18,7 +18,7 @@ use Rattle.rc_model.specs.Config.{Config, choose, noted, committed_at, lose, ref
 use Rattle.rc_model.specs.Segment.{Segment, no_segment, new_segment, is_ready, with_closes_sent}
 use Rattle.rc_model.specs.Log.{Log, LogPlace, head_of, old_head_of, has_old_head, has_segment, with_segment, places_in}
 use Rattle.rc_model.specs.Log.{places_to, places_of, entries_of, numbers_to, durable_now, is_closing, is_writing}
-use Rattle.rc_model.specs.Heads.{is_full, append_fault, opens_head, opened_first, open_first, appends, next_digest}
+use Rattle.rc_model.specs.Heads.{is_full, append_fault, opens_head, appends, next_digest}
 use Rattle.rc_model.specs.Heads.{rolled, begin_roll, with_config, stored, commit_noted, opens_change, refills, loses}
 use Rattle.rc_model.specs.Heads.{shuts, with_shut, may_start, may_write, left_out, starts, closes_old, writes_on}
 use Rattle.rc_model.specs.FollowUps.{close_marked}
@@ -158,14 +158,6 @@ roll-is servers dead log new began =
     (λ _ e. rolled-is log new dead (choose (log.head + 1) log.own log.factor servers) began e)
     (λ _ e. err_ok (ap (λ (r : Log × Result Bool Fault). r.1) e))
 
-first-is : (log new : Log) (chosen : Option (List ServerId)) (opened : Bool) → opened_first log chosen ≡ (new, Ok opened) → IsOpened log new
-first-is log new None opened e = err_ok (ap (λ (r : Log × Result Bool Fault). r.1) e)
-first-is log new (Some ids) opened e = subst (IsOpened log) (ap (λ (r : Log × Result Bool Fault). r.0) e) (opened-is log (1 ∷ []) ids)
-
--- a first head that was opened
-pub open-is : (servers : ServerList) (log new : Log) (opened : Bool) → open_first servers log ≡ (new, Ok opened) → IsOpened log new
-open-is servers log new opened e = first-is log new (choose 1 log.own log.factor servers) opened e
-
 -- Lost members
 
 abbrev SameHead : Log → Log → Type 0
@@ -211,10 +203,6 @@ notes-appended log notes durable entry client some are = record {
   opened = are.opened;
   replicas = are.replicas;
 }
-
-pub notes-kept : (log : Log) (notes : List Entry) (durable count : ℕ) → AreNotes log notes durable →
-    AreNotes (record log { durable = count }) notes count
-notes-kept log notes durable count are = record { entries = are.entries; durable_are = refl; opened = are.opened; replicas = are.replicas }
 
 -- no more is durable than was noted
 pub durable-fits : (log : Log) (notes : List Entry) (durable : ℕ) → AreNotes log notes durable → durable_now log ≤ length notes

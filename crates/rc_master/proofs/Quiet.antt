@@ -50,9 +50,6 @@ quiet-stays master quiet = by master.deposed refl
     by true is = ap (λ b. cond b (master, []) (followed (measure master) master)) is
     by false is = let both = quiet is in goes_on-up master is ∙ followed-quiet (measure master) master both.0 both.1
 
-pub deposed-stays : (master : Master) → goes_on (record master { deposed = true }) ≡ (record master { deposed = true }, [])
-deposed-stays master = refl
-
 -- Whether a rule applies doesn't depend on the ranges
 
 did-when : (b : Bool) (one other : Master × List Message) → did (when b one) ≡ did (when b other)

@@ -12,20 +12,6 @@ use Rattle.rc_model.proofs.Tests.{either, true_false}
 use Rattle.rc_model.proofs.Measures.{AllLower, lowers, measure-marks_shut}
 use Rattle.rc_master.specs.Rules.{did, or_still, settled}
 
--- One rule of several
-
-pub or-done : (one other : Option (Master × List Message)) → did one ≡ true → or_rule one other ≡ one
-or-done None other e = true_false (sym e)
-or-done (Some done) other e = refl
-
-pub or-next : (one other : Option (Master × List Message)) → did one ≡ false → or_rule one other ≡ other
-or-next None other e = refl
-or-next (Some done) other e = true_false e
-
-pub still-none : (master : Master) (one : Option (Master × List Message)) → did one ≡ false → or_still master one ≡ (master, [])
-still-none master None e = refl
-still-none master (Some done) e = true_false e
-
 -- Many times
 
 factor-marked : (master : Master) → (marks_shut master).log.factor ≡ master.log.factor

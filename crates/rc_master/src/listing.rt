@@ -7,6 +7,7 @@ ghost use Rattle.rc_model.specs.ServerList.{from_rows};
 ghost use Rattle.rc_model.specs.Log.{has_segment, numbers_to};
 ghost use Rattle.rc_model.specs.ListRules.{replaces_lost, replaces_lost_of, tries_first, obeys_list, takes_list};
 ghost use Rattle.rc_headroll.specs.LogData.{log_of};
+ghost use Rattle.rc_headroll.specs.Concerned.{is_concerned};
 ghost use Rattle.rc_master.specs.View.{state_view, before_step, IsNoted};
 
 use crate::state::State;
@@ -83,7 +84,8 @@ impl State {
         Ok(())
     }
 
-    /// Lost members of a segment are replaced, if it wasn't freed.
+    /// Lost members of a segment are replaced, if it wasn't freed. A segment with no member that is lost, or that the
+    /// list shows crashed, is left alone: it costs a look at its members.
     fn replace_lost(&mut self, seg: u16, sent: &mut Vec<Message>) -> Result<(), Fault>
         requires noted { IsNoted self.old }
         requires known { has_segment (log_of self.old.log) seg ≡ true }
@@ -97,6 +99,9 @@ impl State {
         if self.is_freed(seg) {
             return Ok(());
         }
+        if !self.is_concerned(seg) {
+            return Ok(());
+        }
         match self.log.lose(self.alloc, seg, &self.known) {
             Ok(ids) => {
                 add_places(self.alloc, &self.log, seg, ids.as_slice(), sent)?;
@@ -106,6 +111,17 @@ impl State {
                 unless_memory(fault)?;
                 Ok(())
             }
+        }
+    }
+
+    /// Whether a member of the segment is lost, or the known list shows one crashed.
+    fn is_concerned(&self, seg: u16) -> bool
+        requires { has_segment (log_of self.now.log) seg ≡ true }
+        ensures { result ≡ is_concerned self.now.known ((log_of self.now.log).segments seg) }
+    {
+        match self.log.segment(seg) {
+            Some(segment) => segment.is_concerned(&self.known),
+            None => false,
         }
     }
 

@@ -1,6 +1,6 @@
 //! A master, as its callers see it.
 
-ghost use Rattle.std.specs.Prelude.{◌≡◌, ◌++◌, ◌<◌, ◌≤◌, IfOk, OnOk, OnErr, IfErr};
+ghost use Rattle.std.specs.Prelude.{◌≡◌, ◌↔◌, ◌++◌, ◌<◌, ◌≤◌, true, IfOk, OnOk, OnErr, IfErr};
 ghost use Rattle.rc_types.specs.declared.faults.Fault.TheVariants.{OutOfMemory};
 ghost use Rattle.rc_types.specs.declared.limits.TheConstants.{MAX_FACTOR as FACTOR, MAX_SEGMENT as SEGMENT};
 ghost use Rattle.rc_model.specs.Master.{new_master};
@@ -18,9 +18,14 @@ use std::marker::Model;
 /// One master. It keeps a log of which each segment has replicas on other hosts, takes writes and
 /// reads of the ranges that it was granted, and recovers parts of crashed masters' logs. Contracts
 /// see its log as the list of its segments.
-#[derive(Drop)]
 pub struct Master {
     state: State,
+}
+
+impl Drop for Master {
+    fn drop(self) {
+        let Master { state: _ } = self;
+    }
 }
 
 impl Model for Master {
@@ -67,6 +72,14 @@ impl Master {
         ensures { result ≡ (master_of self.now).deposed }
     {
         self.state.deposed
+    }
+
+    /// Whether its numbers suffice for one more step, as the steps ask for: each entry of its log leaves room for one
+    /// more version of its key. It takes no memory, and its cost does not grow with the log.
+    pub fn has_room(&self) -> bool
+        ensures { (result ≡ true) ↔ HasVersions (master_of self.now) }
+    {
+        self.state.ownership.leaves_room()
     }
 
     /// Takes a message, follows up until no rule applies, and adds what it sends to those sent.

@@ -49,16 +49,6 @@ filter-lower test wide narrow (x ∷ xs) found less is isn't e =
     by true b n t w rest rec e = let same : x ≡ found = cc in here b n t w rest same
     by false b n t w rest rec e = there b n t w (rec e)
 
--- what is found passes the test
-pub find-passes : {X : Type 0} (test : X → Bool) (xs : List X) (found : X) → find test xs ≡ Some found → test found ≡ true
-find-passes test [] found e = cc
-find-passes test (x ∷ xs) found e = by (test x) refl (find-passes test xs found) e
-  where
-    by : (b : Bool) → test x ≡ b → (find test xs ≡ Some found → test found ≡ true) →
-        cond b (Some x) (find test xs) ≡ Some found → test found ≡ true
-    by true is rec e = let same : x ≡ found = cc in ap test (sym same) ∙ is
-    by false isn't rec e = rec e
-
 -- Of the numbers to one as many pass one test as another that agrees with it there.
 pub filter-agrees : (one other : ℕ → Bool) (n : ℕ) → ((k : ℕ) → 0 < k → k ≤ n → one k ≡ other k) →
     filter one (numbers_to n) ≡ filter other (numbers_to n)

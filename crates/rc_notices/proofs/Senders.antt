@@ -20,12 +20,6 @@ fetches-sender m [] = refl
 fetches-sender m (task ∷ tasks) =
     ap (λ l. map (fetch_of m.log.own task) (filter (has_not_come m.ownership task) task.rows) ++ l) (fetches-sender m tasks)
 
-pub recovered-sender : (m : Master) → recovered_again m ≡ recovered_again (sender m.log m.ownership m.tasks)
-recovered-sender m = refl
-
-pub ready-sender : (m : Master) → ready_again m ≡ ready_again (sender m.log m.ownership m.tasks)
-ready-sender m = refl
-
 -- all that the timer says again
 pub reminds-sender : (before : Log) (m : Master) →
     (reminds before m).1 ≡ (reminds before (sender m.log m.ownership m.tasks)).1

@@ -42,11 +42,6 @@ under-all term [] = refl
 under-all term (x ∷ xs) = under-here term (under_term term x) (map (under_term term) xs) refl ∙
     ap (λ rest. under_term term x ∷ rest) (under-all term xs)
 
-pub under-other : (term other : ℕ) (xs : List Entry) → (term ≡ other → ⊥) → under other (map (under_term term) xs) ≡ []
-under-other term other [] differs = refl
-under-other term other (x ∷ xs) differs =
-    under-beside other (under_term term x) (map (under_term term) xs) differs ∙ under-other term other xs differs
-
 pub In-under : (term : ℕ) (x : Entry) (xs : List Entry) → In x xs → x.term ≡ term → In x (under term xs)
 In-under term x [] at e = absurd at
 In-under term x (y ∷ xs) (inl same) e =

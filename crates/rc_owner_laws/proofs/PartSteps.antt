@@ -78,9 +78,6 @@ module _ (sent : List Message) (m : ServerId) where
   parts-refused master fault head good = quiet sent m master master (refuses master.log.own fault ∷ []) good head refl
       (plain-one (refuses master.log.own fault) tt)
 
-  place_now : Log → Entry → Bool → LogPlace
-  place_now log entry client = record { seg = log.head; offset = length (head_of log).entries; entry = entry; client = client }
-
   appended-view : (master : Master) (entry : Entry) (client : Bool) → HasHead master.log → is_writing master.log.phase ≡ true →
       part_view (appends_entry master entry client).0 ≡ with_place
       (record {

@@ -52,8 +52,6 @@ or-parts false b e = (refl, e)
 
 module _ (sent : List Message) (m : ServerId) (v : PartView) (good : GoodParts sent m v) (term seg : ℕ)
     (from : ServerId) (entries : List Entry) (was : HasSent sent m from term seg entries) where
-  own_now : Ownership
-  own_now = put_data term seg from entries v.own
 
   has-now : (t : ℕ) → has_part (put_data term seg from entries v.own) t ≡ has_part v.own t
   has-now t = has_term-same t v.own.parts (data_in term seg from entries v.own.parts) (same-data term seg from entries v.own.parts)

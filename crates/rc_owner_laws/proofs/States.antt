@@ -83,10 +83,6 @@ none-without term (state ∷ states) e = by (nat_eq state.part.term term) refl (
     by true is rec never = true_false never
     by false is rec rest = (λ same. true_false (sym (eq-eqb state.part.term term same) ∙ is), rec rest)
 
-pub without-In : (term : ℕ) (states : List PartState) (state : PartState) → has_term term states ≡ false →
-    In state states → state.part.term ≡ term → ⊥
-without-In term states state e at same = none-In term states state (none-without term states e) at same
-
 none-append : (term : ℕ) (states : List PartState) (new : PartState) → NoneUnder term states →
     (new.part.term ≡ term → ⊥) → NoneUnder term (states ++ new ∷ [])
 none-append term [] new none differs = (differs, tt)

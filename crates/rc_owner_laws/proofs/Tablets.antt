@@ -1,5 +1,5 @@
 -- Tablets that do not overlap: who owns a point after each change of them.
-use Rattle.std.proofs.Common.{◌≡◌, ℕ, ◌-◌, ◌<◌, ◌≤◌, Bool, true, false, cond, ◌&&◌, ◌||◌, List, [], ◌∷◌, nat_eq}
+use Rattle.std.proofs.Common.{◌≡◌, ℕ, ◌-◌, ◌<◌, Bool, true, false, cond, ◌&&◌, ◌||◌, List, [], ◌∷◌, nat_eq}
 use Rattle.std.proofs.Common.{nat_lt, nat_le, Option, Some, None, option_map, refl, sym, ap, ◌∙◌, subst, arith}
 use Rattle.std.proofs.lemmas.Bool.{eqb-true, and_parts}
 use Rattle.std.proofs.lemmas.Bool.Decides.{nat_tests}
@@ -71,11 +71,6 @@ apart-marked owner (tablet ∷ tablets) apart = (
 )
 
 -- Splits
-
--- a point of either half is one of the whole, and the other way round
-half-of : (tablet : Tablet) (lo hi table key : ℕ) → tablet.lo ≤ lo → hi ≤ tablet.hi →
-    holds (record tablet { lo = lo; hi = hi }) table key ≡ true → holds tablet table key ≡ true
-half-of tablet lo hi table key p q e = grind (arith, nat_tests)
 
 lower-lacks : (tablet : Tablet) (at table key : ℕ) → holds (record tablet { hi = at - 1 }) table key ≡ false →
     holds tablet table key ≡ true → holds (record tablet { lo = at }) table key ≡ true

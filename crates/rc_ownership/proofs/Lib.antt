@@ -1,4 +1,5 @@
 pub mod Granted
+pub mod GreatestVersions
 pub mod HighTables
 pub mod NoteTables
 pub mod PartRows

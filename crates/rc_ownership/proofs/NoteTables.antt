@@ -8,7 +8,6 @@ use Rattle.std.specs.Prelude.{slice_index_or}
 use Rattle.std.specs.Option.{IsSome}
 use Rattle.indexmap.specs.IndexMap.{get}
 use Rattle.rc_types.specs.declared.entries.Entry.{Entry}
-use Rattle.rc_model.specs.Versions.{is_of}
 use Rattle.rc_model.specs.Ownership.{count_under}
 use Rattle.rc_ownership.specs.declared.highs.Slot.{Slot}
 use Rattle.rc_ownership.specs.Counts.{CountTable, count_in, AreKnown}
@@ -17,10 +16,6 @@ use Rattle.rc_ownership.specs.Slots.{HighTable, highs_in, same_slot, slot_of}
 use Rattle.rc_ownership.specs.Notes.{Noted, AreTablesOf}
 use Rattle.rc_ownership.proofs.RecordHighs.{highs_of-push, highs_of-take, highs_from-rise}
 use Rattle.rc_ownership.proofs.Under.{count_under-append, count_under-le}
-
--- an entry is of a slot where the slot is its own
-same_slot-is_of : (entry : Entry) (slot : Slot) → same_slot (slot_of entry) slot ≡ is_of slot.term slot.table slot.key entry
-same_slot-is_of entry slot = refl
 
 known-push : (old new : CountTable) (noted : List Entry) (entry : Entry) → AreKnown old noted →
     ((term : ℕ) → IsSome (get nat_eq old term) → IsSome (get nat_eq new term)) → IsSome (get nat_eq new entry.term) →
@@ -111,14 +106,6 @@ tables-undurable noted durable count highs counts new_counts tables fallen count
 }
 
 -- Notes that are dropped
-
-last_of : (noted rest : List Entry) (entry : Entry) → noted ≡ rest ++ entry ∷ [] → rest ≡ take (length noted - 1) noted
-last_of noted rest entry is =
-    let count : length noted ≡ length rest + 1 = ap length is ∙ length-append rest (entry ∷ []) in
-    sym (take_all (length rest) rest (omega arith))
-    ∙ sym (take-append-le (length rest) rest (entry ∷ []) (omega arith))
-    ∙ ap (take (length rest)) (sym is)
-    ∙ ap (λ n. take n noted) (omega (arith, count))
 
 known-take : (counts : CountTable) (rest : List Entry) (entry : Entry) → AreKnown counts (rest ++ entry ∷ []) → AreKnown counts rest
 known-take counts [] entry known place other within = absurd (omega arith)

@@ -234,10 +234,6 @@ counted-new rows given is =
     let none : NoneCame rows = subst NoneCame (sym is) (order-none given) in
     record { missing_are = none-missing rows none; entries_are = λ more. none-entries rows none }
 
-pub size_of-none : (rows : List PartRow) → size_of rows 0 ≡ 0
-size_of-none [] = refl
-size_of-none (row ∷ rows) = refl
-
 -- what a row holds once it was filled at the place that was found
 pub put_at : (seg : ℕ) (from : ServerId) (entries came : List Entry) (rows : List PartRow) (found : Option ℕ)
     (place : ℕ) (row new : PartRow) →

@@ -5,16 +5,10 @@ use Rattle.std.proofs.lemmas.Bool.Decides.{nat_tests}
 use Rattle.std.proofs.lemmas.List.{append-nil, map-append, length-drop, drop-drop, drop-append-le, take-append-le}
 use Rattle.std.proofs.lemmas.List.{take-take, length-take-le}
 use Rattle.std.proofs.Math.Seq.{drop-append_seam}
-use Rattle.std.proofs.Math.ListN.{drop_of_length-le}
 use Rattle.std.specs.Prelude.{slice_get, slice_index_or}
 use Rattle.rc_types.specs.declared.entries.Entry.{Entry}
 use Rattle.rc_model.specs.Ownership.{PartRow, under_term, came_entries, entries_that_came, without_first}
 use Rattle.rc_ownership.specs.Replay.{all_waiting, waiting_from, NoneIsEmpty, IsPlace, IsReplay}
-
-pub all_waiting-append : (rows more : List (List Entry)) → all_waiting (rows ++ more) ≡ all_waiting rows ++ all_waiting more
-all_waiting-append [] more = refl
-all_waiting-append (row ∷ rows) more =
-    ap (λ entries. row ++ entries) (all_waiting-append rows more) ∙ sym (append_assoc row (all_waiting rows) (all_waiting more))
 
 -- Lists none of which is empty
 
@@ -43,10 +37,6 @@ first_place (row ∷ rows) none = none.0
 place-append : (rows more : List (List Entry)) (place : ℕ) → NoneIsEmpty more → IsPlace place rows → IsPlace place (rows ++ more)
 place-append [] more place none h = subst (λ p. IsPlace p more) (sym h) (first_place more none)
 place-append (row ∷ rows) more place none h = h
-
-place-within : (rows : List (List Entry)) (place : ℕ) → IsPlace place rows → place ≤ length (all_waiting rows)
-place-within [] place h = omega (arith, h)
-place-within (row ∷ rows) place h = omega (arith, h, length-append row (all_waiting rows))
 
 -- an entry waits where a row is left
 pub waits : (rows : List (List Entry)) (row place : ℕ) → row ≤ length rows → IsPlace place (drop row rows) →
@@ -119,10 +109,6 @@ pub next_place : (rows : List (List Entry)) (row place : ℕ) →
     waiting_from (place + 1) (drop row rows) ≡ without_first (waiting_from place (drop row rows))
 next_place rows row place = next-drop (all_waiting (drop row rows)) place
 
-pub place-next : (rows : List (List Entry)) (row place : ℕ) (entries : List Entry) → IsRowAt rows row place entries →
-    place + 1 < length entries → IsPlace (place + 1) (drop row rows)
-place-next rows row place entries at more = subst (IsPlace (place + 1)) (sym (drop-at rows row entries at.within at.is)) more
-
 -- the cursor moves on to the next row
 pub next_row : (rows : List (List Entry)) (row place : ℕ) (entries : List Entry) → IsRowAt rows row place entries →
     length entries ≤ place + 1 →
@@ -145,22 +131,7 @@ replay-next_row rows kept first row place is within = record {
   place_now = first_place (drop (row + 1) rows) (none_empty-drop rows (row + 1) is.none_empty);
 }
 
--- nothing waits where no row is left
-pub none_waiting : (rows : List (List Entry)) (row place : ℕ) → length rows ≤ row → waiting_from place (drop row rows) ≡ []
-none_waiting rows row place past = ap (waiting_from place) (drop_of_length-le rows past) ∙ empty place
-  where
-    empty : (n : ℕ) → drop n (let none : List Entry = [] in none) ≡ []
-    empty zero = refl
-    empty (suc n) = refl
-
 -- Rows that join
-
-pub joined-waiting : (rows more : List (List Entry)) (row place : ℕ) → row ≤ length rows → IsPlace place (drop row rows) →
-    waiting_from place (drop row (rows ++ more)) ≡ waiting_from place (drop row rows) ++ all_waiting more
-joined-waiting rows more row place within h =
-    ap (waiting_from place) (drop-append-le row rows more within)
-    ∙ ap (drop place) (all_waiting-append (drop row rows) more)
-    ∙ drop-append-le place (all_waiting (drop row rows)) (all_waiting more) (place-within (drop row rows) place h)
 
 pub replay-joined : (rows more : List (List Entry)) (kept first row place : ℕ) → IsReplay rows kept first row place →
     NoneIsEmpty more → IsReplay (rows ++ more) kept first row place

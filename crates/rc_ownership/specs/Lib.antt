@@ -6,4 +6,5 @@ pub mod Owner
 pub mod Parts
 pub mod Replay
 pub mod Slots
+pub mod Tops
 pub mod Notes

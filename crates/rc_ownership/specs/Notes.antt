@@ -6,6 +6,7 @@ use Rattle.rc_ownership.specs.declared.highs.Slot.{Slot}
 use Rattle.rc_ownership.specs.Counts.{CountTable, count_in, AreKnown}
 use Rattle.rc_ownership.specs.Highs.{highs_of}
 use Rattle.rc_ownership.specs.Slots.{HighTable, highs_in}
+use Rattle.rc_ownership.specs.Tops.{tops_of}
 
 -- the entries that were noted, and how many of them, from the first on, are durable; and both as `restore` lets them
 -- be again
@@ -25,7 +26,8 @@ pub record AreTablesOf {A : Type 0} (noted : List Entry) (durable : ℕ) (highs 
 
 -- notes, and how many of them there were and were durable when `begin` was called
 pub record AreNotes {A : Type 0} (noted : List Entry) (durable kept kept_durable : ℕ) (highs : HighTable A)
-    (counts : CountTable) : Type 0 where
+    (counts : CountTable) (tops : List ℕ) : Type 0 where
   pub tables : AreTablesOf noted durable highs counts
   pub kept_within : kept ≤ length noted
   pub durable_within : kept_durable ≤ kept
+  pub tops_are : tops ≡ tops_of noted

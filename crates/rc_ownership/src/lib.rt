@@ -14,6 +14,7 @@ mod parts;
 mod replay;
 mod rows;
 mod shared;
+mod tops;
 mod touched;
 
 pub use ownership::Ownership;

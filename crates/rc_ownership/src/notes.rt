@@ -2,19 +2,20 @@
 //! tables by which versions are numbered and read without a walk over them.
 
 ghost use Rattle.std.specs.Prelude.{◌≡◌, ℕ, ◌+◌, ◌-◌, ◌^◌, ◌<◌, ◌≤◌, ◌++◌, ◌∷◌, [], length, take, slice_get, OnOk};
-ghost use Rattle.std.specs.Prelude.{OnErr, IfOk, IfErr};
+ghost use Rattle.std.specs.Prelude.{OnErr, IfOk, IfErr, true, ◌↔◌};
 ghost use Rattle.std.specs.Option.{option_copied};
 ghost use Rattle.rc_types.specs.declared.faults.Fault.TheVariants.{OutOfMemory};
 
-use crate::counts;
 use crate::highs::{self, Slot};
+use crate::{counts, tops};
 use indexmap::IndexMap;
 use rc_types::{Entry, Fault, Seq, TryClone};
 use std::alloc::Global;
 use std::marker::Model;
 
 /// The noted entries, how many of them are durable, how many there were and were durable when `begin`
-/// was called, the record highs of each slot, and how many durable entries each term has.
+/// was called, the record highs of each slot, how many durable entries each term has, and the greatest version up to
+/// each entry.
 #[derive(Drop)]
 pub(crate) struct Notes {
     noted: Vec<Entry>,
@@ -23,6 +24,7 @@ pub(crate) struct Notes {
     kept_durable: usize,
     highs: IndexMap<Slot, Vec<(usize, u64)>>,
     counts: IndexMap<u32, usize>,
+    tops: Vec<u64>,
 }
 
 impl Model for Notes {
@@ -38,13 +40,15 @@ impl Model for Notes {
       durable_before = s.kept_durable;
     } };
 
-    ghost invariant = { λ s. AreNotes s.noted.items s.durable s.kept s.kept_durable s.highs s.counts };
+    ghost invariant = { λ s. AreNotes s.noted.items s.durable s.kept s.kept_durable s.highs s.counts
+        s.tops.items };
 }
 
 impl Notes {
     ghost use Rattle.rc_model.specs.Ownership.{count_under};
     ghost use Rattle.rc_model.specs.Versions.{next_version, greatest_version, read_of, is_outdated, is_dead};
     ghost use Rattle.rc_ownership.specs.Highs.{highs_of};
+    ghost use Rattle.rc_ownership.specs.Tops.{top_or, tops_of, LeaveRoom};
 
     /// No notes. It takes no memory until an entry is noted.
     pub(crate) fn new(alloc: Global) -> Notes
@@ -57,6 +61,7 @@ impl Notes {
             kept_durable: 0,
             highs: IndexMap::new(alloc),
             counts: IndexMap::new(alloc),
+            tops: Vec::new(alloc),
         }
     }
 
@@ -89,6 +94,7 @@ impl Notes {
         };
         let slot = highs::slot_of(&entry);
         highs::drop_from(&mut self.highs, slot, self.noted.len());
+        self.tops.truncate(self.noted.len());
     }
 
     /// Notes an entry after the others. Only memory can be refused (F1).
@@ -97,8 +103,10 @@ impl Notes {
         ensures err { OnErr result (self.new ≡ self.old) }
         ensures no_memory { IfErr result (λ fault. fault ≡ OutOfMemory) }
     {
+        let top = tops::higher(self.greatest(), entry.version);
         let copy = entry.try_clone(alloc)?;
         self.noted.reserve(1)?;
+        self.tops.reserve(1)?;
         counts::know_term(&mut self.counts, entry.term)?;
         let slot = highs::slot_of(entry);
         highs::add_high(
@@ -108,8 +116,23 @@ impl Notes {
             self.noted.len(),
             entry.version,
         )?;
+        self.tops.push(top).unwrap();
         self.noted.push(copy).unwrap();
         Ok(())
+    }
+
+    /// The greatest version of all noted entries, 0 where there is none.
+    fn greatest(&self) -> u64
+        ensures { result ≡ top_or 0 (tops_of self.now.noted) }
+    {
+        tops::top_of(self.tops.as_slice())
+    }
+
+    /// Whether each noted entry leaves room for one more version in 64 bits. It takes no walk.
+    pub(crate) fn leave_room(&self) -> bool
+        ensures { (result ≡ true) ↔ LeaveRoom self.now.noted }
+    {
+        self.greatest() < u64::MAX
     }
 
     /// How many entries were noted.

@@ -1,7 +1,7 @@
 //! What a master owns, in one value.
 
 ghost use Rattle.std.specs.Prelude.{◌≡◌, ◌<◌, ◌≤◌, ◌+◌, ◌^◌, ◌++◌, ◌∷◌, [], length, not, nat_eq, nat_lt, slice_get};
-ghost use Rattle.std.specs.Prelude.{OnOk, OnErr, IfOk, IfErr};
+ghost use Rattle.std.specs.Prelude.{OnOk, OnErr, IfOk, IfErr, true, ◌↔◌};
 ghost use Rattle.rc_types.specs.declared.faults.Fault.TheVariants.{OutOfMemory};
 ghost use Rattle.rc_model.specs.Ownership.{owns_nothing};
 ghost use Rattle.rc_model.specs.Ownership as owning;
@@ -9,6 +9,7 @@ ghost use Rattle.rc_model.specs.Versions as versions;
 ghost use Rattle.rc_ownership.specs.Highs.{highs_of};
 ghost use Rattle.rc_ownership.specs.Owner.{durable_of, kept_now, kept_nothing};
 ghost use Rattle.rc_ownership.specs.Parts.{awaiting_grant};
+ghost use Rattle.rc_ownership.specs.Tops.{LeaveRoom};
 
 use crate::grants::Grants;
 use crate::notes::Notes;
@@ -19,11 +20,20 @@ use std::marker::Model;
 
 /// The ranges that a master was granted, the notes of its log, and the parts of crashed masters'
 /// logs that it fetches and replays.
-#[derive(Drop)]
 pub struct Ownership {
     grants: Grants,
     notes: Notes,
     parts: Parts,
+}
+
+impl Drop for Ownership {
+    fn drop(self) {
+        let Ownership {
+            grants: _,
+            notes: _,
+            parts: _,
+        } = self;
+    }
 }
 
 impl Model for Ownership {
@@ -131,6 +141,14 @@ impl Ownership {
         ensures no_memory { IfErr result (λ fault. fault ≡ OutOfMemory) }
     {
         self.notes.note(alloc, entry)
+    }
+
+    /// Whether each noted entry leaves room for one more version in 64 bits, so that a write of any key can be
+    /// numbered. It takes no memory, and its cost does not grow with the log.
+    pub fn leaves_room(&self) -> bool
+        ensures { (result ≡ true) ↔ LeaveRoom self.now.noted }
+    {
+        self.notes.leave_room()
     }
 
     /// How many entries were noted.

@@ -60,11 +60,6 @@ greatest-forks_above (Fork' bound p left q right) h =
       greatest-forks_above right h.2,
     )
 
-pub get_or-le-greatest : (xs : List ℕ) (i : ℕ) → get_or xs i 0 ≤ greatest xs
-get_or-le-greatest [] i = omega arith
-get_or-le-greatest (x ∷ xs) zero = omega arith
-get_or-le-greatest (x ∷ xs) (suc i) = omega (arith, get_or-le-greatest xs i)
-
 count_by-append : (p : Tablet → Bool) (xs ys : List Tablet) → count_by p (xs ++ ys) ≡ count_by p xs + count_by p ys
 count_by-append p xs ys = sum_by-append (λ x. cond (p x) 1 0) xs ys
 

@@ -1,7 +1,7 @@
 //! The tree of all tablets.
 
 ghost use Rattle.std.specs.Prelude.{◌≡◌, ◌≤◌, ◌↔◌, false, [], is_some, OnOk, OnErr, IfOk, IfErr, Ok, Err};
-ghost use Rattle.std.specs.Prelude.{if◌then◌else◌};
+ghost use Rattle.std.specs.Prelude.{if◌then◌else◌, length};
 ghost use Rattle.rc_types.specs.declared.faults.Fault.TheVariants.{OutOfMemory, NoTable};
 ghost use Rattle.rc_model.specs.Tablets.{tablet_of, has_table, tablets_of, with_table, marked_crashed, count_to_mark};
 ghost use Rattle.rc_model.specs.Tablets.{split_at, has_range, assigned};
@@ -25,11 +25,20 @@ use std::marker::Model;
 /// and then gives the list and the old tree back.
 ///
 /// A call that is refused leaves the same tree.
-#[derive(Drop)]
 pub struct RangeTree<A: Allocator> {
     alloc: A,
     root: Node<A>,
     count: usize,
+}
+
+impl<A: Allocator> Drop for RangeTree<A> {
+    fn drop(self) {
+        let RangeTree {
+            alloc: _,
+            root: _,
+            count: _,
+        } = self;
+    }
 }
 
 impl<A: Allocator> Model for RangeTree<A> {
@@ -88,6 +97,13 @@ impl<A: Allocator + Clone> RangeTree<A> {
         ensures shallow { result ≤ MAX_FORKS }
     {
         self.root.depth()
+    }
+
+    /// How many tablets there are. It takes no memory, and no walk.
+    pub fn count(&self) -> usize
+        ensures { result ≡ length self.now.tablets }
+    {
+        self.count
     }
 
     /// All tablets, in order.

@@ -11,7 +11,7 @@ use Rattle.rc_types.specs.declared.ids.ServerId.{ServerId}
 use Rattle.rc_types.specs.declared.ids.Addr.TheVariants.{Server}
 use Rattle.rc_reading.specs.Said.{Said, said_of, both_of, begins_object}
 use Rattle.rc_reading.specs.Ahead.{data_at, items_at, members_at, told, says, rest}
-use Rattle.rc_reading.proofs.Turns.{opened_list, opened_object, says_then}
+use Rattle.rc_reading.proofs.Turns.{opened_list, opened_object}
 use Rattle.rc_reading.proofs.Passing.{at_string, at_bool, at_null, at_number, at_end_object, at_end_array, at_key}
 use Rattle.rc_reading.proofs.Passing.{at_bad, too_deep_list, too_deep_object}
 
@@ -57,10 +57,6 @@ pub list_said : (depth : ℕ) (ts r : List Token) → 0 < depth → rest (items_
     says said_of depth (Token.begin_array ∷ ts) ≡ Some (Said.other, r)
 list_said depth ts r some e = ap (told said_of) (opened_list depth ts some) ∙ list_found (items_at (depth - 1) ts) r e
 
-pub said_alone : (depth : ℕ) (ts r : List Token) (s : Said) (o : Option Items) →
-    says both_of depth ts ≡ Some ((s, o), r) → says said_of depth ts ≡ Some (s, r)
-said_alone depth ts r s o e = says_then both_of (λ b. b.0) said_of depth ts r (s, o) (λ d. refl) e
-
 -- ---- a list's items
 
 listed_found : {A : Type 0} (f : List Data → Option A) (o : Option (Items × List Token)) →
@@ -73,15 +69,6 @@ pub listed_says : {A : Type 0} (f : List Data → Option A) (depth : ℕ) (ts r 
     → says (λ d. option_and_then f (list_of d)) depth (Token.begin_array ∷ ts) ≡ Some (a, r)
 listed_says f depth ts r a some e = ap (told (λ d. option_and_then f (list_of d))) (opened_list depth ts some) ∙
     listed_found f (items_at (depth - 1) ts) ∙ e
-
-pub unlisted_says : {A : Type 0} (f : List Data → Option A) (depth : ℕ) (ts r : List Token) (s : Said) →
-    says both_of depth ts ≡ Some ((s, None), r)
-    → says (λ d. option_and_then f (list_of d)) depth ts ≡ Some (None, r)
-unlisted_says f depth ts r s e = says_then both_of (λ b. option_and_then f (option_map listed b.1))
-    (λ d. option_and_then f (list_of d)) depth ts r (s, None) (λ d. refl) e
-
-list_none : {A : Type 0} (f : Items → A) (o : Option (Items × List Token)) → o ≡ None → told {B = A} f o ≡ None
-list_none f o e = ap (told f) e
 
 pub list_refused : (depth : ℕ) (ts : List Token) → 0 < depth → items_at (depth - 1) ts ≡ None →
     data_at depth (Token.begin_array ∷ ts) ≡ None

@@ -215,13 +215,6 @@ pub says_some : {A : Type 0} (f : Data → A) (depth : ℕ) (ts r : List Token) 
     (d : Data) × (data_at depth ts ≡ Some (d, r)) × (f d ≡ a)
 says_some f depth ts r a e = told_of (data_at depth ts) f a r e
 
--- what is said by way of something else
-pub says_then : {A B : Type 0} (f : Data → A) (g : A → B) (h : Data → B) (depth : ℕ) (ts r : List Token) (a : A) →
-    ((d : Data) → h d ≡ g (f d)) → says f depth ts ≡ Some (a, r) → says h depth ts ≡ Some (g a, r)
-says_then f g h depth ts r a is e =
-    let d = says_some f depth ts r a e in
-    ap (told h) d.1 ∙ ap (λ b. Some (b, r)) (is d.0 ∙ ap g d.2)
-
 -- ---- a fold over items
 
 pub folds_over : {A : Type 0} (takes : A → Data → Option A) (a : Option A) (depth : ℕ) (ts r : List Token) →

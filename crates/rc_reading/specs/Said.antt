@@ -67,13 +67,6 @@ flag_in (number n) = None
 flag_in (text s) = None
 flag_in other = None
 
-abbrev pub written_in : Said → Option (Option (List ℕ))
-written_in nothing = Some None
-written_in (flag b) = None
-written_in (number n) = None
-written_in (text s) = Some (Some s)
-written_in other = None
-
 -- the coordinator, by its letter
 abbrev pub letter_in : Said → Option Addr
 letter_in nothing = None
@@ -81,11 +74,6 @@ letter_in (flag b) = None
 letter_in (number n) = None
 letter_in (text s) = if bytes_eq s (codes "c") then Some Coordinator else None
 letter_in other = None
-
--- which tokens begin a list and an object
-abbrev pub begins_list : Token → Bool
-begins_list Token.begin_array = true
-begins_list _ = false
 
 abbrev pub begins_object : Token → Bool
 begins_object Token.begin_object = true

@@ -7,7 +7,7 @@ ghost use Rattle.json.specs.Token.{begin_array, begin_object};
 ghost use Rattle.json.specs.Reads.{token_of};
 ghost use Rattle.serde_json.specs.Data.{no_members};
 ghost use Rattle.serde_json.specs.Find.{as_object};
-ghost use Rattle.rc_reading.specs.Said.{said_of, both_of, shown, begins_list, begins_object};
+ghost use Rattle.rc_reading.specs.Said.{said_of, both_of, shown, begins_object};
 ghost use Rattle.rc_reading.specs.Ahead.{data_at, items_at, members_at, says, rest};
 
 use crate::numbers::number_of;

@@ -8,6 +8,9 @@ use rc_reading::limits::MOST_BYTES;
 use serde_json::Value;
 use std::alloc::{AllocError, Global};
 
+/// How many lists and objects may stand open at once in a JSON text.
+const MAX_DEPTH: usize = 127;
+
 /// Why the bytes are no JSON text.
 pub(crate) fn tell_text_fault(
     alloc: Global,
@@ -62,8 +65,36 @@ fn tell_json_fault(
 /// What may be wrong at this line and this column, both from 1, where a column is a byte.
 fn tell_guess(text: &[u8], line: usize, column: usize, pen: &mut Pen<'_>) {
     let at = offset_of(text, line, column);
-    tell_place(pen, text, at);
-    pen.say(guess_at(text, at));
+    match first_too_deep(text) {
+        Some(deep) if deep <= at => {
+            tell_place(pen, text, deep);
+            pen.say("lists and objects may stand 127 deep in one another; this would be the 128th");
+        }
+        _ => {
+            tell_place(pen, text, at);
+            pen.say(guess_at(text, at));
+        }
+    }
+}
+
+/// The first bracket, outside of quotes, with which more than 127 lists and objects stand open.
+fn first_too_deep(text: &[u8]) -> Option<usize> {
+    let (mut depth, mut quoted, mut escaped) = (0usize, false, false);
+    for (at, byte) in text.iter().enumerate() {
+        if quoted {
+            quoted = escaped || *byte != b'"';
+            escaped = !escaped && *byte == b'\\';
+            continue;
+        }
+        match byte {
+            b'"' => quoted = true,
+            b'[' | b'{' if depth >= MAX_DEPTH => return Some(at),
+            b'[' | b'{' => depth = depth.saturating_add(1),
+            b']' | b'}' => depth = depth.saturating_sub(1),
+            _ => {}
+        }
+    }
+    None
 }
 
 /// The byte at this line and this column, both from 1, where a column is a byte.
@@ -98,9 +129,6 @@ fn guess_at(text: &[u8], at: usize) -> &'static str {
         }
         b',' | b']' | b'}' if last.is_ascii_digit() => {
             "the number before this is too great, or this is the wrong bracket"
-        }
-        b'[' | b'{' => {
-            "this is no JSON from here on; lists and objects may stand 127 deep in one another"
         }
         _ => "this is no JSON from here on",
     }

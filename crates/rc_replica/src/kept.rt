@@ -10,12 +10,22 @@ use std::marker::Model;
 
 /// What one backup keeps of one segment: the epoch under which it was placed last, whether it is
 /// closed, the digest that it was opened with, and the entries of the segment from the first on.
-#[derive(Drop)]
 pub struct Replica {
     epoch: u16,
     closed: bool,
     digest: Vec<u16>,
     entries: Vec<Entry>,
+}
+
+impl Drop for Replica {
+    fn drop(self) {
+        let Replica {
+            epoch: _,
+            closed: _,
+            digest: _,
+            entries: _,
+        } = self;
+    }
 }
 
 impl Model for Replica {

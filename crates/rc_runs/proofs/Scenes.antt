@@ -1,6 +1,6 @@
 -- The events of a scenario, one after another.
 use Rattle.std.proofs.Common.{◌≡◌, ◌⊎◌, inl, inr, ◌<◌, ℕ, ◌+◌, Bool, true, false, nat_lt, ◌&&◌, if◌then◌else◌, List}
-use Rattle.std.proofs.Common.{[], ◌∷◌, length, Some, None, Result, Ok, Err, OnOk, IfErr, OnErr, drop, refl, sym, ap}
+use Rattle.std.proofs.Common.{[], ◌∷◌, length, Some, Result, Ok, Err, OnOk, IfErr, OnErr, drop, refl, sym, ap}
 use Rattle.std.proofs.Common.{◌∙◌, suc, slice_index_or, arith}
 use Rattle.std.proofs.Math.Seq.{drop-cons}
 use Rattle.rc_types.specs.declared.events.Event.{Event}
@@ -114,11 +114,6 @@ copy_stops old whole other taken =
   where
     memory_is_not_bad : OutOfMemory ≡ BadEvent → ⊥
     memory_is_not_bad same = cc
-
--- an event that is none of the world leaves it
-pub none_goes_on : (old : Happened) (whole : ScenarioEvent) → ((kinds : Kinds) (hosts : Hosts) → whole ≡ scene.Settle kinds hosts → ⊥)
-    → None ≡ core_event whole → GoesOn (λ most world. scenario_event most world whole) old old
-none_goes_on old whole other same most room = as_event whole other most (replayed old) ∙ ap (event_if_any most (replayed old)) (sym same)
 
 pub scene_stops : (most place : ℕ) (world next : World) (event : ScenarioEvent) (events rest : List ScenarioEvent) → events ≡ event ∷ rest
     → scenario_event most world event ≡ Err next → run_from most place world events ≡ record { world = next; stopped = Some place }

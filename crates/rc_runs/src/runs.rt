@@ -19,10 +19,15 @@ use std::alloc::{Allocator, Global};
 use std::marker::Model;
 
 /// A run that goes on. As a value it is its world.
-#[derive(Drop)]
 pub struct Run<A: Allocator> {
     world: World<A>,
     mail: Mail,
+}
+
+impl<A: Allocator> Drop for Run<A> {
+    fn drop(self) {
+        let Run { world: _, mail: _ } = self;
+    }
 }
 
 impl<A: Allocator> Model for Run<A> {

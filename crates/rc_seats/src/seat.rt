@@ -8,8 +8,10 @@ ghost use Rattle.rc_types.specs.declared.faults.Fault.TheVariants.{OutOfMemory, 
 ghost use Rattle.rc_ledger.specs.Views.{new_place};
 ghost use Rattle.rc_world.specs.HostView.{IsWithinLimits};
 ghost use Rattle.rc_world.specs.NodeCalls.{event_of};
+ghost use Rattle.rc_world.specs.NodeView.{node_of};
 ghost use Rattle.rc_journal.specs.Names.{number_of};
-ghost use Rattle.rc_seats.specs.SeatView.{new_seat, offered_events, node_at};
+ghost use Rattle.rc_seats.specs.SeatView.{new_seat, offered_events, node_at, node_name, world_at};
+ghost use Rattle.rc_seats.specs.Steps.{HasTaken};
 ghost use Rattle.rc_seats.specs.Works.{event_for, can_do, held_after, Offers, is_offered, Prepares, was_delivered};
 ghost use Rattle.rc_seats.specs.Given.{is_delivery};
 ghost use Rattle.rc_seats.specs.Calls.{IsSeat};
@@ -29,7 +31,6 @@ use std::marker::Model;
 /// has seen it, its node's events in that, the message that it holds, and its pending step. Its type says
 /// that these are so: the node's events are those that it takes in the history seen, the message is the
 /// one of its number there, and the pending step is one of the node after its events.
-#[derive(Drop)]
 pub struct Seat<N: Naming> {
     pub(crate) alloc: Global,
     name: SeatName,
@@ -38,6 +39,20 @@ pub struct Seat<N: Naming> {
     pub(crate) held: Option<(usize, Message)>,
     pub(crate) pending: Option<Offer>,
     delivered: IndexSet<usize>,
+}
+
+impl<N: Naming> Drop for Seat<N> {
+    fn drop(self) {
+        let Seat {
+            alloc: _,
+            name: _,
+            token: _,
+            state: _,
+            held: _,
+            pending: _,
+            delivered: _,
+        } = self;
+    }
 }
 
 impl<N: Naming> Model for Seat<N> {
@@ -78,6 +93,15 @@ impl<N: Naming> Seat<N> {
         ensures seat { IsSeat N.wire.setup self.now }
     {
         self.name
+    }
+
+    /// The state of the seat's node, to be looked at. It is the node's own in the history that the seat has seen; where
+    /// a step is pending, the one to which that step leads it from there. It takes no memory.
+    pub fn node(&self) -> &NodeState<Global>
+        ensures state { HasTaken (world_at N.wire.setup self.now).sent (node_name self.now)
+            (node_at N.wire.setup self.now) self.now.pending (node_of result.now) }
+    {
+        &self.state
     }
 
     /// The message that is held, with its number. It takes no memory.

@@ -11,10 +11,18 @@ use std::marker::Model;
 
 /// Every id that was ever enlisted, in the order of enlisting, each marked up or crashed, and a
 /// version that rises by one with each change.
-#[derive(Drop)]
 pub struct ServerList {
     version: u32,
     rows: IndexMap<ServerId, bool>,
+}
+
+impl Drop for ServerList {
+    fn drop(self) {
+        let ServerList {
+            version: _,
+            rows: _,
+        } = self;
+    }
 }
 
 impl Model for ServerList {

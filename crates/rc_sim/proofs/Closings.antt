@@ -1,6 +1,6 @@
 -- A command that failed, as the program tells it.
-use Rattle.std.proofs.Common.{◌≡◌, ◌≢◌, ◌∙◌, ℕ, List, Option, Some, None, is_some, unwrap_or, true≢false, Result, Ok}
-use Rattle.std.proofs.Common.{Err, IfOk, refl, sym, ap, subst}
+use Rattle.std.proofs.Common.{◌≡◌, ◌≢◌, ◌∙◌, ℕ, List, Option, Some, None, is_some, true≢false, Result, Ok}
+use Rattle.std.proofs.Common.{Err, IfOk, refl, sym, ap}
 use Rattle.std.specs.Option.{IfSome}
 use Rattle.std.specs.Io.KnownBytes.{Keeps}
 use Rattle.rc_commands.specs.declared.asking.Asked.{Asked}
@@ -46,27 +46,6 @@ always : (P : Type 0) (input : Option (List ℕ)) → P → IfSome input (λ _. 
 always P None p = tt
 always P (Some bytes) p = p
 
-always_ok : (G : Verdict → List ℕ → Type 0) (outcome : Result Verdict SimFault) (input old new : Option (List ℕ))
-    → IfOk outcome (λ verdict. IsWritten G verdict old new) → IfOk outcome (λ verdict. IfSome input (λ bytes. IsWritten G verdict old new))
-always_ok G (Ok verdict) input old new h = always (IsWritten G verdict old new) input h
-always_ok G (Err fault) input old new h = tt
-
--- and of one that reads nothing
-pub ends_alone : (G : Verdict → List ℕ → Type 0) (outcome : Result Verdict SimFault) (status : ℕ) (input old new : Option (List ℕ))
-    → status ≡ outcome_status outcome → IfOk outcome (λ verdict. IsWritten G verdict old new)
-    → ((count : ℕ) → outcome ≡ Err (Write count) → IsBegun G count old new)
-    → (outcome ≡ Err Memory → Keeps old new) → outcome ≢ Err Read
-    → EndsBy (λ _. G) status input old new
-ends_alone G outcome status input old new is ok cut memory unread =
-    ends_so (λ _. G) outcome status input old new is (always_ok G outcome input old new ok)
-    (λ count e. always (IsBegun G count old new) input (cut count e)) memory (λ e. absurd (unread e))
-
--- the command that was found is the one that the words ask for
-pub does_so : (found command : Asked) (asked : Option Asked) (status : ℕ) (input old new : Option (List ℕ))
-    → Some found ≡ asked → asked ≡ Some command → Does found status input old new → Does command status input old new
-does_so found command asked status input old new is same done =
-    subst (λ one. Does one status input old new) (ap (λ o. unwrap_or o found) (is ∙ same)) done
-
 -- where a text is told, no command was asked for
 pub no_command : {P : Type 0} (command : Asked) (asked : Option Asked) → None ≡ asked → asked ≡ Some command → P
 no_command command asked is same = absurd (true≢false (sym (ap is_some (is ∙ same))))
@@ -80,8 +59,11 @@ not_begun asked.Audit status input known is = (Err Memory, is, keeps_same known)
 not_begun (asked.Fuzz seed steps free) status input known is = (Err Memory, is, keeps_same known)
 not_begun (asked.Stops seed steps) status input known is = (Err Memory, is, keeps_same known)
 not_begun (asked.Threads hosts writes) status input known is = (Err Memory, is, keeps_same known)
-not_begun (asked.Explore seed steps hosts factor segment free save) status input known is =
+not_begun (asked.Explore seed steps hosts factor segment free save progress) status input known is =
     (Err Memory, is, keeps_same known)
+not_begun (asked.Survey first last steps hosts factor segment free progress) status input known is =
+    (Err Memory, is, keeps_same known)
+not_begun (asked.Shrink keep) status input known is = (Err Memory, is, keeps_same known)
 not_begun (asked.Log json) status input known is = (Err Memory, is, keeps_same known)
 not_begun (asked.Picture mermaid) status input known is = (Err Memory, is, keeps_same known)
 not_begun (asked.Explain code) status input known is = tt

@@ -32,7 +32,7 @@ use Rattle.rc_sim.specs.declared.answers.Answer.{Answer}
 use Rattle.rc_runs.specs.Steps.{RunsThrough, StopsAt}
 use Rattle.rc_sim.specs.Written.{IsWritten, IsBegun}
 use Rattle.rc_sim.specs.Verdicts.{verdict_of, printed_of, last_line, unless_stopped, ended_verdict, ended_output}
-use Rattle.rc_sim.specs.Verdicts.{found_verdict, Comes, Played, Storied, Narrated, Judged, Drawn}
+use Rattle.rc_sim.specs.Verdicts.{found_verdict, Comes, Played, Storied, Narrated, Judged, Drawn, ShrunkOf, Shrunk}
 
 -- nothing has happened yet
 abbrev pub start_of : Scenario → Happened
@@ -138,11 +138,6 @@ never_breach read verdict text comes same = true≢false (sym (ap is_breach same
     told : is_breach Breach ≡ true
     told = refl
 
--- what a call told, where it is a verdict
-abbrev pub told_verdict : Result Verdict SimFault → Verdict
-told_verdict (Ok verdict) = verdict
-told_verdict (Err e) = Clean
-
 -- or the fault
 abbrev pub told_fault : {T : Type 0} → Result T SimFault → SimFault
 told_fault (Ok x) = sim_fault.Memory
@@ -186,6 +181,10 @@ judged_so verdict text one other same h =
 pub narrated_so : (verdict : Verdict) (text : List ℕ) (one other : List ℕ) → value_in one ≡ value_in other →
     Narrated one verdict text → Narrated other verdict text
 narrated_so verdict text one other same h = subst (λ d. Storied (of_value d) verdict text) same h
+
+pub shrunk_so : (verdict : Verdict) (text : List ℕ) (one other : List ℕ) → value_in one ≡ value_in other →
+    Shrunk one verdict text → Shrunk other verdict text
+shrunk_so verdict text one other same h = subst (λ d. ShrunkOf (of_value d) verdict text) same h
 
 -- the report of a drawing is that of its world
 pub drawn_of : {E : Type 0} (result : Result Answer E) (world : Happened) (seed steps : ℕ) (free : Bool) →

@@ -7,10 +7,10 @@ use Rattle.rc_commands.specs.declared.asking.Asked.{Asked}
 use Rattle.rc_commands.specs.declared.asking.Asked.TheVariants as asked
 use Rattle.rc_sim.specs.declared.verdicts.Output.TheVariants.{Report, Trace}
 use Rattle.rc_sim.specs.declared.verdicts.Verdict.{Verdict}
-use Rattle.rc_sim.specs.declared.verdicts.Verdict.TheVariants.{Clean, Breach, Bad, Stopped}
+use Rattle.rc_sim.specs.declared.verdicts.Verdict.TheVariants.{Clean, Breach, Bad, Stopped, NoLine}
 use Rattle.rc_sim.specs.declared.verdicts.SimFault.{SimFault}
 use Rattle.rc_sim.specs.declared.verdicts.SimFault.TheVariants.{Memory, Read, Write}
-use Rattle.rc_sim.specs.Verdicts.{Played, Narrated, Judged, Drawn, PowerCut, Threaded, Explored}
+use Rattle.rc_sim.specs.Verdicts.{Played, Narrated, Judged, Drawn, PowerCut, Threaded, Explored, Surveyed, Shrunk}
 use Rattle.rc_sim.specs.Written.{IsWritten, IsBegun}
 
 abbrev pub verdict_status : Verdict → ℕ
@@ -19,6 +19,7 @@ verdict_status Breach = 1
 verdict_status (Bad place) = 2
 verdict_status (Stopped place OutOfMemory) = 3
 verdict_status (Stopped place code) = 2
+verdict_status NoLine = 2
 
 abbrev pub fault_status : SimFault → ℕ
 fault_status Memory = 3
@@ -51,8 +52,11 @@ Does asked.Audit status input old new = EndsBy Judged status input old new
 Does (asked.Fuzz seed steps free) status input old new = EndsBy (λ _. Drawn seed steps free) status input old new
 Does (asked.Stops seed steps) status input old new = EndsBy (λ _. PowerCut seed steps) status input old new
 Does (asked.Threads hosts writes) status input old new = EndsBy (λ _. Threaded) status input old new
-Does (asked.Explore seed steps hosts factor segment free save) status input old new =
+Does (asked.Explore seed steps hosts factor segment free save progress) status input old new =
     EndsBy (λ _. Explored save) status input old new
+Does (asked.Survey first last steps hosts factor segment free progress) status input old new =
+    EndsBy (λ _. Surveyed) status input old new
+Does (asked.Shrink keep) status input old new = EndsBy Shrunk status input old new
 Does (asked.Log json) status input old new = EndsBy Narrated status input old new
 Does (asked.Picture mermaid) status input old new = EndsBy Narrated status input old new
 Does _ status input old new = ⊤

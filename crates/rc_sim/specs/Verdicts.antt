@@ -23,7 +23,7 @@ use Rattle.rc_workload.specs.Workload.{threads_setup}
 use Rattle.rc_sim.specs.declared.verdicts.Output.{Output}
 use Rattle.rc_sim.specs.declared.verdicts.Output.TheVariants.{Report, Trace}
 use Rattle.rc_sim.specs.declared.verdicts.Verdict.{Verdict}
-use Rattle.rc_sim.specs.declared.verdicts.Verdict.TheVariants.{Clean, Breach, Bad, Stopped}
+use Rattle.rc_sim.specs.declared.verdicts.Verdict.TheVariants.{Clean, Breach, Bad, Stopped, NoLine}
 
 -- what the audit found
 abbrev pub audited : Option Found → Verdict
@@ -113,6 +113,29 @@ abbrev pub Explored : Bool → Verdict → List ℕ → Type 0
 Explored true verdict text = verdict ≡ Clean
 Explored false verdict text = (world : Happened) × (lines : List ℕ) ×
     (verdict ≡ audited (breach (sent_in world))) × (text ≡ report (sent_in world) ++ lines)
+
+-- of runs of which one has a breach, or none
+abbrev pub told_of : Bool → Verdict
+told_of true = Breach
+told_of false = Clean
+
+-- of worlds that were drawn to reach much, one for each of several seeds: none has a breach; nothing is claimed of what
+-- is told of them
+abbrev pub Surveyed : Verdict → List ℕ → Type 0
+Surveyed verdict text = verdict ≡ Clean
+
+-- a smaller scenario, or nothing
+abbrev pub IsShrunk : Verdict → List ℕ → Type 0
+IsShrunk verdict text = (verdict ≡ Clean) ⊎ ((verdict ≡ NoLine) × (text ≡ []))
+
+-- of what was read as a scenario
+abbrev pub ShrunkOf : Result Scenario ℕ → Verdict → List ℕ → Type 0
+ShrunkOf (Ok scenario) verdict text = IsShrunk verdict text
+ShrunkOf (Err place) verdict text = (verdict ≡ Bad place) × (text ≡ error_line place)
+
+-- of these bytes as a scenario
+abbrev pub Shrunk : List ℕ → Verdict → List ℕ → Type 0
+Shrunk bytes verdict text = ShrunkOf (reading bytes) verdict text
 
 -- the report of a world that has the setup of nodes on threads
 abbrev pub Reported : Verdict → List ℕ → Type 0

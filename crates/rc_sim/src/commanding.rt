@@ -5,7 +5,7 @@ ghost use Rattle.rc_commands.specs.declared.asking.Asked.{Asked as AskedModel};
 ghost use Rattle.rc_commands.specs.Asking.{asked_in};
 ghost use Rattle.rc_sim.specs.declared.verdicts.Output.TheVariants.{Report};
 ghost use Rattle.rc_sim.specs.Statuses.{fault_status, outcome_status, EndsBy, Does};
-ghost use Rattle.rc_sim.specs.Verdicts.{Played, Narrated, Judged};
+ghost use Rattle.rc_sim.specs.Verdicts.{Played, Narrated, Judged, Shrunk};
 
 use crate::counted::Counted;
 use crate::drawing::{fuzz, stops};
@@ -13,14 +13,15 @@ use crate::exploring::explore;
 use crate::narrating::{Telling, narrate};
 use crate::outlets::write_all;
 use crate::playing::{Kept, play, weigh};
+use crate::shrinking::shrink;
+use crate::surveying::survey;
 use crate::telling::tell_why;
 use crate::threading::threads;
 use crate::verdicts::{Output, SimFault, Verdict};
 use linked_list_allocator::LocalHeap;
 use rc_commands::{Asked, asked_for};
-use rc_explain::explain;
 use rc_explore::Options;
-use rc_reasons::Dialect;
+use rc_reasons::{Dialect, explain};
 use std::alloc::{Allocator, Global};
 use std::io::{Read, Write};
 use std::sync::Wait;
@@ -31,8 +32,8 @@ use std::thread;
 /// that was not possible, 3 where memory was refused, 4 where a read or a write failed.
 ///
 /// `run` and `trace` run the scenario that the reader gives (see [`simulate`](crate::simulate)), `log` and `picture`
-/// tell its story, `audit` judges the trace that it gives ([`judge`](crate::judge)); `fuzz`, `stops`, `threads`,
-/// `explore` and `explain` read nothing.
+/// tell its story, `shrink` leaves out of it what it can, `audit` judges the trace that it gives
+/// ([`judge`](crate::judge)); `fuzz`, `stops`, `threads`, `explore` and `explain` read nothing.
 /// Help and the version go to the writer. What is wrong with the command line, the line of a
 /// fault (`memory`, `read`, `write N`), and why a scenario or a trace was refused, go to `errors`; where that can not
 /// be written, the status alone tells. Only `threads` starts threads and waits.
@@ -71,6 +72,7 @@ pub fn command<H: thread::Threads + Wait + Sync, R: Read, W: Write, E: Write>(
                 segment,
                 free,
                 save,
+                progress,
             },
         ) => {
             let options = Options {
@@ -81,8 +83,33 @@ pub fn command<H: thread::Threads + Wait + Sync, R: Read, W: Write, E: Write>(
                 segment,
                 free,
             };
-            ended(explore(alloc, &options, save, writer), errors)
+            let outcome = explore(alloc, &options, save, progress, writer, errors);
+            ended(outcome, errors)
         }
+        Ok(
+            Asked::Survey {
+                first,
+                last,
+                steps,
+                hosts,
+                factor,
+                segment,
+                free,
+                progress,
+            },
+        ) => {
+            let options = Options {
+                seed: first,
+                steps: steps as usize,
+                hosts,
+                factor,
+                segment,
+                free,
+            };
+            let outcome = survey(alloc, &options, last, progress, writer, errors);
+            ended(outcome, errors)
+        }
+        Ok(Asked::Shrink { keep }) => shrunk(alloc, keep.as_slice(), reader, writer, errors),
         Ok(Asked::Log { json }) => narrated(alloc, Telling::of_log(json), reader, writer, errors),
         Ok(Asked::Picture { mermaid }) => {
             narrated(alloc, Telling::of_picture(mermaid), reader, writer, errors)
@@ -166,6 +193,25 @@ fn narrated<R: Read, W: Write, E: Write>(
 {
     let mut kept = Kept::new(alloc);
     let outcome = narrate(alloc, reader, writer, telling, &mut kept);
+    tell_why(alloc, Dialect::Scenario, &outcome, &kept, errors);
+    ended(outcome, errors)
+}
+
+/// Shrinks the scenario that the reader gives, and tells what is wrong with it.
+fn shrunk<R: Read, W: Write, E: Write>(
+    alloc: Global,
+    keep: &[u8],
+    reader: &mut Counted<R>,
+    writer: &mut Counted<W>,
+    errors: &mut Counted<E>,
+) -> u8
+    ensures done { EndsBy Shrunk result (R.remaining reader.old.inner) (W.contents writer.old.inner)
+        (W.contents writer.new.inner) }
+    ensures known { result ≤ 4 }
+{
+    let mut kept = Kept::new(alloc);
+    let keep = str::from_utf8(keep).unwrap_or("");
+    let outcome = shrink(alloc, reader, writer, keep, &mut kept);
     tell_why(alloc, Dialect::Scenario, &outcome, &kept, errors);
     ended(outcome, errors)
 }

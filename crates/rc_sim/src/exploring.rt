@@ -11,20 +11,25 @@ use crate::answers::{Answer, ended};
 use crate::counted::Counted;
 use crate::simulating::write_answer;
 use crate::verdicts::{Output, SimFault, Verdict};
-use rc_explore::{Options, reached_by, scenario_of, told};
-use rc_world::World;
-use std::alloc::Global;
+use rc_explore::{Exploration, Options};
+use rc_saving::saved_events;
+use std::alloc::{AllocError, Global};
 use std::io::Write;
 
+/// After so many steps it is told how far a run is.
+const CHUNK: usize = 10_000;
+
 /// Runs events that are drawn so that much happens, and writes the report and what was reached; or, where it is to be
-/// saved, a scenario that leads to the same world.
+/// saved, a scenario that leads to the same world. With `progress` it tells `errors` now and then how far it is.
 ///
 /// It fails as `fuzz` does.
-pub fn explore<W: Write>(
+pub fn explore<W: Write, E: Write>(
     alloc: Global,
     options: &Options,
     save: bool,
+    progress: bool,
     writer: &mut Counted<W>,
+    errors: &mut Counted<E>,
 ) -> Result<Verdict, SimFault>
     ensures ok { IfOk result (λ verdict.
         IsWritten (Explored save) verdict (W.contents writer.old.inner) (W.contents writer.new.inner)) }
@@ -35,28 +40,63 @@ pub fn explore<W: Write>(
     ensures writes { writer.new.failures ≡ failed_writes result writer.old.failures }
     ensures unread { result ≢ Err ReadFailed }
 {
-    let answer = explored_answer(alloc, options, save)?;
+    let run = explored(alloc, options, progress, errors)?;
+    let answer = explored_answer(alloc, options, save, &run)?;
     write_answer(writer, &answer)
 }
 
+/// The run to its end.
+fn explored<E: Write>(
+    alloc: Global,
+    options: &Options,
+    progress: bool,
+    errors: &mut Counted<E>,
+) -> Result<Exploration, SimFault>
+    ensures fault { IfErr result (λ fault. fault ≡ Memory) }
+{
+    let Ok(mut run) = Exploration::begin(alloc, options) else {
+        return Err(SimFault::Memory);
+    };
+    for _ in 0..options.steps.saturating_add(CHUNK - 1) / CHUNK {
+        if run.go_on(alloc, CHUNK).is_err() {
+            return Err(SimFault::Memory);
+        }
+        if progress {
+            tell_steps(&run, options, errors);
+        }
+    }
+    Ok(run)
+}
+
+/// Tells how far a run is.
+fn tell_steps<E: Write>(run: &Exploration, options: &Options, errors: &mut Counted<E>) {
+    let _ = writeln!(errors.inner, "step {} of {}", run.step(), options.steps);
+}
+
 /// What is written of such a run.
-fn explored_answer(alloc: Global, options: &Options, save: bool) -> Result<Answer, SimFault>
+fn explored_answer(
+    alloc: Global,
+    options: &Options,
+    save: bool,
+    run: &Exploration,
+) -> Result<Answer, SimFault>
     ensures ok { IfOk result (λ answer. Explored save answer.verdict (string_bytes answer.text)) }
     ensures fault { IfErr result (λ fault. fault ≡ Memory) }
 {
-    match rc_explore::explore(alloc, options) {
-        Ok(world) if save => saved(alloc, options, &world),
-        Ok(world) => reported(alloc, options, &world),
-        Err(_) => Err(SimFault::Memory),
+    if save {
+        saved(alloc, options, run)
+    } else {
+        reported(alloc, options, run)
     }
 }
 
-/// This world as a scenario.
-fn saved(alloc: Global, options: &Options, world: &World<Global>) -> Result<Answer, SimFault>
+/// The world as a scenario.
+fn saved(alloc: Global, options: &Options, run: &Exploration) -> Result<Answer, SimFault>
     ensures ok { IfOk result (λ answer. Explored true answer.verdict (string_bytes answer.text)) }
     ensures fault { IfErr result (λ fault. fault ≡ Memory) }
 {
-    let text = scenario_of(alloc, options, world)?;
+    let setup = options.setup(alloc);
+    let text = saved_events(alloc, &setup, run.world().events())?;
     Ok(Answer {
         verdict: Verdict::Clean,
         text,
@@ -64,22 +104,40 @@ fn saved(alloc: Global, options: &Options, world: &World<Global>) -> Result<Answ
     })
 }
 
-/// The report of this world, and what it has reached.
-fn reported(alloc: Global, options: &Options, world: &World<Global>) -> Result<Answer, SimFault>
+/// The report of the world, and what the run has reached.
+fn reported(alloc: Global, options: &Options, run: &Exploration) -> Result<Answer, SimFault>
     ensures ok { IfOk result (λ answer. Explored false answer.verdict (string_bytes answer.text)) }
     ensures fault { IfErr result (λ fault. fault ≡ Memory) }
 {
-    let counts = reached_by(alloc, world)?;
-    let lines = told(alloc, options, &counts)?;
+    let lines = lines_of(alloc, options, run)?;
     let Answer {
         verdict,
         mut text,
         sent,
-    } = ended(alloc, world, Output::Report)?;
+    } = ended(alloc, run.world(), Output::Report)?;
     text.push_str(lines.as_str())?;
     Ok(Answer {
         verdict,
         text,
         sent,
     })
+}
+
+/// What the run was drawn with, and what it has reached.
+fn lines_of(alloc: Global, options: &Options, run: &Exploration) -> Result<String, AllocError> {
+    let mut text = String::new(alloc);
+    write!(text, "drawn seed {} ", options.seed)?;
+    add_sizes(&mut text, options)?;
+    run.counts().tell(&mut text)?;
+    Ok(text)
+}
+
+/// The rest of the line that tells what was drawn with.
+pub(crate) fn add_sizes(text: &mut String, options: &Options) -> Result<(), AllocError> {
+    write!(
+        text,
+        "steps {} hosts {} factor {} segment {}",
+        options.steps, options.hosts, options.factor, options.segment
+    )?;
+    text.push_str(if options.free { " free\n" } else { "\n" })
 }

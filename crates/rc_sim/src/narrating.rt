@@ -74,30 +74,44 @@ pub(crate) fn narrate<R: Read, W: Write>(
     ensures writes { writer.new.failures ≡ failed_writes result writer.old.failures }
 {
     let bytes = read_all(alloc, reader)?;
-    let answer = story_of(alloc, bytes.as_slice(), telling)?;
+    let answer = story_of(alloc, bytes.as_slice(), telling, kept)?;
     kept.note(bytes, &answer);
     write_answer(writer, &answer)
 }
 
-/// What is told of these bytes as a scenario.
-fn story_of(alloc: Global, bytes: &[u8], telling: Telling) -> Result<Answer, SimFault>
+/// What is told of these bytes as a scenario. What may not have been meant in the run is kept.
+fn story_of(
+    alloc: Global,
+    bytes: &[u8],
+    telling: Telling,
+    kept: &mut Kept,
+) -> Result<Answer, SimFault>
     ensures ok { IfOk result (λ answer. Narrated bytes.now answer.verdict (string_bytes answer.text)) }
     ensures fault { IfErr result (λ fault. fault ≡ Memory) }
 {
     match read_scenario(alloc, bytes) {
-        Ok(scenario) => told(alloc, &scenario, telling),
+        Ok(scenario) => told(alloc, &scenario, telling, kept),
         Err(ReadFault::OutOfMemory) => Err(SimFault::Memory),
         Err(ReadFault::BadScenario(place)) => bad(alloc, place),
     }
 }
 
 /// What is told of a scenario.
-fn told(alloc: Global, scenario: &Scenario, telling: Telling) -> Result<Answer, SimFault>
+fn told(
+    alloc: Global,
+    scenario: &Scenario,
+    telling: Telling,
+    kept: &mut Kept,
+) -> Result<Answer, SimFault>
     requires { IsWithinLimits scenario.now.setup }
     ensures fault { IfErr result (λ fault. fault ≡ Memory) }
 {
     match Played::of(alloc, &scenario.setup, scenario.events.as_slice()) {
-        Ok(played) => answer_of(alloc, &played, telling),
+        Ok(played) => {
+            let story = played.story();
+            kept.hint_at(alloc, scenario.setup.factor, story.events, story.messages);
+            answer_of(alloc, &played, telling)
+        }
         Err(_) => Err(SimFault::Memory),
     }
 }

@@ -15,6 +15,7 @@ use crate::outlets::read_all;
 use crate::simulating::write_answer;
 use crate::verdicts::{Output, SimFault, Verdict};
 use rc_telling::hints;
+use rc_types::{Event, Message};
 use rc_world::World;
 use std::alloc::{Allocator, Global};
 use std::io::{Read, Write};
@@ -47,7 +48,18 @@ impl Kept {
         factor: u8,
         world: &World<A>,
     ) {
-        if let Ok(hints) = hints(alloc, factor, world.events(), world.sent()) {
+        self.hint_at(alloc, factor, world.events(), world.sent());
+    }
+
+    /// Keeps what may not have been meant in these events, which sent these messages.
+    pub(crate) fn hint_at(
+        &mut self,
+        alloc: Global,
+        factor: u8,
+        events: &[Event],
+        messages: &[Message],
+    ) {
+        if let Ok(hints) = hints(alloc, factor, events, messages) {
             self.hints = hints;
         }
     }

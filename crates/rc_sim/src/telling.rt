@@ -25,6 +25,13 @@ pub(crate) fn tell_why<E: Write>(
         Ok(Verdict::Stopped(number, Code::BadEvent)) => reason_of_stop(
             alloc, text, *number, kept.sent,
         ),
+        Ok(Verdict::NoLine) => {
+            let _ = write_all(
+                errors,
+                b"error: no line of the report begins with the text of '--keep'\n",
+            );
+            return;
+        }
         Ok(Verdict::Clean | Verdict::Breach) => {
             hint(alloc, dialect, kept, errors);
             return;

@@ -27,13 +27,15 @@ pub enum Verdict {
     /// The run stopped at this event of the scenario: F18 where it was not possible, F1 where its step
     /// found no memory. For nodes on threads: F18, where one could not do a step, and 0, since which one is not known.
     Stopped(usize, Code),
+    /// No line of the report begins with the text that is to be kept.
+    NoLine,
 }
 
 impl Verdict {
     ghost use Rattle.rc_sim.specs.Statuses.{verdict_status};
 
-    /// The exit status that tells it: 0 clean, 1 a breach, 2 a wrong scenario or an event that was not
-    /// possible, 3 no memory.
+    /// The exit status that tells it: 0 clean, 1 a breach, 2 a wrong scenario, an event that was not possible, or no
+    /// line to be kept, 3 no memory.
     pub fn status(self) -> u8
         ensures { result ≡ verdict_status self }
     {
@@ -41,7 +43,7 @@ impl Verdict {
             Verdict::Clean => 0,
             Verdict::Breach => 1,
             Verdict::Stopped(_, Code::OutOfMemory) => 3,
-            Verdict::Bad(_) | Verdict::Stopped(..) => 2,
+            Verdict::Bad(_) | Verdict::Stopped(..) | Verdict::NoLine => 2,
         }
     }
 }

@@ -69,11 +69,6 @@ opening-is Opening e = refl
 opening-is Closing e = true_false (sym e)
 opening-is Writing e = true_false (sym e)
 
-closing-is : (phase : Phase) → is_closing phase ≡ true → phase ≡ Closing
-closing-is Closing e = refl
-closing-is Opening e = true_false (sym e)
-closing-is Writing e = true_false (sym e)
-
 -- a change of phase: to Writing where all but the head are shut, or to another from one in which the head was empty
 phase-moved : (sent : List Message) (m : ServerId) (log : Log) (phase : Phase) → GoodLog sent m log → OwnFine sent m log
     → (phase ≡ Writing → 0 < log.head) → (phase ≡ Writing → (s : ℕ) → 0 < s → s < log.head → (log.segments s).shut ≡ true)

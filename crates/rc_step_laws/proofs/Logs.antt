@@ -70,19 +70,6 @@ log_later-refl sent m log = record {
   shuts = λ s x upto before shut same at. true_false (sym shut ∙ before);
 }
 
-pub log_later-more : (sent sent_now : List Message) (m : ServerId) (old new : Log) → More sent sent_now →
-    LogLater sent m old new → LogLater sent_now m old new
-log_later-more sent sent_now m old new more later = record {
-  head = later.head;
-  grows = later.grows;
-  final = later.final;
-  digest = later.digest;
-  epoch = later.epoch;
-  shut = later.shut;
-  joined = later.joined;
-  shuts = λ s x upto before shut same at. told_closed-more more (later.shuts s x upto before shut same at);
-}
-
 -- a number between two equal ones
 between_same : (a b c : ℕ) → a ≤ b → b ≤ c → c ≡ a → b ≡ a
 between_same a b c p q e = omega arith

@@ -11,11 +11,11 @@ use Rattle.rc_model.specs.Ids.{same_id}
 use Rattle.rc_model.specs.Messages.{between}
 use Rattle.rc_model.specs.ServerList.{ServerList, has_crashed}
 use Rattle.rc_model.specs.Config.{new_member, told_with, is_heard, told_if_heard, told_len, told_closed, lost_if_crashed, replaced}
-use Rattle.rc_model.specs.Master.{ids_of, not_lost}
+use Rattle.rc_model.specs.Master.{ids_of}
 use Rattle.rc_model.specs.Headline.{In}
 use Rattle.rc_model.proofs.Members.{either}
 use Rattle.rc_step_laws.specs.Words.{HasTold, HasToldClosed}
-use Rattle.rc_step_laws.proofs.Lists.{same_id-true, In-filter}
+use Rattle.rc_step_laws.proofs.Lists.{same_id-true}
 use Rattle.rc_step_laws.proofs.Tests.{In-map}
 
 -- What is noted of one member was told
@@ -137,11 +137,3 @@ pub each-new : (sent : List Message) (m : ServerId) (s e : ℕ) (members : List 
 each-new sent m s e members member at =
     let found = In-map (λ (one : Member). new_member one.id) member members at in subst (λ one. NotedOf sent m s e one)
     (sym found.2) (noted-new sent m s e found.0.id)
-
--- the ids of those that aren't lost are ids
-pub ids-not_lost : (x : ServerId) (members : List Member) → In x (ids_of (not_lost members)) → In x (ids_of members)
-ids-not_lost x members at =
-    let found = In-map (λ (one : Member). one.id) x (not_lost members) at in
-    let kept = In-filter (λ (one : Member). not one.lost) found.0 members found.1 in
-    subst (λ id. In id (ids_of members)) (sym found.2)
-    (Rattle.rc_step_laws.proofs.Tests.map-In (λ (one : Member). one.id) found.0 members kept.0)

@@ -14,7 +14,6 @@ use std::alloc::{AllocError, Global};
 use std::slice;
 
 /// A scenario that was played, up to the first event that is not possible.
-#[derive(Drop)]
 pub struct Played {
     run: Run<Global>,
     /// The place in the scenario of what each event of the run comes from.
@@ -24,6 +23,19 @@ pub struct Played {
     world: World<Global>,
     retold: Retold,
     standing: Standing,
+}
+
+impl Drop for Played {
+    fn drop(self) {
+        let Played {
+            run: _,
+            places: _,
+            stopped: _,
+            world: _,
+            retold: _,
+            standing: _,
+        } = self;
+    }
 }
 
 impl Played {

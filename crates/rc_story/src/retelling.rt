@@ -76,6 +76,7 @@ fn take(
 ) -> Result<(), AllocError> {
     let first = world.sent().len();
     let arrives = will_arrive(world, event);
+    let log_end = log_end_at(world, event);
     let Ok(()) = world.take(alloc, event) else {
         return Err(AllocError);
     };
@@ -85,6 +86,7 @@ fn take(
         end: world.sent().len(),
         started: started_by(world, event),
         arrives,
+        log_end,
     };
     retold.note(alloc, event, step, world)
 }
@@ -105,6 +107,21 @@ fn is_there(world: &World<Global>, number: usize) -> bool {
     match message.to {
         Addr::Server(id) => world.is_running(id),
         Addr::Coordinator | Addr::Outside => true,
+    }
+}
+
+/// Where the log of the master ends to which the event delivers something.
+fn log_end_at(world: &World<Global>, event: &Event) -> Option<(u16, usize)> {
+    let Event::Deliver(number) = event else {
+        return None;
+    };
+    match world.sent().get(*number)?.to {
+        Addr::Server(id) => {
+            let log = world.master(id.index)?.log();
+            let head = log.head();
+            Some((head, log.segment(head)?.len()))
+        }
+        Addr::Coordinator | Addr::Outside => None,
     }
 }
 

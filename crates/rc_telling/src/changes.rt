@@ -27,10 +27,18 @@ pub(crate) struct ReplicaChange {
 }
 
 /// All changes, in order.
-#[derive(Drop)]
 pub struct Changes {
     phases: Vec<PhaseChange>,
     replicas: Vec<ReplicaChange>,
+}
+
+impl Drop for Changes {
+    fn drop(self) {
+        let Changes {
+            phases: _,
+            replicas: _,
+        } = self;
+    }
 }
 
 impl Changes {

@@ -11,6 +11,8 @@ pub(crate) struct Course {
     pub(crate) delivered: Vec<bool>,
     /// How often each host was started.
     generations: [u32; MAX_HOSTS as usize],
+    /// The generation of each host that was suspected last.
+    suspected: [u32; MAX_HOSTS as usize],
     /// Whether each host runs.
     running: [bool; MAX_HOSTS as usize],
     /// The first server that was asked while it did not run.
@@ -25,6 +27,7 @@ impl Course {
         Course {
             delivered: Vec::new(alloc),
             generations: [0; MAX_HOSTS as usize],
+            suspected: [0; MAX_HOSTS as usize],
             running: [false; MAX_HOSTS as usize],
             unheard: None,
             requests: 0,
@@ -50,6 +53,7 @@ impl Course {
             Event::Deliver(number) => self.deliver(*number),
             Event::Start { host, .. } => self.start(*host),
             Event::Stop(id) => self.stop(id.index),
+            Event::Suspect(id) => self.suspect(*id),
             Event::Ask { to, .. } if !self.runs(*to) => self.miss(*to),
             _ => {}
         }
@@ -78,6 +82,27 @@ impl Course {
         if let Some(mark) = self.running.get_mut(usize::from(host)) {
             *mark = false;
         }
+    }
+
+    /// A server was suspected.
+    fn suspect(&mut self, id: ServerId) {
+        if let Some(generation) = self.suspected.get_mut(usize::from(id.index)) {
+            *generation = id.generation;
+        }
+    }
+
+    /// The first host's newest server that has stopped and was not suspected.
+    pub(crate) fn unsuspected(&self) -> Option<ServerId> {
+        for index in 0..MAX_HOSTS {
+            let host = usize::from(index);
+            let generation = self.generations.get(host).copied().unwrap_or(0);
+            let runs = self.running.get(host).copied().unwrap_or(false);
+            let suspected = self.suspected.get(host).copied().unwrap_or(0);
+            if generation > 0 && !runs && suspected != generation {
+                return Some(ServerId { index, generation });
+            }
+        }
+        None
     }
 
     /// Whether a server runs.

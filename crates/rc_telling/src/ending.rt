@@ -7,6 +7,9 @@ use indexmap::IndexMap;
 use rc_types::{Addr, Body, Message};
 use std::alloc::{AllocError, Global};
 
+/// How many messages of a group are told by number.
+const MOST_NUMBERS: usize = 8;
+
 /// Messages of one kind to one addressee.
 #[derive(Clone, Copy)]
 pub(crate) struct Group {
@@ -16,6 +19,38 @@ pub(crate) struct Group {
     pub(crate) to: Addr,
     /// How many there are.
     pub(crate) count: u64,
+    /// The numbers of the first of them.
+    numbers: [usize; MOST_NUMBERS],
+    /// How many numbers these are.
+    known: usize,
+}
+
+impl Group {
+    /// Of no message yet, of those that are like this one.
+    fn of(message: &Message) -> Group {
+        Group {
+            kind: body_name(&message.body),
+            to: message.to,
+            count: 0,
+            numbers: [0; MOST_NUMBERS],
+            known: 0,
+        }
+    }
+
+    /// One more, of this number.
+    fn add(&mut self, number: usize) {
+        self.count = self.count.saturating_add(1);
+        let place = self.known;
+        if let Some(slot) = self.numbers.get_mut(place) {
+            *slot = number;
+            self.known = place.saturating_add(1);
+        }
+    }
+
+    /// The numbers of the first of them.
+    pub(crate) fn numbers(&self) -> &[usize] {
+        self.numbers.get(0..self.known).unwrap_or(&[])
+    }
 }
 
 /// The last grant of a range.
@@ -70,9 +105,9 @@ impl Ending {
         };
         for (number, message) in story.messages.iter().enumerate() {
             if message.to == Addr::Outside {
-                count(&mut ending.told, message)?;
+                count(&mut ending.told, number, message)?;
             } else if story.notes.passages().is_lost(number) {
-                count(&mut ending.lost, message)?;
+                count(&mut ending.lost, number, message)?;
             }
             ending.note(message)?;
         }
@@ -143,27 +178,38 @@ impl Ending {
         &self.ranges
     }
 
+    /// Whether a later term has taken a key of this range.
+    pub(crate) fn is_passed_on(&self, range: &Range) -> bool {
+        for other in self.ranges.values() {
+            if other.table == range.table
+                && other.term > range.term
+                && other.lo <= range.hi
+                && range.lo <= other.hi
+            {
+                return true;
+            }
+        }
+        false
+    }
+
     /// The newest acknowledged version of each key, in order of its first one.
     pub(crate) fn newest(&self) -> &IndexMap<(u32, u64), Newest> {
         &self.newest
     }
 }
 
-/// One more message in its group.
+/// One more message, of this number, in its group.
 pub(crate) fn count(
     groups: &mut IndexMap<(usize, Addr), Group>,
+    number: usize,
     message: &Message,
 ) -> Result<(), AllocError> {
     let place = (body_place(&message.body), message.to);
-    let before = match groups.get(&place) {
-        Some(group) => group.count,
-        None => 0,
+    let mut group = match groups.get(&place) {
+        Some(group) => *group,
+        None => Group::of(message),
     };
-    let group = Group {
-        kind: body_name(&message.body),
-        to: message.to,
-        count: before.saturating_add(1),
-    };
+    group.add(number);
     groups.insert(place, group)?;
     Ok(())
 }

@@ -1,8 +1,8 @@
 //! Events and messages as text: what they say, in a line.
 
-use crate::kinds::{body_name, event_name};
+use crate::kinds::{body_name, code_name, event_name};
 use rc_pen::Pen;
-use rc_types::{Body, Entry, Event, Message, Part, PlanRow, Row, Seq, ServerId};
+use rc_types::{Body, Code, Entry, Event, Message, Part, PlanRow, Row, Seq, ServerId};
 
 /// How many entries of a message are told one by one.
 const MOST_ENTRIES: usize = 4;
@@ -252,7 +252,7 @@ fn tell_recovery(pen: &mut Pen<'_>, body: &Body) {
 /// What is said of refusals, of the server list, and of ranges.
 fn tell_other(pen: &mut Pen<'_>, body: &Body) {
     match body {
-        Body::Refused { code } => pen.put_code("", *code),
+        Body::Refused { code } => tell_code(pen, "", *code),
         Body::List { version, rows } => {
             pen.number("version ", u64::from(*version));
             tell_list(pen, rows);
@@ -277,6 +277,13 @@ fn tell_other(pen: &mut Pen<'_>, body: &Body) {
         }
         _ => {}
     }
+}
+
+/// These letters, a code, and its name.
+pub(crate) fn tell_code(pen: &mut Pen<'_>, letters: &str, code: Code) {
+    pen.put_code(letters, code);
+    pen.say(" ");
+    pen.say(code_name(code));
 }
 
 /// A range of keys.

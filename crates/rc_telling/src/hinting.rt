@@ -83,7 +83,7 @@ fn count_waiting(
     let mut waiting = 0u64;
     for (number, message) in messages.iter().enumerate() {
         if course.waits(number, message) {
-            count(groups, message)?;
+            count(groups, number, message)?;
             waiting = waiting.saturating_add(1);
         }
     }

@@ -8,6 +8,7 @@ use crate::passages::Passage;
 use crate::servers::Server;
 use crate::silences::{Silence, tell_silence};
 use crate::story::{Step, Story, Turn};
+use crate::writes::{Writes, tell_fate};
 use indexmap::IndexMap;
 use rc_pen::{Pen, Spelling};
 use rc_types::{Addr, Event, Message};
@@ -21,6 +22,7 @@ use std::alloc::{AllocError, Global};
 /// Memory was refused.
 pub fn log_json(alloc: Global, story: &Story<'_>) -> Result<String, AllocError> {
     let ending = Ending::of(alloc, story)?;
+    let writes = Writes::of(alloc, story)?;
     let mut text = String::new(alloc);
     let mut pen = Pen::at(&mut text, Spelling::Json);
     pen.put("{\"format\":1,\"events\":[");
@@ -32,7 +34,7 @@ pub fn log_json(alloc: Global, story: &Story<'_>) -> Result<String, AllocError> 
     for (number, (message, passage)) in story.messages.iter().zip(passages).enumerate() {
         put_message(&mut pen, number, message, passage);
     }
-    put_ending(&mut pen, story, &ending);
+    put_ending(&mut pen, story, &ending, &writes);
     pen.end()?;
     Ok(text)
 }
@@ -123,16 +125,17 @@ fn put_message(pen: &mut Pen<'_>, number: usize, message: &Message, passage: &Pa
 }
 
 /// How things stand at the end.
-fn put_ending(pen: &mut Pen<'_>, story: &Story<'_>, ending: &Ending) {
+fn put_ending(pen: &mut Pen<'_>, story: &Story<'_>, ending: &Ending, writes: &Writes) {
     put_groups(pen, ending.lost());
     pen.put("],\"servers\":[");
     for (place, server) in story.notes.servers().as_slice().iter().enumerate() {
         put_server(pen, place, server);
     }
-    put_standing(pen, story.standing);
+    put_standing(pen, story);
     put_changes(pen, story.changes);
     put_ranges(pen, ending);
     put_keys(pen, ending);
+    put_writes(pen, writes);
     match story.stopped {
         Some((place, code)) => {
             pen.put_code("],\"stopped\":{\"code\":\"", code);
@@ -164,6 +167,10 @@ fn put_server(pen: &mut Pen<'_>, place: usize, server: &Server) {
         Some(event) => pen.put_number(",\"stopped\":", event as u64),
         None => pen.put(",\"stopped\":null"),
     }
+    match server.suspected {
+        Some(event) => pen.put_number(",\"suspected\":", event as u64),
+        None => pen.put(",\"suspected\":null"),
+    }
     pen.put_number(",\"acknowledged\":", server.acknowledged);
     pen.put("}");
 }
@@ -192,6 +199,19 @@ fn put_keys(pen: &mut Pen<'_>, ending: &Ending) {
         pen.put_number("\",\"version\":\"", newest.version);
         pen.put_number("\",\"term\":", u64::from(newest.term));
         pen.put_node(",\"by\":\"", newest.by);
+        pen.put("\"}");
+    }
+}
+
+/// The writes that were not acknowledged, and what became of them.
+fn put_writes(pen: &mut Pen<'_>, writes: &Writes) {
+    pen.put("],\"unacknowledged\":[");
+    for (place, write) in writes.unanswered().iter().enumerate() {
+        put_next(pen, place, "\n{\"event\":");
+        pen.put_number("", write.event as u64);
+        pen.put_number(",\"message\":", write.message as u64);
+        pen.put(",\"fate\":\"");
+        tell_fate(pen, write);
         pen.put("\"}");
     }
 }

@@ -3,15 +3,19 @@
 use crate::changes::{Changes, PhaseChange, ReplicaChange};
 use crate::json::put_next;
 use crate::standing::{MasterStanding, ReplicaStanding, SegmentStanding, Standing};
+use crate::story::Story;
+use crate::waits::{tell_wait, wait_of};
 use rc_pen::Pen;
 use rc_types::{Addr, Member};
 
 /// The masters with their segments, and the replicas.
-pub(crate) fn put_standing(pen: &mut Pen<'_>, standing: &Standing) {
+pub(crate) fn put_standing(pen: &mut Pen<'_>, story: &Story<'_>) {
+    let standing = story.standing;
     pen.put("],\"masters\":[");
     for (place, master) in standing.masters.iter().enumerate() {
         put_next(pen, place, "\n");
         put_master(pen, master);
+        put_wait(pen, story, master);
         put_segments(pen, standing, master);
         pen.put("]}");
     }
@@ -67,6 +71,18 @@ fn put_master(pen: &mut Pen<'_>, master: &MasterStanding) {
     pen.put(master.phase_name());
     pen.put_number("\",\"head\":", u64::from(master.head));
     pen.put_number(",\"durable\":", master.durable as u64);
+}
+
+/// What a master waits for, and the beginning of its segments.
+fn put_wait(pen: &mut Pen<'_>, story: &Story<'_>, master: &MasterStanding) {
+    match wait_of(master, story.standing.segments_of(master)) {
+        Some(wait) => {
+            pen.put(",\"waits\":\"");
+            tell_wait(pen, wait, master.id, story.notes);
+            pen.put("\"");
+        }
+        None => pen.put(",\"waits\":null"),
+    }
     pen.put(",\"segments\":[");
 }
 

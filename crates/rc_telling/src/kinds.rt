@@ -1,6 +1,6 @@
-//! The names of events and of messages.
+//! The names of events, of messages and of codes.
 
-use rc_types::{Body, Event};
+use rc_types::{Body, Code, Event};
 
 /// The name of the event's kind, as scenarios spell it.
 pub(crate) fn event_name(event: &Event) -> &'static str {
@@ -85,5 +85,39 @@ pub(crate) fn body_place(body: &Body) -> usize {
         Body::Own { .. } => 20,
         Body::SplitOk { .. } => 21,
         Body::Free { .. } => 22,
+    }
+}
+
+/// The names of the codes, by number.
+const CODE_NAMES: [&str; 22] = [
+    "",
+    "OutOfMemory",
+    "NotOwner",
+    "Rolling",
+    "NoBackups",
+    "Deposed",
+    "LogFull",
+    "ValueTooLong",
+    "HeadMissing",
+    "SegmentMissing",
+    "StaleAttempt",
+    "NotReady",
+    "TableExists",
+    "NoTable",
+    "BadSplit",
+    "TooManyTablets",
+    "Recovering",
+    "BadScenario",
+    "BadEvent",
+    "EpochsExhausted",
+    "Pending",
+    "StaleGeneration",
+];
+
+/// The name of a code.
+pub(crate) fn code_name(code: Code) -> &'static str {
+    match CODE_NAMES.get(usize::from(code.number())) {
+        Some(name) => name,
+        None => "",
     }
 }

@@ -5,8 +5,9 @@
 //!
 //! To be read in this order: `passages`, what became of a message; `silences`, why a delivery came to nothing;
 //! `servers`, who ran when; `standing`, how masters and backups stand at the end; `changes`, what became of them on
-//! the way; `story`, the whole; `kinds` and `fields`, a message as text; `ending`, what else stands at the end; then
-//! the four ways to tell it: `logs` with `standings` and `waits`, `json` with `json_standing`, `diagrams` and `pages`.
+//! the way; `story`, the whole; `kinds` and `fields`, a message as text; `ending`, what else stands at the end;
+//! `waits`, what a master waits for; `writes`, what became of those that were not acknowledged; then the four ways to
+//! tell it: `logs` with `standings`, `json` with `json_standing`, `diagrams` and `pages`.
 //! Apart from all this stands `hinting`, with `course` and `recoveries`: what may not have been meant in a run.
 #![tactic(auto)]
 
@@ -30,6 +31,7 @@ mod standing;
 mod standings;
 mod story;
 mod waits;
+mod writes;
 
 pub use changes::Changes;
 pub use diagrams::mermaid;

@@ -36,11 +36,16 @@ input { width: 84px; }
   outline: 2px solid var(--message); outline-offset: 1px; }
 #details { display: block; margin: 8px 0 14px; padding: 8px 10px; height: 112px; overflow: auto;
   background: var(--panel); border-radius: 8px; overflow-wrap: anywhere; white-space: pre-line; }
-#ending { display: grid; grid-template-columns: repeat(auto-fit, minmax(min(100%, 310px), 1fr)); gap: 14px; }
-#ending > section { overflow-x: auto; }
-table { border-collapse: collapse; width: 100%; font-variant-numeric: tabular-nums; }
-th, td { text-align: left; padding: 2px 8px 2px 0; border-bottom: 1px solid var(--line); }
+#ending { display: flex; flex-wrap: wrap; gap: 14px 36px; }
+#ending > section { overflow-x: auto; max-width: 100%; }
+table { border-collapse: collapse; font-variant-numeric: tabular-nums; }
+th, td { text-align: left; padding: 2px 12px 2px 0; border-bottom: 1px solid var(--line); vertical-align: top; }
 td { white-space: nowrap; }
+td.long { white-space: normal; min-width: 13em; }
+@media (max-width: 600px) {
+  td { white-space: normal; }
+  td.long { min-width: 0; }
+}
 th { color: var(--soft); font-weight: 600; white-space: nowrap; }
 svg text { font: 11px system-ui, sans-serif; fill: var(--ink); }
 svg .number { fill: var(--soft); text-anchor: end; }
@@ -56,6 +61,7 @@ svg .copy.closed { fill: var(--copy); }
 svg .copy.fenced { stroke-dasharray: 3 3; }
 svg .copy.fenced.closed { fill: url(#hatched); }
 #legend span { display: inline-block; width: 12px; height: 10px; margin: 0 4px 0 10px; border: 1px solid var(--line); }
+#legend i { font-style: normal; white-space: nowrap; }
 #legend .copy { width: 5px; border-color: var(--copy); }
 svg .row { fill: var(--chosen); }
 svg .ground { fill: var(--ground); }
@@ -82,11 +88,13 @@ svg .message:focus-visible path.touch { stroke: var(--chosen); }
 <body>
 <h1>Story of a run</h1>
 <p id="summary"></p>
-<p id="legend">Masters:<span style="background: var(--opening)"></span>opening<span
-style="background: var(--closing)"></span>closing<span style="background: var(--band)"></span>writing<span
-style="background: var(--deposed)"></span>deposed. Replicas beside them:<span class="copy"></span>open<span
-class="copy" style="background: var(--copy)"></span>closed<span class="copy" style="border-style: dashed"></span>of a
-fenced master</p>
+<p id="legend">Masters: <i><span style="background: var(--opening)"></span>opening</i>
+<i><span style="background: var(--closing)"></span>closing</i>
+<i><span style="background: var(--band)"></span>writing</i>
+<i><span style="background: var(--deposed)"></span>deposed</i>. Replicas beside them:
+<i><span class="copy"></span>open</i>
+<i><span class="copy" style="background: var(--copy)"></span>closed</i>
+<i><span class="copy" style="border-style: dashed"></span>of a fenced master</i></p>
 <div id="tools">
 <button id="previous" type="button">Previous (k)</button>
 <button id="next" type="button">Next (j)</button>
@@ -159,7 +167,11 @@ function messageText(message) {
   } else if (message.lost) {
     fate = "never delivered";
   }
-  return `${messageLine(message)}\nsent by event ${message.sent}, ${fate}`;
+  return `${messageLine(message)}\nsent by event ${message.sent}, ${causeText(events[message.sent])}\n${fate}`;
+}
+
+function causeText(event) {
+  return event.kind === "deliver" ? `which delivered ${messageLine(messages[event.message])}` : event.text;
 }
 
 function eventText(event) {
@@ -502,7 +514,8 @@ fill("kind", [...new Set(messages.map((message) => message.kind))].sort(), (kind
 pub(crate) const ENDING: &str = r##"
 // How things stand at the end.
 function table(caption, heads, lines) {
-  const cells = (tag, line) => line.map((cell) => `<${tag}>${escaped(cell)}</${tag}>`).join("");
+  const long = (cell) => String(cell).length > 30 ? ' class="long"' : "";
+  const cells = (tag, line) => line.map((cell) => `<${tag}${long(cell)}>${escaped(cell)}</${tag}>`).join("");
   const body = lines.map((line) => `<tr>${cells("td", line)}</tr>`).join("");
   const whole = lines.length === 0 ? "<p>none</p>" :
     `<table><thead><tr>${cells("th", heads)}</tr></thead><tbody>${body}</tbody></table>`;
@@ -513,6 +526,11 @@ function table(caption, heads, lines) {
 function stands(range) {
   return !story.ranges.some((other) => other.table === range.table && other.term > range.term &&
     BigInt(other.lo) <= BigInt(range.hi) && BigInt(range.lo) <= BigInt(other.hi));
+}
+
+function ownerText(owner) {
+  const server = story.servers.find((server) => server.id === owner);
+  return server && server.suspected !== null ? "suspected" : "";
 }
 
 function keysOf(range) {
@@ -530,14 +548,18 @@ function memberText(member) {
 
 table("Owners, by the last grant of each range", ["Table", "Keys", "Term", "Owner", ""],
   story.ranges.map((range) => [range.table, keysOf(range), range.term, range.owner,
-    stands(range) ? "" : "passed on"]));
+    stands(range) ? ownerText(range.owner) : "passed on"]));
 table("Last acknowledged version of each key", ["Table", "Key", "Version", "Term", "By"],
   story.keys.map((key) => [key.table, key.key, key.version, key.term, key.by]));
-table("Servers", ["Server", "Started", "Stopped", "Acknowledged"],
+table("Writes delivered and not acknowledged", ["Message", "", "Delivered", "What became of it"],
+  story.unacknowledged.map((write) => [write.message,
+    `to ${messages[write.message].to} ${messages[write.message].text}`, `event ${write.event}`, write.fate]));
+table("Servers", ["Server", "Started", "Stopped", "Suspected", "Acknowledged"],
   story.servers.map((server) => [server.id, `event ${server.started}`,
-    server.stopped === null ? "runs" : `event ${server.stopped}`, server.acknowledged]));
-table("Masters", ["Server", "Phase", "Head", "Durable places"],
-  story.masters.map((master) => [master.id, master.phase, master.head, master.durable]));
+    server.stopped === null ? "runs" : `event ${server.stopped}`,
+    server.suspected === null ? "" : `event ${server.suspected}`, server.acknowledged]));
+table("Masters", ["Server", "Phase", "Head", "Durable places", "Waits"],
+  story.masters.map((master) => [master.id, master.phase, master.head, master.durable, master.waits || ""]));
 table("Segments", ["Segment", "Epoch", "Entries", "", "Members, and what they have told"],
   story.masters.flatMap((master) => master.segments.map((segment) => [`${master.id} ${segment.seg}`,
     segment.epoch + (segment.committed ? "" : ", not committed"), segment.len, segment.shut ? "shut" : "open",
@@ -546,7 +568,8 @@ table("Replicas", ["At", "Of", "Segment", "Epoch", "Entries", ""],
   story.replicas.map((replica) => [replica.at, replica.of, replica.seg, replica.epoch, replica.len,
     (replica.closed ? "closed" : "open") + (replica.fenced ? ", fenced" : "")]));
 table("Never delivered", ["Kind", "To", "Messages"],
-  story.lost.map((group) => [group.kind, group.to, group.count]));
+  story.lost.map((group) => [group.kind, group.to, messages.filter((message) => message.lost &&
+    message.kind === group.kind && message.to === group.to).map((message) => message.n).join(" ")]));
 byId("summary").textContent = `${events.length} events, ${messages.length} messages, ` +
   `${story.servers.length} servers` +
   (story.stopped ? `; stopped ${story.stopped.code} at event ${story.stopped.place} of the scenario` : "");

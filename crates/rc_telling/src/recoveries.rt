@@ -26,8 +26,23 @@ struct Given {
     attempt: u32,
     /// Who is to recover it.
     to: Addr,
+    /// Whether its entries were recovered, as it was told the coordinator.
+    is_recovered: bool,
     /// Whether it was granted.
     is_granted: bool,
+}
+
+/// How far a part has come that was not granted.
+#[derive(Clone, Copy)]
+enum Stage {
+    /// The plan has not reached who is to recover it.
+    Planned,
+    /// This segment has not come from there.
+    Fetching(u16, Addr),
+    /// All of it has come.
+    Fetched,
+    /// The coordinator was told that it is recovered.
+    Recovered,
 }
 
 /// The recoveries of a run.
@@ -39,6 +54,8 @@ pub(crate) struct Recoveries {
     newest: IndexMap<ServerId, Attempt>,
     /// By term.
     parts: IndexMap<u32, Given>,
+    /// By term and segment: from whom it is fetched, and whether it has come.
+    fetches: IndexMap<(u32, u16), (Addr, bool)>,
 }
 
 impl Recoveries {
@@ -48,6 +65,7 @@ impl Recoveries {
             masters: IndexMap::new(alloc),
             newest: IndexMap::new(alloc),
             parts: IndexMap::new(alloc),
+            fetches: IndexMap::new(alloc),
         }
     }
 
@@ -76,7 +94,45 @@ impl Recoveries {
                 self.grant(*term);
                 Ok(())
             }
+            _ => self.note_data(message, is_delivered),
+        }
+    }
+
+    /// Notes a message about the data of a part.
+    fn note_data(&mut self, message: &Message, is_delivered: bool) -> Result<(), AllocError> {
+        match &message.body {
+            Body::Fetch { seg, part, .. } => self.fetch(part.term, *seg, message.to),
+            Body::Data { term, seg, .. } if is_delivered => {
+                self.come(*term, *seg);
+                Ok(())
+            }
+            Body::Recovered { term, .. } => {
+                self.recover(*term);
+                Ok(())
+            }
             _ => Ok(()),
+        }
+    }
+
+    /// A segment is fetched for a part.
+    fn fetch(&mut self, term: u32, seg: u16, from: Addr) -> Result<(), AllocError> {
+        if self.fetches.get(&(term, seg)).is_none() {
+            self.fetches.insert((term, seg), (from, false))?;
+        }
+        Ok(())
+    }
+
+    /// A segment has come for a part.
+    fn come(&mut self, term: u32, seg: u16) {
+        if let Some(fetch) = self.fetches.get_mut(&(term, seg)) {
+            fetch.1 = true;
+        }
+    }
+
+    /// A part is recovered.
+    fn recover(&mut self, term: u32) {
+        if let Some(part) = self.parts.get_mut(&term) {
+            part.is_recovered = true;
         }
     }
 
@@ -139,6 +195,7 @@ impl Recoveries {
             Given {
                 attempt,
                 to,
+                is_recovered: false,
                 is_granted: false,
             },
         )?;
@@ -152,17 +209,34 @@ impl Recoveries {
         }
     }
 
-    /// How many parts of this attempt were not granted, and who is to recover the first of them.
-    fn missing(&self, attempt: u32) -> (u64, Option<Addr>) {
+    /// How many parts of this attempt were not granted, and the first of them by its term.
+    fn missing(&self, attempt: u32) -> (u64, Option<(u32, Given)>) {
         let mut count = 0u64;
         let mut first = None;
-        for part in self.parts.values() {
+        for (term, part) in &self.parts {
             if part.attempt == attempt && !part.is_granted {
                 count = count.saturating_add(1);
-                first = first.or(Some(part.to));
+                first = first.or(Some((*term, *part)));
             }
         }
         (count, first)
+    }
+
+    /// How far a part has come.
+    fn stage(&self, term: u32, part: &Given) -> Stage {
+        if part.is_recovered {
+            return Stage::Recovered;
+        }
+        let mut stage = Stage::Planned;
+        for (place, fetch) in &self.fetches {
+            if place.0 == term {
+                if !fetch.1 {
+                    return Stage::Fetching(place.1, fetch.0);
+                }
+                stage = Stage::Fetched;
+            }
+        }
+        stage
     }
 }
 
@@ -171,9 +245,14 @@ pub(crate) fn tell_recoveries(pen: &mut Pen<'_>, recoveries: &Recoveries, course
     for (master, attempt) in &recoveries.newest {
         if !attempt.is_decided {
             tell_undecided(pen, *master, attempt);
-        } else if let (count, Some(to)) = recoveries.missing(attempt.number) {
-            tell_missing(pen, *master, attempt, count, to);
-            tell_gone(pen, *master, to, course);
+        } else if let (count, Some((term, part))) = recoveries.missing(attempt.number) {
+            tell_missing(pen, *master, attempt, count, part.to);
+            if is_gone(part.to, course) {
+                tell_gone(pen, *master);
+            } else {
+                tell_stage(pen, *master, recoveries.stage(term, &part), course);
+            }
+            pen.say("\n");
         }
     }
 }
@@ -195,13 +274,45 @@ fn tell_missing(pen: &mut Pen<'_>, master: ServerId, attempt: &Attempt, count: u
     pen.put_node("; the first is to be recovered by ", to);
 }
 
-/// Whether the server that is to recover a part is gone, and the end of the line.
-fn tell_gone(pen: &mut Pen<'_>, master: ServerId, to: Addr, course: &Course) {
-    if let Addr::Server(id) = to {
-        if !course.runs(id) {
-            pen.id(", which runs no longer: suspect ", master);
-            pen.say(" once more");
+/// Whether a node is a server that does not run.
+fn is_gone(node: Addr, course: &Course) -> bool {
+    match node {
+        Addr::Server(id) => !course.runs(id),
+        Addr::Coordinator | Addr::Outside => false,
+    }
+}
+
+/// Who is needed for the recovery of this master is gone.
+fn tell_gone(pen: &mut Pen<'_>, master: ServerId) {
+    pen.id(", which runs no longer: suspect ", master);
+    pen.say(" once more");
+}
+
+/// How far a part has come, and what it waits for.
+fn tell_stage(pen: &mut Pen<'_>, master: ServerId, stage: Stage, course: &Course) {
+    match stage {
+        Stage::Planned => pen.say(", which the plan has not reached"),
+        Stage::Fetching(seg, from) => {
+            pen.number(", which waits for segment ", u64::from(seg));
+            pen.put_node(" from ", from);
+            if is_gone(from, course) {
+                tell_gone(pen, master);
+            }
+        }
+        Stage::Fetched => {
+            pen.say(", which has read all of it, and waits until its own backups have stored it");
+            tell_unsuspected(pen, course);
+        }
+        Stage::Recovered => {
+            pen.say(", which has told the coordinator that it has it, and waits for the answer");
         }
     }
-    pen.say("\n");
+}
+
+/// A server that has stopped, and of which the coordinator was not told.
+fn tell_unsuspected(pen: &mut Pen<'_>, course: &Course) {
+    if let Some(id) = course.unsuspected() {
+        pen.id("; ", id);
+        pen.say(" has stopped and was not suspected, so its place is not filled");
+    }
 }

@@ -15,6 +15,8 @@ pub(crate) struct Server {
     pub(crate) started: usize,
     /// The event that stopped it; `None` where it runs at the end.
     pub(crate) stopped: Option<usize>,
+    /// The event that suspected it first; `None` where none did.
+    pub(crate) suspected: Option<usize>,
     /// How many writes it acknowledged.
     pub(crate) acknowledged: u64,
 }
@@ -44,6 +46,7 @@ impl Servers {
             id,
             started: event,
             stopped: None,
+            suspected: None,
             acknowledged: 0,
         })?;
         let host = id.index as usize;
@@ -62,6 +65,31 @@ impl Servers {
         }
     }
 
+    /// An event suspects a server.
+    pub(crate) fn suspect(&mut self, id: ServerId, event: usize) {
+        if let Some(server) = self.newest_of(id.index) {
+            if server.id == id && server.suspected.is_none() {
+                server.suspected = Some(event);
+            }
+        }
+    }
+
+    /// Whether a server runs at the end.
+    pub(crate) fn runs(&self, id: ServerId) -> bool {
+        match self.last_of(id.index) {
+            Some(server) => server.id == id && server.stopped.is_none(),
+            None => false,
+        }
+    }
+
+    /// Whether a server is the newest one of its host, and was suspected.
+    pub(crate) fn is_suspected(&self, id: ServerId) -> bool {
+        match self.last_of(id.index) {
+            Some(server) => server.id == id && server.suspected.is_some(),
+            None => false,
+        }
+    }
+
     /// The sender acknowledges a write.
     pub(crate) fn acknowledge(&mut self, from: Addr) {
         let Addr::Server(id) = from else {
@@ -76,6 +104,12 @@ impl Servers {
     fn newest_of(&mut self, host: u8) -> Option<&mut Server> {
         let place = self.newest.get(host as usize).copied().flatten()?;
         self.items.get_mut(place)
+    }
+
+    /// The newest server of a host, to be looked at.
+    fn last_of(&self, host: u8) -> Option<&Server> {
+        let place = self.newest.get(host as usize).copied().flatten()?;
+        self.items.get(place)
     }
 
     /// All of them, in order of start.

@@ -138,6 +138,11 @@ impl Known {
         Ok(())
     }
 
+    /// Whether a backup has fenced a master.
+    pub(crate) fn has_fenced(&self, backup: ServerId, master: ServerId) -> bool {
+        self.fences.get(&(backup, master)).is_some()
+    }
+
     /// The version of the greatest list that this server was given.
     fn list_of(&self, id: ServerId) -> u32 {
         self.lists.get(&id).copied().unwrap_or(0)

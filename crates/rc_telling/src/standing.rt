@@ -60,7 +60,6 @@ pub struct ReplicaStanding {
 }
 
 /// How all of them stand. Segments that were freed are left out.
-#[derive(Drop)]
 pub struct Standing {
     /// The masters that run, in order.
     pub masters: Vec<MasterStanding>,
@@ -68,6 +67,16 @@ pub struct Standing {
     pub segments: Vec<SegmentStanding>,
     /// The replicas, by holder.
     pub replicas: Vec<ReplicaStanding>,
+}
+
+impl Drop for Standing {
+    fn drop(self) {
+        let Standing {
+            masters: _,
+            segments: _,
+            replicas: _,
+        } = self;
+    }
 }
 
 impl Standing {

@@ -1,16 +1,18 @@
 //! How the masters and the backups stand at the end, as lines for a reader.
 
-use crate::standing::{MasterStanding, ReplicaStanding, SegmentStanding, Standing};
-use crate::waits::tell_wait;
+use crate::standing::{MasterStanding, ReplicaStanding, SegmentStanding};
+use crate::story::Story;
+use crate::waits::{tell_wait, wait_of};
 use rc_pen::Pen;
 use rc_types::Member;
 
 /// The masters with their segments, and the replicas.
-pub(crate) fn tell_standing(pen: &mut Pen<'_>, standing: &Standing) {
+pub(crate) fn tell_standing(pen: &mut Pen<'_>, story: &Story<'_>) {
+    let standing = story.standing;
     pen.number("\nmasters ", standing.masters.len() as u64);
     for master in &standing.masters {
         tell_master(pen, master);
-        tell_wait(pen, master, standing.segments_of(master));
+        tell_waits(pen, story, master);
         for segment in standing.segments_of(master) {
             tell_segment(pen, segment);
         }
@@ -28,6 +30,14 @@ fn tell_master(pen: &mut Pen<'_>, master: &MasterStanding) {
     pen.say(master.phase_name());
     pen.number(", head ", u64::from(master.head));
     pen.number(", durable places ", master.durable as u64);
+}
+
+/// What a master waits for, if it waits for something.
+fn tell_waits(pen: &mut Pen<'_>, story: &Story<'_>, master: &MasterStanding) {
+    if let Some(wait) = wait_of(master, story.standing.segments_of(master)) {
+        pen.say(", waits ");
+        tell_wait(pen, wait, master.id, story.notes);
+    }
 }
 
 /// A segment, and its members.

@@ -21,6 +21,8 @@ pub struct Step {
     pub started: Option<ServerId>,
     /// Whether what it delivers, if it delivers, finds its addressee running.
     pub arrives: bool,
+    /// The segment and the offset at which the log of the addressee ended before, if it delivers to a master with one.
+    pub log_end: Option<(u16, usize)>,
 }
 
 /// One event of the world, and why it came to nothing, where it is a delivery that did.
@@ -33,12 +35,22 @@ pub(crate) struct Turn {
 }
 
 /// What is noted of a run, event by event.
-#[derive(Drop)]
 pub struct Notes {
     turns: Vec<Turn>,
     passages: Passages,
     servers: Servers,
     known: Known,
+}
+
+impl Drop for Notes {
+    fn drop(self) {
+        let Notes {
+            turns: _,
+            passages: _,
+            servers: _,
+            known: _,
+        } = self;
+    }
 }
 
 impl Notes {
@@ -97,6 +109,10 @@ impl Notes {
         match event {
             Event::Stop(id) => {
                 self.servers.stop(id.index, number);
+                Ok(())
+            }
+            Event::Suspect(id) => {
+                self.servers.suspect(*id, number);
                 Ok(())
             }
             Event::Start { .. } => match step.started {
@@ -162,6 +178,11 @@ impl Notes {
     /// The servers.
     pub(crate) fn servers(&self) -> &Servers {
         &self.servers
+    }
+
+    /// Whether a backup has fenced a master.
+    pub(crate) fn has_fenced(&self, backup: ServerId, master: ServerId) -> bool {
+        self.known.has_fenced(backup, master)
     }
 }
 

@@ -1,12 +1,13 @@
 //! What a master waits for.
 
 use crate::standing::{MasterStanding, SegmentStanding};
+use crate::story::Notes;
 use rc_pen::Pen;
-use rc_types::{Member, Phase};
+use rc_types::{Member, Phase, ServerId};
 
 /// What a member may not have told.
 #[derive(Clone, Copy)]
-enum Missing {
+pub(crate) enum Missing {
     /// Anything.
     Told,
     /// That its replica is closed.
@@ -15,65 +16,153 @@ enum Missing {
     Length(usize),
 }
 
+/// What a master may wait for.
+#[derive(Clone, Copy)]
+pub(crate) enum Wait<'a> {
+    /// Enough servers for its first segment.
+    Servers,
+    /// Servers that take the place of lost members of this segment.
+    Replacements(&'a SegmentStanding),
+    /// What members of this segment have not told.
+    Members(&'a SegmentStanding, Missing),
+    /// The commit of this segment's epoch.
+    Commit(&'a SegmentStanding),
+}
+
 /// What a master with these segments waits for, if it waits for something.
-pub(crate) fn tell_wait(pen: &mut Pen<'_>, master: &MasterStanding, segments: &[SegmentStanding]) {
+pub(crate) fn wait_of<'a>(
+    master: &MasterStanding,
+    segments: &'a [SegmentStanding],
+) -> Option<Wait<'a>> {
     if master.is_deposed {
-        return;
+        return None;
     }
     let Some(head) = segments.last() else {
-        pen.say(", waits until enough servers are up in its list");
-        return;
+        return Some(Wait::Servers);
     };
     match master.phase {
-        Phase::Opening => tell_missing(pen, head, Missing::Told),
-        Phase::Closing => tell_closing(pen, head, segments),
-        Phase::Writing => tell_missing(pen, head, Missing::Length(head.len)),
+        Phase::Opening => wait_at(head, Missing::Told),
+        Phase::Closing => wait_of_closing(head, segments),
+        Phase::Writing => wait_at(head, Missing::Length(head.len)),
     }
 }
 
 /// The head is placed; the segment before it is being closed, or the head's epoch is not committed.
-fn tell_closing(pen: &mut Pen<'_>, head: &SegmentStanding, segments: &[SegmentStanding]) {
+fn wait_of_closing<'a>(
+    head: &'a SegmentStanding,
+    segments: &'a [SegmentStanding],
+) -> Option<Wait<'a>> {
     match segments.iter().rev().nth(1) {
-        Some(old) if !old.is_shut => tell_missing(pen, old, Missing::Closed),
-        _ => tell_missing(pen, head, Missing::Told),
+        Some(old) if !old.is_shut => wait_at(old, Missing::Closed),
+        _ => wait_at(head, Missing::Told),
     }
 }
 
-/// Which members of a segment have not told something; or else that its epoch is not committed.
-fn tell_missing(pen: &mut Pen<'_>, segment: &SegmentStanding, missing: Missing) {
-    let mut is_first = true;
+/// What is awaited of a segment of which all members are to tell something.
+fn wait_at(segment: &SegmentStanding, missing: Missing) -> Option<Wait<'_>> {
+    if has_lost(segment) {
+        return Some(Wait::Replacements(segment));
+    }
+    if has_missing(segment, Missing::Told) {
+        return Some(Wait::Members(segment, told_or(missing)));
+    }
+    if has_missing(segment, missing) {
+        return Some(Wait::Members(segment, missing));
+    }
+    if segment.is_committed {
+        return None;
+    }
+    Some(Wait::Commit(segment))
+}
+
+/// What a member that has told nothing has to tell.
+fn told_or(missing: Missing) -> Missing {
+    match missing {
+        Missing::Length(0) => Missing::Told,
+        _ => missing,
+    }
+}
+
+/// Whether a member is lost.
+fn has_lost(segment: &SegmentStanding) -> bool {
     for member in segment.members.iter().flatten() {
-        if is_missing(member, missing) {
-            if is_first {
-                tell_what(pen, segment, missing);
-            }
-            pen.id(" ", member.id);
-            pen.either(member.lost, " (lost)", "");
-            is_first = false;
+        if member.lost {
+            return true;
         }
     }
-    if is_first && !segment.is_committed {
-        pen.number(", waits for the commit of segment ", u64::from(segment.seg));
-    }
+    false
 }
 
 /// Whether a member has not told this.
+fn has_missing(segment: &SegmentStanding, missing: Missing) -> bool {
+    for member in segment.members.iter().flatten() {
+        if is_missing(member, missing) {
+            return true;
+        }
+    }
+    false
+}
+
+/// Whether this member has not told this.
 fn is_missing(member: &Member, missing: Missing) -> bool {
     match (member.told, missing) {
-        (None, Missing::Length(len)) => len > 0,
-        (None, Missing::Told | Missing::Closed) => true,
+        (None, _) => true,
         (Some(_), Missing::Told) => false,
         (Some(told), Missing::Closed) => !told.closed,
         (Some(told), Missing::Length(len)) => told.len < len,
     }
 }
 
-/// What is awaited.
-fn tell_what(pen: &mut Pen<'_>, segment: &SegmentStanding, missing: Missing) {
-    pen.number(", waits until segment ", u64::from(segment.seg));
+/// What a master waits for, to be read after `waits`.
+pub(crate) fn tell_wait(pen: &mut Pen<'_>, wait: Wait<'_>, master: ServerId, notes: &Notes) {
+    match wait {
+        Wait::Servers => pen.say("until enough servers are up in its list"),
+        Wait::Replacements(segment) => tell_lost(pen, segment),
+        Wait::Members(segment, missing) => tell_missing(pen, segment, missing, master, notes),
+        Wait::Commit(segment) => {
+            pen.number("for the commit of segment ", u64::from(segment.seg));
+        }
+    }
+}
+
+/// The lost members of a segment.
+fn tell_lost(pen: &mut Pen<'_>, segment: &SegmentStanding) {
+    pen.say("for other servers in place of");
+    for member in segment.members.iter().flatten() {
+        if member.lost {
+            pen.id(" ", member.id);
+        }
+    }
+    pen.number(" (lost) for segment ", u64::from(segment.seg));
+}
+
+/// Which members of a segment have not told something, and why they may never do so.
+fn tell_missing(
+    pen: &mut Pen<'_>,
+    segment: &SegmentStanding,
+    missing: Missing,
+    master: ServerId,
+    notes: &Notes,
+) {
+    pen.number("until segment ", u64::from(segment.seg));
     pen.say(match missing {
         Missing::Told => " is placed at",
         Missing::Closed => " is closed at",
         Missing::Length(_) => " is stored whole at",
     });
+    for member in segment.members.iter().flatten() {
+        if is_missing(member, missing) {
+            pen.id(" ", member.id);
+            tell_hindrance(pen, member.id, master, notes);
+        }
+    }
+}
+
+/// Why a member may never tell a master anything.
+fn tell_hindrance(pen: &mut Pen<'_>, member: ServerId, master: ServerId, notes: &Notes) {
+    if !notes.servers().runs(member) {
+        pen.say(" (does not run)");
+    } else if notes.has_fenced(member, master) {
+        pen.say(" (has fenced it)");
+    }
 }

@@ -1,2 +1,4 @@
+pub mod Found
+pub mod Turning
 pub mod Seating
 pub mod Crossing

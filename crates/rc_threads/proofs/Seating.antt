@@ -8,9 +8,9 @@ use Rattle.rc_types.specs.declared.faults.Fault.{Fault}
 use Rattle.rc_types.specs.declared.faults.Fault.TheVariants.{OutOfMemory, BadEvent}
 use Rattle.rc_seats.specs.declared.work.Work.{Work}
 use Rattle.rc_seats.specs.SeatView.{SeatData}
-use Rattle.rc_turns.specs.declared.steps.Step.{Step}
-use Rattle.rc_turns.specs.Runs.{Runs, Grows, works_for}
-use Rattle.rc_turns.proofs.Turning.{grows-does, grows-same}
+use Rattle.rc_threads.specs.declared.steps.Step.{Step}
+use Rattle.rc_threads.specs.Runs.{Runs, Grows, works_for}
+use Rattle.rc_threads.proofs.Turning.{grows-does, grows-same}
 use Rattle.rc_threads.specs.Ends.{IsIdle, RunAll, GrowAll, Ends}
 
 pub take-all : {A : Type 0} (xs : List A) → take (length xs) xs ≡ xs

@@ -4,8 +4,8 @@ use Rattle.rc_types.specs.declared.events.Setup.{Setup}
 use Rattle.rc_types.specs.declared.faults.Fault.{Fault}
 use Rattle.rc_types.specs.declared.faults.Fault.TheVariants.{OutOfMemory, BadEvent}
 use Rattle.rc_seats.specs.SeatView.{SeatData}
-use Rattle.rc_turns.specs.declared.steps.Step.{Step}
-use Rattle.rc_turns.specs.Runs.{Runs, Grows, works_for}
+use Rattle.rc_threads.specs.declared.steps.Step.{Step}
+use Rattle.rc_threads.specs.Runs.{Runs, Grows, works_for}
 
 -- no step of the seat is pending
 abbrev pub IsIdle : SeatData → Type 0

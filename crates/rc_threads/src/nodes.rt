@@ -2,15 +2,15 @@
 
 ghost use Rattle.std.specs.Prelude.{◌≡◌, ◌⊎◌, true, All, None, IfOk, IfErr, OnOk, vec_capacity, vec_len};
 ghost use Rattle.rc_types.specs.declared.faults.Fault.TheVariants.{OutOfMemory, BadEvent};
-ghost use Rattle.rc_turns.specs.Runs.{none_fetched};
+ghost use Rattle.rc_threads.specs.Runs.{none_fetched};
 ghost use Rattle.rc_threads.specs.Ends.{IsIdle, RunAll, GrowAll, Ends};
 
 use crate::board::{Board, Hint, Stop};
 use crate::gate::Gate;
 use crate::seats::run_seat;
+use crate::steps::Step;
 use rc_journal::Naming;
 use rc_seats::Seat;
-use rc_turns::Step;
 use rc_types::Fault;
 use rc_wire::Wire;
 use std::alloc::{AllocError, Global};

@@ -3,14 +3,16 @@
 ghost use Rattle.std.specs.Prelude.{◌≡◌, ◌⊎◌, ◌≤◌, true, length, None, IfOk, IfErr, OnOk};
 ghost use Rattle.rc_types.specs.declared.faults.Fault.TheVariants.{OutOfMemory, BadEvent};
 ghost use Rattle.rc_seats.specs.SeatView.{SeatData};
-ghost use Rattle.rc_turns.specs.Runs.{Progress, Runs, Grows, works_for, none_fetched};
+ghost use Rattle.rc_threads.specs.Runs.{Progress, Runs, Grows, works_for, none_fetched};
 ghost use Rattle.rc_threads.specs.Ends.{Ends};
 
+use crate::around::Around;
 use crate::board::{Board, Hint, Stop};
 use crate::gate::Gate;
+use crate::steps::Step;
+use crate::turns::{deliver_rest, do_until};
 use rc_journal::{Naming, SeatName};
 use rc_seats::Seat;
-use rc_turns::{Around, Step, deliver_rest, do_until};
 use rc_types::{Fault, Message};
 use rc_wire::Wire;
 use std::alloc::Global;

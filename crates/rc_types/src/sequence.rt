@@ -13,9 +13,14 @@ use std::marker::Model;
 
 /// A list of plain data, which contracts see as a list and as nothing else: two of them with the
 /// same elements are equal. It is made from a `Vec` and gives it back without taking memory.
-#[derive(Drop)]
 pub struct Seq<T> {
     inner: Vec<T>,
+}
+
+impl<T: Drop> Drop for Seq<T> {
+    fn drop(self) {
+        let Seq { inner: _ } = self;
+    }
 }
 
 impl<T> Model for Seq<T> {
@@ -47,7 +52,8 @@ impl<T> Seq<T> {
     pub fn into_vec(self) -> Vec<T>
         ensures { result.items ≡ self }
     {
-        self.inner
+        let Seq { inner } = self;
+        inner
     }
 
     /// The elements as a slice.

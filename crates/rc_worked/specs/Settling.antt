@@ -4,7 +4,7 @@ use Rattle.std.specs.Prelude.{suc}
 use Rattle.std.specs.List.{list_any}
 use Rattle.rc_types.specs.declared.ids.ServerId.{ServerId}
 use Rattle.rc_types.specs.declared.ids.Addr.{Addr}
-use Rattle.rc_types.specs.declared.ids.Addr.TheVariants.{Outside, Coordinator, Server}
+use Rattle.rc_types.specs.declared.ids.Addr.TheVariants.{Outside, Server}
 use Rattle.rc_types.specs.declared.events.Setup.{Setup}
 use Rattle.rc_types.specs.declared.events.Event.{Event}
 use Rattle.rc_types.specs.declared.events.Event.TheVariants as event
@@ -94,9 +94,6 @@ decide server = Once (event.Decide server)
 
 abbrev pub tick : ServerId → Line
 tick server = Once (event.Tick (Server server))
-
-abbrev pub tick_coordinator : Line
-tick_coordinator = Once (event.Tick Coordinator)
 
 abbrev pub write : ServerId → ℕ → ℕ → List ℕ → Line
 write to table key value = Once (event.Ask to (Write table key (Some value)))

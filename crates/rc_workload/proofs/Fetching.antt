@@ -5,9 +5,9 @@ use Rattle.std.specs.List.{range_with_len}
 use Rattle.rc_journal.specs.declared.names.SeatName.TheVariants.{Outside, Coordinator, Host}
 use Rattle.rc_seats.specs.declared.work.Work.TheVariants as work
 use Rattle.rc_seats.specs.SeatView.{SeatData, new_seat}
-use Rattle.rc_turns.specs.declared.steps.Step.{Step}
-use Rattle.rc_turns.specs.declared.steps.Step.TheVariants.{Do, Settle}
-use Rattle.rc_turns.specs.Runs.{is_fetched, none_fetched}
+use Rattle.rc_threads.specs.declared.steps.Step.{Step}
+use Rattle.rc_threads.specs.declared.steps.Step.TheVariants.{Do, Settle}
+use Rattle.rc_threads.specs.Runs.{is_fetched, none_fetched}
 use Rattle.rc_threads.specs.Ends.{IsIdle}
 use Rattle.rc_wire.specs.Seats.{seat_named, new_seats}
 use Rattle.rc_workload.specs.Workload.{push, owner, starts, created, write_of, asks, workload}

@@ -3,14 +3,13 @@
 ghost use Rattle.std.specs.Prelude.{◌≡◌, ◌≤◌, ◌+◌, true, IfOk};
 ghost use Rattle.rc_types.specs.declared.limits.TheConstants.{MAX_HOSTS};
 ghost use Rattle.rc_world.specs.HostView.{IsWithinLimits};
-ghost use Rattle.rc_turns.specs.Runs.{none_fetched};
+ghost use Rattle.rc_threads.specs.Runs.{none_fetched};
 ghost use Rattle.rc_workload.specs.Workload.{threads_setup};
 
 use crate::steps::steps;
 use rc_journal::{Naming, Opening, SeatName};
 use rc_seats::Seat;
-use rc_threads::{Gate, run_nodes};
-use rc_turns::Step;
+use rc_threads::{Gate, Step, run_nodes};
 use rc_types::{Fault, Seq, Setup};
 use rc_wire::Wire;
 use rc_world::World;

@@ -1,10 +1,11 @@
 -- What a host's master does is what the host does.
-use Rattle.std.proofs.Common.{◌≡◌, ◌∙◌, Option, Some, None, Result, Ok, Err, OnOk, OnErr, refl, sym, ap, option_map}
+use Rattle.std.proofs.Common.{◌≡◌, ◌∙◌, ◌↔◌, ◌-◌, ◌^◌, ◌<◌, Bool, true, subst, unwrap_or, Option, Some, None, Result, Ok, Err, OnOk, OnErr, refl, sym, ap, option_map}
 use Rattle.rc_model.specs.Nodes.{ticks_if_running}
 use Rattle.rc_model.specs.Master.{Master}
 use Rattle.rc_model.specs.MasterStep.{master_ticks}
 use Rattle.rc_master.specs.Data.{MasterData, master_of}
-use Rattle.rc_world.specs.HostView.{HostData, host_of}
+use Rattle.rc_master.specs.Numbers.{HasVersions}
+use Rattle.rc_world.specs.HostView.{HostData, HostHasRoom, host_of}
 
 one_tick : (host : HostData) (was now : MasterData) → host.master ≡ Some was → master_of now ≡ (master_ticks (master_of was)).0 →
     host_of (record host { master = Some now }) ≡ (ticks_if_running (host_of host) (option_map master_of host.master)).0
@@ -40,3 +41,16 @@ left result (Err x) host seen after was now e same gone is h = rw (e, gone, ← 
 
 pub never : {T E : Type 0} (P : Type 0) (result : Result T E) (x : T) → result ≡ Ok x → OnErr result P
 never P result x e = rw e tt
+
+-- a host on which a master runs has room where its generation and its master have
+pub room-of-running : (host : HostData) (master : MasterData) (tells : Bool) → host.master ≡ Some master →
+    host.generation < 2 ^ 32 - 1 → (tells ≡ true) ↔ HasVersions (master_of master) →
+    (tells ≡ true) ↔ HostHasRoom (host_of host)
+room-of-running host master tells is generation room = (
+  λ yes. record {
+    generation = generation;
+    versions = λ (other : Master) same.
+        subst HasVersions (ap (λ (o : Option Master). unwrap_or o (master_of master)) (sym (ap (option_map master_of) is) ∙ same)) (room.0 yes);
+  },
+  λ has. room.1 (has.versions (master_of master) (ap (option_map master_of) is)),
+)

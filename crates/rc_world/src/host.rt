@@ -1,6 +1,6 @@
 //! A host: its backup, and its master where it runs.
 
-ghost use Rattle.std.specs.Prelude.{◌≡◌, ◌++◌, [], None, OnOk, OnErr, IfOk, IfErr};
+ghost use Rattle.std.specs.Prelude.{◌≡◌, ◌↔◌, ◌++◌, [], true, None, OnOk, OnErr, IfOk, IfErr};
 ghost use Rattle.rc_types.specs.declared.faults.Fault.TheVariants.{OutOfMemory};
 ghost use Rattle.rc_types.specs.declared.messages.Body.TheVariants.{Enlist};
 ghost use Rattle.rc_model.specs.Messages.{to_coordinator};
@@ -95,6 +95,19 @@ impl Host {
         ensures { result ≡ runs (host_of self.now) }
     {
         self.master.is_some()
+    }
+
+    /// Whether its numbers suffice for one more step.
+    pub(crate) fn has_room(&self) -> bool
+        ensures { (result ≡ true) ↔ HostHasRoom (host_of self.now) }
+    {
+        if self.generation == u32::MAX {
+            return false;
+        }
+        match &self.master {
+            Some(master) => master.has_room(),
+            None => true,
+        }
     }
 
     /// The master that runs on the host, if one does.

@@ -13,5 +13,5 @@ mod work;
 mod world;
 
 pub use node::NodeState;
-pub use work::NodeWork;
+pub use work::{NodeWork, StepFault};
 pub use world::{World, run};

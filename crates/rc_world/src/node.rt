@@ -1,6 +1,6 @@
 //! One node of a world, for those who run the nodes apart.
 
-ghost use Rattle.std.specs.Prelude.{◌≡◌, ◌⊎◌, ◌↔◌, ◌++◌, false, OnOk, OnErr, IfOk, IfErr};
+ghost use Rattle.std.specs.Prelude.{◌≡◌, ◌⊎◌, ◌↔◌, ◌++◌, true, false, OnOk, OnErr, IfOk, IfErr, Err};
 ghost use Rattle.rc_types.specs.declared.faults.Fault.TheVariants.{OutOfMemory, BadEvent};
 ghost use Rattle.rc_model.specs.Nodes.{outside_can, outside_sends, new_host, master_setup};
 ghost use Rattle.rc_model.specs.Coordinator.{new_coordinator};
@@ -12,10 +12,11 @@ ghost use Rattle.rc_world.specs.NodeView.{node_of, own_server, work_at, NodeHasR
 ghost use Rattle.rc_world.specs.NodeView.{may_take, after_work, coordinator_may, coordinator_after};
 ghost use Rattle.rc_world.specs.NodeView.{host_may, host_after};
 ghost use Rattle.rc_world.specs.declared.work.NodeWork.TheVariants.{Deliver};
+ghost use Rattle.rc_world.specs.declared.work.StepFault.TheVariants.{NoRoom, Refused};
 
 use crate::host::Host;
 use crate::outside::{ask, can_ask};
-use crate::work::NodeWork;
+use crate::work::{NodeWork, StepFault};
 use rc_backup::Backup;
 use rc_coordinator::Coordinator;
 use rc_master::Master;
@@ -25,10 +26,15 @@ use std::marker::Model;
 
 /// One node: the outside, the coordinator, or a host with its generation, its backup and, where it
 /// runs, its master.
-#[derive(Drop)]
 pub struct NodeState<A: Allocator> {
     alloc: Global,
     node: Node<A>,
+}
+
+impl<A: Allocator> Drop for NodeState<A> {
+    fn drop(self) {
+        let NodeState { alloc: _, node: _ } = self;
+    }
 }
 
 /// Which node it is.
@@ -94,6 +100,19 @@ impl<A: Allocator + Clone> NodeState<A> {
         }
     }
 
+    /// Whether the node's numbers suffice for one more step, which the steps ask for: of a host its generation, and the
+    /// versions in its log; of the coordinator the numbers of its lists, attempts and terms. It takes no memory, and its
+    /// cost does not grow with what has happened.
+    pub fn has_room(&self) -> bool
+        ensures { (result ≡ true) ↔ NodeHasRoom (node_of self.now) }
+    {
+        match &self.node {
+            Node::Outside => true,
+            Node::Coordinator(coordinator) => coordinator.has_room(),
+            Node::Host(host) => host.has_room(),
+        }
+    }
+
     /// The master that runs on the host, to be looked at; none where no server runs there, or the node is no host.
     /// It takes no memory.
     pub fn master(&self) -> Option<&Master> {
@@ -152,6 +171,36 @@ impl<A: Allocator + Clone> NodeState<A> {
             Node::Outside => Ok(()),
             Node::Coordinator(coordinator) => coordinator.take(message, sent),
             Node::Host(host) => host.take(message, sent),
+        }
+    }
+
+    /// Gives the node this, and adds what it sends to those sent, as `step_into` does, and asks nothing of its caller.
+    ///
+    /// # Errors
+    ///
+    /// `NoRoom`: the node's numbers do not suffice for one more step. `Refused`: as `step_into` refuses it. After each
+    /// the node and what was sent are as before.
+    pub fn try_step_into(
+        &mut self,
+        work: &NodeWork,
+        sent: &mut Vec<Message>,
+    ) -> Result<(), StepFault>
+        ensures state { OnOk result (node_of self.new ≡ (after_work (node_of self.old) work.now).0) }
+        ensures sends { OnOk result (sent.new.items ≡ sent.old.items ++ (after_work (node_of self.old) work.now).1) }
+        ensures full { (result ≡ Err NoRoom) ↔ (NodeHasRoom (node_of self.old) → ⊥) }
+        ensures bad { NodeHasRoom (node_of self.old) →
+            ((result ≡ Err (Refused BadEvent)) ↔ (may_take (node_of self.old) work.now ≡ false)) }
+        ensures fault { IfErr result (λ fault.
+            (fault ≡ NoRoom) ⊎ (fault ≡ Refused OutOfMemory) ⊎ (fault ≡ Refused BadEvent)) }
+        ensures err { OnErr result (node_of self.new ≡ node_of self.old) }
+        ensures unsent { OnErr result (sent.new.items ≡ sent.old.items) }
+    {
+        if !self.has_room() {
+            return Err(StepFault::NoRoom);
+        }
+        match self.step_into(work, sent) {
+            Ok(()) => Ok(()),
+            Err(fault) => Err(StepFault::Refused(fault)),
         }
     }
 

@@ -1,6 +1,7 @@
 //! What a node can be given.
 
-use rc_types::{Body, Message, Seq, ServerId};
+use rc_types::{Body, Fault, Message, Seq, ServerId};
+use std::fmt::{Display, Error, Formatter, Write};
 
 /// What one node is given: an event without the name of its node, a message in full.
 #[derive(Drop)]
@@ -23,4 +24,25 @@ pub enum NodeWork {
     Create { table: u32, owner: ServerId },
     /// To the coordinator: split the tablet of this table that holds this key before it.
     Split { table: u32, at: u64 },
+}
+
+/// Why a node that was given something did not take a step.
+#[derive(Drop)]
+pub enum StepFault {
+    /// The node's numbers do not suffice for one more step: a generation, a version, a term, an attempt or the version
+    /// of the list has come to the end of its type.
+    NoRoom,
+    /// The step was refused: `BadEvent` (F18) or `OutOfMemory` (F1).
+    Refused(Fault),
+}
+
+impl Display for StepFault {
+    fn fmt<W: Write>(&self, f: &mut Formatter<W>) -> Result<(), Error> {
+        match self {
+            StepFault::NoRoom => f.write_str(
+                "the numbers of the node do not suffice for one more step",
+            ),
+            StepFault::Refused(fault) => Display::fmt(fault, f),
+        }
+    }
 }

@@ -24,11 +24,20 @@ use std::marker::Model;
 
 /// All nodes, and all that has happened. As a value it is what it was opened with and its list of
 /// events: all else in it is what these events lead to.
-#[derive(Drop)]
 pub struct World<A: Allocator> {
     nodes: Nodes<A>,
     sent: Vec<Message>,
     events: Vec<Event>,
+}
+
+impl<A: Allocator> Drop for World<A> {
+    fn drop(self) {
+        let World {
+            nodes: _,
+            sent: _,
+            events: _,
+        } = self;
+    }
 }
 
 impl<A: Allocator> Model for World<A> {

@@ -1,7 +1,7 @@
 use Rattle.std.proofs.Common.{◌+◌, sym, subst, drop}
 use Rattle.rc_model.specs.Recovered.{all_acknowledged}
-use Rattle.rc_audit.specs.Bars.{IsBar}
-use Rattle.rc_audit.specs.Writes.{ack_of}
+use Rattle.rc_evidence.specs.Bars.{IsBar}
+use Rattle.rc_evidence.specs.Writes.{ack_of}
 use Rattle.rc_audit.proofs.FallingLemmas.{acks_from, above_bar, all_not}
 use Rattle.rc_audit.proofs.falling.falling_version.Goals as goal
 

@@ -7,4 +7,5 @@ use Rattle.rc_commands.proofs.commands.program.Goals as goal
 pub returns : goal.returns
 returns c =
     let exploring = c.in_ok-exploring.ensures spec.explore c.explore.ensures ∙ ap (and spec.explore) c.in_ok-running.ensures in
-    IfOk-weaker c.with-2.result _ _ (λ p h. h spec.explain c.explain.ensures ∙ ap (and spec.explain) exploring) c.with-2.ensures
+    let shrinking = c.in_ok-shrinking.ensures spec.shrink c.shrink.ensures ∙ ap (and spec.shrink) exploring in
+    IfOk-weaker c.with-3.result _ _ (λ p h. h spec.explain c.explain.ensures ∙ ap (and spec.explain) shrinking) c.with-3.ensures

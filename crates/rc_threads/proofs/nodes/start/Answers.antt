@@ -2,7 +2,7 @@ use contract.Lifetimes.{Lfts}
 use denote.Param.Send.{IsSend, IsSync, param_send, sendable}
 use Rattle.std.proofs.Crossing.{crosses}
 use Rattle.rc_wire.proofs.wire.Wire.TheSendSync as wire
-use Rattle.rc_turns.proofs.steps.Step.TheSendSync as step
+use Rattle.rc_threads.proofs.steps.Step.TheSendSync as step
 use Rattle.rc_threads.proofs.board.Board.TheSendSync as board
 use Rattle.rc_threads.proofs.Crossing.{seat_send}
 use Rattle.rc_threads.specs.contracts.nodes.start as callee

@@ -1,6 +1,6 @@
 use Rattle.std.proofs.Common.{◌≡◌, length, take, subst, arith}
-use Rattle.rc_turns.specs.Runs.{Runs, works_for}
-use Rattle.rc_turns.proofs.Turning.{grows-through, grows-same, progress-begins}
+use Rattle.rc_threads.specs.Runs.{Runs, works_for}
+use Rattle.rc_threads.proofs.Turning.{grows-through, grows-same, progress-begins}
 use Rattle.rc_threads.proofs.Seating.{take-all}
 use Rattle.rc_threads.proofs.seats.turns.Goals as goal
 

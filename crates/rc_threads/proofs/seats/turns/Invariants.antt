@@ -1,5 +1,5 @@
 use Rattle.std.proofs.Common.{◌≡◌, ◌≤◌, length}
-use Rattle.rc_turns.specs.Runs.{Progress, Grows}
+use Rattle.rc_threads.specs.Runs.{Progress, Grows}
 use Rattle.rc_threads.proofs.seats.turns.Given as goal
 
 -- what the seat has come to since it began

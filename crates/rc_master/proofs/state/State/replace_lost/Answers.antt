@@ -3,10 +3,22 @@ use Rattle.std.proofs.lemmas.List.{append-nil}
 use Rattle.rc_types.specs.declared.messages.Message.{Message}
 use Rattle.rc_model.specs.Master.{Master}
 use Rattle.rc_headroll.specs.LogData.{log_of}
+use Rattle.rc_headroll.proofs.ListRuleLemmas.{replaces-unconcerned}
 use Rattle.rc_master.specs.View.{state_view}
 use Rattle.rc_master.proofs.Notes.{loses-same, notes-same}
 use Rattle.rc_master.proofs.Repeating.{lost-refused, lost-in}
 use Rattle.rc_master.proofs.state.State.replace_lost.Goals as goal
+
+pub returns-then-not-is_concerned-clause-state : goal.returns-then-not-is_concerned-clause-state
+returns-then-not-is_concerned-clause-state c =
+    ap (λ (r : Master × List Message). r.0)
+    (sym (replaces-unconcerned (state_view c.args.self.now) c.args.seg (sym c.is_concerned.ensures ∙ c.if-not-is_concerned.true)))
+
+pub returns-then-not-is_concerned-clause-sends : goal.returns-then-not-is_concerned-clause-sends
+returns-then-not-is_concerned-clause-sends c =
+    sym (append-nil c.args.sent.now.items)
+    ∙ ap (λ (r : Master × List Message). c.args.sent.now.items ++ r.1)
+    (sym (replaces-unconcerned (state_view c.args.self.now) c.args.seg (sym c.is_concerned.ensures ∙ c.if-not-is_concerned.true)))
 
 pub returns-in_ok-add_places-in-Ok-clause-noted : goal.returns-in_ok-add_places-in-Ok-clause-noted
 returns-in_ok-add_places-in-Ok-clause-noted c =

@@ -1,8 +1,9 @@
-use Rattle.std.proofs.Common.{◌≡◌, ◌<◌, ◌++◌, ◌∷◌, [], cond, nat_lt, filter, length, length-append, ap, ◌∙◌, arith}
+use Rattle.std.proofs.Common.{◌≡◌, ◌<◌, ◌++◌, ◌∷◌, [], cond, nat_lt, filter, length, length-append, ap, take, ◌∙◌, arith}
 use Rattle.std.proofs.lemmas.Grind.{common_steps}
 use Rattle.std.proofs.lemmas.List.{length-take-le}
 use Rattle.rc_ownership.specs.Slots.{highs_in, same_slot, slot_of}
 use Rattle.rc_ownership.proofs.NoteTables.{tables-drop, highs_rise}
+use Rattle.rc_ownership.proofs.GreatestVersions.{tops-drop}
 use Rattle.rc_ownership.proofs.notes.Notes.drop_last.Goals as goal
 
 pub drop_from-requires : goal.drop_from-requires
@@ -37,4 +38,8 @@ invariant_of-self-2 c =
         length-append rest (c.in-Some.entry ∷ []),
       );
       durable_within = c.self.invariant.durable_within;
+      tops_are =
+          grind (arith, common_steps)
+          ∙ ap (λ tops. take (length rest) tops) c.self.invariant.tops_are
+          ∙ tops-drop before.noted.items rest c.in-Some.entry popped;
     }

@@ -3,14 +3,16 @@ use Rattle.std.proofs.lemmas.Grind.{common_steps}
 use Rattle.rc_ownership.specs.Highs.{with_high}
 use Rattle.rc_ownership.specs.Notes.{AreTablesOf}
 use Rattle.rc_ownership.specs.Slots.{highs_in, same_slot, slot_of}
+use Rattle.rc_ownership.specs.Tops.{top_or, tops_of}
 use Rattle.rc_ownership.proofs.NoteTables.{tables-push}
+use Rattle.rc_ownership.proofs.GreatestVersions.{tops-pushed}
 use Rattle.rc_ownership.proofs.notes.Notes.note.Goals as goal
 
 pub invariant_of-self-2 : goal.invariant_of-self-2
 invariant_of-self-2 c =
     let entry = c.args.entry.now in
     let before = c.self.inside in
-    let after_is : c.push.new.self.items ≡ before.noted.items ++ entry ∷ [] = grind (arith, common_steps) in
+    let after_is : c.push-2.new.self.items ≡ before.noted.items ++ entry ∷ [] = grind (arith, common_steps) in
     let place_is : c.len.result ≡ length before.noted.items = grind (arith, common_steps) in
     let tables = subst (λ items. AreTablesOf items before.durable c.add_high.new.highs c.know_term.new.counts) (sym after_is)
     (tables-push before.noted.items before.durable before.highs c.add_high.new.highs before.counts
@@ -21,10 +23,14 @@ invariant_of-self-2 c =
     ∙ ap (λ place. cond (same_slot (slot_of entry) other) (with_high place entry.version (highs_in before.highs other))
     (highs_in before.highs other)) place_is)
     c.in_ok-know_term.ensures.known c.know_term.ensures.same c.know_term.ensures.kept) in
-    let counted : length c.push.new.self.items ≡ length before.noted.items + 1 =
+    let counted : length c.push-2.new.self.items ≡ length before.noted.items + 1 =
     ap length after_is ∙ length-append before.noted.items (entry ∷ []) in
     record {
       tables = tables;
       kept_within = omega (arith, counted, c.self.invariant.kept_within);
       durable_within = c.self.invariant.durable_within;
+      tops_are =
+          tops-pushed before.noted.items c.push-2.new.self.items entry before.tops.items c.push.new.self.items
+          c.higher-top.result c.greatest.result c.self.invariant.tops_are after_is (grind (arith, common_steps))
+          c.higher-top.ensures (c.greatest.ensures ∙ ap (λ notes. top_or 0 (tops_of notes.noted)) (sym c.self.view_is));
     }

@@ -1,0 +1,9 @@
+pub mod PlaceLemmas
+pub mod RecoveryLemmas
+pub mod RunLemmas
+pub mod StandingLemmas
+pub mod SenderLemmas
+pub mod SupersededLemmas
+pub mod GrantLemmas
+pub mod EarlierLemmas
+pub mod BarLemmas

@@ -1,0 +1,11 @@
+pub mod Places
+pub mod Writes
+pub mod Recoveries
+pub mod Runs
+pub mod Standings
+pub mod Highs
+pub mod Senders
+pub mod Superseded
+pub mod Grants
+pub mod Earlier
+pub mod Bars

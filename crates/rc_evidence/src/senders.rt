@@ -1,0 +1,67 @@
+//! The messages of each server.
+
+ghost use Rattle.std.specs.Prelude.{◌≡◌, OnOk, IfOk, IfErr};
+ghost use Rattle.rc_types.specs.declared.faults.Fault.TheVariants.{OutOfMemory};
+ghost use Rattle.rc_evidence.specs.Senders.{AddsMessage, AreSenders, NotesSender};
+
+use rc_types::{Addr, Fault, Message, ServerId};
+use std::alloc::Global;
+use std::collections::BTreeMap;
+
+/// The messages of one server, in the order in which they were sent.
+#[derive(Drop)]
+pub struct Sent<'a> {
+    /// The messages.
+    pub messages: Vec<&'a Message>,
+}
+
+/// The messages of each server that sent one.
+pub type Senders<'a> = BTreeMap<ServerId, Sent<'a>>;
+
+/// Notes one more message of this server.
+fn note_sent<'a>(
+    alloc: Global,
+    senders: &mut Senders<'a>,
+    master: ServerId,
+    message: &'a Message,
+) -> Result<(), Fault>
+    ensures noted { OnOk result (NotesSender senders.old senders.new master message.now) }
+    ensures err { IfErr result (λ e. e ≡ OutOfMemory) }
+{
+    let mut sent = match senders.remove(&master) {
+        Some(sent) => sent,
+        None => Sent {
+            messages: Vec::new(alloc),
+        },
+    };
+    sent.messages.push(message)?;
+    senders.insert(master, sent)?;
+    Ok(())
+}
+
+/// Notes this message, where a server has sent it.
+fn note_message<'a>(
+    alloc: Global,
+    senders: &mut Senders<'a>,
+    message: &'a Message,
+) -> Result<(), Fault>
+    ensures noted { OnOk result (AddsMessage senders.old senders.new message.now) }
+    ensures err { IfErr result (λ e. e ≡ OutOfMemory) }
+{
+    match message.from {
+        Addr::Server(master) => note_sent(alloc, senders, master, message),
+        _ => Ok(()),
+    }
+}
+
+/// The messages of each server, of all of these.
+pub fn senders_in<'a>(alloc: Global, messages: &'a [Message]) -> Result<Senders<'a>, Fault>
+    ensures senders { IfOk result (λ senders. AreSenders senders messages.now) }
+    ensures err { IfErr result (λ e. e ≡ OutOfMemory) }
+{
+    let mut senders = BTreeMap::new(alloc);
+    for message in messages {
+        note_message(alloc, &mut senders, message)?;
+    }
+    Ok(senders)
+}

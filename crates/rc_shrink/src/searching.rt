@@ -1,0 +1,127 @@
+//! The search.
+
+ghost use Rattle.rc_world.specs.HostView.{IsWithinLimits};
+
+use crate::courses::Course;
+use crate::trying::{Cut, Task, without};
+use rc_reading::{Scenario, ScenarioEvent};
+use rc_saving::saved_scenario;
+use rc_types::Fault;
+use std::alloc::{AllocError, Global};
+
+/// A scenario with as few of this one's events that its report still has a line that begins with the text, and none of
+/// them can be left out; `None`, where the report of the scenario itself has no such line.
+///
+/// # Errors
+///
+/// `OutOfMemory` (F1): memory was refused.
+pub fn shrink(alloc: Global, scenario: &Scenario, keep: &str) -> Result<Option<String>, Fault>
+    requires { IsWithinLimits scenario.now.setup }
+{
+    let task = Task {
+        setup: &scenario.setup,
+        events: scenario.events.as_slice(),
+        keep,
+    };
+    let messages = messages_of(alloc, task.events)?;
+    let whole = Course::whole(alloc, messages.as_slice())?;
+    let nothing = Cut {
+        from: 0,
+        to: 0,
+        moves: false,
+    };
+    let Some(first) = without(alloc, task, &whole, nothing)? else {
+        return Ok(None);
+    };
+    let last = searched(alloc, task, first)?;
+    let left = last.left(alloc)?;
+    let text = saved_scenario(alloc, task.setup, task.events, left.as_slice())?;
+    Ok(Some(text))
+}
+
+/// Of each event the message that it delivers; 0 where it is no delivery.
+fn messages_of(alloc: Global, events: &[ScenarioEvent]) -> Result<Vec<usize>, AllocError> {
+    let mut messages = Vec::new(alloc);
+    for event in events {
+        messages.push(match event {
+            ScenarioEvent::Deliver(number) => *number as usize,
+            _ => 0,
+        })?;
+    }
+    Ok(messages)
+}
+
+/// Leaves out as much as it can: halves of what is left, then quarters and so on; and at the end single events, until
+/// none can be left out.
+fn searched(alloc: Global, task: Task<'_>, first: Course) -> Result<Course, Fault>
+    requires { IsWithinLimits task.setup.now }
+{
+    let mut course = first;
+    let mut size = course.len();
+    for _ in 0..usize::BITS {
+        size /= 2;
+        if size > 1 {
+            course = thinned(alloc, task, course, size)?;
+        }
+    }
+    for _ in 0..=course.len() {
+        let before = course.len();
+        course = thinned(alloc, task, course, 1)?;
+        if course.len() == before {
+            break;
+        }
+    }
+    Ok(course)
+}
+
+/// Leaves out as many pieces of this size as it can, from the last one to the first.
+fn thinned(alloc: Global, task: Task<'_>, first: Course, size: usize) -> Result<Course, Fault>
+    requires { IsWithinLimits task.setup.now }
+{
+    let mut course = first;
+    let count = course.len();
+    for back in 1..=count {
+        let from = count.saturating_sub(back);
+        if size == 0 || from % size != 0 {
+            continue;
+        }
+        let cut = Cut {
+            from,
+            to: from.saturating_add(size),
+            moves: true,
+        };
+        if let Some(next) = shorter(alloc, task, &course, cut)? {
+            course = next;
+        }
+    }
+    Ok(course)
+}
+
+/// What is left after this cut, or, of a single event, after one after which deliveries keep their numbers, if the
+/// report still has such a line.
+fn shorter(
+    alloc: Global,
+    task: Task<'_>,
+    course: &Course,
+    cut: Cut,
+) -> Result<Option<Course>, Fault>
+    requires { IsWithinLimits task.setup.now }
+{
+    if cut.from >= course.len() {
+        return Ok(None);
+    }
+    match without(alloc, task, course, cut)? {
+        Some(next) => Ok(Some(next)),
+        None if cut.to == cut.from.saturating_add(1) => without(
+            alloc,
+            task,
+            course,
+            Cut {
+                from: cut.from,
+                to: cut.to,
+                moves: false,
+            },
+        ),
+        None => Ok(None),
+    }
+}

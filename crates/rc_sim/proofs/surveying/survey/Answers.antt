@@ -1,0 +1,8 @@
+use Rattle.std.proofs.Common.{string_bytes}
+use Rattle.rc_sim.proofs.surveying.survey.Goals as goal
+
+pub returns-clause-cut_short : goal.returns-clause-cut_short
+returns-clause-cut_short g c count same =
+    let answer = c.in_ok-answer.answer in
+    let begun = c.write_answer.ensures.cut_short count same in
+    (answer.verdict, string_bytes answer.text, c.in_ok-answer.ensures.ok, begun.0, begun.1)

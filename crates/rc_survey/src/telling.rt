@@ -1,0 +1,107 @@
+//! The lines that tell what a run has reached.
+
+use crate::counts::{BODIES, Counts, EVENTS};
+use crate::rules::RULE_NAMES;
+use rc_pen::Pen;
+
+/// The kinds of events, in the order in which they are counted.
+const EVENT_NAMES: [&str; EVENTS] = [
+    "Ask", "Deliver", "Tick", "Stop", "Start", "Suspect", "Decide", "Create", "Split",
+];
+
+/// The kinds of messages, in the order in which they are counted.
+const BODY_NAMES: [&str; BODIES] = [
+    "Write",
+    "Read",
+    "WriteOk",
+    "ReadOk",
+    "Refused",
+    "Place",
+    "Append",
+    "Close",
+    "Stored",
+    "Commit",
+    "CommitOk",
+    "Enlist",
+    "Ready",
+    "List",
+    "Gather",
+    "Replicas",
+    "Plan",
+    "Fetch",
+    "Data",
+    "Recovered",
+    "Own",
+    "SplitOk",
+    "Free",
+];
+
+/// The lines of what was counted: the events, the messages and the refusals by kind, what came of them, and what was
+/// not reached.
+pub(crate) fn tell_counts(pen: &mut Pen<'_>, counts: &Counts) {
+    tell_named(pen, "events", &EVENT_NAMES, &counts.events);
+    tell_named(pen, "messages", &BODY_NAMES, &counts.bodies);
+    tell_refusals(pen, &counts.refused);
+    pen.put("reached");
+    for (name, count) in &counts.outcomes() {
+        tell_count(pen, name, *count);
+    }
+    pen.put("\n");
+    tell_unreached(pen, counts);
+    pen.put("unreached-rules");
+    tell_missing(pen, &RULE_NAMES, &counts.rules);
+    pen.put("\n");
+}
+
+/// A name and its count.
+pub(crate) fn tell_count(pen: &mut Pen<'_>, name: &str, count: u64) {
+    pen.put(" ");
+    pen.put(name);
+    pen.put_number(" ", count);
+}
+
+/// A line of counts by name; where one is 0, it is left out.
+fn tell_named(pen: &mut Pen<'_>, word: &str, names: &[&str], counts: &[u64]) {
+    pen.put(word);
+    for (name, count) in names.iter().zip(counts) {
+        if *count > 0 {
+            tell_count(pen, name, *count);
+        }
+    }
+    pen.put("\n");
+}
+
+/// A line of the codes with which something was refused.
+fn tell_refusals(pen: &mut Pen<'_>, counts: &[u64]) {
+    pen.put("refusals");
+    for (code, count) in counts.iter().enumerate() {
+        if *count > 0 {
+            pen.put_number(" F", code as u64);
+            pen.put_number(" ", *count);
+        }
+    }
+    pen.put("\n");
+}
+
+/// A line of all that has not been reached: kinds of messages that were never sent, and what never came of the events.
+fn tell_unreached(pen: &mut Pen<'_>, counts: &Counts) {
+    pen.put("unreached");
+    tell_missing(pen, &BODY_NAMES, &counts.bodies);
+    for (name, count) in &counts.outcomes() {
+        if *count == 0 {
+            pen.put(" ");
+            pen.put(name);
+        }
+    }
+    pen.put("\n");
+}
+
+/// The names whose count is 0.
+fn tell_missing(pen: &mut Pen<'_>, names: &[&str], counts: &[u64]) {
+    for (name, count) in names.iter().zip(counts) {
+        if *count == 0 {
+            pen.put(" ");
+            pen.put(name);
+        }
+    }
+}

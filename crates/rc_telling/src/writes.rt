@@ -1,0 +1,180 @@
+//! What became of the writes that were not acknowledged.
+
+use crate::fields::tell_code;
+use crate::story::{Step, Story, Turn};
+use indexmap::IndexMap;
+use rc_pen::Pen;
+use rc_types::{Addr, Body, Code, Event, Message, PlanRow, ServerId};
+use std::alloc::{AllocError, Global};
+
+/// What became of a write that was not acknowledged.
+#[derive(Clone, Copy)]
+enum Fate {
+    /// Its server did not run.
+    Unheard,
+    /// It was refused.
+    Refused(Code),
+    /// It stands in its master's log, at this place.
+    Placed(u16, usize),
+    /// It stands there, and the recovered log of this attempt has that place, or has it not.
+    Recovered(u16, usize, u32, bool),
+}
+
+/// A write that was not acknowledged.
+#[derive(Clone, Copy)]
+pub(crate) struct Unanswered {
+    /// The event that delivered it.
+    pub(crate) event: usize,
+    /// Its number.
+    pub(crate) message: usize,
+    fate: Fate,
+}
+
+/// The writes of a story.
+#[derive(Drop)]
+pub(crate) struct Writes {
+    /// By master, segment and offset: what was acknowledged.
+    acknowledged: IndexMap<(ServerId, u16, usize), bool>,
+    /// By master: the newest attempt that has a plan.
+    plans: IndexMap<ServerId, u32>,
+    /// By attempt and segment: the length that its plan has.
+    lengths: IndexMap<(u32, u16), usize>,
+    unanswered: Vec<Unanswered>,
+}
+
+impl Writes {
+    /// Those of this story.
+    pub(crate) fn of(alloc: Global, story: &Story<'_>) -> Result<Writes, AllocError> {
+        let mut writes = Writes {
+            acknowledged: IndexMap::new(alloc),
+            plans: IndexMap::new(alloc),
+            lengths: IndexMap::new(alloc),
+            unanswered: Vec::new(alloc),
+        };
+        for message in story.messages {
+            writes.note(message)?;
+        }
+        for (number, (event, turn)) in story.events.iter().zip(story.notes.turns()).enumerate() {
+            writes.judge(story.messages, number, event, turn)?;
+        }
+        Ok(writes)
+    }
+
+    /// Notes what a message acknowledges, or which log it plans to recover.
+    fn note(&mut self, message: &Message) -> Result<(), AllocError> {
+        match (message.from, &message.body) {
+            (Addr::Server(id), Body::WriteOk { seg, offset, .. }) => {
+                self.acknowledged.insert((id, *seg, *offset), true)?;
+                Ok(())
+            }
+            (
+                _,
+                Body::Plan {
+                    attempt,
+                    master,
+                    rows,
+                    ..
+                },
+            ) => self.plan(*attempt, *master, rows.as_slice()),
+            _ => Ok(()),
+        }
+    }
+
+    /// Notes a plan to recover a master.
+    fn plan(&mut self, attempt: u32, master: ServerId, rows: &[PlanRow]) -> Result<(), AllocError> {
+        self.plans.insert(master, attempt)?;
+        for row in rows {
+            self.lengths.insert((attempt, row.seg), row.len)?;
+        }
+        Ok(())
+    }
+
+    /// Notes the event of this number, where it delivers a write that was not acknowledged.
+    fn judge(
+        &mut self,
+        messages: &[Message],
+        number: usize,
+        event: &Event,
+        turn: &Turn,
+    ) -> Result<(), AllocError> {
+        let Event::Deliver(message) = event else {
+            return Ok(());
+        };
+        let Some(master) = written_to(messages, *message) else {
+            return Ok(());
+        };
+        if let Some(fate) = self.fate(messages, master, &turn.step) {
+            self.unanswered.push(Unanswered {
+                event: number,
+                message: *message,
+                fate,
+            })?;
+        }
+        Ok(())
+    }
+
+    /// What became of a write to this master that this step took; nothing, where it was acknowledged.
+    fn fate(&self, messages: &[Message], master: ServerId, step: &Step) -> Option<Fate> {
+        if !step.arrives {
+            return Some(Fate::Unheard);
+        }
+        if let Some(code) = refusal(messages, step) {
+            return Some(Fate::Refused(code));
+        }
+        let (seg, offset) = step.log_end?;
+        if self.acknowledged.get(&(master, seg, offset)).is_some() {
+            return None;
+        }
+        let Some(attempt) = self.plans.get(&master).copied() else {
+            return Some(Fate::Placed(seg, offset));
+        };
+        let len = self.lengths.get(&(attempt, seg)).copied().unwrap_or(0);
+        Some(Fate::Recovered(seg, offset, attempt, offset < len))
+    }
+
+    /// The writes that were not acknowledged, in order of delivery.
+    pub(crate) fn unanswered(&self) -> &[Unanswered] {
+        self.unanswered.as_slice()
+    }
+}
+
+/// To whom the message of this number goes, if it is a write to a server.
+fn written_to(messages: &[Message], number: usize) -> Option<ServerId> {
+    let message = messages.get(number)?;
+    match (message.to, &message.body) {
+        (Addr::Server(id), Body::Write { .. }) => Some(id),
+        _ => None,
+    }
+}
+
+/// The code with which this step refuses something, if it does.
+fn refusal(messages: &[Message], step: &Step) -> Option<Code> {
+    for place in step.first..step.end {
+        if let Some(message) = messages.get(place) {
+            if let Body::Refused { code } = &message.body {
+                return Some(*code);
+            }
+        }
+    }
+    None
+}
+
+/// What became of a write that was not acknowledged.
+pub(crate) fn tell_fate(pen: &mut Pen<'_>, write: &Unanswered) {
+    match write.fate {
+        Fate::Unheard => pen.say("its server did not run"),
+        Fate::Refused(code) => tell_code(pen, "refused ", code),
+        Fate::Placed(seg, offset) => tell_place(pen, seg, offset),
+        Fate::Recovered(seg, offset, attempt, is_in) => {
+            tell_place(pen, seg, offset);
+            pen.either(is_in, ", in", ", not in");
+            pen.number(" the recovered log of attempt ", u64::from(attempt));
+        }
+    }
+}
+
+/// A place of a log.
+fn tell_place(pen: &mut Pen<'_>, seg: u16, offset: usize) {
+    pen.number("at seg ", u64::from(seg));
+    pen.number(" offset ", offset as u64);
+}

@@ -1,0 +1,49 @@
+use Rattle.std.proofs.Common.{◌≡◌, true, false, sym, ◌∙◌, ◌+◌}
+use Rattle.rc_seats.specs.Works.{was_delivered}
+use Rattle.rc_threads.proofs.Turning.{progress-later, progress-lower, progress-had, progress-fetched, progress-all}
+use Rattle.rc_threads.proofs.Turning.{had-idle, idle-later, finds-of, misses-of}
+use Rattle.rc_threads.proofs.turns.deliver_next.Goals as goal
+
+pub returns-in_default-clause-none : goal.returns-in_default-clause-none
+returns-in_default-clause-none g c = λ start steps at p.
+    progress-all g.N.Naming.wire.setup start steps at c.args.from c.next.new.seat
+    (progress-later g.N.Naming.wire.setup start steps at c.args.from c.args.seat.now c.next.new.seat p c.next.ensures.later)
+    (sym c.next.ensures.least ∙ c.in_default.is)
+
+pub returns-in_default-clause-stays : goal.returns-in_default-clause-stays
+returns-in_default-clause-stays g c = λ start steps at p.
+    progress-later g.N.Naming.wire.setup start steps at c.args.from c.args.seat.now c.next.new.seat p c.next.ensures.later
+
+pub returns-then-has_delivered-clause-some : goal.returns-then-has_delivered-clause-some
+returns-then-has_delivered-clause-some g c = λ start steps at p.
+    let setup = g.N.Naming.wire.setup in
+    let now = c.next.new.seat in
+    let had : was_delivered now.mine c.in-Some.number ≡ true =
+    had-idle now.mine now.pending c.in-Some.number c.has_delivered.result true
+    (idle-later c.args.seat.now now c.next.ensures.later c.requires.idle) c.has_delivered.ensures c.if-has_delivered.true in
+    progress-lower setup start steps at (c.in-Some.number + 1) c.after.result now c.after.ensures
+    (progress-had setup start steps at c.args.from c.in-Some.number now
+    (progress-later setup start steps at c.args.from c.args.seat.now now p c.next.ensures.later)
+    (sym c.next.ensures.least ∙ c.in-Some.is) had)
+
+pub returns-then-found-clause-some : goal.returns-then-found-clause-some
+returns-then-found-clause-some g c = λ start steps at p.
+    let setup = g.N.Naming.wire.setup in
+    let now = c.next.new.seat in
+    let not-had : was_delivered now.mine c.in-Some.number ≡ false =
+    had-idle now.mine now.pending c.in-Some.number c.has_delivered.result false
+    (idle-later c.args.seat.now now c.next.ensures.later c.requires.idle) c.has_delivered.ensures c.if-has_delivered.false in
+    progress-lower setup start steps at (c.in-Some.number + 1) c.after-then-found.result c.take_step.new.seat c.after-then-found.ensures
+    (progress-fetched setup start steps at c.args.from c.in-Some.number now c.fetch.new.seat c.take_step.new.seat
+    (progress-later setup start steps at c.args.from c.args.seat.now now p c.next.ensures.later)
+    (sym c.next.ensures.least ∙ c.in-Some.is) not-had
+    (finds-of setup now c.in-Some.number c.in_ok-found.found c.fetch.new.seat c.if-found.true c.in_ok-found.ensures.ok)
+    c.in_ok-take_step.ensures.ok)
+
+pub returns-clause-some : goal.returns-clause-some
+returns-clause-some g c = λ start steps at p.
+    let setup = g.N.Naming.wire.setup in
+    let now = c.next.new.seat in
+    let misses = misses-of setup now c.in-Some.number c.in_ok-found.found c.fetch.new.seat c.if-found.false c.in_ok-found.ensures.ok in
+    progress-later setup start steps at c.args.from now c.fetch.new.seat
+    (progress-later setup start steps at c.args.from c.args.seat.now now p c.next.ensures.later) misses.later

@@ -1,0 +1,23 @@
+use Rattle.std.proofs.Common.{◌≡◌, Some, None, sym, ap, ◌∙◌}
+use Rattle.rc_journal.specs.declared.names.SeatName.{SeatName}
+use Rattle.rc_threads.specs.Runs.{own_work}
+use Rattle.rc_threads.proofs.Turning.{on-ok, get-index, progress-done, progress-skipped}
+use Rattle.rc_threads.proofs.turns.do_next.Goals as goal
+
+pub returns-in-Some-clause-ok : goal.returns-in-Some-clause-ok
+returns-in-Some-clause-ok g c =
+    let step = c.index-steps-at.result in
+    let own : own_work c.args.seat.now.name step ≡ Some c.in-Some.work =
+    ap (λ (n : SeatName). own_work n step) (sym c.name.ensures.name) ∙ (sym c.in_ok-work.ensures.copy ∙ c.in-Some.is) in
+    on-ok c.take_step.result (λ takes start from p.
+    progress-done g.N.Naming.wire.setup start c.args.steps.now c.args.at from c.args.seat.now c.take_step.new.seat step
+    c.in-Some.work p c.requires.works (get-index c.args.steps.now c.args.at step c.requires.within c.index-steps-at.is) own takes)
+    c.take_step.ensures.ok
+
+pub returns-in-None-clause-ok : goal.returns-in-None-clause-ok
+returns-in-None-clause-ok g c =
+    let step = c.index-steps-at.result in
+    let other : own_work c.args.seat.now.name step ≡ None =
+    ap (λ (n : SeatName). own_work n step) (sym c.name.ensures.name) ∙ (sym c.in_ok-work.ensures.copy ∙ c.in-None.is) in
+    λ start from p. progress-skipped g.N.Naming.wire.setup start c.args.steps.now c.args.at from c.args.seat.now step p
+    (get-index c.args.steps.now c.args.at step c.requires.within c.index-steps-at.is) other

@@ -1,0 +1,17 @@
+use Rattle.std.proofs.Common.{◌≡◌, subst, arith}
+use Rattle.rc_threads.specs.Runs.{Progress}
+use Rattle.rc_threads.proofs.Turning.{grows-through}
+use Rattle.rc_threads.proofs.turns.do_until.Goals as goal
+
+pub loop-next-preserved : goal.loop-next-preserved
+loop-next-preserved g c = record {
+  kept = λ start from p. c.in_ok-do_next.ensures.ok start from (c.loop-next.invariant.kept start from p);
+  idle = c.in_ok-do_next.ensures.idle;
+  grows = grows-through c.args.seat.now c.loop-next.seat c.do_next.new.seat c.loop-next.invariant.grows c.in_ok-do_next.ensures.grows;
+}
+
+pub returns-clause-ok : goal.returns-clause-ok
+returns-clause-ok g c = λ start from p.
+    let all : c.loop-next.next ≡ c.args.end =
+    omega (arith, c.loop-next.auto.next-end, c.loop-next-test.false, c.requires.order) in
+    subst (λ n. Progress g.N.Naming.wire.setup start c.args.steps.now n from c.loop-next.seat) all (c.loop-next.invariant.kept start from p)

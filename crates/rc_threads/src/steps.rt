@@ -1,0 +1,59 @@
+//! What nodes are given to do.
+
+ghost use Rattle.std.specs.Prelude.{◌≡◌, IfOk, IfErr};
+ghost use Rattle.rc_types.specs.declared.faults.Fault.TheVariants.{OutOfMemory};
+ghost use Rattle.rc_threads.specs.Runs.{own_work};
+
+use rc_journal::SeatName;
+use rc_seats::Work;
+use rc_types::{Fault, TryClone};
+use std::alloc::Global;
+
+/// One line of what nodes are given to do.
+#[derive(Drop)]
+pub enum Step {
+    /// The node of this seat does this work.
+    Do(SeatName, Work),
+    /// Whoever gives the works waits until all that was begun is done.
+    Settle,
+}
+
+/// A copy of the step's work, where the step is one of this seat.
+pub(crate) fn own_work(alloc: Global, step: &Step, name: SeatName) -> Result<Option<Work>, Fault>
+    ensures copy { IfOk result (λ own. own ≡ own_work name step.now) }
+    ensures no_memory { IfErr result (λ fault. fault ≡ OutOfMemory) }
+{
+    match step {
+        Step::Do(who, work) if who.number() == name.number() => Ok(Some(copy_of(alloc, work)?)),
+        _ => Ok(None),
+    }
+}
+
+/// A copy of a work.
+fn copy_of(alloc: Global, work: &Work) -> Result<Work, Fault>
+    ensures copy { IfOk result (λ copy. copy ≡ work.now) }
+    ensures no_memory { IfErr result (λ fault. fault ≡ OutOfMemory) }
+{
+    Ok(match work {
+        Work::Fetched => Work::Fetched,
+        Work::Ask { to, body } => Work::Ask {
+            to: *to,
+            body: body.try_clone(alloc)?,
+        },
+        Work::Tick => Work::Tick,
+        Work::Stop => Work::Stop,
+        Work::Start { kept } => Work::Start {
+            kept: kept.try_clone(alloc)?,
+        },
+        Work::Suspect(id) => Work::Suspect(*id),
+        Work::Decide(id) => Work::Decide(*id),
+        Work::Create { table, owner } => Work::Create {
+            table: *table,
+            owner: *owner,
+        },
+        Work::Split { table, at } => Work::Split {
+            table: *table,
+            at: *at,
+        },
+    })
+}
