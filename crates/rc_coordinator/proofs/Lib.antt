@@ -2,3 +2,4 @@ pub mod TableLemmas
 pub mod TabletLemmas
 pub mod PlanLemmas
 pub mod RuleLemmas
+pub mod GrantLemmas

@@ -2,3 +2,5 @@ pub mod Book
 pub mod Numbers
 pub mod View
 pub mod Steps
+pub mod Grants
+pub mod GrantTables

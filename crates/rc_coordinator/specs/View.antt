@@ -15,7 +15,7 @@ state_view c =
       least = pair_in c.least;
       attempts = c.recoveries.attempts.items;
       current = number_in c.recoveries.current;
-      grants = c.grants.items;
+      grants = c.grants.grants;
       last_term = c.last_term;
     }
 
@@ -28,6 +28,6 @@ book_of c =
       least = c.least.entries;
       attempts = c.recoveries.attempts.items;
       current = c.recoveries.current.entries;
-      grants = c.grants.items;
+      grants = c.grants.grants;
       last_term = c.last_term;
     }

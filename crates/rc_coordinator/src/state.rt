@@ -20,6 +20,7 @@ ghost use Rattle.rc_coordinator.specs.View.{book_of, state_view};
 ghost use Rattle.rc_coordinator.specs.Steps.{steps, creates_unless_full, HasNumbers};
 
 use crate::attempts::{Attempt, Decision, GivenPart, Recoveries};
+use crate::grants::Grants;
 use crate::plans::{self, Choice};
 use crate::{grants, least, notices};
 use indexmap::{IndexMap, IndexSet};
@@ -27,7 +28,7 @@ use rc_digestpick::pick;
 use rc_rangetree::RangeTree;
 use rc_serverlist::ServerList;
 use rc_types::{
-    Addr, Body, Fault, Grant, Input, KeyRange, Message, Pair, Part, Row, Seq, ServerId, TryClone,
+    Addr, Body, Fault, Input, KeyRange, Message, Pair, Part, Row, Seq, ServerId, TryClone,
 };
 use std::alloc::{Allocator, Global};
 
@@ -40,7 +41,7 @@ pub(crate) struct State<A: Allocator> {
     pub(crate) tablets: RangeTree<A>,
     pub(crate) least: IndexMap<ServerId, Pair>,
     pub(crate) recoveries: Recoveries,
-    pub(crate) grants: Vec<Grant>,
+    pub(crate) grants: Grants,
     pub(crate) last_term: u32,
 }
 
@@ -56,7 +57,7 @@ impl<A: Allocator + Clone> State<A> {
             tablets: RangeTree::new_in(tablets_alloc),
             least: IndexMap::new(alloc),
             recoveries: Recoveries::new(alloc),
-            grants: Vec::new(alloc),
+            grants: Grants::new(alloc),
             last_term: 0,
         }
     }
@@ -467,12 +468,12 @@ impl<A: Allocator + Clone> State<A> {
         ensures no_memory { IfErr result (λ fault. fault ≡ OutOfMemory) }
     {
         let term = self.last_term + 1;
-        self.grants.reserve(1)?;
+        self.grants.make_room()?;
         sent.reserve(1)?;
         match self.tablets.create(table, owner, term) {
             Ok(()) => {
                 let grant = grants::first_grant(table, owner, term);
-                self.grants.push(grant).unwrap();
+                self.grants.remember(grant);
                 sent.push(notices::own_to(owner, grant)).unwrap();
                 self.last_term = term;
                 Ok(())
@@ -528,7 +529,7 @@ impl<A: Allocator + Clone> State<A> {
     {
         let answer = if !self.servers.is_up(id) {
             notices::refusal_to(id, Fault::Deposed)
-        } else if let Some(grant) = grants::grant_to(&self.grants, id, term) {
+        } else if let Some(grant) = self.grants.grant_to(id, term) {
             notices::own_to(id, grant)
         } else if let Some(part) = self.part_of_sender(id, number, term) {
             return self.grant_part(id, number, &part, sent);
@@ -567,12 +568,12 @@ impl<A: Allocator + Clone> State<A> {
         ensures unsent { OnErr result (sent.new.items ≡ sent.old.items) }
         ensures no_memory { IfErr result (λ fault. fault ≡ OutOfMemory) }
     {
-        self.grants.reserve(1)?;
+        self.grants.make_room()?;
         sent.reserve(1)?;
         match self.tablets.assign(grants::range_of(part), id, part.term) {
             Ok(()) => {
                 let grant = grants::grant_of(number, id, part);
-                self.grants.push(grant).unwrap();
+                self.grants.remember(grant);
                 sent.push(notices::own_to(id, grant)).unwrap();
             }
             Err(_) => sent.push(notices::refusal_to(id, Fault::NoTable)).unwrap(),
@@ -658,7 +659,7 @@ impl<A: Allocator + Clone> State<A> {
         ensures { result ≡ has_open_part (state_view self.now) decision.now id }
     {
         for given in decision.parts() {
-            if id == given.to && !grants::is_granted(&self.grants, given.part.term) {
+            if id == given.to && !self.grants.is_granted(given.part.term) {
                 return true;
             }
         }
