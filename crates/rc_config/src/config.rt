@@ -248,7 +248,8 @@ impl Config {
     }
 
     /// Marks the members lost that the list shows crashed, and replaces the lost ones. The epoch
-    /// stays, and so does what the others have told. Answers the new members.
+    /// stays, and so does what the others have told. Answers the new members. Where nobody is lost it
+    /// takes no memory, and looks at the members alone.
     ///
     /// # Errors
     ///
@@ -265,6 +266,10 @@ impl Config {
             ⊎ (refill own servers.now self.old ≡ (self.new, Err fault))) }
     {
         let marked = self.with_lost(servers);
+        if !marked.any_lost() {
+            *self = marked;
+            return Ok(Vec::new(alloc));
+        }
         let found = marked.substitutes(alloc, own, servers)?;
         *self = marked;
         let Some(ids) = found else {
