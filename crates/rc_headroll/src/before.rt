@@ -1,6 +1,6 @@
 //! Where a log goes back to.
 
-ghost use Rattle.std.specs.Prelude.{◌≡◌, ◌+◌, ◌^◌, ◌<◌, ◌≤◌, Some, length, OnOk, OnErr};
+ghost use Rattle.std.specs.Prelude.{◌≡◌, ◌+◌, ◌^◌, ◌<◌, ◌≤◌, [], Some, length, OnOk, OnErr};
 ghost use Rattle.std.specs.Option.{option_copied};
 ghost use Rattle.rc_headroll.specs.Before.{state_of, first_mark, mark_of, state_at, kept_of, with_kept};
 ghost use Rattle.rc_headroll.specs.Before.{segments_before, others_back, other_back, one_back};
@@ -121,7 +121,7 @@ impl Before {
         Ok(())
     }
 
-    /// Goes back to now.
+    /// Goes back to now. It costs as much as was kept since it was last called.
     pub(crate) fn begin(
         &mut self,
         segments: &[Segment],
@@ -139,7 +139,7 @@ impl Before {
         self.passed_entries = passed_entries;
         self.newest = state_at(segments, 1);
         self.previous = state_at(segments, 2);
-        self.others.clear();
+        forget_all(&mut self.others);
     }
 
     /// Puts all segments back as they were.
@@ -150,6 +150,16 @@ impl Before {
         put_others_back(&mut self.others, self.head, segments);
         put_kept_back(segments, self.head, &self.newest);
         put_kept_back(segments, self.head.saturating_sub(1), &self.previous);
+    }
+}
+
+/// Forgets what was kept of the others, one after another: the time depends on how many they are, and not
+/// on how many they ever were.
+fn forget_all(others: &mut IndexMap<u16, SegmentState>)
+    ensures { others.new.entries ≡ [] }
+{
+    while !others.is_empty() {
+        others.pop();
     }
 }
 
