@@ -65,7 +65,7 @@ fn add_if_open(
 }
 
 /// Reminds the members of all open segments of what they have not answered: the segment whole, else
-/// what they lack of it, else the Close.
+/// what they lack of it, else the Close. Shut segments before the first open one are not gone over.
 pub fn add_open_reminders(
     alloc: Global,
     log: &LogHead,
@@ -75,7 +75,10 @@ pub fn add_open_reminders(
         reminds_open (before_of log.now) (log_of log.now) (numbers_to (log_of log.now).head)) }
     ensures begun { OnErr result (IsBeginning sent.old.items sent.new.items) }
 {
-    for place in 0..log.head() {
+    let Some(first) = log.first_open() else {
+        return Ok(());
+    };
+    for place in first - 1..log.head() {
         add_if_open(alloc, log, place + 1, sent)?;
     }
     Ok(())
