@@ -58,6 +58,20 @@ impl Backup {
         }
     }
 
+    /// A backup of this id that keeps this of each master. It takes no memory.
+    pub fn of_kept(alloc: Global, id: ServerId, held: BTreeMap<ServerId, Held>) -> Backup
+        ensures { result ≡ record { own = id; table = held.entries } }
+    {
+        Backup { alloc, id, held }
+    }
+
+    /// Its id.
+    pub fn id(&self) -> ServerId
+        ensures { result ≡ self.now.own }
+    {
+        self.id
+    }
+
     /// Takes a message, whoever it is addressed to, and adds the answer, if there is one, to those
     /// sent.
     ///
@@ -140,7 +154,9 @@ impl Backup {
     }
 
     /// What it keeps, by master. It takes no memory.
-    pub fn kept(&self) -> &BTreeMap<ServerId, Held> {
+    pub fn kept(&self) -> &BTreeMap<ServerId, Held>
+        ensures { result.now.entries ≡ self.now.table }
+    {
         &self.held
     }
 

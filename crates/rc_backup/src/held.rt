@@ -50,6 +50,18 @@ impl Held {
         }
     }
 
+    /// Of a master these replicas, by segment, and these segments that it has freed; and whether it is
+    /// fenced. It takes no memory.
+    pub fn of_parts(fenced: bool, replicas: BTreeMap<u16, Replica>, freed: BTreeSet<u16>) -> Held
+        ensures { result ≡ record { fenced = fenced; replicas = replicas.entries; freed = freed.keys } }
+    {
+        Held {
+            fenced,
+            replicas,
+            freed,
+        }
+    }
+
     /// Fences the master.
     pub(crate) fn fence(&mut self)
         ensures { self.new ≡ record self.old { fenced = true } }
@@ -58,8 +70,17 @@ impl Held {
     }
 
     /// The replicas, by segment.
-    pub fn replicas(&self) -> &BTreeMap<u16, Replica> {
+    pub fn replicas(&self) -> &BTreeMap<u16, Replica>
+        ensures { result.now.entries ≡ self.now.replicas }
+    {
         &self.replicas
+    }
+
+    /// The segments that the master has freed.
+    pub fn freed(&self) -> &BTreeSet<u16>
+        ensures { result.now.keys ≡ self.now.freed }
+    {
+        &self.freed
     }
 
     /// Whether the master is fenced.
