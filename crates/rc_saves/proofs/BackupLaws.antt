@@ -1,6 +1,5 @@
 -- What a backup keeps is read back, and nothing else is.
-use Rattle.std.proofs.Common.{◌≡◌, ℕ, List, ◌++◌, refl}
-use Rattle.rc_model.specs.Backup.{Held}
+use Rattle.std.proofs.Common.{refl}
 use Rattle.rc_codec.specs.Parts.{byte, two_bytes, four_bytes, eight_bytes, flag}
 use Rattle.rc_codec.specs.Spelling.{id_code, value_code, entry_code}
 use Rattle.rc_codec.specs.Reading.{flag_at}
