@@ -6,7 +6,6 @@
 
 pub mod laws;
 mod putting;
-mod reading;
 mod saves;
 
 pub use saves::encode_backup;
