@@ -1,14 +1,11 @@
--- The bytes of what a backup keeps, and when its lists are in order. `docs/FORMATS.md` has the same in prose.
-use Rattle.std.specs.Prelude.{ℕ, List, [], ◌∷◌, ◌++◌}
-use Rattle.std.specs.List.Sorted.{IsStrictlySortedBy}
-use Rattle.std.specs.Map.{keys_of}
-use Rattle.std.specs.Ordering.{nat_cmp}
+-- The bytes of what a backup keeps. `docs/FORMATS.md` has the same in prose.
+use Rattle.std.specs.Prelude.{ℕ, List, ◌++◌}
 use Rattle.rc_types.specs.declared.ids.ServerId.{ServerId}
 use Rattle.rc_model.specs.Replica.{Replica}
 use Rattle.rc_model.specs.Backup.{Held}
 use Rattle.rc_codec.specs.Parts.{two_bytes, flag, listed}
 use Rattle.rc_codec.specs.Spelling.{id_code, entry_code}
-use Rattle.rc_backup.specs.BackupView.{Holdings, id_order}
+use Rattle.rc_backup.specs.BackupView.{Holdings}
 
 -- a segment and its replica
 abbrev pub replica_code : ℕ × Replica → List ℕ
@@ -22,17 +19,3 @@ held_code p = id_code p.0 ++ flag p.1.fenced ++ listed replica_code p.1.replicas
 -- the backup's id, and what it keeps of each master
 abbrev pub backup_code : Holdings → List ℕ
 backup_code backup = id_code backup.own ++ listed held_code backup.table
-
--- replicas and freed segments ascend by segment
-pub record IsHeldInOrder (held : Held) : Type 0 where
-  pub replicas : IsStrictlySortedBy nat_cmp (keys_of held.replicas)
-  pub freed : IsStrictlySortedBy nat_cmp held.freed
-
-abbrev pub AreHeldInOrder : List (ServerId × Held) → Type 0
-AreHeldInOrder [] = Unit {0}
-AreHeldInOrder (e ∷ es) = IsHeldInOrder e.1 × AreHeldInOrder es
-
--- masters ascend, and so does what is kept of each
-pub record IsInOrder (table : List (ServerId × Held)) : Type 0 where
-  pub masters : IsStrictlySortedBy id_order (keys_of table)
-  pub held : AreHeldInOrder table
