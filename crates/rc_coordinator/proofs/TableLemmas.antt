@@ -8,20 +8,27 @@ use Rattle.rc_types.specs.declared.ids.ServerId.{ServerId}
 use Rattle.rc_model.specs.Ids.{same_id}
 use Rattle.rc_model.specs.Tables.{put_id}
 use Rattle.rc_types.specs.declared.ids.Pair.{Pair}
-use Rattle.rc_coordinator.specs.Numbers.{number_in, pair_in}
+use Rattle.rc_coordinator.specs.Numbers.{pair_in}
+use Rattle.rc_coordinator.specs.Recovering.{number_of}
 
 abbrev pub Numbers : Type 0
 Numbers = IndexMap ServerId ℕ (BuildHasherDefault FoldHasher)
 
--- what an insertion makes of the table
-pub number_in-inserted : (old new : Numbers) (master : ServerId) (number : ℕ) →
-    Updates same_id old new master (Some number) → number_in new ≡ put_id (number_in old) master number
-number_in-inserted old new master number updates =
-    fun_ext (λ other. ap (λ o. unwrap_or o 0) (updates.0 other) ∙ by (same_id master other) (get same_id old other))
+-- what an insertion makes of the table, at each place and as a whole
+pub number_of-updated : (old new : Numbers) (master : ServerId) (number : ℕ) →
+    Updates same_id old new master (Some number) → (other : ServerId) →
+    number_of new.entries other ≡ cond (same_id master other) number (number_of old.entries other)
+number_of-updated old new master number updates other =
+    ap (λ o. unwrap_or o 0) (updates.0 other) ∙ by (same_id master other) (get same_id old other)
   where
     by : (b : Bool) (o : Option ℕ) → unwrap_or (cond b (Some number) o) 0 ≡ cond b number (unwrap_or o 0)
     by true o = refl
     by false o = refl
+
+pub number_of-inserted : (old new : Numbers) (master : ServerId) (number : ℕ) →
+    Updates same_id old new master (Some number) →
+    number_of new.entries ≡ put_id (number_of old.entries) master number
+number_of-inserted old new master number updates = fun_ext (number_of-updated old new master number updates)
 
 abbrev pub Pairs : Type 0
 Pairs = IndexMap ServerId Pair (BuildHasherDefault FoldHasher)

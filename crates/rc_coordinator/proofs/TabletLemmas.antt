@@ -1,12 +1,11 @@
 -- Lists of tablets, and why one isn't changed.
-use Rattle.std.proofs.Common.{◌≡◌, ℕ, suc, ◌≤◌, Bool, true, false, cond, nat_lt, ◌||◌, List, []}
+use Rattle.std.proofs.Common.{◌≡◌, suc, ◌≤◌, Bool, true, false, cond, ◌||◌, List, []}
 use Rattle.std.proofs.Common.{◌∷◌, length, refl, ap, ◌∙◌, arith}
 use Rattle.rc_types.specs.declared.ids.ServerId.{ServerId}
 use Rattle.rc_types.specs.declared.rows.Tablet.{Tablet}
-use Rattle.rc_types.specs.declared.faults.Fault.TheVariants.{NoTable}
 use Rattle.rc_types.specs.declared.rows.Row.{Row}
 use Rattle.rc_model.specs.Ids.{same_id}
-use Rattle.rc_model.specs.Tablets.{tablets_of, mark_if_owned, marked_crashed}
+use Rattle.rc_model.specs.Tablets.{tablets_of, marked_crashed}
 use Rattle.rc_model.specs.Attempts.{has_answered}
 use Rattle.std.specs.List.{list_any}
 

@@ -2,3 +2,7 @@ pub mod Book
 pub mod Numbers
 pub mod View
 pub mod Steps
+pub mod Grants
+pub mod GrantTables
+pub mod Recovering
+pub mod Asked

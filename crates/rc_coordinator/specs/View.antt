@@ -4,7 +4,8 @@ use Rattle.rc_model.specs.Ids.{same_id}
 use Rattle.rc_model.specs.Coordinator.{Coordinator as Node}
 use Rattle.rc_coordinator.specs.declared.state.State.{State}
 use Rattle.rc_coordinator.specs.Book.{Book}
-use Rattle.rc_coordinator.specs.Numbers.{number_in, pair_in}
+use Rattle.rc_coordinator.specs.Numbers.{pair_in}
+use Rattle.rc_coordinator.specs.Recovering.{number_of}
 
 abbrev pub state_view : {A : _} → State A → Node
 state_view c =
@@ -13,9 +14,9 @@ state_view c =
       ready = contains same_id c.ready;
       tablets = c.tablets.tablets;
       least = pair_in c.least;
-      attempts = c.recoveries.attempts.items;
-      current = number_in c.recoveries.current;
-      grants = c.grants.items;
+      attempts = c.recoveries.attempts;
+      current = number_of c.recoveries.current;
+      grants = c.recoveries.grants;
       last_term = c.last_term;
     }
 
@@ -26,8 +27,8 @@ book_of c =
       ready = c.ready.keys;
       tablets = c.tablets.tablets;
       least = c.least.entries;
-      attempts = c.recoveries.attempts.items;
-      current = c.recoveries.current.entries;
-      grants = c.grants.items;
+      attempts = c.recoveries.attempts;
+      current = c.recoveries.current;
+      grants = c.recoveries.grants;
       last_term = c.last_term;
     }

@@ -1,21 +1,13 @@
-//! The attempts to recover crashed masters, with the answers of the backups and what was decided.
+//! An attempt to recover a crashed master, with the answers of the backups and what was decided.
 
-ghost use Rattle.std.specs.Prelude.{◌≡◌, ◌+◌, ◌-◌, ◌^◌, ◌<◌, ◌++◌, ◌∷◌, [], nat_eq, if◌then◌else◌, length, slice_get};
+ghost use Rattle.std.specs.Prelude.{◌≡◌, ◌++◌, ◌∷◌, [], length};
 ghost use Rattle.std.specs.Prelude.{Some, OnOk, OnErr, IfErr};
 ghost use Rattle.std.specs.Option.{option_copied};
 ghost use Rattle.rc_types.specs.declared.faults.Fault.TheVariants.{OutOfMemory};
-ghost use Rattle.rc_types.specs.declared.messages.Body.TheVariants.{Gather};
-ghost use Rattle.rc_model.specs.Tables.{put_id};
-ghost use Rattle.rc_model.specs.Messages.{to_each};
-ghost use Rattle.rc_model.specs.ServerList.{up};
 ghost use Rattle.rc_model.specs.Attempts.{new_attempt, has_answered, is_gathering};
 ghost use Rattle.rc_model.specs.Deciding.{part_in};
-ghost use Rattle.rc_coordinator.specs.Numbers.{number_in};
 
-use crate::notices;
-use indexmap::IndexMap;
-use rc_serverlist::ServerList;
-use rc_types::{Fault, Message, Part, Plan, Row, Seq, ServerId};
+use rc_types::{Fault, Part, Plan, Row, Seq, ServerId};
 use std::alloc::Global;
 use std::marker::Model;
 
@@ -166,80 +158,5 @@ impl Attempt {
         ensures { self.new ≡ record self.old { decided = Some decision } }
     {
         self.decided = Some(decision);
-    }
-}
-
-/// All attempts so far, of which that of number k stands at place k - 1, and of each master the
-/// number of its current one.
-#[derive(Drop)]
-pub(crate) struct Recoveries {
-    pub(crate) attempts: Vec<Attempt>,
-    pub(crate) current: IndexMap<ServerId, u32>,
-}
-
-impl Recoveries {
-    /// No attempt. It takes no memory.
-    pub(crate) fn new(alloc: Global) -> Recoveries
-        ensures attempts { result.attempts.items ≡ [] }
-        ensures current { number_in result.current ≡ (λ _. 0) }
-    {
-        Recoveries {
-            attempts: Vec::new(alloc),
-            current: IndexMap::new(alloc),
-        }
-    }
-
-    /// The number of the master's current attempt, and 0 if it has none.
-    pub(crate) fn current_number(&self, master: ServerId) -> u32
-        ensures { result ≡ number_in self.now.current master }
-    {
-        match self.current.get(&master) {
-            Some(number) => *number,
-            None => 0,
-        }
-    }
-
-    /// The attempt of this number.
-    pub(crate) fn attempt(&self, number: u32) -> Option<&Attempt>
-        ensures { option_copied result ≡ (if nat_eq number 0 then None else slice_get self.now.attempts.items
-            (number - 1)) }
-    {
-        match number {
-            0 => None,
-            _ => self.attempts.get(number as usize - 1),
-        }
-    }
-
-    /// Begins an attempt, which becomes the master's current one, and adds to those sent these
-    /// messages and then a Gather to every server that is up. Only memory can be refused (F1), and
-    /// then nothing has changed.
-    pub(crate) fn begin(
-        &mut self,
-        alloc: Global,
-        servers: &ServerList,
-        master: ServerId,
-        messages: Vec<Message>,
-        sent: &mut Vec<Message>,
-    ) -> Result<(), Fault>
-        requires { length self.old.attempts.items < 2 ^ 32 - 1 }
-        ensures attempts { OnOk result (self.new.attempts.items ≡ self.old.attempts.items ++ new_attempt master ∷ []) }
-        ensures current { OnOk result (number_in self.new.current ≡ put_id (number_in self.old.current) master
-            (length self.old.attempts.items + 1)) }
-        ensures sends { OnOk result (sent.new.items ≡ sent.old.items ++
-            (messages.items ++ to_each (up servers.now) (Gather (length self.old.attempts.items + 1) master))) }
-        ensures attempts_stay { OnErr result (self.new.attempts.items ≡ self.old.attempts.items) }
-        ensures current_stays { OnErr result (self.new.current.entries ≡ self.old.current.entries) }
-        ensures unsent { OnErr result (sent.new.items ≡ sent.old.items) }
-        ensures no_memory { IfErr result (λ fault. fault ≡ OutOfMemory) }
-    {
-        let number = self.attempts.len() as u32 + 1;
-        let mut messages = messages;
-        notices::add_gathers(alloc, servers, number, master, &mut messages)?;
-        self.attempts.reserve(1)?;
-        sent.reserve(messages.len())?;
-        self.current.insert(master, number)?;
-        self.attempts.push(Attempt::new(alloc, master)).unwrap();
-        sent.append(&mut messages).unwrap();
-        Ok(())
     }
 }

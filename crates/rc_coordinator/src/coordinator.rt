@@ -32,7 +32,7 @@ impl<A: Allocator> Drop for Coordinator<A> {
 impl<A: Allocator> fmt::Debug for Coordinator<A> {
     fn fmt<W: fmt::Write>(&self, f: &mut fmt::Formatter<W>) -> fmt::Result {
         let servers = self.state.servers.len();
-        let attempts = self.state.recoveries.attempts.len();
+        let attempts = self.state.recoveries.count();
         write!(f, "coordinator of {servers} servers, {attempts} attempts")
     }
 }

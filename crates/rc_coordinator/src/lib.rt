@@ -10,6 +10,7 @@ mod grants;
 mod least;
 mod notices;
 mod plans;
+mod recoveries;
 mod state;
 
 pub use coordinator::Coordinator;

@@ -94,9 +94,21 @@ pub(crate) fn spread_list(alloc: Global, servers: &ServerList) -> Result<Vec<Mes
     ensures ok { IfOk result (λ messages. messages.items ≡ spreads_list servers.now) }
     ensures no_memory { IfErr result (λ fault. fault ≡ OutOfMemory) }
 {
-    let ids = servers.up(alloc)?;
+    list_to_each(alloc, servers, &servers.up(alloc)?)
+}
+
+/// The list, to each of these servers, which are those that are up. Only memory can be refused (F1).
+pub(crate) fn list_to_each(
+    alloc: Global,
+    servers: &ServerList,
+    ids: &[ServerId],
+) -> Result<Vec<Message>, Fault>
+    requires { ids.now ≡ up servers.now }
+    ensures ok { IfOk result (λ messages. messages.items ≡ spreads_list servers.now) }
+    ensures no_memory { IfErr result (λ fault. fault ≡ OutOfMemory) }
+{
     let mut messages = Vec::with_capacity(alloc, ids.len())?;
-    for id in &ids {
+    for id in ids {
         messages.push(list_to(alloc, servers, *id)?)?;
     }
     Ok(messages)

@@ -1,6 +1,7 @@
 //! The coordinator's state, and what each input does to it.
 
-ghost use Rattle.std.specs.Prelude.{◌≡◌, ◌↔◌, ◌⊎◌, ◌+◌, ◌-◌, ◌^◌, ◌<◌, ◌≤◌, ◌++◌, ◌∷◌, [], length, find, nat_eq, nat_lt};
+ghost use Rattle.std.specs.Prelude.{◌≡◌, ◌↔◌, ◌⊎◌, ◌+◌, ◌-◌, ◌^◌, ◌<◌, ◌≤◌, ◌++◌, ◌∷◌};
+ghost use Rattle.std.specs.Prelude.{[], length, find, nat_eq, nat_lt};
 ghost use Rattle.std.specs.Prelude.{not, true, ◌&&◌, filter, false, Some, None, IfOk, OnOk, OnErr, IfErr};
 ghost use Rattle.std.specs.List.{list_any};
 ghost use Rattle.rc_types.specs.declared.faults.Fault.TheVariants.{OutOfMemory, Deposed, StaleGeneration};
@@ -8,7 +9,7 @@ ghost use Rattle.rc_types.specs.declared.limits.TheConstants.{MAX_TABLETS as TAB
 ghost use Rattle.rc_model.specs.Messages.{coordinator_refuses};
 ghost use Rattle.rc_model.specs.ServerList.{is_up, has_crashed, up};
 ghost use Rattle.rc_model.specs.Tablets.{tablets_of, marked_crashed, has_table};
-ghost use Rattle.rc_model.specs.Attempts.{Attempt as Attempted, gives_parts};
+ghost use Rattle.rc_model.specs.Attempts.{Attempt as Attempted, is_gathering, gives_parts};
 ghost use Rattle.rc_model.specs.Coordinator.{new_coordinator, enlists, notes_ready, commits_pair, suspects};
 ghost use Rattle.rc_model.specs.Coordinator.{begins_if_needed, spreads_then_begins, follows_generation, has_tablets};
 ghost use Rattle.rc_model.specs.Coordinator.{attempt_at, up_of_host};
@@ -18,16 +19,18 @@ ghost use Rattle.rc_model.specs.CoordinatorStep.{creates, creates_table, splits,
 ghost use Rattle.rc_model.specs.CoordinatorStep.{asks_again_of, coordinator_ticks, coordinator_takes};
 ghost use Rattle.rc_coordinator.specs.View.{book_of, state_view};
 ghost use Rattle.rc_coordinator.specs.Steps.{steps, creates_unless_full, HasNumbers};
+ghost use Rattle.rc_coordinator.specs.Asked.{asks_of, asks_of_all};
 
-use crate::attempts::{Attempt, Decision, GivenPart, Recoveries};
+use crate::attempts::{Attempt, Decision, GivenPart};
 use crate::plans::{self, Choice};
+use crate::recoveries::Recoveries;
 use crate::{grants, least, notices};
 use indexmap::{IndexMap, IndexSet};
 use rc_digestpick::pick;
 use rc_rangetree::RangeTree;
 use rc_serverlist::ServerList;
 use rc_types::{
-    Addr, Body, Fault, Grant, Input, KeyRange, Message, Pair, Part, Row, Seq, ServerId, TryClone,
+    Addr, Body, Fault, Input, KeyRange, Message, Pair, Part, Row, Seq, ServerId, TryClone,
 };
 use std::alloc::{Allocator, Global};
 
@@ -40,7 +43,6 @@ pub(crate) struct State<A: Allocator> {
     pub(crate) tablets: RangeTree<A>,
     pub(crate) least: IndexMap<ServerId, Pair>,
     pub(crate) recoveries: Recoveries,
-    pub(crate) grants: Vec<Grant>,
     pub(crate) last_term: u32,
 }
 
@@ -56,7 +58,6 @@ impl<A: Allocator + Clone> State<A> {
             tablets: RangeTree::new_in(tablets_alloc),
             least: IndexMap::new(alloc),
             recoveries: Recoveries::new(alloc),
-            grants: Vec::new(alloc),
             last_term: 0,
         }
     }
@@ -66,7 +67,7 @@ impl<A: Allocator + Clone> State<A> {
         ensures { (result ≡ true) ↔ HasNumbers (state_view self.now) }
     {
         self.servers.version() < u32::MAX
-            && self.recoveries.attempts.len() < u32::MAX as usize
+            && self.recoveries.count() < u32::MAX as usize
             && (self.last_term as usize).saturating_add(self.tablets.count()) < u32::MAX as usize
     }
 
@@ -317,7 +318,7 @@ impl<A: Allocator + Clone> State<A> {
             return Ok(());
         }
         let rows = rows.try_clone(self.alloc)?;
-        self.recoveries.attempts[number as usize - 1].keep(from, rows)
+        self.recoveries.keep(number, from, rows)
     }
 
     /// Takes a Decide.
@@ -354,6 +355,8 @@ impl<A: Allocator + Clone> State<A> {
         requires { HasNumbers (state_view self.now) }
         ensures place { IfOk result (λ choice. (0 < choice.number) ×
             (choice.number ≤ length (state_view self.now).attempts)) }
+        ensures gathers { IfOk result (λ choice. (attempt : Attempted) →
+            attempt_at (state_view self.now) choice.number ≡ Some attempt → is_gathering attempt ≡ true) }
         ensures few { IfOk result (λ choice. length choice.decision.parts ≤ length (state_view self.now).tablets) }
         ensures master { IfOk result (λ choice. (attempt : Attempted) →
             attempt_at (state_view self.now) choice.number ≡ Some attempt → choice.master ≡ attempt.master) }
@@ -403,6 +406,8 @@ impl<A: Allocator + Clone> State<A> {
     /// Sends the plan, and keeps the decision.
     fn decide_on(&mut self, choice: Choice, sent: &mut Vec<Message>) -> Result<(), Fault>
         requires place { (0 < choice.number) × (choice.number ≤ length (state_view self.old).attempts) }
+        requires gathers { (attempt : Attempted) → attempt_at (state_view self.old) choice.number ≡ Some attempt →
+            is_gathering attempt ≡ true }
         requires terms { (state_view self.old).last_term + length choice.decision.parts < 2 ^ 32 }
         ensures state { OnOk result ((attempt : Attempted) →
             attempt_at (state_view self.old) choice.number ≡ Some attempt →
@@ -424,7 +429,7 @@ impl<A: Allocator + Clone> State<A> {
         let mut messages = plans::plan_messages(self.alloc, number, master, &decision, &ids)?;
         sent.append(&mut messages)?;
         self.last_term += decision.parts_len() as u32;
-        self.recoveries.attempts[number as usize - 1].decide(decision);
+        self.recoveries.decide(number, decision);
         Ok(())
     }
 
@@ -467,12 +472,12 @@ impl<A: Allocator + Clone> State<A> {
         ensures no_memory { IfErr result (λ fault. fault ≡ OutOfMemory) }
     {
         let term = self.last_term + 1;
-        self.grants.reserve(1)?;
+        self.recoveries.make_room()?;
         sent.reserve(1)?;
         match self.tablets.create(table, owner, term) {
             Ok(()) => {
                 let grant = grants::first_grant(table, owner, term);
-                self.grants.push(grant).unwrap();
+                self.recoveries.remember(grant);
                 sent.push(notices::own_to(owner, grant)).unwrap();
                 self.last_term = term;
                 Ok(())
@@ -528,7 +533,7 @@ impl<A: Allocator + Clone> State<A> {
     {
         let answer = if !self.servers.is_up(id) {
             notices::refusal_to(id, Fault::Deposed)
-        } else if let Some(grant) = grants::grant_to(&self.grants, id, term) {
+        } else if let Some(grant) = self.recoveries.grant_to(id, term) {
             notices::own_to(id, grant)
         } else if let Some(part) = self.part_of_sender(id, number, term) {
             return self.grant_part(id, number, &part, sent);
@@ -567,12 +572,12 @@ impl<A: Allocator + Clone> State<A> {
         ensures unsent { OnErr result (sent.new.items ≡ sent.old.items) }
         ensures no_memory { IfErr result (λ fault. fault ≡ OutOfMemory) }
     {
-        self.grants.reserve(1)?;
+        self.recoveries.make_room()?;
         sent.reserve(1)?;
         match self.tablets.assign(grants::range_of(part), id, part.term) {
             Ok(()) => {
                 let grant = grants::grant_of(number, id, part);
-                self.grants.push(grant).unwrap();
+                self.recoveries.remember(grant);
                 sent.push(notices::own_to(id, grant)).unwrap();
             }
             Err(_) => sent.push(notices::refusal_to(id, Fault::NoTable)).unwrap(),
@@ -581,14 +586,16 @@ impl<A: Allocator + Clone> State<A> {
     }
 
     /// Takes the timer: the list goes out again, and then what each current attempt waits for.
-    fn tick(&self, sent: &mut Vec<Message>) -> Result<(), Fault>
-        requires { HasNumbers (state_view self.now) }
-        ensures sends { OnOk result (sent.new.items ≡ sent.old.items ++ coordinator_ticks (state_view self.now)) }
+    fn tick(&mut self, sent: &mut Vec<Message>) -> Result<(), Fault>
+        requires { HasNumbers (state_view self.old) }
+        ensures same { book_of self.new ≡ book_of self.old }
+        ensures sends { OnOk result (sent.new.items ≡ sent.old.items ++ coordinator_ticks (state_view self.old)) }
         ensures unsent { OnErr result (sent.new.items ≡ sent.old.items) }
         ensures no_memory { IfErr result (λ fault. fault ≡ OutOfMemory) }
     {
-        let mut messages = notices::spread_list(self.alloc, &self.servers)?;
+        self.recoveries.pass_over_quiet();
         let ids = self.servers.up(self.alloc)?;
+        let mut messages = notices::list_to_each(self.alloc, &self.servers, &ids)?;
         self.ask_all_again(&ids, &mut messages)?;
         sent.append(&mut messages)?;
         Ok(())
@@ -597,20 +604,51 @@ impl<A: Allocator + Clone> State<A> {
     /// Adds what each current attempt waits for. Where memory is refused (F1), some may have been
     /// added.
     fn ask_all_again(&self, ids: &[ServerId], messages: &mut Vec<Message>) -> Result<(), Fault>
-        requires numbers { HasNumbers (state_view self.now) }
-        requires ids { ids.now ≡ up (state_view self.now).servers }
+        requires { ids.now ≡ up (state_view self.now).servers }
         ensures ok { OnOk result (messages.new.items ≡ messages.old.items ++ asks_again_of (state_view self.now) 1
             (state_view self.now).attempts) }
         ensures no_memory { IfErr result (λ fault. fault ≡ OutOfMemory) }
     {
-        let mut number = 0;
-        for attempt in &self.recoveries.attempts {
-            number += 1;
-            if self.recoveries.current_number(attempt.master()) == number {
-                self.ask_again(number, attempt, ids, messages)?;
-            }
+        self.ask_each(self.recoveries.asked(), ids, messages)
+    }
+
+    /// Adds what the attempts of these numbers wait for. Where memory is refused (F1), some may have been added.
+    fn ask_each(
+        &self,
+        numbers: &[u32],
+        ids: &[ServerId],
+        messages: &mut Vec<Message>,
+    ) -> Result<(), Fault>
+        requires { ids.now ≡ up (state_view self.now).servers }
+        ensures ok { OnOk result (messages.new.items ≡
+            messages.old.items ++ asks_of_all (state_view self.now) numbers.now) }
+        ensures no_memory { IfErr result (λ fault. fault ≡ OutOfMemory) }
+    {
+        for number in numbers {
+            self.ask_if_current(*number, ids, messages)?;
         }
         Ok(())
+    }
+
+    /// Adds what the attempt of this number waits for, where it is its master's current one. Where memory is refused
+    /// (F1), some may have been added.
+    fn ask_if_current(
+        &self,
+        number: u32,
+        ids: &[ServerId],
+        messages: &mut Vec<Message>,
+    ) -> Result<(), Fault>
+        requires { ids.now ≡ up (state_view self.now).servers }
+        ensures ok { OnOk result (messages.new.items ≡ messages.old.items ++ asks_of (state_view self.now) number
+            (attempt_at (state_view self.now) number)) }
+        ensures no_memory { IfErr result (λ fault. fault ≡ OutOfMemory) }
+    {
+        match self.recoveries.attempt(number) {
+            Some(attempt) if self.recoveries.current_number(attempt.master()) == number => {
+                self.ask_again(number, attempt, ids, messages)
+            }
+            _ => Ok(()),
+        }
     }
 
     /// Adds what an attempt waits for. Where memory is refused (F1), some may have been added.
@@ -658,7 +696,7 @@ impl<A: Allocator + Clone> State<A> {
         ensures { result ≡ has_open_part (state_view self.now) decision.now id }
     {
         for given in decision.parts() {
-            if id == given.to && !grants::is_granted(&self.grants, given.part.term) {
+            if id == given.to && !self.recoveries.is_granted(given.part.term) {
                 return true;
             }
         }

@@ -1,7 +1,7 @@
 -- Rows of ids and marks.
 use Rattle.std.proofs.Common.{◌≡◌, ℕ, zero, suc, ◌+◌, Bool, true, false, cond, if◌then◌else◌, not, nat_eq, nat_lt}
 use Rattle.std.proofs.Common.{◌&&◌, ◌||◌, List, [], ◌∷◌, ◌++◌, length, take, drop, slice_get, append-nil, append_assoc}
-use Rattle.std.proofs.Common.{Some, is_some, unwrap_or, refl, sym, ap, subst, ◌∙◌, arith, add-one, true≢false}
+use Rattle.std.proofs.Common.{Option, Some, is_some, unwrap_or, refl, sym, ap, subst, ◌∙◌, arith, add-one, true≢false}
 use Rattle.std.proofs.lemmas.Bool.Decides.{nat_tests}
 use Rattle.std.specs.Bool.{OnFalse}
 use Rattle.std.specs.List.{IsDistinct, AllByRecursion, list_all}
@@ -36,6 +36,15 @@ marked_up-lookup (row ∷ rows) id = by (same_id id row.0) (marked_up-lookup row
         cond b row.1 (marked_up rows id) ≡ unwrap_or (cond b (Some row.1) (lookup (same_id id) rows)) false
     by true rest = refl
     by false rest = rest
+
+-- an id has crashed where a look-up finds it, and finds no mark
+pub crashed-lookup : (rows : Rows) (id : ServerId) (found : Option Bool) → found ≡ lookup (same_id id) rows →
+    (is_some found && (if unwrap_or found false then false else true))
+    ≡ (knows rows id && (if marked_up rows id then false else true))
+crashed-lookup rows id found is =
+    ap (λ f. is_some f && (if unwrap_or f false then false else true)) is
+    ∙ sym (ap (λ k. k && (if marked_up rows id then false else true)) (knows-lookup rows id)
+    ∙ ap (λ m. is_some (lookup (same_id id) rows) && (if m then false else true)) (marked_up-lookup rows id))
 
 -- no row of another id is marked
 id_crashed-absent : (id : ServerId) (rows : Rows) → AllByRecursion (λ other. same_id id other ≡ false) (keys_of rows) →

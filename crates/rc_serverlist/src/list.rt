@@ -133,7 +133,7 @@ impl ServerList {
     pub fn has_crashed(&self, id: ServerId) -> bool
         ensures { result ≡ has_crashed self.now id }
     {
-        self.knows(id) && !self.is_up(id)
+        marks::is_marked_crashed(&self.rows, id)
     }
 
     /// Whether the id can be enlisted: its generation is above all known of its index.

@@ -1,7 +1,7 @@
 //! Rows of ids and marks, as an `IndexMap` in the order of enlisting.
 
 ghost use Rattle.std.specs.Prelude.{◌≡◌, ◌≤◌, ◌++◌, ◌∷◌, [], take, drop, length, position, not, if◌then◌else◌};
-ghost use Rattle.std.specs.Prelude.{nat_eq, nat_lt, ◌||◌, OnOk, IfErr};
+ghost use Rattle.std.specs.Prelude.{nat_eq, nat_lt, ◌||◌, ◌&&◌, true, false, OnOk, IfErr};
 ghost use Rattle.std.specs.Bool.{OnFalse};
 ghost use Rattle.std.specs.List.{list_all};
 ghost use Rattle.indexmap.specs.IndexMap.{keys};
@@ -50,6 +50,16 @@ pub(crate) fn is_marked_up(rows: &IndexMap<ServerId, bool>, id: ServerId) -> boo
 {
     match rows.get(&id) {
         Some(up) => *up,
+        None => false,
+    }
+}
+
+/// Whether the id has a row that is not marked up.
+pub(crate) fn is_marked_crashed(rows: &IndexMap<ServerId, bool>, id: ServerId) -> bool
+    ensures { result ≡ (knows rows.now.entries id && (if marked_up rows.now.entries id then false else true)) }
+{
+    match rows.get(&id) {
+        Some(up) => !*up,
         None => false,
     }
 }

@@ -1,6 +1,3 @@
-use Rattle.std.proofs.Common.{◌∙◌, ap}
-use Rattle.rc_model.specs.Tables.{put_id}
-use Rattle.rc_coordinator.specs.Numbers.{pair_in}
 use Rattle.rc_coordinator.proofs.TableLemmas.{pair_in-inserted}
 use Rattle.rc_coordinator.proofs.least.raise.Goals as goal
 

@@ -1,4 +1,4 @@
-use Rattle.std.proofs.Common.{append-nil, sym, ap, ◌∙◌, arith}
+use Rattle.std.proofs.Common.{append-nil, sym, ◌∙◌, arith}
 use Rattle.rc_coordinator.specs.View.{state_view}
 use Rattle.rc_coordinator.proofs.RuleLemmas.{follows-quietly, follows-beginning}
 use Rattle.rc_coordinator.proofs.state.State.follow.Goals as goal
