@@ -1,5 +1,6 @@
 pub mod HostView
 pub mod NodeView
+pub mod HostParts
 pub mod NodeFields
 pub mod NodeNumbers
 pub mod NodeCalls

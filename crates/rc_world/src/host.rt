@@ -1,6 +1,6 @@
 //! A host: its backup, and its master where it runs.
 
-ghost use Rattle.std.specs.Prelude.{◌≡◌, ◌↔◌, ◌++◌, [], true, None, OnOk, OnErr, IfOk, IfErr};
+ghost use Rattle.std.specs.Prelude.{◌≡◌, ◌↔◌, ◌++◌, [], true, None, option_map, OnOk, OnErr, IfOk, IfErr};
 ghost use Rattle.rc_types.specs.declared.faults.Fault.TheVariants.{OutOfMemory};
 ghost use Rattle.rc_types.specs.declared.messages.Body.TheVariants.{Enlist};
 ghost use Rattle.rc_model.specs.Messages.{to_coordinator};
@@ -8,8 +8,12 @@ ghost use Rattle.rc_model.specs.Ids.{is_server};
 ghost use Rattle.rc_model.specs.Backup.{open_names};
 ghost use Rattle.rc_model.specs.Nodes.{new_host, master_setup, factor_of, Take, Start, host_can, host_step};
 ghost use Rattle.rc_model.specs.Nodes.{server_of, runs, is_running_at, is_for_backup};
-ghost use Rattle.rc_world.specs.HostView.{host_of, IsWithinLimits, IsFactor, HostHasRoom, own_tick};
+ghost use Rattle.rc_backup.specs.BackupView.{backup_of};
+ghost use Rattle.rc_master.specs.Data.{master_of};
+ghost use Rattle.rc_world.specs.HostView.{host_of, IsMasterSetup, IsWithinLimits, IsFactor, HostHasRoom, own_tick};
+ghost use Rattle.rc_world.specs.HostParts.{setup_of, head_of, begun_master, host_with};
 
+use crate::head::HostHead;
 use rc_backup::Backup;
 use rc_master::Master;
 use rc_types::limits::MAX_HOSTS;
@@ -73,6 +77,39 @@ impl Host {
         }
     }
 
+    /// A host that is so, keeps this, and has a master that has just begun where it runs. It takes no memory.
+    pub(crate) fn of_parts(alloc: Global, head: HostHead, backup: Backup) -> Host
+        requires { IsMasterSetup (setup_of head) }
+        ensures host { host_of result ≡ host_with head (backup_of backup) }
+        ensures backup { result.backup ≡ backup }
+    {
+        Host {
+            alloc,
+            index: head.index,
+            factor: head.factor,
+            size: head.size,
+            free: head.free,
+            generation: head.generation,
+            backup,
+            master: begun_master(alloc, head),
+        }
+    }
+
+    /// What it is without what it keeps as a backup, and without its master.
+    pub(crate) fn head(&self) -> HostHead
+        ensures head { result ≡ head_of (host_of self.now) }
+        ensures limits { IsMasterSetup (setup_of result) }
+    {
+        HostHead {
+            index: self.index,
+            factor: self.factor,
+            size: self.size,
+            free: self.free,
+            generation: self.generation,
+            runs: self.runs(),
+        }
+    }
+
     /// The server of the host's last start.
     pub(crate) fn server(&self) -> ServerId
         ensures { result ≡ server_of (host_of self.now) }
@@ -126,7 +163,9 @@ impl Host {
     }
 
     /// What the host keeps as a backup.
-    pub(crate) fn backup(&self) -> &Backup {
+    pub(crate) fn backup(&self) -> &Backup
+        ensures { result.now ≡ self.now.backup }
+    {
         &self.backup
     }
 
@@ -230,6 +269,22 @@ fn factor_of(setup: &Setup, index: u8) -> u8
     match setup.factors.get(usize::from(index)) {
         Some(factor) => *factor,
         None => setup.factor,
+    }
+}
+
+/// A master of the last server that has just begun, where one runs.
+fn begun_master(alloc: Global, head: HostHead) -> Option<Master>
+    requires { IsMasterSetup (setup_of head) }
+    ensures { option_map master_of result ≡ begun_master head }
+{
+    let own = ServerId {
+        index: head.index,
+        generation: head.generation,
+    };
+    if head.runs {
+        Some(Master::new(alloc, own, head.factor, head.size, head.free))
+    } else {
+        None
     }
 }
 

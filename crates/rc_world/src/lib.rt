@@ -3,6 +3,7 @@
 //! events lead to, and what is proved of these holds of it.
 #![tactic(auto)]
 
+mod head;
 mod host;
 pub mod laws;
 mod lending;
@@ -12,6 +13,7 @@ mod outside;
 mod work;
 mod world;
 
+pub use head::HostHead;
 pub use node::NodeState;
 pub use work::{NodeWork, StepFault};
 pub use world::{World, run};

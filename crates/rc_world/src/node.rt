@@ -1,12 +1,14 @@
 //! One node of a world, for those who run the nodes apart.
 
-ghost use Rattle.std.specs.Prelude.{◌≡◌, ◌⊎◌, ◌↔◌, ◌++◌, true, false, OnOk, OnErr, IfOk, IfErr, Err};
+ghost use Rattle.std.specs.Prelude.{◌≡◌, ◌⊎◌, ◌↔◌, ◌++◌, true, false, option_map, Some, Err};
+ghost use Rattle.std.specs.Prelude.{OnOk, OnErr, IfOk, IfErr, IfSome};
 ghost use Rattle.rc_types.specs.declared.faults.Fault.TheVariants.{OutOfMemory, BadEvent};
 ghost use Rattle.rc_model.specs.Nodes.{outside_can, outside_sends, new_host, master_setup};
 ghost use Rattle.rc_model.specs.Coordinator.{new_coordinator};
 ghost use Rattle.rc_coordinator.specs.Book.{coordinator_of};
 ghost use Rattle.rc_coordinator.specs.Steps.{HasNumbers};
-ghost use Rattle.rc_world.specs.HostView.{host_of, HostHasRoom, IsWithinLimits};
+ghost use Rattle.rc_world.specs.HostView.{host_of, HostHasRoom, IsMasterSetup, IsWithinLimits};
+ghost use Rattle.rc_world.specs.HostParts.{setup_of, parts_of, host_from};
 ghost use Rattle.rc_history.specs.Nodes.{TheOutside, TheCoordinator, TheHost};
 ghost use Rattle.rc_world.specs.NodeView.{node_of, own_server, work_at, NodeHasRoom};
 ghost use Rattle.rc_world.specs.NodeView.{may_take, after_work, coordinator_may, coordinator_after};
@@ -14,6 +16,7 @@ ghost use Rattle.rc_world.specs.NodeView.{host_may, host_after};
 ghost use Rattle.rc_world.specs.declared.work.NodeWork.TheVariants.{Deliver};
 ghost use Rattle.rc_world.specs.declared.work.StepFault.TheVariants.{NoRoom, Refused};
 
+use crate::head::HostHead;
 use crate::host::Host;
 use crate::outside::{ask, can_ask};
 use crate::work::{NodeWork, StepFault};
@@ -97,6 +100,31 @@ impl<A: Allocator + Clone> NodeState<A> {
         NodeState {
             alloc,
             node: Node::Host(Host::new(alloc, index, setup)),
+        }
+    }
+
+    /// A host in two parts, to be kept: what it is by itself, and what it keeps as a backup. None where the node is no
+    /// host. It takes no memory.
+    pub fn parts(&self) -> Option<(HostHead, &Backup)>
+        ensures parts { option_map (λ p. record { head = p.0; backup = p.1.now }) result ≡ parts_of self.now }
+        ensures limits { IfSome result (λ p. IsMasterSetup (setup_of p.0)) }
+    {
+        match &self.node {
+            Node::Outside | Node::Coordinator(_) => None,
+            Node::Host(host) => Some((host.head(), host.backup())),
+        }
+    }
+
+    /// The host of these parts. Where it runs, its master is one that has just begun, so it is where the host was that
+    /// had these parts but for its master: a stop makes the two equal. It takes no memory.
+    pub fn of_parts(alloc: Global, head: HostHead, backup: Backup) -> NodeState<A>
+        requires { IsMasterSetup (setup_of head) }
+        ensures node { node_of result ≡ TheHost (host_from (record { head = head; backup = backup })) }
+        ensures parts { parts_of result ≡ Some (record { head = head; backup = backup }) }
+    {
+        NodeState {
+            alloc,
+            node: Node::Host(Host::of_parts(alloc, head, backup)),
         }
     }
 
