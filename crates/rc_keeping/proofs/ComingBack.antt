@@ -22,7 +22,7 @@ use Rattle.rc_world.specs.declared.work.NodeWork.{NodeWork}
 use Rattle.rc_world.specs.declared.work.NodeWork.TheVariants as work
 use Rattle.rc_keeping.specs.declared.keeping.Role.TheVariants.{Host, Coordinator as AsCoordinator}
 use Rattle.rc_keeping.specs.Keeping.{kept_as, host_next, host_given, coordinator_given}
-use Rattle.rc_keeping.specs.Keeping.{HostsComeBack, CoordinatorsComeBack, RefusalsComeBack}
+use Rattle.rc_keeping.specs.Keeping.{HostsComeBack, SavedHostsComeBack, CoordinatorsComeBack, RefusalsComeBack}
 
 same-same : (host : HostNode) → SameButMaster host host
 same-same host = record { runs = refl; rest = refl }
@@ -173,6 +173,9 @@ given-same host one other (given ∷ works) same =
 
 pub hosts-come-back : HostsComeBack
 hosts-come-back host works = given-same host host host works (same-same host)
+
+pub saved-hosts-come-back : SavedHostsComeBack
+saved-hosts-come-back loaded host works same = given-same host loaded host works same
 
 -- ---- the coordinator
 

@@ -1,5 +1,6 @@
 pub mod PastKinds
 pub mod WorkLaws
 pub mod RecordLaws
+pub mod SealLaws
 pub mod JournalLaws
 pub mod ComingBack

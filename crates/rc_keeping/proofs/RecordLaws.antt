@@ -33,11 +33,11 @@ alone-takes xs w fits e =
 -- ---- with their sum
 
 -- a test that did not fail
-tested : {A : Type 0} (b : Bool) (read : Option A) (x : A) → cond b read None ≡ Some x → (b ≡ true) × (read ≡ Some x)
+pub tested : {A : Type 0} (b : Bool) (read : Option A) (x : A) → cond b read None ≡ Some x → (b ≡ true) × (read ≡ Some x)
 tested true read x e = (refl, e)
 tested false read x e = absurd cc
 
-passed : {A : Type 0} (b : Bool) (read : Option A) (x : A) → cond b None read ≡ Some x → (b ≡ false) × (read ≡ Some x)
+pub passed : {A : Type 0} (b : Bool) (read : Option A) (x : A) → cond b None read ≡ Some x → (b ≡ false) × (read ≡ Some x)
 passed true read x e = absurd cc
 passed false read x e = (refl, e)
 
@@ -88,16 +88,16 @@ sealed-takes count sum xs w rest fits e =
 
 -- ---- behind their head
 
-abbrev head_code : ℕ × ℕ → List ℕ
+abbrev pub head_code : ℕ × ℕ → List ℕ
 head_code p = eight_bytes p.0 ++ four_bytes p.1
 
-head_law : Lawful head_code (u64_at ⊗ u32_at)
+pub head_law : Lawful head_code (u64_at ⊗ u32_at)
 head_law = pair_lawful (number_lawful 7) (number_lawful 3)
 
 abbrev behind : (ℕ × ℕ) × List ℕ → Option (NodeWork × List ℕ)
 behind head = sealed_at head.0.0 head.0.1 head.1
 
-abbrev head_of : List ℕ → ℕ × ℕ
+abbrev pub head_of : List ℕ → ℕ × ℕ
 head_of code = (length code, sum_of code)
 
 record-front : (code rest : List ℕ) (w : NodeWork) → summed_at (sum_of code) code ≡ Some w →

@@ -43,6 +43,12 @@ abbrev pub HostsComeBack : Type 0
 HostsComeBack = (host : HostNode) (works : List NodeWork) →
     SameButMaster (host_given host (kept_by_host host works)) (host_given host works)
 
+-- a host that another one was the same as, but for its master, when it was saved, and that is given again what was kept
+-- since, is where that one is, but for its master
+abbrev pub SavedHostsComeBack : Type 0
+SavedHostsComeBack = (loaded host : HostNode) (works : List NodeWork) → SameButMaster loaded host →
+    SameButMaster (host_given loaded (kept_by_host host works)) (host_given host works)
+
 -- the coordinator is where it was
 abbrev pub CoordinatorsComeBack : Type 0
 CoordinatorsComeBack = (c : Coordinator) (works : List NodeWork) →

@@ -56,3 +56,12 @@ sealed_at count sum xs =
 
 unfoldable pub record_at : Reader NodeWork
 record_at xs = (u64_at ⊗ u32_at) xs >>= λ head. sealed_at head.0.0 head.0.1 head.1
+
+-- so many bytes, that have this sum, whatever they say
+unfoldable pub opened_with : ℕ → ℕ → Reader (List ℕ)
+opened_with count sum xs =
+    if nat_lt (length xs) count then None
+    else (if nat_eq (sum_of (take count xs)) sum then Some (take count xs, drop count xs) else None)
+
+unfoldable pub opened_at : Reader (List ℕ)
+opened_at xs = (u64_at ⊗ u32_at) xs >>= λ head. opened_with head.0.0 head.0.1 head.1
