@@ -1,0 +1,4 @@
+pub mod InOrder
+pub mod HostLaws
+pub mod SaveLaws
+pub mod Loaded

@@ -1,0 +1,4 @@
+pub mod Saved
+pub mod Order
+pub mod Claims
+pub mod Readers

@@ -1,0 +1,31 @@
+//! What holds of all saves, as contracts of functions that do nothing.
+
+ghost use Rattle.rc_codec.specs.Claims.{IsPrefixFree};
+ghost use Rattle.rc_saves.specs.Saved.{save_of};
+ghost use Rattle.rc_saves.specs.Claims.{SavedIsLoaded, SavesAreTaken, SavesAreNoRecords};
+ghost use Rattle.rc_saves.specs.Claims.{CutIsRefused, DamagedIsRefused, LoadedIsSame, LoadedGoesOn, HostsComeBack};
+
+/// What was saved is loaded, whatever stands behind it, and takes exactly its own bytes; and no save is refused. A save
+/// is no record of a journal, so a journal can begin with one.
+pub fn what_is_saved_is_loaded()
+    ensures loaded { SavedIsLoaded }
+    ensures taken { SavesAreTaken }
+    ensures no_record { SavesAreNoRecords }
+{}
+
+/// A save that was cut short anywhere is refused, and so are bytes that do not have their sum. No save begins another.
+pub fn damage_is_refused()
+    ensures cut { CutIsRefused }
+    ensures damaged { DamagedIsRefused }
+    ensures prefix_free { IsPrefixFree save_of }
+{}
+
+/// A host that is loaded is the host that was saved but for its master, and runs where that one ran: after a stop the
+/// two are equal. And so it stays where it is given what `rc_keeping::keeps` kept of the works that the host took after
+/// it was saved, in the same order: it is then where the host was, but for its master. So a host comes back from the
+/// bytes of a save and of a journal that was begun with it.
+pub fn saved_hosts_come_back()
+    ensures same { LoadedIsSame }
+    ensures goes_on { LoadedGoesOn }
+    ensures back { HostsComeBack }
+{}
