@@ -60,9 +60,17 @@ impl Cluster {
         }
     }
 
+    /// The journals of the hosts begin with saves, from the first on, so that a journal without one is damaged.
+    pub(crate) fn save_all(&mut self, alloc: Global) -> Result<(), Fault> {
+        for node in self.nodes.iter_mut() {
+            node.save(alloc)?;
+        }
+        Ok(())
+    }
+
     /// One work of one node: it is written down and the node takes its step, what was written down is synced, and only
-    /// then what the step has sent leaves. The process may end in between. A work that the node can't be given now is
-    /// dropped.
+    /// then what the step has sent leaves. The process may end in between. A host whose journal has become long is saved
+    /// then. A work that the node can't be given now is dropped.
     pub(crate) fn give(
         &mut self,
         alloc: Global,
@@ -70,10 +78,23 @@ impl Cluster {
         work: &NodeWork,
     ) -> Result<(), Fault> {
         match self.step(alloc, place, work) {
-            Ok(()) => self.sync_and_send(alloc, place),
+            Ok(()) => {
+                self.sync_and_send(alloc, place)?;
+                self.shorten(alloc, place)
+            }
             Err(Fault::BadEvent) => Ok(()),
             Err(fault) => Err(fault),
         }
+    }
+
+    /// A journal that has become long is made short: a save of the host takes its place.
+    fn shorten(&mut self, alloc: Global, place: usize) -> Result<(), Fault> {
+        if let Some(node) = self.nodes.get_mut(place) {
+            if node.is_long() && node.save(alloc)? {
+                self.counts.saves.count();
+            }
+        }
+        Ok(())
     }
 
     /// 1. The work is written down, and 2. the node takes its step. What it sends stays in the outbox.

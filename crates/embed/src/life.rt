@@ -43,8 +43,9 @@ fn live(alloc: Global, cluster: &mut Cluster) -> Result<(), Fault> {
     Ok(())
 }
 
-/// All hosts are started, and a table is made.
+/// All hosts are saved as they are new, and started, and a table is made.
 fn begin(alloc: Global, cluster: &mut Cluster) -> Result<(), Fault> {
+    cluster.save_all(alloc)?;
     for host in 0..HOSTS {
         cluster.start(alloc, host, Vec::new(alloc))?;
     }

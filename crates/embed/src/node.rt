@@ -1,18 +1,25 @@
 //! A node with its journal.
 
 use crate::who::Who;
+use rc_codec::DecodeFault;
 use rc_keeping::{Role, keeps, read_back, write_down};
-use rc_types::{Addr, Body, Fault, Message, ServerId};
+use rc_saves::{SaveFault, load, save_into};
+use rc_types::{Fault, Message, ServerId};
 use rc_world::{NodeState, NodeWork, StepFault};
-use std::alloc::{AllocError, Global};
+use std::alloc::Global;
+
+/// A journal that has so many bytes behind its save is long.
+const LONG: usize = 1_024;
 
 /// A node, what was written down of its works, and how many bytes of that are safe: they are there again after its
-/// process has ended. In memory a journal stands for a file, and `sync` for waiting until it is on the disk.
+/// process has ended. In memory a journal stands for a file, and `sync` for waiting until it is on the disk. That of a
+/// host begins with a save, of `saved` bytes.
 #[derive(Drop)]
 pub(crate) struct Node {
     who: Who,
     state: NodeState<Global>,
     journal: Vec<u8>,
+    saved: usize,
     synced: usize,
     is_down: bool,
 }
@@ -24,6 +31,7 @@ impl Node {
             who,
             state: who.begun(alloc),
             journal: Vec::new(alloc),
+            saved: 0,
             synced: 0,
             is_down: false,
         }
@@ -93,6 +101,30 @@ impl Node {
         self.synced = self.journal.len();
     }
 
+    /// Whether a process has it, and its journal has become long since it was saved.
+    pub(crate) fn is_long(&self) -> bool {
+        !self.is_down && self.journal.len().saturating_sub(self.saved) > LONG
+    }
+
+    /// A save of the host takes the place of its journal. As a file this is written beside the old one, synced, and
+    /// renamed, so that there is either at every moment. Says whether this is a host: the coordinator is not saved.
+    ///
+    /// # Errors
+    ///
+    /// F1. The journal is as before.
+    pub(crate) fn save(&mut self, alloc: Global) -> Result<bool, Fault> {
+        let mut save = Vec::new(alloc);
+        match save_into(alloc, &self.state, &mut save) {
+            Ok(()) => {}
+            Err(SaveFault::NoHost) => return Ok(false),
+            Err(SaveFault::OutOfMemory) => return Err(Fault::OutOfMemory),
+        }
+        self.saved = save.len();
+        self.synced = save.len();
+        self.journal = save;
+        Ok(true)
+    }
+
     /// The process ends. What it had in memory is gone, and so is what was not synced, but for so many bytes of it.
     pub(crate) fn crash(&mut self, alloc: Global, torn: usize) {
         self.state = self.who.begun(alloc);
@@ -100,21 +132,53 @@ impl Node {
         self.is_down = true;
     }
 
-    /// A new process has the node: it is made anew, and given again what its journal has. What it sends then is
-    /// dropped. What stands behind the last whole record is cut off. Gives the replicas that it may have, by master and
-    /// segment.
+    /// A new process has the node: it is made anew, a host from the save that its journal begins with, and given again
+    /// the works of its journal. What it sends then is dropped. What stands behind the last whole record is cut off.
+    /// Gives the names of the open replicas that it has, by master and segment.
     ///
     /// # Errors
     ///
-    /// F1. The node is still down.
+    /// F1, or F18 where the save is damaged. The node is still down.
     pub(crate) fn come_back(&mut self, alloc: Global) -> Result<Vec<(ServerId, u16)>, Fault> {
-        self.state = self.who.begun(alloc);
-        let (works, good) = read_back(alloc, self.journal.as_slice())?;
-        self.journal.truncate(good);
-        self.synced = good;
+        self.begin(alloc)?;
+        let works = self.read_back(alloc)?;
         self.take_again(alloc, works.as_slice())?;
         self.is_down = false;
-        Ok(placed_by(alloc, works.as_slice())?)
+        match self.state.backup() {
+            Some(backup) => backup.open_names(),
+            None => Ok(Vec::new(alloc)),
+        }
+    }
+
+    /// A host is that of the save that its journal begins with, any other node a new one.
+    fn begin(&mut self, alloc: Global) -> Result<(), Fault> {
+        if let Who::Host(_) = self.who {
+            return self.load(alloc);
+        }
+        self.state = self.who.begun(alloc);
+        Ok(())
+    }
+
+    /// The host is that of the save. Where the journal begins with none it is damaged, and the host must not come back.
+    fn load(&mut self, alloc: Global) -> Result<(), Fault> {
+        match load(alloc, self.journal.as_slice()) {
+            Ok((state, saved)) => {
+                self.state = state;
+                self.saved = saved;
+                Ok(())
+            }
+            Err(DecodeFault::Malformed) => Err(Fault::BadEvent),
+            Err(DecodeFault::OutOfMemory) => Err(Fault::OutOfMemory),
+        }
+    }
+
+    /// The works behind the save, up to the last whole record, behind which the journal is cut off.
+    fn read_back(&mut self, alloc: Global) -> Result<Vec<NodeWork>, Fault> {
+        let behind = self.journal.get(self.saved..).unwrap_or(&[]);
+        let (works, good) = read_back(alloc, behind)?;
+        self.journal.truncate(self.saved.saturating_add(good));
+        self.synced = self.journal.len();
+        Ok(works)
     }
 
     /// Gives the node these works, and drops what it sends.
@@ -135,35 +199,4 @@ impl Node {
             Who::Outside => Role::Outside,
         }
     }
-}
-
-/// The replicas that these works have placed, each once. Whoever names one that is not there, or is closed, does no
-/// harm: a start passes it over.
-fn placed_by(alloc: Global, works: &[NodeWork]) -> Result<Vec<(ServerId, u16)>, AllocError> {
-    let mut names = Vec::new(alloc);
-    for work in works {
-        if let Some(name) = placed_by_one(work) {
-            add_once(&mut names, name)?;
-        }
-    }
-    Ok(names)
-}
-
-/// The replica that a work has placed, if it is a Place.
-fn placed_by_one(work: &NodeWork) -> Option<(ServerId, u16)> {
-    match work {
-        NodeWork::Deliver(message) => match (message.from, &message.body) {
-            (Addr::Server(master), Body::Place { seg, .. }) => Some((master, *seg)),
-            _ => None,
-        },
-        _ => None,
-    }
-}
-
-/// Adds a name that is not there yet.
-fn add_once(names: &mut Vec<(ServerId, u16)>, name: (ServerId, u16)) -> Result<(), AllocError> {
-    if !names.contains(&name) {
-        names.push(name)?;
-    }
-    Ok(())
 }

@@ -29,6 +29,7 @@ pub(crate) struct Counts {
     pub(crate) delivered: Count,
     pub(crate) lost: Count,
     pub(crate) repeated: Count,
+    pub(crate) saves: Count,
     host_crashes: Count,
     coordinator_crashes: Count,
     lost_bytes: Count,
@@ -43,6 +44,7 @@ impl Counts {
             delivered: none,
             lost: none,
             repeated: none,
+            saves: none,
             host_crashes: none,
             coordinator_crashes: none,
             lost_bytes: none,
@@ -120,6 +122,7 @@ impl Outcome {
             self.counts.coordinator_crashes.number,
         );
         pen.number(" lost-bytes ", self.counts.lost_bytes.number);
+        pen.number(" saves ", self.counts.saves.number);
         pen.number(" journal-bytes ", self.journals);
         pen.number(" acknowledged ", self.acknowledged);
         pen.number(" recoveries ", self.recoveries);
