@@ -8,6 +8,7 @@ use Rattle.rc_types.proofs.messages.Message.TheSendSync as message
 use Rattle.rc_serverlist.proofs.list.ServerList.TheSendSync as list
 use Rattle.rc_rangetree.proofs.nodes.Node.TheLaws.TheKnot as knot
 use Rattle.rc_rangetree.specs.contracts.trees.RangeTree as RangeTree
+use Rattle.rc_coordinator.proofs.recoveries.Recoveries.TheSendSync as recoveries
 use Rattle.rc_coordinator.specs.contracts.coordinator.Coordinator as Coordinator
 use Rattle.rc_world.proofs.host.Host.TheSendSync as host
 use Rattle.rc_world.specs.contracts.node.NodeState as NodeState
@@ -20,7 +21,7 @@ tablets-send : IsSend (RangeTree.the_row Heap.the_row ghosts)
 tablets-send = search (knot.crosses, sendable, crosses) depth 60
 
 coordinator-send : IsSend (Coordinator.the_row Heap.the_row ghosts)
-coordinator-send = search (tablets-send, list.the_send, sendable, crosses) depth 100 fits 100000
+coordinator-send = search (tablets-send, list.the_send, recoveries.the_send, sendable, crosses) depth 100 fits 100000
 
 node-send : IsSend (NodeState.the_row Heap.the_row ghosts)
 node-send = search (coordinator-send, host.the_send, sendable, crosses) depth 100 fits 100000
