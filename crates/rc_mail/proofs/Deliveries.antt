@@ -8,7 +8,8 @@ use Rattle.rc_types.specs.declared.events.Event.TheVariants.{Deliver}
 use Rattle.rc_types.specs.declared.messages.Message.{Message}
 use Rattle.rc_mail.specs.declared.passing.Passing.{Passing}
 use Rattle.rc_mail.specs.Delivered.{is_delivered, delivers}
-use Rattle.rc_mail.specs.Waiting.{marked, is_due_marked, Fits}
+use Rattle.rc_mail.specs.Lanes.{Lane, marked}
+use Rattle.rc_mail.specs.Waiting.{is_due_marked, Fits}
 use Rattle.rc_mail.specs.Letters.{Letters, Waits}
 use Rattle.rc_mail.proofs.Waitings.{mark_at, mark_length}
 
@@ -32,7 +33,7 @@ due_before passing false false message due = due
 
 -- after an event, with the marks that it asks for
 fits_after : (events : List Event) (sent more : List Message) (one : Event) (delivered marks : List Bool)
-    (waiting : List ℕ) → Fits events sent delivered waiting
+    (waiting : List Lane) → Fits events sent delivered waiting
     → length marks ≡ length delivered → ((n : ℕ) → marked marks n ≡ (marked delivered n || delivers n one)) →
     Fits (events ++ one ∷ []) (sent ++ more) marks waiting
 fits_after events sent more one delivered marks waiting fits same says = record {
@@ -49,7 +50,7 @@ fits_after events sent more one delivered marks waiting fits same says = record 
 
 -- after a delivery
 pub fits_delivered : (events : List Event) (sent more : List Message) (number : ℕ) (delivered marks : List Bool)
-    (waiting numbers : List ℕ) → Fits events sent delivered waiting
+    (waiting numbers : List Lane) → Fits events sent delivered waiting
     → number < length delivered → marks ≡ slice_set delivered number true → numbers ≡ waiting →
     Fits (events ++ Deliver number ∷ []) (sent ++ more) marks numbers
 fits_delivered events sent more number delivered marks waiting numbers fits within set same =

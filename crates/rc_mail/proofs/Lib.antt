@@ -1,2 +1,3 @@
+pub mod LaneLemmas
 pub mod Waitings
 pub mod Deliveries

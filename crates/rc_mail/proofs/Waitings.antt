@@ -1,56 +1,31 @@
 -- Which messages are due, by the marks and the numbers that wait.
 use Rattle.std.proofs.Common.{◌≡◌, ◌≢◌, ◌⊎◌, inl, inr, ◌≤◌, ◌<◌, ℕ, ◌+◌, ◌-◌, zero, suc, Bool, true, false, not}
-use Rattle.std.proofs.Common.{nat_eq, nat_lt, max, ◌||◌, if◌then◌else◌, cond, List, [], ◌∷◌, ◌++◌, length, drop}
+use Rattle.std.proofs.Common.{nat_eq, nat_lt, max, ◌||◌, if◌then◌else◌, List, [], ◌∷◌, ◌++◌, length, drop}
 use Rattle.std.proofs.Common.{filter, Option, Some, None, slice_get, refl, sym, ap, ◌∙◌, arith, true≢false}
 use Rattle.std.proofs.Common.{slice_index_or, slice_set, is_some, subst, length-append}
 use Rattle.std.specs.Bool.{⊤}
-use Rattle.std.specs.List.{items_where_true, find, AllWithin}
+use Rattle.std.specs.List.{items_where_true, AllWithin}
 use Rattle.std.specs.List.Sorted.{IsPartitionedBy}
 use Rattle.std.specs.List.Retain.{ReturnsInTurn}
 use Rattle.std.proofs.lemmas.Option.{slice_get_within}
-use Rattle.rc_types.specs.declared.ids.Addr.{Addr}
-use Rattle.rc_types.specs.declared.ids.Addr.TheVariants.{Outside, Coordinator, Server}
+use Rattle.rc_types.specs.declared.ids.Addr.TheVariants.{Outside}
 use Rattle.rc_types.specs.declared.messages.Message.{Message}
 use Rattle.rc_types.specs.declared.events.Event.{Event}
 use Rattle.rc_mail.specs.declared.passing.Passing.{Passing}
 use Rattle.rc_mail.specs.Delivered.{is_delivered}
 use Rattle.rc_mail.specs.Settling.{next_due, due_from}
-use Rattle.rc_mail.specs.Waiting.{In, Ascends, marked, is_due_marked, is_due_by, first_due, waiting_with, Fits}
+use Rattle.rc_reading.specs.declared.kinds.Kind.{Kind}
+use Rattle.rc_reading.specs.Kinds.{kind_of}
+use Rattle.rc_mail.specs.Passing.{is_left_alone}
+use Rattle.rc_mail.specs.Lanes.{In, Ascends, marked, Lane, is_lane_left, InLanes, IsLeast, Joins, AreTidied}
+use Rattle.rc_mail.specs.Waiting.{is_due_marked, is_due_by, first_due, Fits}
+use Rattle.rc_mail.proofs.LaneLemmas.{rises_from, all_wider}
 
 either : {P Q R : Type 0} → (P → R) → (Q → R) → P ⊎ Q → R
 either f g (inl p) = f p
 either f g (inr q) = g q
 
 -- Numbers that rise
-
--- a number of the list is at least its lower bound
-in_range : (low high : ℕ) (xs : List ℕ) (n : ℕ) → Ascends low high xs → In n xs → (low ≤ n) × (n < high)
-in_range low high [] n rise found = absurd found
-in_range low high (x ∷ xs) n rise (inl same) = (omega (arith, rise.0, same), omega (arith, rise.1, same))
-in_range low high (x ∷ xs) n rise (inr later) =
-    let h = in_range (x + 1) high xs n rise.2 later in
-    (omega (arith, rise.0, h.0), h.1)
-
-rises_from : (low lower high : ℕ) (xs : List ℕ) → lower ≤ low → Ascends low high xs → Ascends lower high xs
-rises_from low lower high [] le rise = tt
-rises_from low lower high (x ∷ xs) le rise = (omega (arith, rise.0), rise.1, rise.2)
-
-rises_to : (low high higher : ℕ) (xs : List ℕ) → high ≤ higher → Ascends low high xs → Ascends low higher xs
-rises_to low high higher [] le rise = tt
-rises_to low high higher (x ∷ xs) le rise = (rise.0, omega (arith, rise.1), rises_to (x + 1) high higher xs le rise.2)
-
-rises_one : (low high : ℕ) (xs : List ℕ) → low ≤ high → Ascends low high xs → Ascends low (high + 1) (xs ++ high ∷ [])
-rises_one low high [] le rise = (le, omega arith, tt)
-rises_one low high (x ∷ xs) le rise = (rise.0, omega (arith, rise.1), rises_one (x + 1) high xs (omega (arith, rise.1)) rise.2)
-
-in_more : (n : ℕ) (xs ys : List ℕ) → In n xs → In n (xs ++ ys)
-in_more n [] ys found = absurd found
-in_more n (x ∷ xs) ys (inl same) = inl same
-in_more n (x ∷ xs) ys (inr later) = inr (in_more n xs ys later)
-
-in_last : (n : ℕ) (xs : List ℕ) → In n (xs ++ n ∷ [])
-in_last n [] = inl refl
-in_last n (x ∷ xs) = inr (in_last n xs)
 
 -- the numbers below a bound come before the others
 pub rises_parted : (from low high : ℕ) (xs : List ℕ) → Ascends low high xs → IsPartitionedBy (λ n. nat_lt n from) xs
@@ -158,83 +133,55 @@ not_true : (b : Bool) → (b ≡ true → ⊥) → b ≡ false
 not_true true never = absurd (never refl)
 not_true false never = refl
 
--- what was found, or else the other
-abbrev pub chosen : Option ℕ → Option ℕ → Option ℕ
-chosen (Some n) rest = Some n
-chosen None rest = rest
+-- every number that is due is among those that wait
+covered : (events : List Event) (sent : List Message) (delivered : List Bool) (waiting : List Lane) (passing : Passing) (from : ℕ)
+    (best : Option ℕ) → Fits events sent delivered waiting
+    → IsLeast (is_due_by passing delivered sent) from (λ n. InLanes passing n waiting) best
+    → IsLeast (is_due_by passing delivered sent) from (λ n. n < length delivered) best
+covered events sent delivered waiting passing from None waits least =
+    λ n le lt due. least n le (waits.covers passing n lt due) due
+covered events sent delivered waiting passing from (Some m) waits least =
+    (least.0, least.1, λ n le lt due. least.2 n le (waits.covers passing n lt due) due)
 
--- every number that is due, from one bound to another, is in the list
-abbrev pub Covers : Passing → List Bool → List Message → ℕ → ℕ → List ℕ → Type 0
-Covers passing delivered sent from last numbers = (n : ℕ) → from ≤ n → n < last → is_due_by passing delivered sent n ≡ true → In n numbers
-
--- so the first that is due is the first of the list that is, or one above them all
-among : (passing : Passing) (delivered : List Bool) (sent : List Message) (last from : ℕ) (numbers : List ℕ)
-    → from ≤ last → Ascends from last numbers → Covers passing delivered sent from last numbers
-    → first_due passing delivered from (drop from sent)
-    ≡ chosen (find (is_due_by passing delivered sent) numbers) (first_due passing delivered last (drop last sent))
-among passing delivered sent last from [] le rise covers =
+first_at : (passing : Passing) (delivered : List Bool) (sent : List Message) (from last : ℕ) → from ≤ last
+    → ((m : ℕ) → from ≤ m → m < last → is_due_by passing delivered sent m ≡ true → ⊥)
+    → first_due passing delivered from (drop from sent) ≡ first_due passing delivered last (drop last sent)
+first_at passing delivered sent from last le none =
     let width : from + (last - from) ≡ last = omega (arith, le) in
     passed_over passing delivered sent from (last - from)
-    (λ m ge lt. not_true (is_due_by passing delivered sent m) (λ due. covers m ge (omega (arith, lt, width)) due)) ∙ rw width refl
-among passing delivered sent last from (x ∷ xs) le rise covers =
-    let width : from + (x - from) ≡ x = omega (arith, rise.0) in
-    let none_before : (m : ℕ) → from ≤ m → m < from + (x - from) → is_due_by passing delivered sent m ≡ false =
-    λ m ge lt. not_true (is_due_by passing delivered sent m)
-    (λ due. either {R = ⊥} (λ same. omega (arith, same, lt, width))
-    (λ later. let h = in_range (x + 1) last xs m rise.2 later in omega (arith, h.0, lt, width))
-    (covers m ge (omega (arith, lt, width, rise.1)) due)) in
-    let above : Covers passing delivered sent (x + 1) last xs =
-    λ m ge lt due. either {R = In m xs} (λ same. absurd (omega (arith, same, ge))) (λ later. later)
-    (covers m (omega (arith, ge, rise.0)) lt due) in
-    passed_over passing delivered sent from (x - from) none_before ∙ rw width
-    (turn passing delivered sent x ∙ at_first x (is_due_by passing delivered sent x) _ _ _
-    (among passing delivered sent last (x + 1) xs (omega (arith, rise.1)) rise.2 above))
+    (λ m ge lt. not_true (is_due_by passing delivered sent m) (λ due. none m ge (omega (arith, lt, width)) due)) ∙ rw width refl
+
+pub noted_due : (events : List Event) (sent : List Message) (delivered : List Bool) (waiting : List Lane) (passing : Passing)
+    (from number : ℕ) → Fits events sent delivered waiting → number < length delivered
+    → IsLeast (is_due_by passing delivered sent) from (λ n. InLanes passing n waiting) (Some number)
+    → Some number ≡ due_from passing events sent from
+noted_due events sent delivered waiting passing from number waits within least =
+    let here = covered events sent delivered waiting passing from (Some number) waits least in
+    sym (sym (same_due passing events delivered waits.marks from (drop from sent))
+    ∙ first_at passing delivered sent from number here.0
+    (λ m ge lt due. let above = here.2 m ge (omega (arith, lt, within)) due in omega (arith, above, lt))
+    ∙ found_at passing delivered sent number here.1)
+
+pub new_due : (events : List Event) (sent : List Message) (delivered : List Bool) (waiting : List Lane) (passing : Passing)
+    (from : ℕ) (best : Option ℕ) → Fits events sent delivered waiting
+    → IsLeast (is_due_by passing delivered sent) from (λ n. InLanes passing n waiting) best
+    → ((m : ℕ) → best ≡ Some m → length delivered ≤ m)
+    → first_due passing delivered (max from (length delivered)) (drop (max from (length delivered)) sent)
+    ≡ due_from passing events sent from
+new_due events sent delivered waiting passing from best waits least far =
+    let last : ℕ = max from (length delivered) in
+    sym (sym (same_due passing events delivered waits.marks from (drop from sent))
+    ∙ first_at passing delivered sent from last (omega arith)
+    (λ m ge lt due. none best (covered events sent delivered waiting passing from best waits least) far m ge (omega (arith, lt, ge)) due))
   where
-    at_first : (x : ℕ) (due : Bool) (later found rest : Option ℕ) → later ≡ chosen found rest
-        → (if due then Some x else later) ≡ chosen (cond due (Some x) found) rest
-    at_first x true later found rest same = refl
-    at_first x false later found rest same = same
-
--- what the marks and the waiting numbers give is what the definitions ask for
-due_in_mail : (events : List Event) (sent : List Message) (delivered : List Bool) (waiting : List ℕ) (passing : Passing)
-    (from place last : ℕ) → Fits events sent delivered waiting
-    → Ascends from (length delivered) (drop place waiting)
-    → ((n : ℕ) → from ≤ n → In n waiting → In n (drop place waiting))
-    → from ≤ last → length delivered ≤ last → ((n : ℕ) → n < last → from ≤ n → n < length delivered)
-    → chosen (find (is_due_by passing delivered sent) (drop place waiting))
-    (first_due passing delivered last (drop last sent)) ≡ due_from passing events sent from
-due_in_mail events sent delivered waiting passing from place last waits rise all le reach below =
-    sym (among passing delivered sent last from (drop place waiting) le
-    (rises_to from (length delivered) last (drop place waiting) reach rise)
-    (λ n ge lt due. all n ge (waits.covers passing n (below n lt ge) due)))
-    ∙ same_due passing events delivered waits.marks from (drop from sent)
-
-below_max : (from high n : ℕ) → n < max from high → from ≤ n → n < high
-below_max from high n lt ge = omega (arith, lt, ge)
-
-pub noted_due : (events : List Event) (sent : List Message) (delivered : List Bool) (waiting : List ℕ)
-    (passing : Passing) (from place number : ℕ) → Fits events sent delivered waiting
-    → Ascends from (length delivered) (drop place waiting)
-    → ((n : ℕ) → from ≤ n → In n waiting → In n (drop place waiting))
-    → find (is_due_by passing delivered sent) (drop place waiting) ≡ Some number → Some number ≡ due_from passing events sent from
-noted_due events sent delivered waiting passing from place number waits rise all found =
-    let last : ℕ = max from (length delivered) in
-    ap (λ f. chosen f (first_due passing delivered last (drop last sent))) (sym found)
-    ∙ due_in_mail events sent delivered waiting passing from place last waits rise all (omega arith) (omega arith)
-    (below_max from (length delivered))
-
-pub new_due : (events : List Event) (sent : List Message) (delivered : List Bool) (waiting : List ℕ) (passing : Passing)
-    (from place : ℕ) → Fits events sent delivered waiting
-    → Ascends from (length delivered) (drop place waiting)
-    → ((n : ℕ) → from ≤ n → In n waiting → In n (drop place waiting))
-    → find (is_due_by passing delivered sent) (drop place waiting) ≡ None
-    → first_due passing delivered (max from (length delivered)) (drop (max from (length delivered)) sent) ≡ due_from
-    passing events sent from
-new_due events sent delivered waiting passing from place waits rise all none =
-    let last : ℕ = max from (length delivered) in
-    ap (λ f. chosen f (first_due passing delivered last (drop last sent))) (sym none)
-    ∙ due_in_mail events sent delivered waiting passing from place last waits rise all (omega arith) (omega arith)
-    (below_max from (length delivered))
+    none : (one : Option ℕ) → IsLeast (is_due_by passing delivered sent) from (λ n. n < length delivered) one
+        → ((m : ℕ) → one ≡ Some m → length delivered ≤ m)
+        → (m : ℕ) → from ≤ m → m < length delivered → is_due_by passing delivered sent m ≡ true → ⊥
+    none None least far m ge lt due = least m ge lt due
+    none (Some k) least far m ge lt due =
+        let above = least.2 m ge lt due in
+        let beyond = far k refl in
+        omega (arith, above, beyond, lt)
 
 -- Notes
 
@@ -263,65 +210,64 @@ last_or_before n high lt = by_test (nat_lt n high) refl
     by_test false is = inr (grind (arith, is, lt))
 
 -- one message more is noted, and its number waits
-pub noted_waiting : (events : List Event) (sent : List Message) (delivered : List Bool) (waiting : List ℕ) →
-    Fits events sent delivered waiting → length delivered < length sent
-    → Fits events sent (delivered ++ false ∷ []) (waiting ++ length delivered ∷ [])
-noted_waiting events sent delivered waiting waits more =
+pub noted_waiting : (events : List Event) (sent : List Message) (delivered marks : List Bool) (waiting lanes : List Lane)
+    (message : Message) (kind : Kind) → slice_get sent (length delivered) ≡ Some message → kind ≡ kind_of message.body
+    → marks ≡ delivered ++ false ∷ [] → Joins kind message.to (length delivered) waiting lanes
+    → Fits events sent delivered waiting → Fits events sent marks lanes
+noted_waiting events sent delivered marks waiting lanes message kind at is same joins waits =
     let longer : length (delivered ++ false ∷ []) ≡ length delivered + 1 = length-append delivered (false ∷ []) in
-    record {
+    let more = slice_get_within sent (length delivered) message at in
+    rw same (record {
       marks = λ n. unmarked_end delivered n ∙ waits.marks n;
-      within = omega (arith, longer);
-      ordered = rw longer (rises_one 0 (length delivered) waiting (omega arith) waits.ordered);
+      within = omega (arith, longer, waits.within, more);
+      ordered = rw longer (joins.ordered waits.ordered);
       covers = λ passing n lt due. at_end passing n (omega (arith, lt, longer)) (rw (← unmarked_end delivered n) due);
-    }
+    })
   where
+    open_lane : (passing : Passing) (mark : Bool) (found : Option Message) → found ≡ Some message →
+        is_due_marked passing mark found ≡ true → is_lane_left passing kind message.to ≡ false
+    open_lane passing mark None there due = absurd (true≢false (sym due))
+    open_lane passing true (Some one) there due = absurd (true≢false (sym due))
+    open_lane passing false (Some one) there due =
+        let same : one ≡ message = cc in
+        let alone : is_left_alone passing one ≡ false = not_true (is_left_alone passing one) (λ left. true≢false (sym due ∙ ap not left)) in
+        rw is (subst (λ (m : Message). is_left_alone passing m ≡ false) same alone)
+
     at_end : (passing : Passing) (n : ℕ) → n < length delivered + 1 → is_due_by passing delivered sent n ≡ true →
-        In n (waiting ++ length delivered ∷ [])
+        InLanes passing n lanes
     at_end passing n lt due =
-        either {R = In n (waiting ++ length delivered ∷ [])}
-        (λ before. in_more n waiting (length delivered ∷ []) (waits.covers passing n before due))
-        (λ same. rw same (in_last (length delivered) waiting)) (last_or_before n (length delivered) lt)
+        either {R = InLanes passing n lanes}
+        (λ before. joins.kept passing n (waits.covers passing n before due))
+        (λ last. let left = open_lane passing (marked delivered n) (slice_get sent n) (rw last at) due in
+        rw last (joins.joined passing left)) (last_or_before n (length delivered) lt)
+
+outside_at : (found : Option Message) (message : Message) → found ≡ Some message → message.to ≡ Outside → IsForOutside found
+outside_at None message at to = tt
+outside_at (Some one) message at to = let same : one ≡ message = cc in ap (λ (m : Message). m.to) same ∙ to
 
 -- one message more is noted, which is for the outside
-pub noted_outside : (events : List Event) (sent : List Message) (delivered : List Bool) (waiting : List ℕ) →
-    Fits events sent delivered waiting → length delivered < length sent
-    → IsForOutside (slice_get sent (length delivered)) → Fits events sent (delivered ++ false ∷ []) waiting
-noted_outside events sent delivered waiting waits more outside =
+pub noted_outside : (events : List Event) (sent : List Message) (delivered marks : List Bool) (waiting lanes : List Lane)
+    (message : Message) → slice_get sent (length delivered) ≡ Some message → message.to ≡ Outside
+    → marks ≡ delivered ++ false ∷ [] → lanes ≡ waiting
+    → Fits events sent delivered waiting → Fits events sent marks lanes
+noted_outside events sent delivered marks waiting lanes message at outside same stay waits =
     let longer : length (delivered ++ false ∷ []) ≡ length delivered + 1 = length-append delivered (false ∷ []) in
-    record {
+    let more = slice_get_within sent (length delivered) message at in
+    rw (same, stay) (record {
       marks = λ n. unmarked_end delivered n ∙ waits.marks n;
-      within = omega (arith, longer);
-      ordered = rw longer (rises_to 0 (length delivered) (length delivered + 1) waiting (omega arith) waits.ordered);
+      within = omega (arith, longer, waits.within, more);
+      ordered = rw longer (all_wider (length delivered) (length delivered + 1) waiting (omega arith) waits.ordered);
       covers = λ passing n lt due. at_end passing n (omega (arith, lt, longer)) (rw (← unmarked_end delivered n) due);
-    }
+    })
   where
-    at_end : (passing : Passing) (n : ℕ) → n < length delivered + 1 → is_due_by passing delivered sent n ≡ true → In n waiting
+    at_end : (passing : Passing) (n : ℕ) → n < length delivered + 1 → is_due_by passing delivered sent n ≡ true →
+        InLanes passing n waiting
     at_end passing n lt due =
-        either {R = In n waiting} (λ before. waits.covers passing n before due)
-        (λ same. absurd (true≢false
-        (sym due ∙ rw same (outside_not_due passing (marked delivered (length delivered))
-        (slice_get sent (length delivered)) outside))))
+        either {R = InLanes passing n waiting} (λ before. waits.covers passing n before due)
+        (λ last. absurd (true≢false
+        (sym due ∙ outside_not_due passing (marked delivered n) (slice_get sent n)
+        (outside_at (slice_get sent n) message (rw last at) outside))))
         (last_or_before n (length delivered) lt)
-
-noted_one : (events : List Event) (sent : List Message) (delivered : List Bool) (waiting : List ℕ) (message : Message)
-    (to : Addr) → Fits events sent delivered waiting
-    → slice_get sent (length delivered) ≡ Some message → message.to ≡ to →
-    Fits events sent (delivered ++ false ∷ []) (waiting_with to (length delivered) waiting)
-noted_one events sent delivered waiting message Outside waits at to =
-    noted_outside events sent delivered waiting waits (slice_get_within sent (length delivered) message at) (rw at to)
-noted_one events sent delivered waiting message Coordinator waits at to =
-    noted_waiting events sent delivered waiting waits (slice_get_within sent (length delivered) message at)
-noted_one events sent delivered waiting message (Server id) waits at to =
-    noted_waiting events sent delivered waiting waits (slice_get_within sent (length delivered) message at)
-
--- either way
-pub noted_more : (events : List Event) (sent : List Message) (delivered : List Bool) (waiting : List ℕ)
-    (marks : List Bool) (numbers : List ℕ) (message : Message) → Fits events sent delivered waiting
-    → slice_get sent (length delivered) ≡ Some message → marks ≡ delivered ++ false ∷ [] →
-    numbers ≡ waiting_with message.to (length delivered) waiting
-    → Fits events sent marks numbers
-noted_more events sent delivered waiting marks numbers message waits at same_marks same_numbers =
-    rw (same_marks, same_numbers) (noted_one events sent delivered waiting message message.to waits at refl)
 
 -- What was delivered waits no longer
 
@@ -341,45 +287,26 @@ retained R p test says (x ∷ xs) (false ∷ bs) q same turns =
     let rest = retained R p test says xs bs q (omega (arith, same)) (subst (λ j. ReturnsInTurn R j bs xs q) told.0 turns.2) in
     rw (← told.1) rest
 
-kept_rises : (p : ℕ → Bool) (low high : ℕ) (xs : List ℕ) → Ascends low high xs → Ascends low high (filter p xs)
-kept_rises p low high [] rise = tt
-kept_rises p low high (x ∷ xs) rise = by_test (p x) (kept_rises p (x + 1) high xs rise.2)
-  where
-    by_test : (kept : Bool) → Ascends (x + 1) high (filter p xs) → Ascends low high (cond kept (x ∷ filter p xs) (filter p xs))
-    by_test true rest = (rise.0, rise.1, rest)
-    by_test false rest = rises_from (x + 1) low high (filter p xs) (omega (arith, rise.0)) rest
-
-kept_in : (p : ℕ → Bool) (n : ℕ) (xs : List ℕ) → p n ≡ true → In n xs → In n (filter p xs)
-kept_in p n [] is found = absurd found
-kept_in p n (x ∷ xs) is (inl same) = let this : p x ≡ true = rw (← same) is in rw this (inl same)
-kept_in p n (x ∷ xs) is (inr later) = by_test (p x) (kept_in p n xs is later)
-  where
-    by_test : (kept : Bool) → In n (filter p xs) → In n (cond kept (x ∷ filter p xs) (filter p xs))
-    by_test true rest = inr rest
-    by_test false rest = rest
-
 due_unmarked : (passing : Passing) (mark : Bool) (message : Option Message) → is_due_marked passing mark message ≡ true → not mark ≡ true
 due_unmarked passing mark None due = absurd (true≢false (sym due))
 due_unmarked passing true (Some message) due = absurd (true≢false (sym due))
 due_unmarked passing false (Some message) due = refl
 
-tidied : (events : List Event) (sent : List Message) (delivered : List Bool) (waiting : List ℕ) →
-    Fits events sent delivered waiting → Fits events sent delivered (filter (λ n. not (marked delivered n)) waiting)
-tidied events sent delivered waiting waits = record {
+not_marked : (mark : Bool) → not mark ≡ true → mark ≡ false
+not_marked true is = absurd (true≢false (sym is))
+not_marked false is = refl
+
+pub tidied_as : (events : List Event) (sent : List Message) (delivered marks : List Bool) (waiting lanes : List Lane) →
+    Fits events sent delivered waiting → marks ≡ delivered → AreTidied delivered waiting lanes
+    → Fits events sent marks lanes
+tidied_as events sent delivered marks waiting lanes waits same tidied = rw same (record {
   marks = waits.marks;
   within = waits.within;
-  ordered = kept_rises (λ n. not (marked delivered n)) 0 (length delivered) waiting waits.ordered;
-  covers = λ passing n lt due. kept_in (λ m. not (marked delivered m)) n waiting
-      (due_unmarked passing (marked delivered n) (slice_get sent n) due) (waits.covers passing n lt due);
-}
-
--- A step
-
-pub tidied_as : (events : List Event) (sent : List Message) (delivered marks : List Bool) (waiting numbers : List ℕ) →
-    Fits events sent delivered waiting → marks ≡ delivered
-    → numbers ≡ filter (λ n. not (marked delivered n)) waiting → Fits events sent marks numbers
-tidied_as events sent delivered marks waiting numbers waits same_marks same_numbers =
-    rw (same_marks, same_numbers) (tidied events sent delivered waiting waits)
+  ordered = tidied.ordered (length delivered) waits.ordered;
+  covers = λ passing n lt due. tidied.kept passing n
+      (not_marked (marked delivered n) (due_unmarked passing (marked delivered n) (slice_get sent n) due))
+      (waits.covers passing n lt due);
+})
 
 -- A step
 

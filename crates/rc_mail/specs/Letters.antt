@@ -1,14 +1,15 @@
 -- What a mail is seen as.
-use Rattle.std.specs.Prelude.{◌≤◌, ℕ, Bool, List, [], length}
+use Rattle.std.specs.Prelude.{◌≤◌, Bool, List, [], length}
 use Rattle.rc_types.specs.declared.events.Event.{Event}
 use Rattle.rc_types.specs.declared.messages.Message.{Message}
+use Rattle.rc_mail.specs.Lanes.{Lane}
 use Rattle.rc_mail.specs.Waiting.{Fits}
 
 pub record Letters : Type 0 where
   -- for each message noted, whether an event has delivered it
   pub delivered : List Bool
   -- the numbers of those that wait; some may have been delivered since
-  pub waiting : List ℕ
+  pub waiting : List Lane
 
 abbrev pub no_letters : Letters
 no_letters = record { delivered = []; waiting = [] }

@@ -1,5 +1,6 @@
 pub mod Delivered
 pub mod Passing
 pub mod Settling
+pub mod Lanes
 pub mod Waiting
 pub mod Letters

@@ -1,30 +1,12 @@
 -- Which messages are still to be delivered, by marks and by numbers that wait.
-use Rattle.std.specs.Prelude.{◌≡◌, ◌⊎◌, ◌≤◌, ◌<◌, ℕ, ◌+◌, Bool, true, false, not, ◌&&◌, if◌then◌else◌, List, [], ◌∷◌}
-use Rattle.std.specs.Prelude.{◌++◌, length, Option, Some, None, slice_get, unwrap_or, ⊤}
+use Rattle.std.specs.Prelude.{◌≡◌, ◌≤◌, ◌<◌, ℕ, ◌+◌, Bool, true, false, not, ◌&&◌, if◌then◌else◌, List, [], ◌∷◌}
+use Rattle.std.specs.Prelude.{length, Option, Some, None, slice_get}
 use Rattle.rc_types.specs.declared.events.Event.{Event}
-use Rattle.rc_types.specs.declared.ids.Addr.{Addr}
-use Rattle.rc_types.specs.declared.ids.Addr.TheVariants.{Outside}
 use Rattle.rc_types.specs.declared.messages.Message.{Message}
 use Rattle.rc_mail.specs.declared.passing.Passing.{Passing}
 use Rattle.rc_mail.specs.Delivered.{is_delivered}
 use Rattle.rc_mail.specs.Passing.{is_left_alone}
-
--- Lists of numbers
-
-abbrev pub In : ℕ → List ℕ → Type 0
-In n [] = ⊥
-In n (first ∷ numbers) = (n ≡ first) ⊎ In n numbers
-
--- the numbers rise, from low or more to below high
-abbrev pub Ascends : ℕ → ℕ → List ℕ → Type 0
-Ascends low high [] = ⊤
-Ascends low high (first ∷ numbers) = (low ≤ first) × (first < high) × Ascends (first + 1) high numbers
-
--- Marks
-
--- the mark of this number; where there is none yet, it is unmarked
-abbrev pub marked : List Bool → ℕ → Bool
-marked marks n = unwrap_or (slice_get marks n) false
+use Rattle.rc_mail.specs.Lanes.{Lane, InLanes, AllAscend, marked}
 
 -- What is due
 
@@ -43,16 +25,11 @@ first_due passing delivered n (message ∷ messages) =
     if is_due_marked passing (marked delivered n) (Some message) then Some n else first_due passing delivered (n + 1)
     messages
 
--- the number waits, unless the message is for the outside
-abbrev pub waiting_with : Addr → ℕ → List ℕ → List ℕ
-waiting_with Outside n waiting = waiting
-waiting_with _ n waiting = waiting ++ n ∷ []
-
 -- The marks and numbers fit these events and messages: what is marked was delivered; and of the messages noted, each
 -- that a pass may come to deliver is waiting.
-pub record Fits (events : List Event) (sent : List Message) (delivered : List Bool) (waiting : List ℕ) : Type 0 where
+pub record Fits (events : List Event) (sent : List Message) (delivered : List Bool) (waiting : List Lane) : Type 0 where
   pub marks : (n : ℕ) → marked delivered n ≡ is_delivered n events
   pub within : length delivered ≤ length sent
-  pub ordered : Ascends 0 (length delivered) waiting
+  pub ordered : AllAscend (length delivered) waiting
   pub covers : (passing : Passing) (n : ℕ) → n < length delivered → is_due_by passing delivered sent n ≡ true →
-      In n waiting
+      InLanes passing n waiting

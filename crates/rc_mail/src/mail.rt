@@ -30,7 +30,7 @@ impl Model for Mail {
 
     ghost Value = { Letters };
 
-    ghost view = { λ mail. record { delivered = mail.marks.delivered.items; waiting = mail.marks.waiting.items } };
+    ghost view = { λ mail. record { delivered = mail.marks.delivered.items; waiting = mail.marks.lines.items } };
 }
 
 impl Mail {

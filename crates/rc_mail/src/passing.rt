@@ -25,7 +25,7 @@ impl Passing {
         self.spares(message.to) || self.kinds.has(Kind::of(&message.body))
     }
 
-    fn spares(&self, to: Addr) -> bool
+    pub(crate) fn spares(&self, to: Addr) -> bool
         ensures { result ≡ is_for_one_of self.now.hosts to }
     {
         match to {

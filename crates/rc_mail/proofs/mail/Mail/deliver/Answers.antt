@@ -6,7 +6,7 @@ use Rattle.rc_mail.proofs.mail.Mail.deliver.Goals as goal
 pub returns : goal.returns
 returns c events sent more waits =
     let marks = c.self.inside.marks in
-    fits_delivered events sent more c.args.number marks.delivered.items _ marks.waiting.items _
+    fits_delivered events sent more c.args.number marks.delivered.items _ marks.lines.items _
     (subst (λ (l : Letters). Waits events sent l) (sym c.self.view_is) waits)
     (subst (λ (l : Letters). c.args.number < length l.delivered) (sym c.self.view_is) c.requires)
-    c.deliver.ensures.delivered (ap (λ v. v.items) c.deliver.ensures.waiting)
+    c.deliver.ensures.delivered (ap (λ v. v.items) c.deliver.ensures.lines)

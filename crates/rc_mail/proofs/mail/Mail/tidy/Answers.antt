@@ -6,6 +6,6 @@ use Rattle.rc_mail.proofs.mail.Mail.tidy.Goals as goal
 pub returns : goal.returns
 returns c events sent waits =
     let marks = c.self.inside.marks in
-    tidied_as events sent marks.delivered.items _ marks.waiting.items _
+    tidied_as events sent marks.delivered.items _ marks.lines.items _
     (subst (λ (l : Letters). Waits events sent l) (sym c.self.view_is) waits)
-    c.tidy.ensures.delivered c.tidy.ensures.waiting
+    c.tidy.ensures.delivered c.tidy.ensures.lines

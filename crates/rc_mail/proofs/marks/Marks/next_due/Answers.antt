@@ -1,21 +1,30 @@
-use Rattle.std.proofs.Common.{sym, ◌∙◌, length}
+use Rattle.std.proofs.Common.{◌≡◌, ◌≤◌, ℕ, max, Some, sym, ◌∙◌, length, drop, subst, arith}
+use Rattle.rc_mail.specs.Settling.{due_from}
+use Rattle.rc_mail.specs.Waiting.{first_due}
 use Rattle.rc_mail.proofs.Waitings.{noted_due, new_due}
 use Rattle.rc_mail.proofs.marks.Marks.next_due.Goals as goal
+use Rattle.rc_mail.proofs.marks.Marks.next_due.Goals.{in_default-via-in-Some+else-number-len, in_default-via-in_default}
 
 pub returns-in-Some : goal.returns-in-Some
 returns-in-Some c events fits =
     let marks = c.args.self.now in
-    noted_due events c.args.sent.now marks.delivered.items marks.waiting.items c.args.passing.now c.args.from
-    c.first_from.result c.in-Some.number fits
-    (c.first_from.ensures.order (length marks.delivered.items) fits.ordered)
-    (λ n le found. c.first_from.ensures.all (length marks.delivered.items) n fits.ordered le found)
-    (sym c.next_noted.ensures ∙ c.in-Some.is)
+    noted_due events c.args.sent.now marks.delivered.items marks.lines.items c.args.passing.now c.args.from c.in-Some.number
+    fits (omega (arith, c.if-number-len.true, c.len.ensures)) (c.in-Some.ensures (length marks.delivered.items) fits.ordered)
 
-pub returns-in-None : goal.returns-in-None
-returns-in-None c events fits =
+pub returns-in_default : goal.returns-in_default
+returns-in_default c events fits =
     let marks = c.args.self.now in
-    c.next_new.ensures ∙ rw (c.max.ensures, c.len.ensures, marks.delivered.ok.0)
-    (new_due events c.args.sent.now marks.delivered.items marks.waiting.items c.args.passing.now c.args.from c.first_from.result fits
-    (c.first_from.ensures.order (length marks.delivered.items) fits.ordered)
-    (λ n le found. c.first_from.ensures.all (length marks.delivered.items) n fits.ordered le found)
-    (sym c.next_noted.ensures ∙ c.in-None.is))
+    let long : c.len-in_default.result ≡ length marks.delivered.items = omega arith in
+    let far : (m : ℕ) → c.next_noted.result ≡ Some m → length marks.delivered.items ≤ m = λ m is.
+    elim c.in_default.branch [
+      | in_default-via-in-Some+else-number-len w ↦
+          let same : Some w.in-Some.number ≡ Some m = sym w.in-Some.is ∙ is in
+          let number : w.in-Some.number ≡ m = cc in
+          omega (arith, number, w.if-number-len.false, w.len.ensures)
+      | in_default-via-in_default w ↦ absurd (w.in_default.not-Some m is)
+    ] in
+    let last : c.max.result ≡ max c.args.from (length marks.delivered.items) = omega arith in
+    c.next_new.ensures ∙ subst (λ (n : ℕ). first_due c.args.passing.now marks.delivered.items n (drop n c.args.sent.now)
+    ≡ due_from c.args.passing.now events c.args.sent.now c.args.from) (sym last)
+    (new_due events c.args.sent.now marks.delivered.items marks.lines.items c.args.passing.now c.args.from
+    c.next_noted.result fits (c.next_noted.ensures (length marks.delivered.items) fits.ordered) far)

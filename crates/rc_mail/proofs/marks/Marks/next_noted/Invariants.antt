@@ -1,10 +1,10 @@
-use Rattle.std.proofs.Common.{◌≡◌, drop}
-use Rattle.std.specs.List.{find}
+use Rattle.std.proofs.Common.{ℕ, take}
+use Rattle.rc_mail.specs.Lanes.{AllAscend, InLanes, IsLeast}
 use Rattle.rc_mail.specs.Waiting.{is_due_by}
 use Rattle.rc_mail.proofs.marks.Marks.next_noted.Given as goal
 
--- none so far is due
-abbrev pub invariant-loop-number : goal.invariant-loop-number
-invariant-loop-number l =
-    find (is_due_by l.passing l.self.delivered.items l.sent) (drop l.place l.self.waiting.items)
-    ≡ find (is_due_by l.passing l.self.delivered.items l.sent) (drop l.number-index (drop l.place l.self.waiting.items))
+-- the least of those in the lines so far
+abbrev pub invariant-loop-place : goal.invariant-loop-place
+invariant-loop-place l = (high : ℕ) → AllAscend high l.self.lines.items →
+    IsLeast (is_due_by l.passing l.self.delivered.items l.sent) l.from
+    (λ n. InLanes l.passing n (take l.place l.self.lines.items)) l.least

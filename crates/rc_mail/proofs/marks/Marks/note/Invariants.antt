@@ -7,6 +7,6 @@ use Rattle.rc_mail.proofs.marks.Marks.note.Given as goal
 abbrev pub invariant-loop-number : goal.invariant-loop-number
 invariant-loop-number l = record {
   noted : length l.self.delivered.items ≡ l.number;
-  kept : (events : List Event) → Fits events l.sent l.initial.self.delivered.items l.initial.self.waiting.items →
-      Fits events l.sent l.self.delivered.items l.self.waiting.items;
+  kept : (events : List Event) → Fits events l.sent l.initial.self.delivered.items l.initial.self.lines.items →
+      Fits events l.sent l.self.delivered.items l.self.lines.items;
 }
