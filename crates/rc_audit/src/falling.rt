@@ -14,10 +14,11 @@ use rc_evidence::bars::{acked_highs, bar_of};
 use rc_evidence::earlier::terms_before;
 use rc_evidence::grants::{Grants, grants_in};
 use rc_evidence::highs::is_level;
+use rc_evidence::turns::all_bars;
 use rc_evidence::writes::{AckedWrite, write_in};
 use rc_types::{Breach, Fault, Message};
 use std::alloc::Global;
-use std::collections::{BTreeMap, BTreeSet};
+use std::collections::BTreeSet;
 
 /// Whether the later write's version is not above that of the earlier one, which is of the same key
 /// and was acknowledged under one of these terms.
@@ -80,7 +81,7 @@ pub fn falling_version(alloc: Global, messages: &[Message]) -> Result<Option<Bre
 {
     let grants = grants_in(alloc, messages)?;
     let highs = acked_highs(alloc, messages)?;
-    let mut bars = BTreeMap::new(alloc);
+    let mut bars = all_bars(alloc, &grants, &highs)?;
     for message in messages {
         let Some(later) = write_in(&message.body) else {
             continue;

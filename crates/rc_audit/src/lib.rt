@@ -36,8 +36,9 @@ use std::alloc::Global;
 /// rows of its plan and the segments of its master that have acknowledged writes, each with a
 /// look-up; where an acknowledged place is not held by the rows, the entries and acknowledgements of
 /// the master too, but not again for the same rows. The places of a segment are gone over once,
-/// however many plans name them and however long their rows are. For each key under a term under
-/// which it was acknowledged the chain of owners before that term is gone over once.
+/// however many plans name them and however long their rows are. That the versions of each key rise
+/// along one order of the terms, each after its previous ones, is seen in O(n log n) steps; for each
+/// acknowledged write that does not rise so, the owners before its term are gone over.
 pub fn audit(alloc: Global, messages: &[Message]) -> Result<Option<Breach>, Fault>
     ensures found { IfOk result (λ found. found ≡ breach messages.now) }
     ensures err { IfErr result (λ e. e ≡ OutOfMemory) }

@@ -28,33 +28,37 @@ level_more (Some high) version v e = grind (arith, nat_tests)
 level_new : (found : Option ℕ) (version : ℕ) → is_level (Some (max (unwrap_or found 0) version)) version ≡ true
 level_new found version = le-leb version (max (unwrap_or found 0) version) (omega arith)
 
+-- a version is noted: what was level stays so, and so is the version
+module _ (old new : BTreeMap TermKey ℕ) (key : TermKey) (version : ℕ) (p : NotesVersion old new key version) where
+  pub version_kept : (q : TermKey) (v : ℕ) → is_level (high_at old q) v ≡ true → is_level (high_at new q) v ≡ true
+  version_kept q v e = ap (λ x. is_level x v) (p.each q) ∙ by (same_key key q) refl
+    where
+      by : (b : Bool) → same_key key q ≡ b →
+          is_level (cond b (Some (max (unwrap_or (high_at old key) 0) version)) (high_at old q)) v ≡ true
+      by true same = level_more (high_at old key) version v
+          (ap (λ k. is_level (high_at old k) v) (same_key-true key q same) ∙ e)
+      by false same = e
+
+  same_itself : same_key key key ≡ true
+  same_itself = and_from _ _ (eq-eqb key.term key.term refl)
+      (and_from _ _ (eq-eqb key.table key.table refl) (eq-eqb key.key key.key refl))
+
+  pub version_noted : is_level (high_at new key) version ≡ true
+  version_noted = ap (λ x. is_level x version) (p.each key)
+      ∙ ap (λ b. is_level (cond b (Some (max (unwrap_or (high_at old key) 0) version)) (high_at old key)) version) same_itself
+      ∙ level_new (high_at old key) version
+
 -- one more acknowledged write
 pub ack_noted : (old new : BTreeMap TermKey ℕ) (ack : Ack) (acks : List Ack) → ack ∷ [] ≡ acks →
     NotesVersion old new (ack_key ack) ack.version → NotesAcks old new acks
-ack_noted old new ack acks is p = record { kept = kept; noted = λ other at. noted other (subst (In other) (sym is) at) }
+ack_noted old new ack acks is p = record {
+  kept = version_kept old new (ack_key ack) ack.version p;
+  noted = λ other at. noted other (subst (In other) (sym is) at);
+}
   where
-    kept : (q : TermKey) (v : ℕ) → is_level (high_at old q) v ≡ true → is_level (high_at new q) v ≡ true
-    kept q v e = ap (λ x. is_level x v) (p.each q) ∙ by (same_key (ack_key ack) q) refl
-      where
-        by : (b : Bool) → same_key (ack_key ack) q ≡ b →
-            is_level (cond b (Some (max (unwrap_or (high_at old (ack_key ack)) 0) ack.version)) (high_at old q))
-            v ≡ true
-        by true same = level_more (high_at old (ack_key ack)) ack.version v
-            (ap (λ k. is_level (high_at old k) v) (same_key-true (ack_key ack) q same) ∙ e)
-        by false same = e
-
-    same_itself : same_key (ack_key ack) (ack_key ack) ≡ true
-    same_itself = and_from _ _ (eq-eqb ack.term ack.term refl)
-        (and_from _ _ (eq-eqb ack.table ack.table refl) (eq-eqb ack.key ack.key refl))
-
-    here : is_level (high_at new (ack_key ack)) ack.version ≡ true
-    here = ap (λ x. is_level x ack.version) (p.each (ack_key ack))
-        ∙ ap (λ b. is_level (cond b (Some (max (unwrap_or (high_at old (ack_key ack)) 0) ack.version))
-        (high_at old (ack_key ack))) ack.version) same_itself
-        ∙ level_new (high_at old (ack_key ack)) ack.version
-
     noted : (other : Ack) → In other (ack ∷ []) → is_level (high_at new (ack_key other)) other.version ≡ true
-    noted other (inl same) = ap (λ (a : Ack). is_level (high_at new (ack_key a)) a.version) same ∙ here
+    noted other (inl same) = ap (λ (a : Ack). is_level (high_at new (ack_key a)) a.version) same
+        ∙ version_noted old new (ack_key ack) ack.version p
     noted other (inr none) = absurd none
 
 all_acknowledged-push : (sent : List Message) (message : Message) →

@@ -7,3 +7,5 @@ pub mod SupersededLemmas
 pub mod GrantLemmas
 pub mod EarlierLemmas
 pub mod BarLemmas
+pub mod OrderLemmas
+pub mod TurnLemmas

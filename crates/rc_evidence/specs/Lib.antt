@@ -9,3 +9,5 @@ pub mod Superseded
 pub mod Grants
 pub mod Earlier
 pub mod Bars
+pub mod Orders
+pub mod Turns

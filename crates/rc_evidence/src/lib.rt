@@ -3,18 +3,22 @@
 //! has; the grants, and of each the terms before it. `rc_audit` judges by it. Each look-up is one in an ordered map.
 //!
 //! To be read in this order: `places`, `writes`, `recoveries`; `evidence`, `runs`, `standing`, `senders`, which are
-//! made of these; `highs`, `superseded`; `grants`, `earlier`, `bars`.
+//! made of these; `highs`, `superseded`; `grants`, `earlier`, `bars`; `orders`, `circles`, `turns`, which find all bars
+//! at once.
 #![tactic(auto)]
 
 pub mod bars;
+mod circles;
 pub mod earlier;
 pub mod evidence;
 pub mod grants;
 pub mod highs;
+mod orders;
 pub mod places;
 pub mod recoveries;
 pub mod runs;
 pub mod senders;
 pub mod standing;
 pub mod superseded;
+pub mod turns;
 pub mod writes;
