@@ -1,6 +1,7 @@
 -- Versions rise over owners: write by write.
 use Rattle.std.proofs.Common.{◌≡◌, ℕ, ◌+◌, ◌<◌, Bool, true, false, not, ◌&&◌, List, [], ◌∷◌, ◌++◌, Option, Some, None}
-use Rattle.std.proofs.Common.{nat_eq, nat_lt, length, drop, get_or, refl, sym, ap, ◌∙◌, inl, inr, arith}
+use Rattle.std.proofs.Common.{nat_eq, nat_lt, length, drop, get_or, refl, sym, ap, ◌∙◌, inl, inr, subst, arith}
+use Rattle.std.specs.BTreeMap.{BTreeMap, get}
 use Rattle.std.proofs.lemmas.Bool.{cond-false, and_parts, eqb-true, false_from_ne_true}
 use Rattle.std.proofs.lemmas.Bool.Decides.{nat_tests}
 use Rattle.rc_types.specs.declared.messages.Message.{Message}
@@ -10,8 +11,9 @@ use Rattle.rc_model.specs.Recovered.{Ack, ack_in, all_acknowledged}
 use Rattle.rc_model.specs.Owners.{is_earlier}
 use Rattle.rc_model.specs.Breach.{falls, first_fall, falls_of, or_else}
 use Rattle.rc_model.specs.Headline.{In}
-use Rattle.rc_evidence.specs.Highs.{ack_key, is_level}
-use Rattle.rc_evidence.specs.Bars.{IsBar}
+use Rattle.rc_evidence.specs.declared.highs.TermKey.{TermKey}
+use Rattle.rc_evidence.specs.Highs.{key_order, ack_key, is_level}
+use Rattle.rc_evidence.specs.Bars.{IsBar, AreBars}
 use Rattle.rc_evidence.proofs.SenderLemmas.{drop_step}
 
 -- what is acknowledged from a message on
@@ -62,3 +64,15 @@ pub all_not : (sent : List Message) (body : Body) (later : Ack) (whole here rest
     falls_of sent whole ≡ falls_of sent rest
 all_not sent body later whole here rest next is none before =
     before ∙ ap (falls_of sent) (next ∙ ap (λ acks. acks ++ rest) (sym is)) ∙ ap (λ found. or_else found (falls_of sent rest)) none
+
+-- above a bar that a table has
+pub above_found : (bars : BTreeMap TermKey (Option ℕ)) (sent : List Message) (later : Ack) (key : TermKey) (bar : Option ℕ) →
+    AreBars bars sent → key ≡ ack_key later → get key_order bars key ≡ Some bar → not (is_level bar later.version) ≡ true →
+    first_fall sent later (all_acknowledged sent) ≡ None
+above_found bars sent later key bar are same found above =
+    above_bar sent later bar (subst (λ (k : TermKey). IsBar bar sent k) same (are.each key bar found))
+    (not_level (is_level bar later.version) above)
+  where
+    not_level : (b : Bool) → not b ≡ true → b ≡ false
+    not_level true e = cc
+    not_level false e = refl

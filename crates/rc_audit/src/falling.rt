@@ -1,24 +1,26 @@
 //! Versions rise over owners.
 
-ghost use Rattle.std.specs.Prelude.{◌≡◌, ◌&&◌, not, nat_eq, nat_lt, IfOk, IfErr};
+ghost use Rattle.std.specs.Prelude.{◌≡◌, ◌&&◌, not, nat_eq, nat_lt, List, None, IsTrue, OnOk, IfOk, IfErr};
 ghost use Rattle.std.specs.Ordering.{nat_cmp};
 ghost use Rattle.std.specs.BTreeSet.{contains};
 ghost use Rattle.rc_types.specs.declared.faults.Fault.TheVariants.{OutOfMemory};
 ghost use Rattle.rc_model.specs.Recovered.{all_acknowledged};
 ghost use Rattle.rc_model.specs.Breach.{falls_of, first_fall};
 ghost use Rattle.rc_evidence.specs.Earlier.{AreEarlier};
+ghost use Rattle.rc_types.specs.declared.messages.Message.{Message};
+ghost use Rattle.rc_evidence.specs.Bars.{AreBars, HasLevels};
 ghost use Rattle.rc_evidence.specs.Grants.{AreGrants};
 ghost use Rattle.rc_evidence.specs.Writes.{ack_of};
 
-use rc_evidence::bars::{acked_highs, bar_of};
+use rc_evidence::bars::{Bars, acked_highs, bar_of};
 use rc_evidence::earlier::terms_before;
 use rc_evidence::grants::{Grants, grants_in};
-use rc_evidence::highs::is_level;
+use rc_evidence::highs::{Highs, is_level};
 use rc_evidence::turns::all_bars;
 use rc_evidence::writes::{AckedWrite, write_in};
 use rc_types::{Breach, Fault, Message};
 use std::alloc::Global;
-use std::collections::BTreeSet;
+use std::collections::{BTreeMap, BTreeSet};
 
 /// Whether the later write's version is not above that of the earlier one, which is of the same key
 /// and was acknowledged under one of these terms.
@@ -71,9 +73,46 @@ fn falls_from(
     Ok(first_among(messages, &before, later))
 }
 
+/// Whether the write is seen to fall from none: its version is above a bar that is known.
+fn is_above_bar(bars: &Bars, later: &AckedWrite) -> bool
+    ensures { IsTrue result → (sent : List Message) → AreBars bars.now sent →
+        first_fall sent (ack_of later.now) (all_acknowledged sent) ≡ None }
+{
+    match bars.get(&later.term_key()).copied() {
+        Some(bar) => !is_level(bar, later.version),
+        None => false,
+    }
+}
+
+/// The first write from which this later one falls. Most that fall from none are seen to be above the
+/// greatest version under the earlier terms, which is found once for each key under a term.
+fn falls_by_bars(
+    alloc: Global,
+    messages: &[Message],
+    grants: &Grants,
+    highs: &Highs,
+    bars: &mut Bars,
+    later: &AckedWrite,
+) -> Result<Option<Breach>, Fault>
+    requires grants { AreGrants grants.now messages.now }
+    requires levels { HasLevels highs.now messages.now }
+    requires bars { AreBars bars.old messages.now }
+    ensures found { IfOk result (λ found.
+        found ≡ first_fall messages.now (ack_of later.now) (all_acknowledged messages.now)) }
+    ensures bars { OnOk result (AreBars bars.new messages.now) }
+    ensures err { IfErr result (λ e. e ≡ OutOfMemory) }
+{
+    let bar = bar_of(alloc, grants, highs, bars, later.term_key())?;
+    if !is_level(bar, later.version) {
+        return Ok(None);
+    }
+    let found = falls_from(alloc, messages, grants, later)?;
+    Ok(found)
+}
+
 /// The first acknowledged write whose version is not above that of one that was acknowledged under an
-/// earlier ownership of its key, with the first such one. Most writes are seen to rise by the greatest
-/// version under the earlier terms alone, which is found once for each key under a term.
+/// earlier ownership of its key, with the first such one. Most writes are seen to rise by bars that are
+/// found at once for all keys under all terms.
 pub fn falling_version(alloc: Global, messages: &[Message]) -> Result<Option<Breach>, Fault>
     ensures found { IfOk result (λ found.
         found ≡ falls_of messages.now (all_acknowledged messages.now)) }
@@ -81,16 +120,16 @@ pub fn falling_version(alloc: Global, messages: &[Message]) -> Result<Option<Bre
 {
     let grants = grants_in(alloc, messages)?;
     let highs = acked_highs(alloc, messages)?;
-    let mut bars = all_bars(alloc, &grants, &highs)?;
+    let all = all_bars(alloc, &grants, &highs)?;
+    let mut bars = BTreeMap::new(alloc);
     for message in messages {
         let Some(later) = write_in(&message.body) else {
             continue;
         };
-        let bar = bar_of(alloc, &grants, &highs, &mut bars, later.term_key())?;
-        if !is_level(bar, later.version) {
+        if is_above_bar(&all, &later) {
             continue;
         }
-        let falling = falls_from(alloc, messages, &grants, &later)?;
+        let falling = falls_by_bars(alloc, messages, &grants, &highs, &mut bars, &later)?;
         if falling.is_some() {
             return Ok(falling);
         }

@@ -38,7 +38,8 @@ use std::alloc::Global;
 /// the master too, but not again for the same rows. The places of a segment are gone over once,
 /// however many plans name them and however long their rows are. That the versions of each key rise
 /// along one order of the terms, each after its previous ones, is seen in O(n log n) steps; for each
-/// acknowledged write that does not rise so, the owners before its term are gone over.
+/// key under a term under which one does not rise so, the chain of owners before that term is gone
+/// over once.
 pub fn audit(alloc: Global, messages: &[Message]) -> Result<Option<Breach>, Fault>
     ensures found { IfOk result (λ found. found ≡ breach messages.now) }
     ensures err { IfErr result (λ e. e ≡ OutOfMemory) }
