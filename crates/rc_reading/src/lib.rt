@@ -12,9 +12,9 @@ mod numbers;
 mod pairs;
 mod reading;
 mod scenarios;
-mod simple;
-mod tokens;
-mod wanted;
+pub mod simple;
+pub mod tokens;
+pub mod wanted;
 mod whole;
 
 pub use hosts::Hosts;

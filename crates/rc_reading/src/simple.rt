@@ -9,7 +9,7 @@ use rc_types::limits::MAX_HOSTS;
 
 /// What a value says by itself.
 #[derive(Clone, Copy, Drop)]
-pub(crate) enum Simple<'a> {
+pub enum Simple<'a> {
     /// null
     Null,
     /// true or false
@@ -24,7 +24,7 @@ pub(crate) enum Simple<'a> {
 
 impl<'a> Simple<'a> {
     /// The whole number from `low` to `high` that it is.
-    pub(crate) fn number(self, low: u64, high: u64) -> Option<u64>
+    pub fn number(self, low: u64, high: u64) -> Option<u64>
         ensures says { result ≡ whole_in low high (shown self.entry) }
         ensures in_range { IfSome result (λ n. (low ≤ n) × (n ≤ high)) }
     {
@@ -54,7 +54,7 @@ impl<'a> Simple<'a> {
     }
 
     /// The text that it is.
-    pub(crate) fn text(self) -> Option<&'a str>
+    pub fn text(self) -> Option<&'a str>
         ensures { option_map (λ text. text.now) result ≡ text_in (shown self.entry) }
     {
         match self {

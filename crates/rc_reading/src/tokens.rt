@@ -16,7 +16,7 @@ use json::{Invalid, Reader, Token};
 
 /// Passes the value that comes next. Arrays and objects may nest `depth` deep.
 #[cycle(pass)]
-pub(crate) fn pass(reader: &mut Reader<'_>, depth: usize) -> Result<(), Invalid>
+pub fn pass(reader: &mut Reader<'_>, depth: usize) -> Result<(), Invalid>
     ensures ok { OnOk result (rest (data_at depth reader.old) ≡ Some reader.new) }
     ensures shorter { OnOk result (length reader.new < length reader.old) }
     ensures err { OnErr result (data_at depth reader.old ≡ None) }
@@ -86,10 +86,7 @@ fn pass_members(reader: &mut Reader<'_>, depth: usize) -> Result<(), Invalid>
 
 /// Takes the value that comes next, and tells what it says by itself; of a list only the bracket that
 /// opens it, and tells nothing.
-pub(crate) fn begin<'a>(
-    reader: &mut Reader<'a>,
-    depth: usize,
-) -> Result<Option<Simple<'a>>, Invalid>
+pub fn begin<'a>(reader: &mut Reader<'a>, depth: usize) -> Result<Option<Simple<'a>>, Invalid>
     ensures ok { IfOk result (λ begun. MatchOption begun ((reader.old ≡ begin_array ∷ reader.new) × (0 < depth))
         (λ s. says both_of depth reader.old ≡ Some ((shown s, None), reader.new))) }
     ensures shorter { OnOk result (length reader.new < length reader.old) }
@@ -121,7 +118,7 @@ pub(crate) fn begin<'a>(
 }
 
 /// What the value that comes next says by itself.
-pub(crate) fn simple<'a>(reader: &mut Reader<'a>, depth: usize) -> Result<Simple<'a>, Invalid>
+pub fn simple<'a>(reader: &mut Reader<'a>, depth: usize) -> Result<Simple<'a>, Invalid>
     ensures ok { IfOk result (λ s. says said_of depth reader.old ≡ Some (shown s, reader.new)) }
     ensures shorter { OnOk result (length reader.new < length reader.old) }
     ensures err { OnErr result (data_at depth reader.old ≡ None) }
@@ -143,7 +140,7 @@ fn begins_object(token: Token<'_>) -> bool
 
 /// Whether the value that comes next is an object. Of an object the bracket that opens it is taken,
 /// another value whole.
-pub(crate) fn opens_object(reader: &mut Reader<'_>, depth: usize) -> Result<bool, Invalid>
+pub fn opens_object(reader: &mut Reader<'_>, depth: usize) -> Result<bool, Invalid>
     ensures ok { IfOk result (λ opened. MatchBool opened ((reader.old ≡ begin_object ∷ reader.new) × (0 < depth))
         (says as_object depth reader.old ≡ Some (None, reader.new))) }
     ensures shorter { OnOk result (length reader.new < length reader.old) }

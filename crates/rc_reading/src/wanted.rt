@@ -26,7 +26,7 @@ use rc_types::limits::{LAST_SEGMENT, MAX_FACTOR, MAX_HOSTS};
 use rc_types::{Addr, ServerId};
 
 /// A whole number from `low` to `high`.
-pub(crate) fn number(
+pub fn number(
     reader: &mut Reader<'_>,
     depth: usize,
     low: u64,
@@ -149,7 +149,7 @@ fn id_items(reader: &mut Reader<'_>, depth: usize) -> Result<Option<ServerId>, I
 }
 
 /// An id, an index and a generation.
-pub(crate) fn id(reader: &mut Reader<'_>, depth: usize) -> Result<Option<ServerId>, Invalid>
+pub fn id(reader: &mut Reader<'_>, depth: usize) -> Result<Option<ServerId>, Invalid>
     ensures ok { IfOk result (λ id. says id_of depth reader.old ≡ Some (id, reader.new)) }
     ensures shorter { OnOk result (length reader.new < length reader.old) }
     ensures err { OnErr result (data_at depth reader.old ≡ None) }

@@ -1,4 +1,7 @@
-mod Views
 mod Bytes
 mod Each
+mod Texts
+mod Noted
+mod TopNoted
+mod PartsFound
 mod Floats

@@ -1,41 +1,15 @@
--- What a JSON value says where a trace wants a number, a list, bytes, or an object of so many members: nothing, where
--- it is something else.
-use Rattle.std.specs.Prelude.{ℕ, Bool, false, nat_eq, nat_le, ◌&&◌, if◌then◌else◌, List, [], ◌∷◌, Option, Some, None}
-use Rattle.std.specs.Prelude.{option_map, option_and_then, Result, Ok, Err}
+-- What a JSON value says where a trace wants a number or bytes: nothing, where it is something else.
+use Rattle.std.specs.Prelude.{ℕ, Bool, nat_le, ◌&&◌, if◌then◌else◌, List, Option, Some, None, option_map, Result, Ok}
+use Rattle.std.specs.Prelude.{Err}
 use Rattle.std.specs.List.{list_any}
 use Rattle.rc_types.specs.declared.limits.TheConstants.{LAST_SEGMENT}
 use Rattle.rc_traces.specs.declared.limits.TheConstants.{LAST_NUMBER}
 use Rattle.hex.specs.Hex.{decode_of}
 use Rattle.hex.specs.declared.FromHexError.{FromHexError}
 use Rattle.serde_json.specs.Data.{Data, null, string}
-use Rattle.serde_json.specs.Events.{members_len}
-use Rattle.serde_json.specs.Find.{as_object}
-use Rattle.rc_reading.specs.Values.{given4, whole, list_of}
-
--- an object has exactly so many members
-abbrev pub is_count : ℕ → Option ℕ → Bool
-is_count n None = false
-is_count n (Some members) = nat_eq members n
-
-abbrev pub has_members : ℕ → Data → Bool
-has_members n d = is_count n (option_map members_len (as_object d))
-
--- what was found, if the object has no other members than the so many that were looked for
-abbrev pub exactly : {A : Type 0} → ℕ → Data → Option A → Option A
-exactly n d found = if has_members n d then found else None
-
--- a list of what each item says
-abbrev pub one_more : {A : Type 0} → Option A → Option (List A) → Option (List A)
-one_more (Some a) (Some rest) = Some (a ∷ rest)
-one_more (Some a) None = None
-one_more None rest = None
-
-abbrev pub each : {A : Type 0} → (Data → Option A) → List Data → Option (List A)
-each says [] = Some []
-each says (d ∷ ds) = one_more (says d) (each says ds)
-
-abbrev pub list_of_each : {A : Type 0} → (Data → Option A) → Data → Option (List A)
-list_of_each says d = option_and_then (each says) (list_of d)
+use Rattle.rc_reading.specs.Said.{Said}
+use Rattle.rc_reading.specs.Said as said
+use Rattle.rc_reading.specs.Values.{given4, whole}
 
 -- all that was looked for was found
 abbrev pub given5 : {A B C D E R : Type 0} → (A → B → C → D → E → R) → Option A → Option B → Option C → Option D →
@@ -78,3 +52,11 @@ abbrev pub value_of : Data → Option (Option (List ℕ))
 value_of null = Some None
 value_of (string text) = option_map Some (bytes_of text)
 value_of _ = None
+
+-- the same, of what a value says by itself
+abbrev pub value_in : Said → Option (Option (List ℕ))
+value_in said.nothing = Some None
+value_in (said.flag b) = None
+value_in (said.number n) = None
+value_in (said.text text) = option_map Some (bytes_of text)
+value_in said.other = None

@@ -2,6 +2,7 @@
 
 ghost use Rattle.std.specs.Prelude.{◌≡◌};
 
+use json::Invalid;
 use std::alloc::{AllocError, AllocFailed};
 use thiserror::Error;
 
@@ -37,5 +38,16 @@ impl<T: Drop> From<AllocFailed<T>> for TraceFault {
 
     fn from(_: AllocFailed<T>) -> TraceFault {
         TraceFault::OutOfMemory
+    }
+}
+
+/// What is no JSON text is wrong at place 0.
+impl From<Invalid> for TraceFault {
+    ghost use Rattle.rc_traces.specs.declared.faults.TraceFault.TheVariants.{BadTrace};
+
+    ghost from_gives = { λ _ e. e ≡ BadTrace 0 };
+
+    fn from(_: Invalid) -> TraceFault {
+        TraceFault::BadTrace(0)
     }
 }

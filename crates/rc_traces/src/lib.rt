@@ -2,12 +2,14 @@
 //! members.
 #![tactic(auto)]
 
-mod entries;
 mod faults;
+mod fields;
 pub mod limits;
-mod messages;
+mod lists;
+mod names;
 mod reading;
 mod values;
+mod whole;
 mod writing;
 
 pub use faults::TraceFault;

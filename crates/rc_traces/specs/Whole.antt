@@ -1,0 +1,49 @@
+-- What the members of a trace say, a member at a time, and a message at a time.
+use Rattle.std.specs.Prelude.{ℕ, ◌+◌, false, ◌&&◌, is_some, if◌then◌else◌, List, [], ◌∷◌, ◌++◌, length, Option}
+use Rattle.std.specs.Prelude.{Some, None, option_and_then, Result, Ok, Err, codes}
+use Rattle.std.specs.Str.{bytes_eq}
+use Rattle.rc_types.specs.declared.messages.Message.{Message}
+use Rattle.serde_json.specs.Data.{Data}
+use Rattle.rc_traces.specs.declared.whole.TopName.{TopName}
+use Rattle.rc_traces.specs.declared.whole.TopName.TheVariants.{Format, Messages}
+use Rattle.rc_traces.specs.declared.whole.Top.{Top}
+use Rattle.rc_reading.specs.Values.{has_only, field, whole, list_of}
+use Rattle.rc_traces.specs.Names.{trace_members}
+use Rattle.rc_traces.specs.Trace.{messages_of}
+
+-- one more message, or nothing for a wrong one; the first message has place 2
+abbrev pub message_added : Result (List Message) ℕ → Option Message → Result (List Message) ℕ
+message_added (Err place) message = Err place
+message_added (Ok messages) None = Err (2 + length messages)
+message_added (Ok messages) (Some message) = Ok (messages ++ message ∷ [])
+
+abbrev pub messages_list : Data → Option (Result (List Message) ℕ)
+messages_list d = option_and_then (λ ds. Some (messages_of 2 ds)) (list_of d)
+
+abbrev pub top_named : List ℕ → Option TopName
+top_named text =
+    if bytes_eq text (codes "format") then Some Format
+    else (if bytes_eq text (codes "messages") then Some Messages
+    else None)
+
+-- one more member was read
+abbrev pub top_noted : Option TopName → Data → Top → Top
+top_noted None d top = record top { only = false }
+top_noted (Some Format) d top = record top { format = whole 1 1 d }
+top_noted (Some Messages) d top = record top { messages = messages_list d }
+
+-- what all members of an object say
+abbrev pub top_of : Data → Top
+top_of d = record {
+  only = has_only trace_members d;
+  format = field (codes "format") (whole 1 1) d;
+  messages = field (codes "messages") messages_list d;
+}
+
+abbrev pub messages_in : Option (Result (List Message) ℕ) → Result (List Message) ℕ
+messages_in (Some messages) = messages
+messages_in None = Err 1
+
+-- the messages that the members say, or the place that is wrong
+abbrev pub trace_by : Top → Result (List Message) ℕ
+trace_by top = if top.only && is_some top.format then messages_in top.messages else Err 1

@@ -1,0 +1,452 @@
+//! What the members of a message say, a member at a time.
+
+ghost use Rattle.std.specs.Prelude.{◌≡◌, ◌<◌, ℕ, length, Some, None, Err, IfOk, OnOk, OnErr};
+ghost use Rattle.rc_traces.specs.declared.faults.TraceFault.TheVariants.{BadTrace};
+ghost use Rattle.serde_json.specs.Data.{object, no_members};
+ghost use Rattle.rc_traces.specs.Fields.{member_named, all_messages, no_message, narrowed, noted, fields_of, allowed};
+ghost use Rattle.rc_traces.specs.Fields.{needed, message_in};
+ghost use Rattle.rc_traces.specs.Trace.{nobody, message_of, message_name, place_with, append_with, ok_with, plan_with};
+ghost use Rattle.rc_traces.specs.Trace.{own_with};
+ghost use Rattle.rc_traces.specs.Values.{given7};
+ghost use Rattle.rc_reading.specs.Values.{given3, given4};
+ghost use Rattle.rc_reading.specs.Ahead.{data_at, members_at, says, told};
+
+use crate::faults::TraceFault;
+use crate::lists::{entries, rows};
+use crate::names::MessageName;
+use crate::values::{key, number, seg, table};
+use json::{Invalid, Reader};
+use rc_reading::tokens::{opens_object, pass, simple};
+use rc_reading::wanted::id;
+use rc_types::{Addr, Body, Entry, Message, PlanRow, Seq, ServerId};
+use std::alloc::Global;
+
+/// A member that some message has.
+#[derive(Clone, Copy)]
+pub(crate) enum MemberName {
+    Name,
+    From,
+    Seg,
+    Offset,
+    Entries,
+    Term,
+    Table,
+    Key,
+    Version,
+    Attempt,
+    Master,
+    Rows,
+    To,
+    Lo,
+    Hi,
+    Previous,
+}
+
+impl MemberName {
+    fn named(name: &str) -> Option<MemberName>
+        ensures { result ≡ member_named name.now }
+    {
+        match name {
+            "m" => Some(MemberName::Name),
+            "from" => Some(MemberName::From),
+            "seg" => Some(MemberName::Seg),
+            "offset" => Some(MemberName::Offset),
+            "entries" => Some(MemberName::Entries),
+            "term" => Some(MemberName::Term),
+            "table" => Some(MemberName::Table),
+            "key" => Some(MemberName::Key),
+            "version" => Some(MemberName::Version),
+            "attempt" => Some(MemberName::Attempt),
+            "of" => Some(MemberName::Master),
+            "rows" => Some(MemberName::Rows),
+            "to" => Some(MemberName::To),
+            "lo" => Some(MemberName::Lo),
+            "hi" => Some(MemberName::Hi),
+            "previous" => Some(MemberName::Previous),
+            _ => None,
+        }
+    }
+}
+
+/// For each message whether it has all the members that have come.
+#[derive(Clone, Copy)]
+pub(crate) struct Only {
+    place: bool,
+    append: bool,
+    ok: bool,
+    plan: bool,
+    own: bool,
+}
+
+impl Only {
+    fn all() -> Only
+        ensures { result ≡ all_messages }
+    {
+        Only {
+            place: true,
+            append: true,
+            ok: true,
+            plan: true,
+            own: true,
+        }
+    }
+
+    fn none() -> Only
+        ensures { result ≡ no_message }
+    {
+        Only {
+            place: false,
+            append: false,
+            ok: false,
+            plan: false,
+            own: false,
+        }
+    }
+
+    /// Whether this message has all the members that have come.
+    fn allows(self, name: MessageName) -> bool
+        ensures { result ≡ allowed name self }
+    {
+        match name {
+            MessageName::Place => self.place,
+            MessageName::Append => self.append,
+            MessageName::Ok => self.ok,
+            MessageName::Plan => self.plan,
+            MessageName::Own => self.own,
+        }
+    }
+
+    /// One more member has come; `None` is one that no message has.
+    fn narrowed(self, name: Option<MemberName>) -> Only
+        ensures { result ≡ narrowed name self }
+    {
+        let mut only = Only::none();
+        match name {
+            Some(MemberName::Name) => only = self,
+            Some(MemberName::From | MemberName::Seg) => {
+                only.place = self.place;
+                only.append = self.append;
+                only.ok = self.ok;
+            }
+            Some(MemberName::Offset) => {
+                only.append = self.append;
+                only.ok = self.ok;
+            }
+            Some(MemberName::Entries) => {
+                only.place = self.place;
+                only.append = self.append;
+            }
+            Some(MemberName::Term | MemberName::Table) => {
+                only.ok = self.ok;
+                only.own = self.own;
+            }
+            Some(MemberName::Key | MemberName::Version) => {
+                only.ok = self.ok;
+            }
+            Some(MemberName::Attempt) => {
+                only.plan = self.plan;
+                only.own = self.own;
+            }
+            Some(MemberName::Master | MemberName::Rows) => {
+                only.plan = self.plan;
+            }
+            Some(MemberName::To | MemberName::Lo | MemberName::Hi | MemberName::Previous) => {
+                only.own = self.own;
+            }
+            None => {}
+        }
+        only
+    }
+}
+
+/// What the members of a message say so far; the last of equal names counts. A member that is absent and one that
+/// says nothing right are both `None`.
+#[derive(Drop)]
+pub(crate) struct Fields {
+    only: Only,
+    name: Option<MessageName>,
+    from: Option<ServerId>,
+    seg: Option<u16>,
+    offset: Option<u32>,
+    entries: Option<Seq<Entry>>,
+    term: Option<u32>,
+    table: Option<u32>,
+    key: Option<u64>,
+    version: Option<u64>,
+    attempt: Option<u32>,
+    master: Option<ServerId>,
+    rows: Option<Seq<PlanRow>>,
+    to: Option<ServerId>,
+    lo: Option<u64>,
+    hi: Option<u64>,
+    previous: Option<u32>,
+}
+
+/// The name of a message.
+fn name(reader: &mut Reader<'_>, depth: usize) -> Result<Option<MessageName>, Invalid>
+    ensures ok { IfOk result (λ name. says message_name depth reader.old ≡ Some (name, reader.new)) }
+    ensures shorter { OnOk result (length reader.new < length reader.old) }
+    ensures err { OnErr result (data_at depth reader.old ≡ None) }
+{
+    let Some(text) = simple(reader, depth)?.text() else {
+        return Ok(None);
+    };
+    Ok(MessageName::named(text))
+}
+
+impl Fields {
+    fn new() -> Fields
+        ensures { result ≡ fields_of (object no_members) }
+    {
+        Fields {
+            only: Only::all(),
+            name: None,
+            from: None,
+            seg: None,
+            offset: None,
+            entries: None,
+            term: None,
+            table: None,
+            key: None,
+            version: None,
+            attempt: None,
+            master: None,
+            rows: None,
+            to: None,
+            lo: None,
+            hi: None,
+            previous: None,
+        }
+    }
+
+    /// Takes the value of one more member.
+    fn take(
+        &mut self,
+        alloc: Global,
+        member: Option<MemberName>,
+        reader: &mut Reader<'_>,
+        depth: usize,
+    ) -> Result<(), TraceFault>
+        ensures ok { OnOk result (says (λ d. noted member d self.old) depth reader.old ≡ Some (self.new, reader.new)) }
+        ensures shorter { OnOk result (length reader.new < length reader.old) }
+        ensures bad { (place : ℕ) → result ≡ Err (BadTrace place) → (place ≡ 0) × (data_at depth reader.old ≡ None) }
+    {
+        self.only = self.only.narrowed(member);
+        match member {
+            Some(MemberName::Name) => self.name = name(reader, depth)?,
+            Some(MemberName::From) => self.from = id(reader, depth)?,
+            Some(MemberName::Seg) => self.seg = seg(reader, depth)?,
+            Some(MemberName::Offset) => self.offset = number(reader, depth)?,
+            Some(MemberName::Entries) => self.entries = entries(alloc, reader, depth)?,
+            Some(MemberName::Term) => self.term = number(reader, depth)?,
+            Some(MemberName::Table) => self.table = table(reader, depth)?,
+            Some(MemberName::Key) => self.key = key(reader, depth)?,
+            Some(MemberName::Version) => self.version = key(reader, depth)?,
+            Some(MemberName::Attempt) => self.attempt = number(reader, depth)?,
+            Some(MemberName::Master) => self.master = id(reader, depth)?,
+            Some(MemberName::Rows) => self.rows = rows(alloc, reader, depth)?,
+            Some(MemberName::To) => self.to = id(reader, depth)?,
+            Some(MemberName::Lo) => self.lo = key(reader, depth)?,
+            Some(MemberName::Hi) => self.hi = key(reader, depth)?,
+            Some(MemberName::Previous) => self.previous = number(reader, depth)?,
+            None => pass(reader, depth)?,
+        }
+        Ok(())
+    }
+
+    /// The message of this name, where the members that it needs say something.
+    fn needed(self, alloc: Global, name: MessageName) -> Option<Message>
+        ensures { result ≡ needed name self }
+    {
+        match name {
+            MessageName::Place => place(alloc, self.from, self.seg, self.entries),
+            MessageName::Append => append(self.from, self.seg, self.offset, self.entries),
+            MessageName::Ok => ok(
+                self.from,
+                self.seg,
+                self.offset,
+                self.term,
+                self.table,
+                self.key,
+                self.version,
+            ),
+            MessageName::Plan => plan(alloc, self.attempt, self.master, self.rows),
+            MessageName::Own => own(
+                self.to,
+                self.table,
+                self.lo,
+                self.hi,
+                self.term,
+                self.previous,
+                self.attempt,
+            ),
+        }
+    }
+
+    /// The message that the members say.
+    fn message(self, alloc: Global) -> Option<Message>
+        ensures { result ≡ message_in self }
+    {
+        match self.name {
+            Some(name) if self.only.allows(name) => self.needed(alloc, name),
+            _ => None,
+        }
+    }
+}
+
+/// An addressee that a trace doesn't carry.
+fn nobody() -> Addr
+    ensures { result ≡ nobody }
+{
+    Addr::Server(ServerId {
+        index: 0,
+        generation: 0,
+    })
+}
+
+fn place(
+    alloc: Global,
+    from: Option<ServerId>,
+    seg: Option<u16>,
+    entries: Option<Seq<Entry>>,
+) -> Option<Message>
+    ensures { result ≡ given3 place_with from seg entries }
+{
+    Some(Message {
+        from: Addr::Server(from?),
+        to: nobody(),
+        body: Body::Place {
+            seg: seg?,
+            epoch: 0,
+            digest: Seq::new(alloc),
+            entries: entries?,
+            closed: false,
+        },
+    })
+}
+
+fn append(
+    from: Option<ServerId>,
+    seg: Option<u16>,
+    offset: Option<u32>,
+    entries: Option<Seq<Entry>>,
+) -> Option<Message>
+    ensures { result ≡ given4 append_with from seg offset entries }
+{
+    Some(Message {
+        from: Addr::Server(from?),
+        to: nobody(),
+        body: Body::Append {
+            seg: seg?,
+            offset: offset? as usize,
+            entries: entries?,
+        },
+    })
+}
+
+fn ok(
+    from: Option<ServerId>,
+    seg: Option<u16>,
+    offset: Option<u32>,
+    term: Option<u32>,
+    table: Option<u32>,
+    key: Option<u64>,
+    version: Option<u64>,
+) -> Option<Message>
+    ensures { result ≡ given7 ok_with from seg offset term table key version }
+{
+    Some(Message {
+        from: Addr::Server(from?),
+        to: Addr::Outside,
+        body: Body::WriteOk {
+            seg: seg?,
+            offset: offset? as usize,
+            term: term?,
+            table: table?,
+            key: key?,
+            version: version?,
+        },
+    })
+}
+
+fn plan(
+    alloc: Global,
+    attempt: Option<u32>,
+    master: Option<ServerId>,
+    rows: Option<Seq<PlanRow>>,
+) -> Option<Message>
+    ensures { result ≡ given3 plan_with attempt master rows }
+{
+    Some(Message {
+        from: Addr::Coordinator,
+        to: nobody(),
+        body: Body::Plan {
+            attempt: attempt?,
+            master: master?,
+            head: 0,
+            rows: rows?,
+            parts: Seq::new(alloc),
+        },
+    })
+}
+
+fn own(
+    to: Option<ServerId>,
+    table: Option<u32>,
+    lo: Option<u64>,
+    hi: Option<u64>,
+    term: Option<u32>,
+    previous: Option<u32>,
+    attempt: Option<u32>,
+) -> Option<Message>
+    ensures { result ≡ given7 own_with to table lo hi term previous attempt }
+{
+    Some(Message {
+        from: Addr::Coordinator,
+        to: Addr::Server(to?),
+        body: Body::Own {
+            table: table?,
+            lo: lo?,
+            hi: hi?,
+            term: term?,
+            previous: previous?,
+            attempt: attempt?,
+        },
+    })
+}
+
+/// The members of a message, up to the end of its object.
+fn message_members(
+    alloc: Global,
+    reader: &mut Reader<'_>,
+    depth: usize,
+) -> Result<Fields, TraceFault>
+    ensures ok { IfOk result (λ fields. told (λ ms. fields_of (object ms)) (members_at no_members depth reader.old) ≡
+        Some (fields, reader.new)) }
+    ensures shorter { OnOk result (length reader.new < length reader.old) }
+    ensures bad { (place : ℕ) → result ≡ Err (BadTrace place) →
+        (place ≡ 0) × (members_at no_members depth reader.old ≡ None) }
+{
+    let mut fields = Fields::new();
+    'members: while let Some(name) = reader.next_key()? {
+        fields.take(alloc, MemberName::named(name), reader, depth)?;
+    }
+    Ok(fields)
+}
+
+/// One message of a trace; nothing, where the value is another.
+pub(crate) fn message(
+    alloc: Global,
+    reader: &mut Reader<'_>,
+    depth: usize,
+) -> Result<Option<Message>, TraceFault>
+    ensures ok { IfOk result (λ message. says message_of depth reader.old ≡ Some (message, reader.new)) }
+    ensures shorter { OnOk result (length reader.new < length reader.old) }
+    ensures bad { (place : ℕ) → result ≡ Err (BadTrace place) → (place ≡ 0) × (data_at depth reader.old ≡ None) }
+{
+    if !opens_object(reader, depth)? {
+        return Ok(None);
+    }
+    let fields = message_members(alloc, reader, depth - 1)?;
+    Ok(fields.message(alloc))
+}
