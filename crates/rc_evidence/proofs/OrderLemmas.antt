@@ -72,7 +72,10 @@ pub record KeepsAmong (order : BTreeMap ℕ Span) (entries rest : List (ℕ × T
 
 pub keeps_begins : (order : BTreeMap ℕ Span) (entries rest : List (ℕ × TermGrants)) → rest ≡ entries → KeepsAmong order entries rest
 keeps_begins order entries rest all =
-    record { each = λ term grant at. inl (subst (λ (xs : List (ℕ × TermGrants)). In grant (grants_in (lookup (is_at (nat_cmp term)) xs))) (sym all) at) }
+    record {
+      each = λ term grant at. inl (subst
+          (λ (xs : List (ℕ × TermGrants)). In grant (grants_in (lookup (is_at (nat_cmp term)) xs))) (sym all) at);
+    }
 
 is_at-same : (a b : ℕ) → is_at (nat_cmp a) b ≡ true → a ≡ b
 is_at-same a b h = grind (arith, nat_tests)
@@ -101,7 +104,9 @@ pub keeps_ends : (order : BTreeMap ℕ Span) (grants : BTreeMap ℕ TermGrants) 
     KeepsAmong order grants.entries rest → Keeps order grants
 keeps_ends order grants rest none among = record { each = λ term grant at. by term grant (among.each term grant at) }
   where
-    by : (term : ℕ) (grant : Grant) → In grant (grants_in (lookup (is_at (nat_cmp term)) rest)) ⊎ (is_after order grant.previous term ≡ true)
-        → is_after order grant.previous term ≡ true
-    by term grant (inl at) = absurd (subst (λ (xs : List (ℕ × TermGrants)). In grant (grants_in (lookup (is_at (nat_cmp term)) xs))) none at)
+    by : (term : ℕ) (grant : Grant) →
+        In grant (grants_in (lookup (is_at (nat_cmp term)) rest)) ⊎ (is_after order grant.previous term ≡ true) →
+        is_after order grant.previous term ≡ true
+    by term grant (inl at) = absurd (subst
+        (λ (xs : List (ℕ × TermGrants)). In grant (grants_in (lookup (is_at (nat_cmp term)) xs))) none at)
     by term grant (inr done) = done

@@ -29,5 +29,6 @@ pub record IsOver (order : BTreeMap ℕ Span) (highs : BTreeMap TermKey ℕ) (ke
       is_after order q.term key.term ≡ true → is_level (high_at highs q) v ≡ true → is_level bar v ≡ true
 
 -- each that the table has is such a one
-pub record AreOver (order : BTreeMap ℕ Span) (highs : BTreeMap TermKey ℕ) (bars : BTreeMap TermKey (Option ℕ)) : Type 0 where
+pub record AreOver (order : BTreeMap ℕ Span) (highs : BTreeMap TermKey ℕ) (bars : BTreeMap TermKey (Option ℕ)) :
+    Type 0 where
   pub each : (key : TermKey) (bar : Option ℕ) → get key_order bars key ≡ Some bar → IsOver order highs key bar

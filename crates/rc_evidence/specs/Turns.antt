@@ -32,8 +32,8 @@ pub record HasTurns (order : BTreeMap ℕ Span) (highs : BTreeMap TermKey ℕ) (
       get nat_cmp order key.term ≡ Some span → contains turn_order turns (noting span key) ≡ true
 
 -- the bar of this turn's key is what is noted, and all that stands before its term had a turn before this one
-pub record IsFound (order : BTreeMap ℕ Span) (noted : BTreeMap TermKey ℕ) (turn : Turn) (key : TermKey) (bar : Option ℕ) :
-    Type 0 where
+pub record IsFound (order : BTreeMap ℕ Span) (noted : BTreeMap TermKey ℕ) (turn : Turn) (key : TermKey)
+    (bar : Option ℕ) : Type 0 where
   pub finds : turn.is_noted ≡ false
   pub is_key : key ≡ turn.key
   pub is_bar : bar ≡ high_at noted (of_all_terms turn.key)
@@ -42,8 +42,8 @@ pub record IsFound (order : BTreeMap ℕ Span) (noted : BTreeMap TermKey ℕ) (t
   pub passed : span.bound ≤ turn.place
 
 -- a turn is taken
-pub record TakesTurn (order : BTreeMap ℕ Span) (highs old new : BTreeMap TermKey ℕ) (found finds : BTreeMap TermKey (Option ℕ))
-    (turn : Turn) : Type 0 where
+pub record TakesTurn (order : BTreeMap ℕ Span) (highs old new : BTreeMap TermKey ℕ)
+    (found finds : BTreeMap TermKey (Option ℕ)) (turn : Turn) : Type 0 where
   pub kept : (q : TermKey) (v : ℕ) → is_level (high_at old q) v ≡ true → is_level (high_at new q) v ≡ true
   pub noted : (v : ℕ) → turn.is_noted ≡ true → is_level (high_at highs turn.key) v ≡ true →
       is_level (high_at new (of_all_terms turn.key)) v ≡ true

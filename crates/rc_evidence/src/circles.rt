@@ -86,7 +86,8 @@ impl Search {
         Ok(())
     }
 
-    /// All grants of this term are gone over. If it heads a circle, or stands alone, those open since then have a place.
+    /// All grants of this term are gone over. If it heads a circle, or stands alone, those open since then get a
+    /// place.
     fn close(&mut self, term: u32, grants: &Grants) -> Result<(), Fault>
         ensures { IfErr result (λ e. e ≡ OutOfMemory) }
     {

@@ -1,6 +1,6 @@
 -- The messages that wait, by kind and host.
-use Rattle.std.specs.Prelude.{◌≡◌, ◌⊎◌, ◌≤◌, ◌<◌, ℕ, ◌+◌, Bool, true, false, nat_lt, ◌||◌, List, [], ◌∷◌, ⊤, Option, Some, None}
-use Rattle.std.specs.Prelude.{slice_get, unwrap_or}
+use Rattle.std.specs.Prelude.{◌≡◌, ◌⊎◌, ◌≤◌, ◌<◌, ℕ, ◌+◌, Bool, true, false, nat_lt, ◌||◌, List, [], ◌∷◌, ⊤, Option}
+use Rattle.std.specs.Prelude.{Some, None, slice_get, unwrap_or}
 use Rattle.rc_types.specs.declared.ids.Addr.{Addr}
 use Rattle.rc_reading.specs.declared.kinds.Kind.{Kind}
 use Rattle.rc_reading.specs.Kinds.{has_kind}

@@ -1,7 +1,7 @@
 //! Marks of what was delivered, and the numbers of what waits.
 
-ghost use Rattle.std.specs.Prelude.{◌≡◌, ◌≤◌, ◌<◌, ◌+◌, ◌++◌, ◌∷◌, true, false, [], ℕ, List, length, drop, Some, slice_get};
-ghost use Rattle.std.specs.Prelude.{OnOk, OnErr};
+ghost use Rattle.std.specs.Prelude.{◌≡◌, ◌≤◌, ◌<◌, ◌+◌, ◌++◌, ◌∷◌, true, false, [], ℕ, List, length, drop, Some};
+ghost use Rattle.std.specs.Prelude.{slice_get, OnOk, OnErr};
 ghost use Rattle.std.specs.List.{find, slice_set};
 ghost use Rattle.rc_types.specs.declared.events.Event.{Event};
 ghost use Rattle.rc_types.specs.declared.messages.Message.{Message};

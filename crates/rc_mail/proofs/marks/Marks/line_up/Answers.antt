@@ -10,7 +10,8 @@ returns-then-suits-clause-ok c =
     let number = length c.args.self.now.delivered.items in
     let place = c.index-place.result.now in
     let here = slice_get_read lines c.len.result place c.index.result.now (omega arith) c.if-place-len.true c.index.ensures in
-    let there = slice_get_read lines c.len.result place c.index_mut.result.now (omega arith) c.if-place-len.true c.index_mut.ensures.value in
+    let there = slice_get_read lines c.len.result place c.index_mut.result.now (omega arith) c.if-place-len.true
+    c.index_mut.ensures.value in
     let some : Some c.index_mut.result.now ≡ Some c.index.result.now = sym there ∙ here in
     let same : c.index_mut.result.now ≡ c.index.result.now = cc in
     let last : c.len-then-suits.result ≡ number = omega arith in
