@@ -1,7 +1,7 @@
 //! Why a scenario or a trace is wrong at a place (F17).
 
 use crate::dialects::{Dialect, MESSAGES, may_be_absent};
-use crate::pieces::{Member, Piece, items, members, named};
+use crate::pieces::{Member, Piece, item, members, named};
 use crate::showing::{ask_for_nearest, show, show_quoted, tell_names, tell_place, tell_quoted};
 use crate::syntax::tell_text_fault;
 use crate::values::{Want, Wrong, tell_want, unquoted, wrong_in};
@@ -278,7 +278,7 @@ pub(crate) fn item_of(
     number: usize,
 ) -> Result<Option<Piece>, AllocError> {
     match list_of(alloc, dialect, text)? {
-        Some(list) => item_in(alloc, text, list, number),
+        Some(list) => Ok(item(text, list, number)),
         None => Ok(None),
     }
 }
@@ -292,17 +292,6 @@ pub(crate) fn list_of(
     let found = members(alloc, text, Piece::all(text))?;
     let list = named(text, found.as_slice(), dialect.list());
     Ok(list.map(|member| member.value))
-}
-
-/// The item of this number in a list.
-fn item_in(
-    alloc: Global,
-    text: &[u8],
-    list: Piece,
-    number: usize,
-) -> Result<Option<Piece>, AllocError> {
-    let found = items(alloc, text, list)?;
-    Ok(found.as_slice().get(number).copied())
 }
 
 /// Why an item of the list is wrong.

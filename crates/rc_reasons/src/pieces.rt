@@ -127,31 +127,81 @@ impl Walk {
     }
 }
 
+/// A walk along the items of a list, or the members of an object.
+#[derive(Clone, Copy)]
+pub struct ItemWalk {
+    walk: Walk,
+    /// Where the item begins that comes next.
+    from: usize,
+    /// Where the walk stands.
+    at: usize,
+}
+
+impl ItemWalk {
+    /// The walk from the beginning.
+    pub fn of(whole: Piece) -> ItemWalk {
+        ItemWalk {
+            walk: Walk::new(),
+            from: whole.from.saturating_add(1),
+            at: whole.from,
+        }
+    }
+
+    /// Goes past this byte, and gives the item that ends before it, if one does.
+    pub fn past(&mut self, text: &[u8], byte: u8) -> Option<Piece> {
+        let mut ended = None;
+        if self.walk.ends_item(byte) {
+            let item = Piece {
+                from: self.from,
+                to: self.at,
+            }
+            .trimmed(text);
+            if item.from < item.to {
+                ended = Some(item);
+            }
+            self.from = self.at.saturating_add(1);
+        }
+        self.walk = self.walk.past(byte);
+        self.at = self.at.saturating_add(1);
+        ended
+    }
+}
+
 /// The items of a list, or the members of an object.
 pub fn items(alloc: Global, text: &[u8], whole: Piece) -> Result<Vec<Piece>, AllocError> {
     let mut found = Vec::new(alloc);
-    let mut walk = Walk::new();
-    let mut from = whole.from.saturating_add(1);
-    let mut at = whole.from;
+    let mut walk = ItemWalk::of(whole);
     for byte in whole.of(text) {
-        if walk.ends_item(*byte) {
-            let item = Piece { from, to: at }.trimmed(text);
-            if item.from < item.to {
-                found.push(item)?;
-            }
-            from = at.saturating_add(1);
+        if let Some(item) = walk.past(text, *byte) {
+            found.push(item)?;
         }
-        walk = walk.past(*byte);
-        at = at.saturating_add(1);
     }
     Ok(found)
+}
+
+/// The item of this number of a list.
+pub fn item(text: &[u8], whole: Piece, number: usize) -> Option<Piece> {
+    let mut left = number;
+    let mut walk = ItemWalk::of(whole);
+    for byte in whole.of(text) {
+        if let Some(item) = walk.past(text, *byte) {
+            if left == 0 {
+                return Some(item);
+            }
+            left -= 1;
+        }
+    }
+    None
 }
 
 /// The members of an object.
 pub fn members(alloc: Global, text: &[u8], whole: Piece) -> Result<Vec<Member>, AllocError> {
     let mut found = Vec::new(alloc);
-    for item in &items(alloc, text, whole)? {
-        found.push(member_in(text, *item))?;
+    let mut walk = ItemWalk::of(whole);
+    for byte in whole.of(text) {
+        if let Some(item) = walk.past(text, *byte) {
+            found.push(member_in(text, item))?;
+        }
     }
     Ok(found)
 }

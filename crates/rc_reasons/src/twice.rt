@@ -2,7 +2,7 @@
 
 use crate::dialects::Dialect;
 use crate::faults::list_of;
-use crate::pieces::{Member, Piece, items, members};
+use crate::pieces::{ItemWalk, Member, Piece, members};
 use crate::showing::{show_quoted, tell_place};
 use rc_pen::{Pen, Spelling};
 use std::alloc::{AllocError, Global};
@@ -42,20 +42,12 @@ fn tell_twice_in_items(
     list: Piece,
     pen: &mut Pen<'_>,
 ) -> Result<(), AllocError> {
-    let found = items(alloc, text, list)?;
-    tell_twice_among(alloc, text, found.as_slice(), pen)
-}
-
-/// Tells of the first of these items in which a member comes twice.
-fn tell_twice_among(
-    alloc: Global,
-    text: &[u8],
-    found: &[Piece],
-    pen: &mut Pen<'_>,
-) -> Result<(), AllocError> {
-    for item in found {
-        if tell_twice(alloc, text, *item, pen)? {
-            break;
+    let mut walk = ItemWalk::of(list);
+    for byte in list.of(text) {
+        if let Some(item) = walk.past(text, *byte) {
+            if tell_twice(alloc, text, item, pen)? {
+                break;
+            }
         }
     }
     Ok(())
