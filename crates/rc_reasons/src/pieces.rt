@@ -194,20 +194,42 @@ pub fn item(text: &[u8], whole: Piece, number: usize) -> Option<Piece> {
     None
 }
 
-/// The members of an object.
+/// How many members of one object are kept: far more than an object has that is right.
+const MOST_MEMBERS: usize = 128;
+
+/// The members of an object; of those with equal names the first and the last, and of the others no more than
+/// an object can have beside a strange one.
 pub fn members(alloc: Global, text: &[u8], whole: Piece) -> Result<Vec<Member>, AllocError> {
     let mut found = Vec::new(alloc);
     let mut walk = ItemWalk::of(whole);
     for byte in whole.of(text) {
         if let Some(item) = walk.past(text, *byte) {
-            found.push(member_in(text, item))?;
+            keep_member(text, &mut found, member_in(text, item))?;
         }
     }
     Ok(found)
 }
 
+/// Keeps one more member, in place of the last one of its name, if that is not the first one.
+fn keep_member(text: &[u8], found: &mut Vec<Member>, member: Member) -> Result<(), AllocError> {
+    let mut is_known = false;
+    for other in found.iter_mut() {
+        if other.name.of(text) == member.name.of(text) {
+            if is_known {
+                *other = member;
+                return Ok(());
+            }
+            is_known = true;
+        }
+    }
+    if found.len() < MOST_MEMBERS {
+        found.push(member)?;
+    }
+    Ok(())
+}
+
 /// The member that an item of an object is.
-fn member_in(text: &[u8], item: Piece) -> Member {
+pub fn member_in(text: &[u8], item: Piece) -> Member {
     let mut walk = Walk::new();
     let mut colon = item.from;
     for byte in item.of(text) {

@@ -2,7 +2,7 @@
 
 use crate::dialects::Dialect;
 use crate::faults::list_of;
-use crate::pieces::{ItemWalk, Member, Piece, members};
+use crate::pieces::{ItemWalk, Member, Piece, member_in};
 use crate::showing::{show_quoted, tell_place};
 use rc_pen::{Pen, Spelling};
 use std::alloc::{AllocError, Global};
@@ -60,31 +60,31 @@ fn tell_twice(
     whole: Piece,
     pen: &mut Pen<'_>,
 ) -> Result<bool, AllocError> {
-    let found = members(alloc, text, whole)?;
-    Ok(tell_second(text, found.as_slice(), pen))
-}
-
-/// Tells of the first of these members whose name stands before it already, and gives whether there is one.
-fn tell_second(text: &[u8], found: &[Member], pen: &mut Pen<'_>) -> bool {
-    let Some(member) = second(text, found) else {
-        return false;
+    let Some(member) = second(alloc, text, whole)? else {
+        return Ok(false);
     };
     pen.say("hint: ");
     tell_place(pen, text, member.name.from.saturating_sub(1));
     pen.say("the member ");
     show_quoted(pen, text, member.name);
     pen.say(" comes twice in this object; the last one counts\n");
-    true
+    Ok(true)
 }
 
-/// The first of these members whose name stands before it already.
-fn second(text: &[u8], found: &[Member]) -> Option<Member> {
-    for (place, member) in found.iter().enumerate() {
-        if has_name(text, &found[..place], member) {
-            return Some(*member);
+/// The first member of this object whose name stands before it already.
+fn second(alloc: Global, text: &[u8], whole: Piece) -> Result<Option<Member>, AllocError> {
+    let mut found = Vec::new(alloc);
+    let mut walk = ItemWalk::of(whole);
+    for byte in whole.of(text) {
+        if let Some(item) = walk.past(text, *byte) {
+            let member = member_in(text, item);
+            if has_name(text, found.as_slice(), &member) {
+                return Ok(Some(member));
+            }
+            found.push(member)?;
         }
     }
-    None
+    Ok(None)
 }
 
 /// Whether one of these members has this one's name.
