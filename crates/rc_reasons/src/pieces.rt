@@ -167,11 +167,19 @@ impl ItemWalk {
     }
 }
 
-/// The items of a list, or the members of an object.
-pub fn items(alloc: Global, text: &[u8], whole: Piece) -> Result<Vec<Piece>, AllocError> {
+/// The first items of a list, no more than so many.
+pub fn items(
+    alloc: Global,
+    text: &[u8],
+    whole: Piece,
+    most: usize,
+) -> Result<Vec<Piece>, AllocError> {
     let mut found = Vec::new(alloc);
     let mut walk = ItemWalk::of(whole);
     for byte in whole.of(text) {
+        if found.len() >= most {
+            break;
+        }
         if let Some(item) = walk.past(text, *byte) {
             found.push(item)?;
         }

@@ -1,7 +1,7 @@
 //! What a member has to be, and where a value is something else.
 
 use crate::dialects::MESSAGES;
-use crate::pieces::{Piece, items};
+use crate::pieces::{ItemWalk, Piece, items};
 use rc_pen::Pen;
 use std::alloc::{AllocError, Global};
 
@@ -176,13 +176,18 @@ pub fn wrong_in(
     if value.first(text) != b'[' {
         return Ok(Some(whole));
     }
-    let found = items(alloc, text, value)?;
-    for part in &found {
-        if let Some(wrong) = wrong_item(alloc, text, *part, item)? {
+    let mut count = 0usize;
+    let mut walk = ItemWalk::of(value);
+    for byte in value.of(text) {
+        let Some(part) = walk.past(text, *byte) else {
+            continue;
+        };
+        if let Some(wrong) = wrong_item(alloc, text, part, item)? {
             return Ok(Some(wrong));
         }
+        count = count.saturating_add(1);
     }
-    Ok(if found.len() > want.most_items() {
+    Ok(if count > want.most_items() {
         Some(whole)
     } else {
         None
@@ -217,7 +222,7 @@ fn wrong_list(
     if value.first(text) != b'[' {
         return Ok(Some(value.from));
     }
-    let found = items(alloc, text, value)?;
+    let found = items(alloc, text, value, parts.len().saturating_add(1))?;
     for (part, want) in found.iter().zip(parts) {
         if let Some(at) = wrong_part(alloc, text, *part, *want)? {
             return Ok(Some(at));
@@ -250,7 +255,7 @@ fn wrong_id(alloc: Global, text: &[u8], value: Piece) -> Result<Option<usize>, A
     if value.first(text) != b'[' {
         return Ok(Some(value.from));
     }
-    let found = items(alloc, text, value)?;
+    let found = items(alloc, text, value, 3)?;
     let [index, generation] = found.as_slice() else {
         return Ok(Some(value.from));
     };
