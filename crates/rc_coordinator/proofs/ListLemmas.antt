@@ -46,7 +46,8 @@ found-any : {X : Type 0} (id : ServerId) (es : List (ServerId × X)) →
 found-any id [] = refl
 found-any {X} id (e ∷ es) = by (found-any id es) (same_id id e.0)
   where
-    by : is_some (lookup (same_id id) es) ≡ list_any (same_id id) (keys_of es) → (b : Bool) → is_some (cond b (Some e.1) (lookup (same_id id) es)) ≡ (b || list_any (same_id id) (keys_of es))
+    by : is_some (lookup (same_id id) es) ≡ list_any (same_id id) (keys_of es) → (b : Bool) →
+        is_some (cond b (Some e.1) (lookup (same_id id) es)) ≡ (b || list_any (same_id id) (keys_of es))
     by others true = refl
     by others false = others
 
@@ -117,8 +118,8 @@ no-longer before [] = omega arith
 no-longer before (row ∷ rows) = by (no-longer before rows) (no-longer (before ++ row ∷ []) rows) (knows before row.0)
   where
     by : length (first_rows before rows) ≤ length before + length rows →
-        length (first_rows (before ++ row ∷ []) rows) ≤ length (before ++ row ∷ []) + length rows → (b : Bool) → length (cond b (first_rows before rows) (first_rows (before ++ row ∷ []) rows)) ≤
-        length before + suc (length rows)
+        length (first_rows (before ++ row ∷ []) rows) ≤ length (before ++ row ∷ []) + length rows → (b : Bool) →
+        length (cond b (first_rows before rows) (first_rows (before ++ row ∷ []) rows)) ≤ length before + suc (length rows)
     by known new true = omega (arith, known)
     by known new false = omega (arith, new, length-append before (row ∷ []))
 
@@ -128,8 +129,8 @@ as-long before [] e = sym (append-nil before)
 as-long before (row ∷ rows) e = by (as-long (before ++ row ∷ []) rows) (knows before row.0) e
   where
     by : (length (first_rows (before ++ row ∷ []) rows) ≡ length (before ++ row ∷ []) + length rows →
-        first_rows (before ++ row ∷ []) rows ≡ (before ++ row ∷ []) ++ rows) → (b : Bool) → length (cond b (first_rows before rows) (first_rows (before ++ row ∷ []) rows)) ≡
-        length before + suc (length rows) →
+        first_rows (before ++ row ∷ []) rows ≡ (before ++ row ∷ []) ++ rows) → (b : Bool) →
+        length (cond b (first_rows before rows) (first_rows (before ++ row ∷ []) rows)) ≡ length before + suc (length rows) →
         cond b (first_rows before rows) (first_rows (before ++ row ∷ []) rows) ≡ before ++ row ∷ rows
     by others true e = absurd (omega (arith, no-longer before rows, e))
     by others false e =

@@ -64,8 +64,8 @@ pub record AreAsked (attempts : List Attempt) (current : List (ServerId × ℕ))
       waits current grants number attempt ≡ true → IsIn number asked
 
 -- and the numbers have four bytes
-pub record AreNumbered (attempts : List Attempt) (current : List (ServerId × ℕ)) (grants : List Grant) (asked : List ℕ) :
-    Type 0 where
+pub record AreNumbered (attempts : List Attempt) (current : List (ServerId × ℕ)) (grants : List Grant)
+    (asked : List ℕ) : Type 0 where
   pub kept : AreAsked attempts current grants asked
   pub few : length attempts < 2 ^ 32
 
