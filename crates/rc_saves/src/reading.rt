@@ -238,7 +238,13 @@ impl Take for Head {
 
 /// What was read.
 #[derive(Drop)]
-pub(crate) enum Read {
+pub(crate) struct Read {
+    pub(crate) kind: Kind,
+}
+
+/// What it is that was read.
+#[derive(Drop)]
+pub(crate) enum Kind {
     /// A host without its master.
     Host(Written),
     /// All of the coordinator.
@@ -252,7 +258,7 @@ impl Model for Read {
 
     ghost use Rattle.rc_saves.specs.ReadView.{read_view};
 
-    ghost view = { read_view };
+    ghost view = { λ r. read_view r.kind };
 }
 
 /// What these bytes are, and no more.
@@ -274,11 +280,13 @@ fn take_coded(alloc: Global, bytes: &[u8]) -> Result<(Read, &[u8]), DecodeFault>
     match bytes {
         [1, 9, rest @ ..] => {
             let (written, rest) = Written::take(alloc, rest)?;
-            Ok((Read::Host(written), rest))
+            let kind = Kind::Host(written);
+            Ok((Read { kind }, rest))
         }
         [1, 10, rest @ ..] => {
             let (written, rest) = WrittenBook::take(alloc, rest)?;
-            Ok((Read::Coordinator(written), rest))
+            let kind = Kind::Coordinator(written);
+            Ok((Read { kind }, rest))
         }
         _ => Err(DecodeFault::Malformed),
     }

@@ -16,7 +16,7 @@ use crate::book_reading::WrittenBook;
 use crate::building::table_of;
 use crate::faults::SaveFault;
 use crate::putting::put_host;
-use crate::reading::{Read, Written, take_alone};
+use crate::reading::{Kind, Read, Written, take_alone};
 use rc_backup::Backup;
 use rc_codec::DecodeFault;
 use rc_coordinator::{Coordinator, ListsFault};
@@ -158,12 +158,13 @@ fn node_from<A: Allocator + Clone>(
     ensures its { IfOk result (λ node. saved_of node ≡ Some read) }
     ensures refused { IfErr result (λ fault. fault ≡ Malformed → IsSound read → ⊥) }
 {
-    match read {
-        Read::Host(written) => match host_from(alloc, written) {
+    let Read { kind } = read;
+    match kind {
+        Kind::Host(written) => match host_from(alloc, written) {
             Ok(node) => Ok(node),
             Err(fault) => Err(fault),
         },
-        Read::Coordinator(written) => match coordinator_from(alloc, tablets, written) {
+        Kind::Coordinator(written) => match coordinator_from(alloc, tablets, written) {
             Ok(node) => Ok(node),
             Err(fault) => Err(fault),
         },
