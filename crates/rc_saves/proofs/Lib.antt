@@ -1,4 +1,6 @@
 pub mod InOrder
 pub mod HostLaws
+pub mod BookLaws
+pub mod CodedLaws
 pub mod SaveLaws
 pub mod Loaded

@@ -9,6 +9,8 @@
 //! `specs/Claims.antt`, what is promised; `saves`, the two calls; `laws`.
 #![tactic(auto)]
 
+mod book_putting;
+mod book_reading;
 mod building;
 mod faults;
 pub mod laws;
