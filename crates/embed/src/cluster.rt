@@ -70,8 +70,8 @@ impl Cluster {
     }
 
     /// One work of one node: it is written down and the node takes its step, what was written down is synced, and only
-    /// then what the step has sent leaves. The process may end in between. A node whose journal has become long is saved
-    /// then. A work that the node can't be given now is dropped.
+    /// then what the step has sent leaves. The process may end in between. A node whose journal has become long is
+    /// saved then. A work that the node can't be given now is dropped.
     pub(crate) fn give(
         &mut self,
         alloc: Global,

@@ -5,9 +5,9 @@
 //! `embed FIRST COUNT` runs so many seeds from the first on, and tells of each in a line what happened, counted from
 //! the works and the messages, and what the audit of all messages says.
 //!
-//! To be read in this order: `node`, a node with its journal: write down, step, sync, save; `cluster`, all of them: send,
-//! deliver, crash, come back; `life`, a run of a seed. The rest serves these: `who`, which node it is; `network`, what
-//! is on its way; `client`, whom the outside asks; `dice`, what is drawn; `outcome`, what came of it.
+//! To be read in this order: `node`, a node with its journal: write down, step, sync, save; `cluster`, all of them:
+//! send, deliver, crash, come back; `life`, a run of a seed. The rest serves these: `who`, which node it is; `network`,
+//! what is on its way; `client`, whom the outside asks; `dice`, what is drawn; `outcome`, what came of it.
 #![tactic(auto)]
 
 mod client;

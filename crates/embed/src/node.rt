@@ -132,8 +132,8 @@ impl Node {
         self.is_down = true;
     }
 
-    /// A new process has the node: it is made anew from the save that its journal begins with, and given again the works
-    /// of its journal. What it sends then is dropped. What stands behind the last whole record is cut off.
+    /// A new process has the node: it is made anew from the save that its journal begins with, and given again the
+    /// works of its journal. What it sends then is dropped. What stands behind the last whole record is cut off.
     /// Gives the names of the open replicas that it has, by master and segment.
     ///
     /// # Errors
