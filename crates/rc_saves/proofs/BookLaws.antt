@@ -1,8 +1,14 @@
 -- A coordinator's book is read back, and nothing else is.
-use Rattle.std.proofs.Common.{◌++◌, refl}
+use Rattle.std.proofs.Common.{ℕ, Bool, List, ◌++◌, refl}
+use Rattle.rc_types.specs.declared.ids.Pair.{Pair}
 use Rattle.rc_types.specs.declared.ids.ServerId.{ServerId}
-use Rattle.rc_codec.specs.Spelling.{row_code, plan_row_code, part_code, pair_code, tablet_code, range_code, grant_code, up_code}
-use Rattle.rc_codec.specs.Readers.{row_at, plan_row_at, part_at, pair_at, tablet_at, range_at, grant_at, up_at}
+use Rattle.rc_types.specs.declared.kept.Grant.{Grant}
+use Rattle.rc_types.specs.declared.rows.Tablet.{Tablet}
+use Rattle.rc_model.specs.Attempts.{Attempt}
+use Rattle.rc_codec.specs.Parts.{four_bytes, listed}
+use Rattle.rc_codec.specs.Reading.{◌⊗◌}
+use Rattle.rc_codec.specs.Spelling.{id_code, row_code, plan_row_code, part_code, pair_code, tablet_code, range_code, grant_code, up_code}
+use Rattle.rc_codec.specs.Readers.{u32_at, id_at, row_at, plan_row_at, part_at, pair_at, tablet_at, range_at, grant_at, up_at}
 use Rattle.rc_codec.proofs.Lawful.{Lawful, made_lawful, pair_lawful, three_lawful, four_lawful, five_lawful, six_lawful}
 use Rattle.rc_codec.proofs.Lawful.{optional_lawful, listed_lawful}
 use Rattle.rc_saves.specs.Saved.{reply_code, given_code, decision_code, attempt_code, least_code, current_code, book_code}
@@ -60,9 +66,32 @@ attempt_law : Lawful attempt_code attempt_at
 attempt_law = made_lawful (three_lawful id_law (listed_lawful reply_law) (optional_lawful decision_law))
     (λ p. record { master = p.0; replies = p.1; decided = p.2 })
     (λ a. (a.master, a.replies, a.decided)) attempt_code (λ a. refl) (λ p. refl)
-known_law = five_lawful u32_law (listed_lawful up_law) (listed_lawful id_law) (listed_lawful tablet_law)
-    (listed_lawful (pair_lawful id_law pair_law))
-begun_law = four_lawful (listed_lawful attempt_law) (listed_lawful (pair_lawful id_law u32_law)) (listed_lawful grant_law) u32_law
+
+least_law : Lawful least_code (id_at ⊗ pair_at)
+least_law = pair_lawful id_law pair_law
+
+current_law : Lawful current_code (id_at ⊗ u32_at)
+current_law = pair_lawful id_law u32_law
+
+-- ---- a book, in two parts
+
+abbrev Known : Type 0
+Known = ℕ × List (ServerId × Bool) × List ServerId × List Tablet × List (ServerId × Pair)
+
+abbrev Begun : Type 0
+Begun = List Attempt × List (ServerId × ℕ) × List Grant × ℕ
+
+abbrev known_spelled : Known → List ℕ
+known_spelled p = four_bytes p.0 ++ listed up_code p.1 ++ listed id_code p.2 ++ listed tablet_code p.3 ++ listed least_code p.4
+
+abbrev begun_spelled : Begun → List ℕ
+begun_spelled p = listed attempt_code p.0 ++ listed current_code p.1 ++ listed grant_code p.2 ++ four_bytes p.3
+
+known_law : Lawful known_spelled known_at
+known_law = five_lawful u32_law (listed_lawful up_law) (listed_lawful id_law) (listed_lawful tablet_law) (listed_lawful least_law)
+
+begun_law : Lawful begun_spelled begun_at
+begun_law = four_lawful (listed_lawful attempt_law) (listed_lawful current_law) (listed_lawful grant_law) u32_law
 
 pub book_law : Lawful book_code book_at
 book_law = made_lawful (pair_lawful known_law begun_law)
