@@ -1,4 +1,5 @@
 pub mod InOrder
+pub mod Written
 pub mod HostLaws
 pub mod BookLaws
 pub mod CodedLaws

@@ -98,7 +98,7 @@ fn put_decision(decision: &Decision, out: &mut Vec<u8>) -> Result<(), AllocError
 
 /// 0 where nothing was decided; else 1, and the decision.
 fn put_decided(decided: Option<&Decision>, out: &mut Vec<u8>) -> Result<(), AllocError>
-    ensures { OnOk result (out.new.items ≡ out.old.items ++ optional decision_code (option_copied decided)) }
+    ensures { OnOk result (out.new.items ≡ out.old.items ++ optional decision_code (option_copied decided.entry)) }
 {
     match decided {
         Some(decision) => {
