@@ -5,7 +5,7 @@ use Rattle.std.proofs.lemmas.List.{append-nil}
 use Rattle.rc_codec.specs.Reading.{◌>>=◌, made}
 use Rattle.rc_codec.proofs.Lawful.{IsBytes, Lawful, bind_some, made_again, made_takes, versioned_lawful}
 use Rattle.rc_keeping.specs.Readers.{alone}
-use Rattle.rc_saves.specs.Saved.{Saved, HostSave, CoordinatorSave, host_code, book_code, kind_code, coded}
+use Rattle.rc_saves.specs.Saved.{Saved, HostSave, CoordinatorSave, kind_code, coded}
 use Rattle.rc_saves.specs.Readers.{host_at, book_at, kind_at, coded_at, alone_at}
 use Rattle.rc_saves.proofs.HostLaws.{host_law}
 use Rattle.rc_saves.proofs.BookLaws.{book_law}

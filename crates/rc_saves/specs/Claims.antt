@@ -14,7 +14,7 @@ use Rattle.rc_world.specs.declared.work.NodeWork.{NodeWork}
 use Rattle.rc_keeping.specs.Claims.{AreReadFrom}
 use Rattle.rc_keeping.specs.Keeping.{kept_by_host, host_given, kept_by_coordinator, coordinator_given}
 use Rattle.rc_keeping.specs.Spelling.{sum_of, record_of, journal_of}
-use Rattle.rc_saves.specs.Saved.{Saved, HostSave, CoordinatorSave, saved_of, node_from, coded, save_of}
+use Rattle.rc_saves.specs.Saved.{Saved, HostSave, saved_of, node_from, coded, save_of}
 use Rattle.rc_saves.specs.Order.{IsSound}
 
 -- what stood there before is followed by the node's save

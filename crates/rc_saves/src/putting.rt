@@ -3,7 +3,6 @@
 ghost use Rattle.std.specs.Prelude.{◌≡◌, ◌++◌, OnOk};
 ghost use Rattle.std.specs.List.{flat_map};
 ghost use Rattle.rc_codec.specs.Parts.{two_bytes, listed};
-ghost use Rattle.rc_world.specs.HostParts.{HostParts};
 ghost use Rattle.rc_saves.specs.Order.{IsHeldInOrder, AreHeldInOrder, IsInOrder};
 ghost use Rattle.rc_saves.specs.Saved.{HostSave, replica_code, held_code, backup_code, head_code, coded};
 

@@ -30,7 +30,7 @@ use std::alloc::{AllocError, Allocator, Global};
 ///
 /// `Outside`: the node is the outside, which keeps nothing. `OutOfMemory`: memory was refused. After either `out` is as
 /// before.
-#[tactic(auto, using(crate::proofs::SaveLaws::is_saved_host, crate::proofs::SaveLaws::saved_host))]
+#[tactic(auto, using(crate::proofs::SaveLaws::saved_host))]
 pub fn save_into<A: Allocator + Clone>(
     alloc: Global,
     node: &NodeState<A>,
