@@ -181,12 +181,16 @@ impl Node {
         Ok(works)
     }
 
-    /// Gives the node these works, and drops what it sends.
+    /// Gives the node these works, and drops what it sends. One that is refused again is passed over: its process ended
+    /// before it was struck out.
     fn take_again(&mut self, alloc: Global, works: &[NodeWork]) -> Result<(), Fault> {
         let mut dropped = Vec::new(alloc);
         for work in works {
-            self.take(work, &mut dropped)?;
-            dropped.clear();
+            match self.state.try_step_into(work, &mut dropped) {
+                Ok(()) | Err(StepFault::Refused(Fault::BadEvent)) => dropped.clear(),
+                Err(StepFault::Refused(fault)) => return Err(fault),
+                Err(StepFault::NoRoom) => return Err(Fault::BadEvent),
+            }
         }
         Ok(())
     }

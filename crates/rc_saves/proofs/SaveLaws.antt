@@ -130,7 +130,7 @@ nothing-left [] ys e = sym e
 nothing-left (x ∷ xs) ys e = absurd cc
 
 pub cut-is-refused : CutIsRefused
-cut-is-refused saved cut lost whole some other rest sound e =
+cut-is-refused saved cut lost whole some other rest e =
     let joined : save_of saved ++ [] ≡ save_of other ++ (rest ++ lost) =
     append-nil (save_of saved) ∙ whole ∙ ap (λ (zs : List ℕ). zs ++ lost) e ∙ append_assoc (save_of other) rest lost in
     some (nothing-left rest lost (saves-apart saved other [] (rest ++ lost) joined).1)
@@ -142,7 +142,7 @@ same-front xs ys more others whole long =
     ∙ ap (λ (n : ℕ). take n (ys ++ others)) long ∙ take_at ys others (length ys) refl
 
 pub damaged-is-refused : DamagedIsRefused
-damaged-is-refused sum damaged rest wrong saved after sound e =
+damaged-is-refused sum damaged rest wrong saved after e =
     let code : List ℕ = coded saved in
     let both = is_prefix_free head_law (length damaged, sum) (head_of code) (damaged ++ rest) (code ++ after)
     (sym (append_assoc (head_code (length damaged, sum)) damaged rest) ∙ e ∙ append_assoc (head_code (head_of code)) code after) in

@@ -51,7 +51,7 @@ SavedIsLoaded = (saved : Saved) (rest : List ℕ) (node : NodeData) (count : ℕ
     IsLoaded (save_of saved ++ rest) node count →
     (node_of node ≡ node_from saved) × (saved_of node ≡ Some saved) × (count ≡ length (save_of saved))
 
--- a save is never refused
+-- a save is never refused as malformed
 abbrev pub SavesAreTaken : Type 0
 SavesAreTaken = (saved : Saved) (rest : List ℕ) → IsSound saved → BeginsWithNoSave (save_of saved ++ rest) → ⊥
 
@@ -62,12 +62,12 @@ SavesAreNoRecords = (saved : Saved) (rest : List ℕ) → BeginsWithNone record_
 -- a save that was cut short is none, wherever it was cut
 abbrev pub CutIsRefused : Type 0
 CutIsRefused = (saved : Saved) (cut lost : List ℕ) → save_of saved ≡ cut ++ lost → (lost ≡ [] → ⊥) →
-    BeginsWithNoSave cut
+    BeginsWithNone save_of cut
 
 -- bytes that do not have the sum that stands before them are none
 abbrev pub DamagedIsRefused : Type 0
 DamagedIsRefused = (sum : ℕ) (damaged rest : List ℕ) → (sum_of damaged ≡ sum → ⊥) →
-    BeginsWithNoSave (eight_bytes (length damaged) ++ four_bytes sum ++ damaged ++ rest)
+    BeginsWithNone save_of (eight_bytes (length damaged) ++ four_bytes sum ++ damaged ++ rest)
 
 -- the host of a host's parts is that host but for its master, and runs where that one runs, so that a stop makes the
 -- two equal

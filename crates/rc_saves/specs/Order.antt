@@ -27,7 +27,7 @@ pub record IsInOrder (table : List (ServerId × Held)) : Type 0 where
   pub masters : IsStrictlySortedBy id_order (keys_of table)
   pub held : AreHeldInOrder table
 
--- every host has such parts
+-- every host has such parts; not all such parts are of a host that a run leads to
 pub record AreSound (parts : HostParts) : Type 0 where
   pub limits : IsMasterSetup (setup_of parts.head)
   pub order : IsInOrder parts.backup.table

@@ -6,15 +6,16 @@ ghost use Rattle.rc_saves.specs.Claims.{SavedIsLoaded, SavesAreTaken, SavesAreNo
 ghost use Rattle.rc_saves.specs.Claims.{CutIsRefused, DamagedIsRefused, LoadedIsSame, LoadedGoesOn, HostsComeBack};
 ghost use Rattle.rc_saves.specs.Claims.{LoadedIsTheSaved, CoordinatorsComeBack};
 
-/// What was saved is loaded, whatever stands behind it, and takes exactly its own bytes; and no save is refused. A save
-/// is no record of a journal, so a journal can begin with one.
+/// What was saved is loaded, whatever stands behind it, and takes exactly its own bytes; and no save is refused as
+/// malformed. A save is no record of a journal, so a journal can begin with one.
 pub fn what_is_saved_is_loaded()
     ensures loaded { SavedIsLoaded }
     ensures taken { SavesAreTaken }
     ensures no_record { SavesAreNoRecords }
 {}
 
-/// A save that was cut short anywhere is refused, and so are bytes that do not have their sum. No save begins another.
+/// No save stands at the front of one that was cut short anywhere, nor of bytes that do not have their sum: so `load`
+/// never answers a node there. No save begins another.
 pub fn damage_is_refused()
     ensures cut { CutIsRefused }
     ensures damaged { DamagedIsRefused }

@@ -24,7 +24,8 @@ use rc_keeping::{seal, unseal};
 use rc_world::{HostHead, NodeState};
 use std::alloc::{AllocError, Allocator, Global};
 
-/// Adds the save of a node at the end of `out`: of a host all of it but its master, of the coordinator all of it.
+/// Adds the save of a node at the end of `out`: of a host all of it but its master, of the coordinator all of it. While
+/// it runs it takes memory for some three times the save.
 ///
 /// # Errors
 ///
@@ -73,8 +74,8 @@ fn save_no_host<A: Allocator + Clone>(
 /// The node whose save the bytes begin with, and how many bytes that takes. Others may follow. The coordinator is just
 /// as it was saved, and its tablets lie in memory of the second allocator. Where a server ran on a host, one runs on it
 /// again, whose master has just begun: so its backup takes what was sent to that server, as the host's did after the
-/// host was saved, and a stop makes the two hosts equal (`laws::saved_hosts_come_back`). No memory is taken by a length
-/// that was only read.
+/// host was saved, and a stop makes the two hosts equal (`laws::saved_hosts_come_back`). It can not know which node was
+/// meant: compare what `NodeState::parts` says with what is to run. No memory is taken by a length that was only read.
 ///
 /// # Errors
 ///
