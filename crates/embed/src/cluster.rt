@@ -60,7 +60,8 @@ impl Cluster {
         }
     }
 
-    /// The journals of the hosts begin with saves, from the first on, so that a journal without one is damaged.
+    /// The journals of the hosts and of the coordinator begin with saves, from the first on, so that one without a save
+    /// is damaged.
     pub(crate) fn save_all(&mut self, alloc: Global) -> Result<(), Fault> {
         for node in self.nodes.iter_mut() {
             node.save(alloc)?;
@@ -69,8 +70,8 @@ impl Cluster {
     }
 
     /// One work of one node: it is written down and the node takes its step, what was written down is synced, and only
-    /// then what the step has sent leaves. The process may end in between. A host whose journal has become long is saved
-    /// then. A work that the node can't be given now is dropped.
+    /// then what the step has sent leaves. The process may end in between. A node whose journal has become long is
+    /// saved then. A work that the node can't be given now is dropped.
     pub(crate) fn give(
         &mut self,
         alloc: Global,
@@ -87,7 +88,7 @@ impl Cluster {
         }
     }
 
-    /// A journal that has become long is made short: a save of the host takes its place.
+    /// A journal that has become long is made short: a save of the node takes its place.
     fn shorten(&mut self, alloc: Global, place: usize) -> Result<(), Fault> {
         if let Some(node) = self.nodes.get_mut(place) {
             if node.is_long() && node.save(alloc)? {

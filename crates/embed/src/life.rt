@@ -43,7 +43,7 @@ fn live(alloc: Global, cluster: &mut Cluster) -> Result<(), Fault> {
     Ok(())
 }
 
-/// All hosts are saved as they are new, and started, and a table is made.
+/// The hosts and the coordinator are saved as they are new, the hosts are started, and a table is made.
 fn begin(alloc: Global, cluster: &mut Cluster) -> Result<(), Fault> {
     cluster.save_all(alloc)?;
     for host in 0..HOSTS {

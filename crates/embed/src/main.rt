@@ -1,14 +1,14 @@
 //! Nodes that outlive their processes: three hosts, a coordinator and the outside, each a `NodeState` alone, on a
-//! transport of bytes that loses, repeats and reorders. Each process ends at drawn moments, and its node is made anew
-//! from its journal, as far as that was synced, which at a host begins with a save. `docs/EMBEDDING.md` walks through
-//! it.
+//! transport of bytes that loses, repeats and reorders. The processes of the hosts and of the coordinator end at drawn
+//! moments, and their nodes are made anew from their journals, as far as these were synced, which begin with saves.
+//! `docs/EMBEDDING.md` walks through it.
 //!
 //! `embed FIRST COUNT` runs so many seeds from the first on, and tells of each in a line what happened, counted from
 //! the works and the messages, and what the audit of all messages says.
 //!
-//! To be read in this order: `node`, a node with its journal: write down, step, sync, save; `cluster`, all of them: send,
-//! deliver, crash, come back; `life`, a run of a seed. The rest serves these: `who`, which node it is; `network`, what
-//! is on its way; `client`, whom the outside asks; `dice`, what is drawn; `outcome`, what came of it.
+//! To be read in this order: `node`, a node with its journal: write down, step, sync, save; `cluster`, all of them:
+//! send, deliver, crash, come back; `life`, a run of a seed. The rest serves these: `who`, which node it is; `network`,
+//! what is on its way; `client`, whom the outside asks; `dice`, what is drawn; `outcome`, what came of it.
 #![tactic(auto)]
 
 mod client;

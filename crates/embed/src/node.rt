@@ -13,7 +13,7 @@ const LONG: usize = 1_024;
 
 /// A node, what was written down of its works, and how many bytes of that are safe: they are there again after its
 /// process has ended. In memory a journal stands for a file, and `sync` for waiting until it is on the disk. That of a
-/// host begins with a save, of `saved` bytes.
+/// host and of the coordinator begins with a save, of `saved` bytes.
 #[derive(Drop)]
 pub(crate) struct Node {
     who: Who,
@@ -106,8 +106,8 @@ impl Node {
         !self.is_down && self.journal.len().saturating_sub(self.saved) > LONG
     }
 
-    /// A save of the host takes the place of its journal. As a file this is written beside the old one, synced, and
-    /// renamed, so that there is either at every moment. Says whether this is a host: the coordinator is not saved.
+    /// A save of the node takes the place of its journal. As a file this is written beside the old one, synced, and
+    /// renamed, so that there is either at every moment. Says whether there is one: the outside keeps nothing.
     ///
     /// # Errors
     ///
@@ -116,7 +116,7 @@ impl Node {
         let mut save = Vec::new(alloc);
         match save_into(alloc, &self.state, &mut save) {
             Ok(()) => {}
-            Err(SaveFault::NoHost) => return Ok(false),
+            Err(SaveFault::Outside) => return Ok(false),
             Err(SaveFault::OutOfMemory) => return Err(Fault::OutOfMemory),
         }
         self.saved = save.len();
@@ -132,8 +132,8 @@ impl Node {
         self.is_down = true;
     }
 
-    /// A new process has the node: it is made anew, a host from the save that its journal begins with, and given again
-    /// the works of its journal. What it sends then is dropped. What stands behind the last whole record is cut off.
+    /// A new process has the node: it is made anew from the save that its journal begins with, and given again the
+    /// works of its journal. What it sends then is dropped. What stands behind the last whole record is cut off.
     /// Gives the names of the open replicas that it has, by master and segment.
     ///
     /// # Errors
@@ -150,18 +150,18 @@ impl Node {
         }
     }
 
-    /// A host is that of the save that its journal begins with, any other node a new one.
+    /// The node is that of the save that its journal begins with; the outside, which keeps nothing, is a new one.
     fn begin(&mut self, alloc: Global) -> Result<(), Fault> {
-        if let Who::Host(_) = self.who {
-            return self.load(alloc);
+        if let Who::Outside = self.who {
+            self.state = self.who.begun(alloc);
+            return Ok(());
         }
-        self.state = self.who.begun(alloc);
-        Ok(())
+        self.load(alloc)
     }
 
-    /// The host is that of the save. Where the journal begins with none it is damaged, and the host must not come back.
+    /// The node is that of the save. Where the journal begins with none it is damaged, and the node must not come back.
     fn load(&mut self, alloc: Global) -> Result<(), Fault> {
-        match load(alloc, self.journal.as_slice()) {
+        match load(alloc, alloc, self.journal.as_slice()) {
             Ok((state, saved)) => {
                 self.state = state;
                 self.saved = saved;
@@ -181,12 +181,16 @@ impl Node {
         Ok(works)
     }
 
-    /// Gives the node these works, and drops what it sends.
+    /// Gives the node these works, and drops what it sends. One that is refused again is passed over: its process ended
+    /// before it was struck out.
     fn take_again(&mut self, alloc: Global, works: &[NodeWork]) -> Result<(), Fault> {
         let mut dropped = Vec::new(alloc);
         for work in works {
-            self.take(work, &mut dropped)?;
-            dropped.clear();
+            match self.state.try_step_into(work, &mut dropped) {
+                Ok(()) | Err(StepFault::Refused(Fault::BadEvent)) => dropped.clear(),
+                Err(StepFault::Refused(fault)) => return Err(fault),
+                Err(StepFault::NoRoom) => return Err(Fault::BadEvent),
+            }
         }
         Ok(())
     }

@@ -14,6 +14,10 @@ use Rattle.rc_types.specs.declared.messages.Body.TheVariants as body
 use Rattle.rc_types.specs.declared.rows.Part.{Part}
 use Rattle.rc_types.specs.declared.rows.PlanRow.{PlanRow}
 use Rattle.rc_types.specs.declared.rows.Row.{Row}
+use Rattle.rc_types.specs.declared.ids.Pair.{Pair}
+use Rattle.rc_types.specs.declared.kept.Grant.{Grant}
+use Rattle.rc_types.specs.declared.rows.KeyRange.{KeyRange}
+use Rattle.rc_types.specs.declared.rows.Tablet.{Tablet}
 use Rattle.rc_codec.specs.Reading.{◌>>=◌, Reader, made, ◌⊗◌, nothing_at, three, four, five, six, number_at, flag_at}
 use Rattle.rc_codec.specs.Reading.{bytes_at, optional_at, listed_at}
 
@@ -74,6 +78,20 @@ plan_row_at = made (three u16_at id_at u64_at) (λ p. record { seg = p.0; holder
 abbrev pub part_at : Reader Part
 part_at = made (five u32_at u64_at u64_at u32_at u32_at)
     (λ p. record { table = p.0; lo = p.1; hi = p.2; previous = p.3; term = p.4 })
+
+abbrev pub pair_at : Reader Pair
+pair_at = made (u16_at ⊗ u16_at) (λ p. record { seg = p.0; epoch = p.1 })
+
+abbrev pub tablet_at : Reader Tablet
+tablet_at = made (six u32_at u64_at u64_at id_at u32_at flag_at)
+    (λ p. record { table = p.0; lo = p.1; hi = p.2; owner = p.3; term = p.4; crashed = p.5 })
+
+abbrev pub range_at : Reader KeyRange
+range_at = made (three u32_at u64_at u64_at) (λ p. record { table = p.0; lo = p.1; hi = p.2 })
+
+abbrev pub grant_at : Reader Grant
+grant_at = made (five range_at u32_at u32_at u32_at id_at)
+    (λ p. record { range = p.0; term = p.1; previous = p.2; attempt = p.3; owner = p.4 })
 
 abbrev pub up_at : Reader (ServerId × Bool)
 up_at = id_at ⊗ flag_at

@@ -14,6 +14,10 @@ use Rattle.rc_types.specs.declared.messages.Body.TheVariants as body
 use Rattle.rc_types.specs.declared.rows.Part.{Part}
 use Rattle.rc_types.specs.declared.rows.PlanRow.{PlanRow}
 use Rattle.rc_types.specs.declared.rows.Row.{Row}
+use Rattle.rc_types.specs.declared.ids.Pair.{Pair}
+use Rattle.rc_types.specs.declared.kept.Grant.{Grant}
+use Rattle.rc_types.specs.declared.rows.KeyRange.{KeyRange}
+use Rattle.rc_types.specs.declared.rows.Tablet.{Tablet}
 use Rattle.rc_codec.specs.Parts.{byte, two_bytes, four_bytes, eight_bytes, flag, bytes, optional, listed}
 
 abbrev pub id_code : ServerId → List ℕ
@@ -45,6 +49,20 @@ plan_row_code row = two_bytes row.seg ++ id_code row.holder ++ eight_bytes row.l
 abbrev pub part_code : Part → List ℕ
 part_code part = four_bytes part.table ++ eight_bytes part.lo ++ eight_bytes part.hi ++ four_bytes part.previous
     ++ four_bytes part.term
+
+abbrev pub pair_code : Pair → List ℕ
+pair_code pair = two_bytes pair.seg ++ two_bytes pair.epoch
+
+abbrev pub tablet_code : Tablet → List ℕ
+tablet_code t = four_bytes t.table ++ eight_bytes t.lo ++ eight_bytes t.hi ++ id_code t.owner ++ four_bytes t.term
+    ++ flag t.crashed
+
+abbrev pub range_code : KeyRange → List ℕ
+range_code range = four_bytes range.table ++ eight_bytes range.lo ++ eight_bytes range.hi
+
+abbrev pub grant_code : Grant → List ℕ
+grant_code g = range_code g.range ++ four_bytes g.term ++ four_bytes g.previous ++ four_bytes g.attempt
+    ++ id_code g.owner
 
 -- a server and whether it is up; a server and a segment
 abbrev pub up_code : ServerId × Bool → List ℕ

@@ -2,7 +2,9 @@
 
 use crate::coded::{Put, Take};
 use crate::faults::DecodeFault;
-use rc_types::{Addr, Code, Entry, Part, PlanRow, Row, Seq, ServerId};
+use rc_types::{
+    Addr, Code, Entry, Grant, KeyRange, Pair, Part, PlanRow, Row, Seq, ServerId, Tablet,
+};
 use std::alloc::{AllocError, Global};
 
 impl Put for ServerId {
@@ -219,6 +221,133 @@ impl Take for Part {
             hi,
             previous,
             term,
+        };
+        Ok((read, rest))
+    }
+}
+
+impl Put for Pair {
+    ghost use Rattle.rc_codec.specs.Spelling.{pair_code};
+
+    ghost code = { pair_code };
+
+    fn put(&self, out: &mut Vec<u8>) -> Result<(), AllocError> {
+        (self.seg, self.epoch).put(out)
+    }
+}
+
+impl Take for Pair {
+    ghost use Rattle.rc_codec.specs.Readers.{pair_at};
+
+    ghost read = { pair_at };
+
+    fn take(alloc: Global, bytes: &[u8]) -> Result<(Pair, &[u8]), DecodeFault> {
+        let ((seg, epoch), rest) = <(u16, u16)>::take(alloc, bytes)?;
+        Ok((Pair { seg, epoch }, rest))
+    }
+}
+
+impl Put for Tablet {
+    ghost use Rattle.rc_codec.specs.Spelling.{tablet_code};
+
+    ghost code = { tablet_code };
+
+    fn put(&self, out: &mut Vec<u8>) -> Result<(), AllocError> {
+        (
+            self.table,
+            self.lo,
+            self.hi,
+            self.owner,
+            self.term,
+            self.crashed,
+        )
+            .put(out)
+    }
+}
+
+impl Take for Tablet {
+    ghost use Rattle.rc_codec.specs.Readers.{tablet_at};
+
+    ghost read = { tablet_at };
+
+    fn take(alloc: Global, bytes: &[u8]) -> Result<(Tablet, &[u8]), DecodeFault> {
+        let ((table, lo, hi, owner, term, crashed), rest) = <(
+            u32,
+            u64,
+            u64,
+            ServerId,
+            u32,
+            bool,
+        )>::take(alloc, bytes)?;
+        let read = Tablet {
+            table,
+            lo,
+            hi,
+            owner,
+            term,
+            crashed,
+        };
+        Ok((read, rest))
+    }
+}
+
+impl Put for KeyRange {
+    ghost use Rattle.rc_codec.specs.Spelling.{range_code};
+
+    ghost code = { range_code };
+
+    fn put(&self, out: &mut Vec<u8>) -> Result<(), AllocError> {
+        (self.table, self.lo, self.hi).put(out)
+    }
+}
+
+impl Take for KeyRange {
+    ghost use Rattle.rc_codec.specs.Readers.{range_at};
+
+    ghost read = { range_at };
+
+    fn take(alloc: Global, bytes: &[u8]) -> Result<(KeyRange, &[u8]), DecodeFault> {
+        let ((table, lo, hi), rest) = <(u32, u64, u64)>::take(alloc, bytes)?;
+        Ok((KeyRange { table, lo, hi }, rest))
+    }
+}
+
+impl Put for Grant {
+    ghost use Rattle.rc_codec.specs.Spelling.{grant_code};
+
+    ghost code = { grant_code };
+
+    fn put(&self, out: &mut Vec<u8>) -> Result<(), AllocError> {
+        (
+            self.range,
+            self.term,
+            self.previous,
+            self.attempt,
+            self.owner,
+        )
+            .put(out)
+    }
+}
+
+impl Take for Grant {
+    ghost use Rattle.rc_codec.specs.Readers.{grant_at};
+
+    ghost read = { grant_at };
+
+    fn take(alloc: Global, bytes: &[u8]) -> Result<(Grant, &[u8]), DecodeFault> {
+        let ((range, term, previous, attempt, owner), rest) = <(
+            KeyRange,
+            u32,
+            u32,
+            u32,
+            ServerId,
+        )>::take(alloc, bytes)?;
+        let read = Grant {
+            range,
+            term,
+            previous,
+            attempt,
+            owner,
         };
         Ok((read, rest))
     }

@@ -35,20 +35,20 @@ AllAbove-append : (n m : ℕ) (ns : List ℕ) → AllAbove n ns → n < m → Al
 AllAbove-append n m [] above less = (less, tt)
 AllAbove-append n m (k ∷ ks) above less = (above.0, AllAbove-append n m ks above.1 less)
 
-AreRising-append : (n : ℕ) (ns : List ℕ) → AreRising ns → ((m : ℕ) → IsIn m ns → m < n) → AreRising (ns ++ n ∷ [])
+pub AreRising-append : (n : ℕ) (ns : List ℕ) → AreRising ns → ((m : ℕ) → IsIn m ns → m < n) → AreRising (ns ++ n ∷ [])
 AreRising-append n [] rising below = (tt, tt)
 AreRising-append n (k ∷ ks) rising below =
     (AllAbove-append k n ks rising.0 (below k (inl refl)), AreRising-append n ks rising.1 (λ m at. below m (inr at)))
 
-IsIn-append : (m n : ℕ) (ns : List ℕ) → IsIn m ns → IsIn m (ns ++ n ∷ [])
+pub IsIn-append : (m n : ℕ) (ns : List ℕ) → IsIn m ns → IsIn m (ns ++ n ∷ [])
 IsIn-append m n [] at = absurd at
 IsIn-append m n (k ∷ ks) at = ⊎_elim (λ (e : m ≡ k). inl e) (λ (rest : IsIn m ks). inr (IsIn-append m n ks rest)) at
 
-IsIn-last : (n : ℕ) (ns : List ℕ) → IsIn n (ns ++ n ∷ [])
+pub IsIn-last : (n : ℕ) (ns : List ℕ) → IsIn n (ns ++ n ∷ [])
 IsIn-last n [] = inl refl
 IsIn-last n (k ∷ ks) = inr (IsIn-last n ks)
 
-IsIn-from_append : (m n : ℕ) (ns : List ℕ) → IsIn m (ns ++ n ∷ []) → IsIn m ns ⊎ (m ≡ n)
+pub IsIn-from_append : (m n : ℕ) (ns : List ℕ) → IsIn m (ns ++ n ∷ []) → IsIn m ns ⊎ (m ≡ n)
 IsIn-from_append m n [] at = ⊎_elim (λ (e : m ≡ n). inr e) (λ (none : ⊥). absurd none) at
 IsIn-from_append m n (k ∷ ks) at =
     ⊎_elim (λ (e : m ≡ k). inl (inl e)) (λ (rest : IsIn m (ks ++ n ∷ [])).
@@ -104,14 +104,14 @@ slice_get-set_other (y ∷ ys) x zero (suc j) other = refl
 slice_get-set_other (y ∷ ys) x (suc i) zero other = refl
 slice_get-set_other (y ∷ ys) x (suc i) (suc j) other = slice_get-set_other ys x i j (λ e. other (ap suc e))
 
-length-set : (xs : List Attempt) (x : Attempt) (i : ℕ) → length (slice_set xs i x) ≡ length xs
+pub length-set : (xs : List Attempt) (x : Attempt) (i : ℕ) → length (slice_set xs i x) ≡ length xs
 length-set [] x i = refl
 length-set (y ∷ ys) x zero = refl
 length-set (y ∷ ys) x (suc i) = ap suc (length-set ys x i)
 
 -- What becomes of those that are asked
 
-attempt_of-there : (attempts : List Attempt) (number : ℕ) (attempt : Attempt) → attempt_of attempts number ≡ Some attempt →
+pub attempt_of-there : (attempts : List Attempt) (number : ℕ) (attempt : Attempt) → attempt_of attempts number ≡ Some attempt →
     (0 < number) × (number ≤ length attempts) × (slice_get attempts (number - 1) ≡ Some attempt)
 attempt_of-there attempts number attempt e = by (nat_eq number 0) refl e
   where

@@ -5,3 +5,4 @@ pub mod RuleLemmas
 pub mod GrantLemmas
 pub mod AskedLemmas
 pub mod NewLemmas
+pub mod ListLemmas

@@ -1,5 +1,5 @@
 -- Which attempts a timer has to look at: those that wait for something.
-use Rattle.std.specs.Prelude.{◌≡◌, ◌⊎◌, ℕ, ◌<◌, ◌≤◌, Bool, true, false, not, if◌then◌else◌}
+use Rattle.std.specs.Prelude.{◌≡◌, ◌⊎◌, ℕ, ◌^◌, ◌<◌, ◌≤◌, Bool, true, false, not, if◌then◌else◌}
 use Rattle.std.specs.Prelude.{nat_eq, ◌&&◌, List, [], ◌∷◌, ◌++◌, length, Option, Some, None}
 use Rattle.std.specs.List.{list_any}
 use Rattle.rc_types.specs.declared.ids.ServerId.{ServerId}
@@ -62,3 +62,15 @@ pub record AreAsked (attempts : List Attempt) (current : List (ServerId × ℕ))
   pub within : (number : ℕ) → IsIn number asked → (0 < number) × (number ≤ length attempts)
   pub all : (number : ℕ) (attempt : Attempt) → attempt_of attempts number ≡ Some attempt →
       waits current grants number attempt ≡ true → IsIn number asked
+
+-- and the numbers have four bytes
+pub record AreNumbered (attempts : List Attempt) (current : List (ServerId × ℕ)) (grants : List Grant)
+    (asked : List ℕ) : Type 0 where
+  pub kept : AreAsked attempts current grants asked
+  pub few : length attempts < 2 ^ 32
+
+-- the numbers from 1 up to this one, and no others, rising
+pub record AreUpTo (count : ℕ) (numbers : List ℕ) : Type 0 where
+  pub rising : AreRising numbers
+  pub within : (number : ℕ) → IsIn number numbers → (0 < number) × (number ≤ count)
+  pub all : (number : ℕ) → 0 < number → number ≤ count → IsIn number numbers

@@ -1,8 +1,8 @@
 -- What a contract sees of a coordinator: its tables as the lists of their entries, since a function cannot be the
 -- value of a type.
-use Rattle.std.specs.Prelude.{ℕ, List, unwrap_or}
-use Rattle.std.specs.List.{list_any}
-use Rattle.std.specs.Map.{lookup}
+use Rattle.std.specs.Prelude.{ℕ, ◌^◌, ◌<◌, List, length, unwrap_or}
+use Rattle.std.specs.List.{list_any, IsDistinct}
+use Rattle.std.specs.Map.{keys_of, lookup}
 use Rattle.rc_types.specs.declared.ids.ServerId.{ServerId}
 use Rattle.rc_types.specs.declared.ids.Pair.{Pair}
 use Rattle.rc_types.specs.declared.rows.Tablet.{Tablet}
@@ -11,6 +11,7 @@ use Rattle.rc_model.specs.Ids.{same_id}
 use Rattle.rc_model.specs.ServerList.{ServerList}
 use Rattle.rc_model.specs.Attempts.{Attempt}
 use Rattle.rc_model.specs.Coordinator.{Coordinator}
+use Rattle.rc_rangetree.specs.Ranges.{AreTablets}
 
 pub record Book : Type 0 where
   pub servers : ServerList
@@ -34,3 +35,13 @@ coordinator_of book = record {
   grants = book.grants;
   last_term = book.last_term;
 }
+
+-- what every coordinator's book is like, and each book that is like this is a coordinator's: no id stands twice in a
+-- table, the tablets are those of a tree, and the numbers of attempts have four bytes
+pub record IsBook (book : Book) : Type 0 where
+  pub servers : IsDistinct same_id (keys_of book.servers.rows)
+  pub ready : IsDistinct same_id book.ready
+  pub tablets : AreTablets book.tablets
+  pub least : IsDistinct same_id (keys_of book.least)
+  pub attempts : length book.attempts < 2 ^ 32
+  pub current : IsDistinct same_id (keys_of book.current)

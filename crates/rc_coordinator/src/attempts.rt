@@ -13,9 +13,11 @@ use std::marker::Model;
 
 /// A part of a recovery, and the master that recovers it.
 #[derive(Drop)]
-pub(crate) struct GivenPart {
-    pub(crate) to: ServerId,
-    pub(crate) part: Part,
+pub struct GivenPart {
+    /// The master.
+    pub to: ServerId,
+    /// The part.
+    pub part: Part,
 }
 
 impl Model for GivenPart {
@@ -28,7 +30,7 @@ impl Model for GivenPart {
 
 /// What was decided on an attempt: where the log is, and who recovers which part.
 #[derive(Drop)]
-pub(crate) struct Decision {
+pub struct Decision {
     pub(crate) plan: Plan,
     pub(crate) parts: Vec<GivenPart>,
 }
@@ -42,6 +44,20 @@ impl Model for Decision {
 }
 
 impl Decision {
+    /// This plan, and these parts, in the order in which they were given.
+    pub fn new(plan: Plan, parts: Vec<GivenPart>) -> Decision
+        ensures { result ≡ record { plan = plan; parts = parts.items } }
+    {
+        Decision { plan, parts }
+    }
+
+    /// Where the log is.
+    pub fn plan(&self) -> &Plan
+        ensures { result.now ≡ self.now.plan }
+    {
+        &self.plan
+    }
+
     /// The part of this term among those of this recovery master.
     pub(crate) fn part_in(&self, id: ServerId, term: u32) -> Option<Part>
         ensures { result ≡ part_in id term (Some self.now) }
@@ -55,7 +71,7 @@ impl Decision {
     }
 
     /// The parts, in the order in which they were given.
-    pub(crate) fn parts(&self) -> &[GivenPart]
+    pub fn parts(&self) -> &[GivenPart]
         ensures { result.now ≡ self.now.parts }
     {
         self.parts.as_slice()
@@ -72,7 +88,7 @@ impl Decision {
 /// An attempt to recover a crashed master: the answers of the backups, in the order of their
 /// coming, and the decision, once it is made.
 #[derive(Drop)]
-pub(crate) struct Attempt {
+pub struct Attempt {
     pub(crate) master: ServerId,
     pub(crate) replies: Vec<(ServerId, Seq<Row>)>,
     pub(crate) decided: Option<Decision>,
@@ -98,15 +114,31 @@ impl Attempt {
         }
     }
 
+    /// The attempt of these parts: the crashed master, the answers in the order of their coming, and what was decided,
+    /// once it is.
+    pub fn of_parts(
+        master: ServerId,
+        replies: Vec<(ServerId, Seq<Row>)>,
+        decided: Option<Decision>,
+    ) -> Attempt
+        ensures { result ≡ record { master = master; replies = replies.items; decided = decided } }
+    {
+        Attempt {
+            master,
+            replies,
+            decided,
+        }
+    }
+
     /// The crashed master.
-    pub(crate) fn master(&self) -> ServerId
+    pub fn master(&self) -> ServerId
         ensures { result ≡ self.now.master }
     {
         self.master
     }
 
     /// The answers, in the order of their coming.
-    pub(crate) fn replies(&self) -> &[(ServerId, Seq<Row>)]
+    pub fn replies(&self) -> &[(ServerId, Seq<Row>)]
         ensures { result.now ≡ self.now.replies }
     {
         self.replies.as_slice()
@@ -130,7 +162,7 @@ impl Attempt {
     }
 
     /// What was decided, once it is.
-    pub(crate) fn decided(&self) -> Option<&Decision>
+    pub fn decided(&self) -> Option<&Decision>
         ensures { option_copied result ≡ self.now.decided }
     {
         self.decided.as_ref()

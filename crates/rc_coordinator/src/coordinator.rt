@@ -1,14 +1,21 @@
 //! The coordinator, as its callers see it.
 
-ghost use Rattle.std.specs.Prelude.{◌≡◌, ◌↔◌, ◌++◌, true, IfOk, OnOk, OnErr, IfErr};
+ghost use Rattle.std.specs.Prelude.{◌≡◌, ◌↔◌, ◌++◌, ◌^◌, ◌<◌, true, length, IfOk, OnOk, OnErr, IfErr};
 ghost use Rattle.rc_types.specs.declared.faults.Fault.TheVariants.{OutOfMemory};
 ghost use Rattle.rc_model.specs.Coordinator.{new_coordinator};
 ghost use Rattle.rc_model.specs.CoordinatorStep.{coordinator_takes};
-ghost use Rattle.rc_coordinator.specs.Book.{coordinator_of};
+ghost use Rattle.rc_rangetree.specs.Ranges.{AreTablets};
+ghost use Rattle.rc_coordinator.specs.Book.{IsBook, coordinator_of};
 ghost use Rattle.rc_coordinator.specs.Steps.{steps, HasNumbers};
+ghost use Rattle.rc_coordinator.specs.declared.lists.ListsFault.TheVariants.{NoCoordinator};
 
+use crate::attempts::Attempt;
+use crate::lists::{Lists, ListsFault};
+use crate::making;
 use crate::state::State;
-use rc_types::{Fault, Input, Message};
+use indexmap::{IndexMap, IndexSet};
+use rc_serverlist::ServerList;
+use rc_types::{Fault, Grant, Input, Message, Pair, ServerId, Tablet};
 use std::alloc::{Allocator, Global};
 use std::fmt;
 use std::marker::Model;
@@ -128,5 +135,91 @@ impl<A: Allocator + Clone> Coordinator<A> {
         let mut sent = Vec::new(self.state.alloc);
         self.step_into(input, &mut sent)?;
         Ok(sent)
+    }
+}
+
+/// What it knows, to be written down, and a coordinator made of that again.
+impl<A: Allocator + Clone> Coordinator<A> {
+    /// The coordinator that knows this, exactly. Its tablets lie in memory of the second allocator.
+    ///
+    /// # Errors
+    ///
+    /// `NoCoordinator`: no coordinator knows this, since an id stands twice in a table, or the tablets are none of a
+    /// tree, or there are more attempts than numbers for them. `OutOfMemory`: memory was refused.
+    pub fn from_lists(
+        alloc: Global,
+        tablets_alloc: A,
+        lists: Lists,
+    ) -> Result<Coordinator<A>, ListsFault>
+        ensures ok { IfOk result (λ coordinator. coordinator ≡ lists) }
+        ensures refused { IfErr result (λ fault. fault ≡ NoCoordinator → IsBook lists → ⊥) }
+    {
+        match making::state_of(alloc, tablets_alloc, lists) {
+            Ok(state) => Ok(Coordinator { state }),
+            Err(fault) => Err(fault),
+        }
+    }
+
+    /// The list of servers.
+    pub fn servers(&self) -> &ServerList
+        ensures { result.now ≡ self.now.servers }
+    {
+        &self.state.servers
+    }
+
+    /// Who has said that it is ready, in the order of saying so.
+    pub fn ready(&self) -> &IndexSet<ServerId>
+        ensures { result.now.keys ≡ self.now.ready }
+    {
+        &self.state.ready
+    }
+
+    /// All tablets, in order of table and first key.
+    ///
+    /// # Errors
+    ///
+    /// `OutOfMemory` (F1): memory was refused.
+    pub fn tablets(&self, alloc: Global) -> Result<Vec<Tablet>, Fault>
+        ensures list { IfOk result (λ tablets. tablets.items ≡ self.now.tablets) }
+        ensures are_tablets { AreTablets self.now.tablets }
+        ensures no_memory { IfErr result (λ fault. fault ≡ OutOfMemory) }
+    {
+        self.state.tablets.tablets(alloc)
+    }
+
+    /// The least pair of each master that has committed one.
+    pub fn least(&self) -> &IndexMap<ServerId, Pair>
+        ensures { result.now.entries ≡ self.now.least }
+    {
+        &self.state.least
+    }
+
+    /// All attempts, in the order of their numbers, which have four bytes.
+    pub fn attempts(&self) -> &[Attempt]
+        ensures all { result.now ≡ self.now.attempts }
+        ensures few { length self.now.attempts < 2 ^ 32 }
+    {
+        self.state.recoveries.attempts()
+    }
+
+    /// The number of the current attempt of each master that had one.
+    pub fn current(&self) -> &IndexMap<ServerId, u32>
+        ensures { result.now.entries ≡ self.now.current }
+    {
+        self.state.recoveries.current()
+    }
+
+    /// All grants, in the order of granting.
+    pub fn grants(&self) -> &[Grant]
+        ensures { result.now ≡ self.now.grants }
+    {
+        self.state.recoveries.grants()
+    }
+
+    /// The term that was given last, and 0 before the first.
+    pub fn last_term(&self) -> u32
+        ensures { result ≡ self.now.last_term }
+    {
+        self.state.last_term
     }
 }

@@ -3,7 +3,7 @@
 
 ghost use Rattle.std.specs.Prelude.{◌≡◌, ◌<◌, ◌++◌, ◌∷◌, [], ◌||◌, ℕ, true, false, nat_eq, find, if◌then◌else◌};
 ghost use Rattle.std.specs.Prelude.{Some, None};
-ghost use Rattle.std.specs.Prelude.{OnOk};
+ghost use Rattle.std.specs.Prelude.{OnOk, IfOk};
 ghost use Rattle.std.specs.Option.{option_or};
 ghost use Rattle.std.specs.List.{list_any};
 ghost use Rattle.indexmap.specs.IndexMap.{get, spare};
@@ -58,6 +58,25 @@ impl Grants {
             terms: IndexSet::new(alloc),
             ready: false,
         }
+    }
+
+    /// These grants, in this order.
+    pub(crate) fn from_list(alloc: Global, list: &[Grant]) -> Result<Grants, AllocError>
+        ensures { IfOk result (λ grants. grants.grants ≡ list.now) }
+    {
+        let mut grants = Grants::new(alloc);
+        for grant in list {
+            grants.make_room()?;
+            grants.remember(*grant);
+        }
+        Ok(grants)
+    }
+
+    /// All grants, in the order of granting.
+    pub(crate) fn list(&self) -> &[Grant]
+        ensures { result.now ≡ self.now.grants }
+    {
+        self.list.as_slice()
     }
 
     /// The grant of this term to this owner.

@@ -8,9 +8,13 @@ mod attempts;
 mod coordinator;
 mod grants;
 mod least;
+mod lists;
+mod making;
 mod notices;
 mod plans;
 mod recoveries;
 mod state;
 
+pub use attempts::{Attempt, Decision, GivenPart};
 pub use coordinator::Coordinator;
+pub use lists::{Lists, ListsFault};

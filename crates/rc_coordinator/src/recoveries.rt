@@ -1,7 +1,7 @@
 //! What the coordinator remembers of recoveries: the attempts and the grants.
 
 ghost use Rattle.std.specs.Prelude.{◌≡◌, ◌+◌, ◌-◌, ◌^◌, ◌<◌, ◌≤◌, ◌++◌, ◌∷◌, [], true, false, length, find, filter};
-ghost use Rattle.std.specs.Prelude.{Some, slice_set, OnOk, OnErr, IfErr};
+ghost use Rattle.std.specs.Prelude.{Some, slice_set, OnOk, OnErr, IfOk, IfErr};
 ghost use Rattle.std.specs.Option.{option_copied};
 ghost use Rattle.rc_types.specs.declared.faults.Fault.TheVariants.{OutOfMemory};
 ghost use Rattle.rc_types.specs.declared.messages.Body.TheVariants.{Gather};
@@ -11,7 +11,7 @@ ghost use Rattle.rc_model.specs.ServerList.{up};
 ghost use Rattle.rc_model.specs.Attempts.{Attempt as Attempted, new_attempt, is_gathering};
 ghost use Rattle.rc_model.specs.Deciding.{is_grant_to, with_answer};
 ghost use Rattle.rc_coordinator.specs.Recovering.{number_of, attempt_of, is_granted};
-ghost use Rattle.rc_coordinator.specs.Asked.{AreAsked, is_open, has_open_part, waits_at};
+ghost use Rattle.rc_coordinator.specs.Asked.{AreAsked, AreUpTo, is_open, has_open_part, waits_at};
 
 use crate::attempts::{Attempt, Decision, GivenPart};
 use crate::grants::Grants;
@@ -34,7 +34,7 @@ pub(crate) struct Recoveries {
 
 impl Model for Recoveries {
     ghost use Rattle.rc_coordinator.specs.Recovering.{Recovering};
-    ghost use Rattle.rc_coordinator.specs.Asked.{AreAsked};
+    ghost use Rattle.rc_coordinator.specs.Asked.{AreNumbered};
 
     ghost Value = { Recovering };
 
@@ -45,7 +45,7 @@ impl Model for Recoveries {
       ready = r.grants.ready;
     } };
 
-    ghost invariant = { λ r. AreAsked r.attempts.items r.current.entries r.grants.grants r.asked.items };
+    ghost invariant = { λ r. AreNumbered r.attempts.items r.current.entries r.grants.grants r.asked.items };
 }
 
 impl Recoveries {
@@ -63,11 +63,55 @@ impl Recoveries {
         }
     }
 
+    /// These attempts, these current numbers, and these grants, in this order.
+    pub(crate) fn from_parts(
+        alloc: Global,
+        attempts: Vec<Attempt>,
+        current: IndexMap<ServerId, u32>,
+        grants: &[Grant],
+    ) -> Result<Recoveries, AllocError>
+        requires { length attempts.items < 2 ^ 32 }
+        ensures attempts { IfOk result (λ made. made.attempts ≡ attempts.items) }
+        ensures current { IfOk result (λ made. made.current ≡ current.entries) }
+        ensures grants { IfOk result (λ made. made.grants ≡ grants.now) }
+    {
+        let asked = all_numbers(alloc, attempts.len() as u32)?;
+        let grants = Grants::from_list(alloc, grants)?;
+        Ok(Recoveries {
+            attempts,
+            current,
+            grants,
+            asked,
+        })
+    }
+
     /// How many attempts there were.
     pub(crate) fn count(&self) -> usize
         ensures { result ≡ length self.now.attempts }
     {
         self.attempts.len()
+    }
+
+    /// All attempts, in the order of their numbers, which have four bytes.
+    pub(crate) fn attempts(&self) -> &[Attempt]
+        ensures all { result.now ≡ self.now.attempts }
+        ensures few { length self.now.attempts < 2 ^ 32 }
+    {
+        self.attempts.as_slice()
+    }
+
+    /// The number of the current attempt of each master that had one.
+    pub(crate) fn current(&self) -> &IndexMap<ServerId, u32>
+        ensures { result.now.entries ≡ self.now.current }
+    {
+        &self.current
+    }
+
+    /// All grants, in the order of granting.
+    pub(crate) fn grants(&self) -> &[Grant]
+        ensures { result.now ≡ self.now.grants }
+    {
+        self.grants.list()
     }
 
     /// The number of the master's current attempt, and 0 if it has none.
@@ -187,6 +231,18 @@ impl Recoveries {
     {
         self.grants.remember(grant);
     }
+}
+
+/// The numbers of so many attempts, in order.
+#[tactic(auto, using(crate::proofs::ListLemmas::up_to_none, crate::proofs::ListLemmas::up_to_more))]
+fn all_numbers(alloc: Global, count: u32) -> Result<Vec<u32>, AllocError>
+    ensures { IfOk result (λ numbers. AreUpTo count numbers.items) }
+{
+    let mut numbers = Vec::new(alloc);
+    for before in 0..count {
+        numbers.push(before + 1)?;
+    }
+    Ok(numbers)
 }
 
 /// The attempt of this number.

@@ -1,7 +1,9 @@
 //! The messages of each server.
 
-ghost use Rattle.std.specs.Prelude.{◌≡◌, OnOk, IfOk, IfErr};
+ghost use Rattle.std.specs.Prelude.{◌≡◌, None, OnOk, IfOk, IfErr};
+ghost use Rattle.std.specs.BTreeMap.{get};
 ghost use Rattle.rc_types.specs.declared.faults.Fault.TheVariants.{OutOfMemory};
+ghost use Rattle.rc_evidence.specs.Places.{id_order};
 ghost use Rattle.rc_evidence.specs.Senders.{AddsMessage, AreSenders, NotesSender};
 
 use rc_types::{Addr, Fault, Message, ServerId};
@@ -18,6 +20,22 @@ pub struct Sent<'a> {
 /// The messages of each server that sent one.
 pub type Senders<'a> = BTreeMap<ServerId, Sent<'a>>;
 
+/// Notes the first message of this server.
+fn note_first<'a>(
+    alloc: Global,
+    senders: &mut Senders<'a>,
+    master: ServerId,
+    message: &'a Message,
+) -> Result<(), Fault>
+    requires { get id_order senders.old master ≡ None }
+    ensures noted { OnOk result (NotesSender senders.old senders.new master message.now) }
+    ensures err { IfErr result (λ e. e ≡ OutOfMemory) }
+{
+    let messages = vec![in alloc; message]?;
+    senders.insert(master, Sent { messages })?;
+    Ok(())
+}
+
 /// Notes one more message of this server.
 fn note_sent<'a>(
     alloc: Global,
@@ -28,15 +46,13 @@ fn note_sent<'a>(
     ensures noted { OnOk result (NotesSender senders.old senders.new master message.now) }
     ensures err { IfErr result (λ e. e ≡ OutOfMemory) }
 {
-    let mut sent = match senders.remove(&master) {
-        Some(sent) => sent,
-        None => Sent {
-            messages: Vec::new(alloc),
-        },
-    };
-    sent.messages.push(message)?;
-    senders.insert(master, sent)?;
-    Ok(())
+    match senders.get_mut(&master) {
+        Some(sent) => {
+            sent.messages.push(message)?;
+            Ok(())
+        }
+        None => note_first(alloc, senders, master, message),
+    }
 }
 
 /// Notes this message, where a server has sent it.

@@ -1,8 +1,8 @@
 //! What a node keeps of its works, so that it outlives its process: which works, as what bytes, and what is read back
 //! of them.
 //!
-//! A node can not be written down, but it is what its works have made of it. `keeps` says which of them have to be
-//! kept, by the definition of which `rc_history` proves that a node can be made anew; `write_down` adds a work to a
+//! A master can not be written down, but a node is what its works have made of it. `keeps` says which of them have to
+//! be kept, by the definition of which `rc_history` proves that a node can be made anew; `write_down` adds a work to a
 //! journal, which is a list of bytes, as one record; and `read_back` gives the works of a journal up to the first
 //! record that is damaged or cut short.
 //!

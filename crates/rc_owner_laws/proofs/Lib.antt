@@ -32,3 +32,4 @@ pub mod Kept
 pub mod VersionsOrdered
 pub mod Laws
 pub mod VersionReplays
+mod Completing

@@ -13,3 +13,4 @@ pub mod DataClaims
 pub mod Worlds
 pub mod Words
 pub mod VersionClaims
+pub mod Complete

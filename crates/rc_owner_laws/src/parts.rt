@@ -1,6 +1,7 @@
 //! What is claimed of a master's parts.
 
 ghost use Rattle.rc_owner_laws.specs.PartClaims.{TakesKeepParts, TicksKeepParts, NewHasGoodParts};
+ghost use Rattle.rc_owner_laws.specs.Complete.{PartsCompleteWithTheirOwn};
 
 /// Each step of a master keeps what holds of its parts: what it owns was granted to it, and what it
 /// recovers was given to it by a plan. A part that waits for a row has nothing in the log or in the
@@ -13,4 +14,12 @@ pub fn masters_keep_their_parts()
     ensures takes { TakesKeepParts }
     ensures ticks { TicksKeepParts }
     ensures start { NewHasGoodParts }
+{}
+
+/// After any list of events, a part of a master whose rows have all come is complete exactly where all of its own
+/// entries are durable: those that were sent for its rows, in their order, under its term. They are the first under
+/// its term that are durable, and until the term is owned nothing else under it is. So whoever counts the durable
+/// entries under the term, as the rule does, counts the part's own.
+pub fn parts_complete_with_their_own()
+    ensures { PartsCompleteWithTheirOwn }
 {}

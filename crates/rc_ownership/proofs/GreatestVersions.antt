@@ -85,7 +85,8 @@ below-all bound top (first ∷ noted) t all =
 -- all leave room for one more where the greatest does
 pub leaves-room : (bound greatest : ℕ) (noted : List Entry) → 0 < bound → greatest ≡ top_or 0 (tops_of noted) →
     (nat_lt greatest bound ≡ true) ↔ All (λ entry. entry.version < bound) noted
-leaves-room bound greatest noted some is = (λ less. (all-below bound 0 noted (below less)).1, λ all. above (below-all bound 0 noted some all))
+leaves-room bound greatest noted some is =
+    (λ less. (all-below bound 0 noted (below less)).1, λ all. above (below-all bound 0 noted some all))
   where
     below : nat_lt greatest bound ≡ true → top_or 0 (tops_of noted) < bound
     below less = grind (arith, nat_tests)

@@ -9,6 +9,8 @@
 pub mod limits;
 mod nodes;
 mod points;
+mod ranges;
 mod trees;
 
+pub use ranges::are_tablets;
 pub use trees::RangeTree;

@@ -195,7 +195,7 @@ fn fork<A: Allocator + Clone>(alloc: &A, low: Tablet, high: Tablet) -> Result<No
 
 /// The tree of these tablets in which no way down is longer than it has to be. Where no memory is
 /// left for all of it, it takes none.
-fn balanced<A: Allocator + Clone>(alloc: &A, tablets: &[Tablet]) -> Result<Node<A>, AllocError>
+pub fn balanced<A: Allocator + Clone>(alloc: &A, tablets: &[Tablet]) -> Result<Node<A>, AllocError>
     ensures list { IfOk result (λ node. leaves node ≡ tablets.now) }
     ensures bounds { IfOk result (λ node. HasBounds node) }
     ensures depth { IfOk result (λ node.

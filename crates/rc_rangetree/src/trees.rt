@@ -10,7 +10,7 @@ ghost use Rattle.rc_rangetree.specs.Refusals.{Answers, create_refusal, split_ref
 ghost use Rattle.rc_rangetree.specs.Trees.{depth, forks_passed};
 
 use crate::limits::MAX_FORKS;
-use crate::nodes::Node;
+use crate::nodes::{Node, balanced};
 use crate::points::Point;
 use rc_types::limits::{LAST_KEY, MAX_TABLETS};
 use rc_types::{Fault, KeyRange, ServerId, Tablet};
@@ -63,6 +63,25 @@ impl<A: Allocator + Clone> RangeTree<A> {
             root: Node::Empty,
             count: 0,
         }
+    }
+
+    /// A tree of these tablets, in which no way down is longer than it has to be. Whether a tree can have them
+    /// `are_tablets` says. Where memory is refused, what was taken for the tree is given back.
+    ///
+    /// # Errors
+    ///
+    /// F1 where memory is refused.
+    pub fn from_tablets(alloc: A, tablets: &[Tablet]) -> Result<Self, Fault>
+        requires { AreTablets tablets.now }
+        ensures list { IfOk result (λ tree. tree.tablets ≡ tablets.now) }
+        ensures err { IfErr result (λ e. e ≡ OutOfMemory) }
+    {
+        let root = balanced(&alloc, tablets)?;
+        Ok(RangeTree {
+            alloc,
+            root,
+            count: tablets.len(),
+        })
     }
 
     /// The tablet that holds the key. There is one for each key of a table that is there. It takes

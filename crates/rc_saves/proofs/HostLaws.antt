@@ -1,38 +1,33 @@
 -- A host without its master is read back, and nothing else is.
-use Rattle.std.proofs.Common.{◌≡◌, ℕ, suc, Bool, true, false, cond, eqb, List, [], ◌∷◌, ◌++◌, Option, Some, None, refl, sym, ap, ◌∙◌}
-use Rattle.std.proofs.Common.{append_assoc, eq-eqb}
-use Rattle.std.proofs.lemmas.Bool.{eqb-true}
-use Rattle.std.proofs.lemmas.List.{append-nil}
+use Rattle.std.proofs.Common.{refl, sym, append_assoc}
 use Rattle.rc_codec.specs.Parts.{byte, two_bytes, four_bytes, eight_bytes, flag, listed}
 use Rattle.rc_codec.specs.Spelling.{id_code, value_code, entry_code}
-use Rattle.rc_codec.specs.Reading.{◌>>=◌, Reader, flag_at}
+use Rattle.rc_codec.specs.Reading.{flag_at}
 use Rattle.rc_codec.specs.Readers.{u8_at, u16_at, u32_at, u64_at, id_at, value_at, entry_at}
-use Rattle.rc_codec.proofs.Lawful.{IsBytes, Lawful, bind_some, made_lawful, pair_lawful, three_lawful, four_lawful, five_lawful, six_lawful}
-use Rattle.rc_codec.proofs.Lawful.{number_lawful, flag_lawful, bytes_lawful, optional_lawful, listed_lawful, versioned_lawful}
-use Rattle.rc_world.specs.HostParts.{HostParts}
-use Rattle.rc_keeping.specs.Readers.{alone}
-use Rattle.rc_saves.specs.Saved.{replica_code, held_code, head_code, host_code, coded_host}
-use Rattle.rc_saves.specs.Readers.{replica_at, held_at, head_at, host_at, of_kind, coded_host_at, alone_at}
+use Rattle.rc_codec.proofs.Lawful.{Lawful, made_lawful, pair_lawful, three_lawful, four_lawful, five_lawful, six_lawful}
+use Rattle.rc_codec.proofs.Lawful.{number_lawful, flag_lawful, bytes_lawful, optional_lawful, listed_lawful}
+use Rattle.rc_saves.specs.Saved.{replica_code, held_code, head_code, host_code}
+use Rattle.rc_saves.specs.Readers.{replica_at, held_at, head_at, host_at}
 
-u8_law : Lawful byte u8_at
+pub u8_law : Lawful byte u8_at
 u8_law = number_lawful 0
 
-u16_law : Lawful two_bytes u16_at
+pub u16_law : Lawful two_bytes u16_at
 u16_law = number_lawful 1
 
-u32_law : Lawful four_bytes u32_at
+pub u32_law : Lawful four_bytes u32_at
 u32_law = number_lawful 3
 
-u64_law : Lawful eight_bytes u64_at
+pub u64_law : Lawful eight_bytes u64_at
 u64_law = number_lawful 7
 
-flag_law : Lawful flag flag_at
+pub flag_law : Lawful flag flag_at
 flag_law = flag_lawful
 
 value_law : Lawful value_code value_at
 value_law = optional_lawful bytes_lawful
 
-id_law : Lawful id_code id_at
+pub id_law : Lawful id_code id_at
 id_law = made_lawful (pair_lawful u8_law u32_law) (λ p. record { index = p.0; generation = p.1 })
     (λ id. (id.index, id.generation)) id_code (λ id. refl) (λ p. refl)
 
@@ -56,50 +51,8 @@ head_law = made_lawful (six_lawful u8_law u8_law u16_law flag_law u32_law flag_l
     (λ p. record { index = p.0; factor = p.1; size = p.2; free = p.3; generation = p.4; runs = p.5 })
     (λ h. (h.index, h.factor, h.size, h.free, h.generation, h.runs)) head_code (λ h. refl) (λ p. refl)
 
-host_law : Lawful host_code host_at
+pub host_law : Lawful host_code host_at
 host_law = made_lawful (three_lawful head_law id_law (listed_lawful held_law))
     (λ p. record { head = p.0; backup = record { own = p.1; table = p.2 } })
     (λ h. (h.head, h.backup.own, h.backup.table)) host_code (λ h. refl)
     (λ p. sym (append_assoc (head_code p.0) (id_code p.1) (listed held_code p.2)))
-
--- ---- behind the version and the kind
-
-tested : {A : Type 0} (b : Bool) (read : Option A) (x : A) → cond b read None ≡ Some x → (b ≡ true) × (read ≡ Some x)
-tested true read x e = (refl, e)
-tested false read x e = absurd cc
-
-kind_takes : {A : Type 0} {code : A → List ℕ} {read : Reader A} → Lawful code read → (kind : ℕ) (xs : List ℕ) (x : A) (rest : List ℕ) →
-    IsBytes xs → of_kind kind read xs ≡ Some (x, rest) → xs ≡ (kind ∷ code x) ++ rest
-kind_takes l kind [] x rest fits e = absurd cc
-kind_takes {A} {code} {read} l kind (b ∷ xs) x rest fits e =
-    let t = tested (eqb b kind) (read xs) (x, rest) e in
-    let same : b ≡ kind = eqb-true b kind t.0 in
-    ap (λ (k : ℕ). k ∷ xs) same ∙ ap (λ (ys : List ℕ). kind ∷ ys) (l.takes xs x rest (λ i. fits (suc i)) t.1)
-
-kind_lawful : {A : Type 0} {code : A → List ℕ} {read : Reader A} → Lawful code read → (kind : ℕ) →
-    Lawful (λ (x : A). kind ∷ code x) (of_kind kind read)
-kind_lawful {A} {code} {read} l kind = record {
-  again = λ x rest. ap (λ (b : Bool). cond b (read (code x ++ rest)) None) (eq-eqb kind kind refl) ∙ l.again x rest;
-  takes = λ xs x rest fits e. kind_takes l kind xs x rest fits e;
-}
-
-pub coded_law : Lawful coded_host coded_host_at
-coded_law = versioned_lawful (kind_lawful host_law 9)
-
--- ---- and nothing behind it
-
-alone-is : (read : HostParts × List ℕ) (h : HostParts) → alone read ≡ Some h → read ≡ (h, [])
-alone-is (g, []) h e = cc
-alone-is (g, b ∷ rest) h e = absurd cc
-
-pub alone-again : (h : HostParts) → alone_at (coded_host h) ≡ Some h
-unfolding alone_at
-alone-again h =
-    ap (λ (xs : List ℕ). coded_host_at xs >>= alone) (sym (append-nil (coded_host h)))
-    ∙ ap (λ (r : Option (HostParts × List ℕ)). r >>= alone) (coded_law.again h [])
-
-pub alone-takes : (xs : List ℕ) (h : HostParts) → IsBytes xs → alone_at xs ≡ Some h → xs ≡ coded_host h
-unfolding alone_at
-alone-takes xs h fits e =
-    let b = bind_some (coded_host_at xs) alone h e in
-    coded_law.takes xs h [] fits (b.1 ∙ ap (λ (p : HostParts × List ℕ). Some p) (alone-is b.0 h b.2)) ∙ append-nil (coded_host h)

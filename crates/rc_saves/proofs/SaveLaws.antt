@@ -8,37 +8,74 @@ use Rattle.rc_codec.specs.declared.faults.DecodeFault.{DecodeFault}
 use Rattle.rc_codec.specs.declared.faults.DecodeFault.TheVariants.{OutOfMemory, Malformed}
 use Rattle.rc_codec.proofs.Promises.{is_prefix_free}
 use Rattle.rc_codec.proofs.Lawful.{IsBytes, some_is}
-use Rattle.rc_history.specs.Nodes.{TheHost}
-use Rattle.rc_world.specs.HostParts.{HostParts, parts_of, host_from}
-use Rattle.rc_world.specs.NodeView.{NodeData, node_of}
+use Rattle.rc_coordinator.specs.Book.{Book, IsBook}
+use Rattle.rc_world.specs.HostView.{IsMasterSetup}
+use Rattle.rc_world.specs.HostParts.{HostParts, setup_of, parts_of}
+use Rattle.rc_world.specs.NodeView.{NodeData, OutsideData, CoordinatorData, HostNodeData, node_of, book_in}
 use Rattle.rc_keeping.specs.Spelling.{sealed, sum_of}
 use Rattle.rc_keeping.proofs.RecordLaws.{head_code, head_law, head_of}
 use Rattle.rc_keeping.proofs.SealLaws.{sealed_law}
-use Rattle.rc_saves.specs.Saved.{coded_host, save_of}
-use Rattle.rc_saves.specs.Order.{AreSound}
+use Rattle.rc_saves.specs.Saved.{Saved, HostSave, CoordinatorSave, saved_of, node_from, coded, save_of}
+use Rattle.rc_saves.specs.Order.{IsInOrder, IsSound}
 use Rattle.rc_saves.specs.Readers.{alone_at}
-use Rattle.rc_saves.specs.Claims.{IsLoaded, IsHostOf, CodesNoHost, BeginsWithNoSave}
+use Rattle.rc_saves.specs.Claims.{IsSaved, IsLoaded, IsNodeOf, CodesNothing, BeginsWithNoSave}
 use Rattle.rc_saves.specs.Claims.{SavedIsLoaded, SavesAreTaken, CutIsRefused, DamagedIsRefused}
-use Rattle.rc_saves.proofs.HostLaws.{coded_law, alone-again, alone-takes}
+use Rattle.rc_saves.proofs.CodedLaws.{coded_law, alone-again, alone-takes}
 
--- ---- the bytes of a host alone
+-- ---- what a node is saved as
 
-pub host-of-code : (code : List ℕ) (parts : HostParts) (node : NodeData) → IsBytes code → alone_at code ≡ Some parts →
-    node_of node ≡ TheHost (host_from parts) → parts_of node ≡ Some parts → IsHostOf code node
-host-of-code code parts node fits read host its =
-    record { parts = parts; its = its; host = host; coded = alone-takes code parts fits read }
+pub saved_host : (node : NodeData) (parts : HostParts) → parts_of node ≡ Some parts → saved_of node ≡ Some (HostSave parts)
+saved_host OutsideData parts e = absurd cc
+saved_host (CoordinatorData book) parts e = absurd cc
+saved_host (HostNodeData host) parts e = ap (λ (p : HostParts). Some (HostSave p)) (some_is _ parts e)
 
-pub codes-unsound : (code : List ℕ) (parts : HostParts) → alone_at code ≡ Some parts → (AreSound parts → ⊥) → CodesNoHost code
-codes-unsound code parts read unsound other sound coded =
-    let same : parts ≡ other = some_is parts other (sym read ∙ ap alone_at coded ∙ alone-again other) in
-    unsound (subst AreSound (sym same) sound)
+pub saved_book : (node : NodeData) (book : Book) → book_in node ≡ Some book → saved_of node ≡ Some (CoordinatorSave book)
+saved_book OutsideData book e = absurd cc
+saved_book (CoordinatorData other) book e = ap (λ (b : Book). Some (CoordinatorSave b)) (some_is other book e)
+saved_book (HostNodeData host) book e = absurd cc
 
-codes-nothing : (code : List ℕ) → alone_at code ≡ None → CodesNoHost code
-codes-nothing code read other sound coded =
-    let found : alone_at code ≡ Some other = ap alone_at coded ∙ alone-again other in
+pub saved_nothing : (node : NodeData) → parts_of node ≡ None → book_in node ≡ None → saved_of node ≡ None
+saved_nothing OutsideData no_host no_coordinator = refl
+saved_nothing (CoordinatorData book) no_host no_coordinator = absurd cc
+saved_nothing (HostNodeData host) no_host no_coordinator = absurd cc
+
+pub is_saved_host : (node : NodeData) (parts : HostParts) (before after : List ℕ) → parts_of node ≡ Some parts →
+    IsMasterSetup (setup_of parts.head) → IsInOrder parts.backup.table → after ≡ before ++ save_of (HostSave parts) →
+    IsSaved node before after
+is_saved_host node parts before after its limits order written = record {
+  saved = HostSave parts;
+  its = saved_host node parts its;
+  sound = record { limits = limits; order = order };
+  written = written;
+}
+
+pub is_saved_book : (node : NodeData) (book : Book) (before after : List ℕ) → book_in node ≡ Some book → IsBook book →
+    after ≡ before ++ save_of (CoordinatorSave book) → IsSaved node before after
+is_saved_book node book before after its sound written = record {
+  saved = CoordinatorSave book;
+  its = saved_book node book its;
+  sound = sound;
+  written = written;
+}
+
+-- ---- the bytes of that alone
+
+pub node-of-code : (code : List ℕ) (saved : Saved) (node : NodeData) → IsBytes code → alone_at code ≡ Some saved →
+    node_of node ≡ node_from saved → saved_of node ≡ Some saved → IsNodeOf code node
+node-of-code code saved node fits read made its =
+    record { saved = saved; its = its; made = made; is = alone-takes code saved fits read }
+
+pub codes-unsound : (code : List ℕ) (saved : Saved) → alone_at code ≡ Some saved → (IsSound saved → ⊥) → CodesNothing code
+codes-unsound code saved read unsound other sound is =
+    let same : saved ≡ other = some_is saved other (sym read ∙ ap alone_at is ∙ alone-again other) in
+    unsound (subst IsSound (sym same) sound)
+
+codes-nothing : (code : List ℕ) → alone_at code ≡ None → CodesNothing code
+codes-nothing code read other sound is =
+    let found : alone_at code ≡ Some other = ap alone_at is ∙ alone-again other in
     cc
 
-pub codes-refused : (code : List ℕ) (fault : DecodeFault) → Fails fault (alone_at code) → fault ≡ Malformed → CodesNoHost code
+pub codes-refused : (code : List ℕ) (fault : DecodeFault) → Fails fault (alone_at code) → fault ≡ Malformed → CodesNothing code
 codes-refused code OutOfMemory read e = absurd cc
 codes-refused code Malformed read e = codes-nothing code read
 
@@ -49,19 +86,19 @@ seals-apart = is_prefix_free sealed_law
 
 pub saves-apart : IsPrefixFree save_of
 saves-apart one other xs ys e =
-    let both = seals-apart (coded_host one) (coded_host other) xs ys e in
-    let plain : coded_host one ++ [] ≡ coded_host other ++ [] = ap (λ (zs : List ℕ). zs ++ []) both.0 in
+    let both = seals-apart (coded one) (coded other) xs ys e in
+    let plain : coded one ++ [] ≡ coded other ++ [] = ap (λ (zs : List ℕ). zs ++ []) both.0 in
     ((is_prefix_free coded_law one other [] [] plain).0, both.1)
 
-pub is-loaded : (bytes code rest : List ℕ) (node : NodeData) → bytes ≡ sealed code ++ rest → IsHostOf code node →
+pub is-loaded : (bytes code rest : List ℕ) (node : NodeData) → bytes ≡ sealed code ++ rest → IsNodeOf code node →
     IsLoaded bytes node (length bytes - length rest)
 is-loaded bytes code rest node front of =
-    let whole : bytes ≡ save_of of.parts ++ rest = front ∙ ap (λ (zs : List ℕ). sealed zs ++ rest) of.coded in
-    let long : length bytes ≡ length (save_of of.parts) + length rest =
-    ap length whole ∙ length-append (save_of of.parts) rest in record {
-      parts = of.parts;
+    let whole : bytes ≡ save_of of.saved ++ rest = front ∙ ap (λ (zs : List ℕ). sealed zs ++ rest) of.is in
+    let long : length bytes ≡ length (save_of of.saved) + length rest =
+    ap length whole ∙ length-append (save_of of.saved) rest in record {
+      saved = of.saved;
       its = of.its;
-      host = of.host;
+      made = of.made;
       front = (omega (arith, long), (rest, whole));
     }
 
@@ -69,34 +106,34 @@ pub rest-is-shorter : (bytes code rest : List ℕ) → bytes ≡ sealed code ++ 
 rest-is-shorter bytes code rest front = omega (arith, ap length front ∙ length-append (sealed code) rest)
 
 pub none-sealed : (bytes : List ℕ) → BeginsWithNone sealed bytes → BeginsWithNoSave bytes
-none-sealed bytes none parts rest sound e = none (coded_host parts) rest e
+none-sealed bytes none saved rest sound e = none (coded saved) rest e
 
-pub none-coded : (bytes code rest : List ℕ) → bytes ≡ sealed code ++ rest → CodesNoHost code → BeginsWithNoSave bytes
-none-coded bytes code rest front none parts after sound e =
-    none parts sound (seals-apart code (coded_host parts) rest after (sym front ∙ e)).0
+pub none-coded : (bytes code rest : List ℕ) → bytes ≡ sealed code ++ rest → CodesNothing code → BeginsWithNoSave bytes
+none-coded bytes code rest front none saved after sound e =
+    none saved sound (seals-apart code (coded saved) rest after (sym front ∙ e)).0
 
 -- ---- the laws
 
 pub saved-is-loaded : SavedIsLoaded
-saved-is-loaded parts rest node count is =
-    let same : parts ≡ is.parts = (saves-apart parts is.parts rest is.front.1.0 is.front.1.1).0 in (
-      is.host ∙ ap (λ (p : HostParts). TheHost (host_from p)) (sym same),
-      is.its ∙ ap (λ (p : HostParts). Some p) (sym same),
-      is.front.0 ∙ ap (λ (p : HostParts). length (save_of p)) (sym same),
+saved-is-loaded saved rest node count is =
+    let same : saved ≡ is.saved = (saves-apart saved is.saved rest is.front.1.0 is.front.1.1).0 in (
+      is.made ∙ ap node_from (sym same),
+      is.its ∙ ap (λ (s : Saved). Some s) (sym same),
+      is.front.0 ∙ ap (λ (s : Saved). length (save_of s)) (sym same),
     )
 
 pub saves-are-taken : SavesAreTaken
-saves-are-taken parts rest sound none = none parts rest sound refl
+saves-are-taken saved rest sound none = none saved rest sound refl
 
 nothing-left : (xs ys : List ℕ) → [] ≡ xs ++ ys → ys ≡ []
 nothing-left [] ys e = sym e
 nothing-left (x ∷ xs) ys e = absurd cc
 
 pub cut-is-refused : CutIsRefused
-cut-is-refused parts cut lost whole some other rest sound e =
-    let joined : save_of parts ++ [] ≡ save_of other ++ (rest ++ lost) =
-    append-nil (save_of parts) ∙ whole ∙ ap (λ (zs : List ℕ). zs ++ lost) e ∙ append_assoc (save_of other) rest lost in
-    some (nothing-left rest lost (saves-apart parts other [] (rest ++ lost) joined).1)
+cut-is-refused saved cut lost whole some other rest e =
+    let joined : save_of saved ++ [] ≡ save_of other ++ (rest ++ lost) =
+    append-nil (save_of saved) ∙ whole ∙ ap (λ (zs : List ℕ). zs ++ lost) e ∙ append_assoc (save_of other) rest lost in
+    some (nothing-left rest lost (saves-apart saved other [] (rest ++ lost) joined).1)
 
 -- the front of a list, of so many elements
 same-front : (xs ys more others : List ℕ) → xs ++ more ≡ ys ++ others → length xs ≡ length ys → xs ≡ ys
@@ -105,8 +142,8 @@ same-front xs ys more others whole long =
     ∙ ap (λ (n : ℕ). take n (ys ++ others)) long ∙ take_at ys others (length ys) refl
 
 pub damaged-is-refused : DamagedIsRefused
-damaged-is-refused sum damaged rest wrong parts after sound e =
-    let code : List ℕ = coded_host parts in
+damaged-is-refused sum damaged rest wrong saved after e =
+    let code : List ℕ = coded saved in
     let both = is_prefix_free head_law (length damaged, sum) (head_of code) (damaged ++ rest) (code ++ after)
     (sym (append_assoc (head_code (length damaged, sum)) damaged rest) ∙ e ∙ append_assoc (head_code (head_of code)) code after) in
     let long : length damaged ≡ length code = ap (λ (p : ℕ × ℕ). p.0) both.0 in

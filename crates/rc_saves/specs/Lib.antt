@@ -2,3 +2,4 @@ pub mod Saved
 pub mod Order
 pub mod Claims
 pub mod Readers
+pub mod ReadView

@@ -8,9 +8,9 @@ pub enum SaveFault {
     /// Memory was refused.
     #[error("memory was refused")]
     OutOfMemory,
-    /// The node is no host: the coordinator and the outside have no save.
-    #[error("the node is no host")]
-    NoHost,
+    /// The node is the outside, which keeps nothing.
+    #[error("the outside keeps nothing")]
+    Outside,
 }
 
 /// For a debugger a fault is its text.

@@ -3,9 +3,8 @@
 ghost use Rattle.std.specs.Prelude.{◌≡◌, ◌++◌, OnOk};
 ghost use Rattle.std.specs.List.{flat_map};
 ghost use Rattle.rc_codec.specs.Parts.{two_bytes, listed};
-ghost use Rattle.rc_world.specs.HostParts.{HostParts};
 ghost use Rattle.rc_saves.specs.Order.{IsHeldInOrder, AreHeldInOrder, IsInOrder};
-ghost use Rattle.rc_saves.specs.Saved.{replica_code, held_code, backup_code, head_code, coded_host};
+ghost use Rattle.rc_saves.specs.Saved.{HostSave, replica_code, held_code, backup_code, head_code, coded};
 
 use rc_backup::{Backup, Held};
 use rc_codec::Put;
@@ -16,7 +15,7 @@ use std::alloc::AllocError;
 use std::collections::{BTreeMap, BTreeSet};
 
 /// The number of elements in eight bytes, and each element.
-fn put_list<T: Put>(items: &[T], out: &mut Vec<u8>) -> Result<(), AllocError>
+pub(crate) fn put_list<T: Put>(items: &[T], out: &mut Vec<u8>) -> Result<(), AllocError>
     ensures { OnOk result (out.new.items ≡ out.old.items ++ listed T.code items.now) }
 {
     items.len().put(out)?;
@@ -124,7 +123,7 @@ pub(crate) fn put_host(
     out: &mut Vec<u8>,
 ) -> Result<(), AllocError>
     ensures written { OnOk result (out.new.items ≡
-        out.old.items ++ coded_host (record { head = head.now; backup = backup.now })) }
+        out.old.items ++ coded (HostSave (record { head = head.now; backup = backup.now }))) }
     ensures ordered { OnOk result (IsInOrder backup.now.table) }
 {
     (1u8, 9u8).put(out)?;

@@ -1,9 +1,10 @@
-//! A host without its master, read part by part as lists.
+//! What a node is saved as: a host without its master, read part by part as lists, or a coordinator's book.
 
 ghost use Rattle.std.specs.Prelude.{◌≡◌};
 ghost use Rattle.rc_codec.specs.Reading.{Gives};
-ghost use Rattle.rc_saves.specs.Readers.{alone_at, coded_host_at};
+ghost use Rattle.rc_saves.specs.Readers.{alone_at, coded_at};
 
+use crate::book_reading::WrittenBook;
 use rc_codec::{DecodeFault, Take};
 use rc_replica::Replica;
 use rc_types::{Entry, Seq, ServerId};
@@ -235,24 +236,58 @@ impl Take for Head {
     }
 }
 
-/// The host that these bytes are.
+/// What was read.
+#[derive(Drop)]
+pub(crate) struct Read {
+    pub(crate) kind: Kind,
+}
+
+/// What it is that was read.
+#[derive(Drop)]
+pub(crate) enum Kind {
+    /// A host without its master.
+    Host(Written),
+    /// All of the coordinator.
+    Coordinator(WrittenBook),
+}
+
+impl Model for Read {
+    ghost use Rattle.rc_saves.specs.Saved.{Saved};
+
+    ghost Value = { Saved };
+
+    ghost use Rattle.rc_saves.specs.ReadView.{read_view};
+
+    ghost view = { λ r. read_view r.kind };
+}
+
+/// What these bytes are, and no more.
 #[tactic(auto, unfolding(crate::specs::Readers::alone_at))]
-pub(crate) fn take_alone(alloc: Global, code: &[u8]) -> Result<Written, DecodeFault>
-    ensures { Gives (λ written. written) result (alone_at code.now) }
+pub(crate) fn take_alone(alloc: Global, code: &[u8]) -> Result<Read, DecodeFault>
+    ensures { Gives (λ read. read) result (alone_at code.now) }
 {
     match take_coded(alloc, code) {
-        Ok((written, [])) => Ok(written),
+        Ok((read, [])) => Ok(read),
         Ok(_) => Err(DecodeFault::Malformed),
         Err(fault) => Err(fault),
     }
 }
 
 /// What stands behind the version and the kind.
-fn take_coded(alloc: Global, bytes: &[u8]) -> Result<(Written, &[u8]), DecodeFault>
-    ensures { Gives (λ x. (x.0, x.1.now)) result (coded_host_at bytes.now) }
+fn take_coded(alloc: Global, bytes: &[u8]) -> Result<(Read, &[u8]), DecodeFault>
+    ensures { Gives (λ x. (x.0, x.1.now)) result (coded_at bytes.now) }
 {
     match bytes {
-        [1, 9, rest @ ..] => Written::take(alloc, rest),
+        [1, 9, rest @ ..] => {
+            let (written, rest) = Written::take(alloc, rest)?;
+            let kind = Kind::Host(written);
+            Ok((Read { kind }, rest))
+        }
+        [1, 10, rest @ ..] => {
+            let (written, rest) = WrittenBook::take(alloc, rest)?;
+            let kind = Kind::Coordinator(written);
+            Ok((Read { kind }, rest))
+        }
         _ => Err(DecodeFault::Malformed),
     }
 }

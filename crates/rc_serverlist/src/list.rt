@@ -1,7 +1,10 @@
 //! The server list.
 
 ghost use Rattle.std.specs.Prelude.{◌≡◌, ◌<◌, ◌-◌, ◌↔◌, ◌^◌, true, false, nat_eq, length, OnOk, OnErr, IfOk, IfErr};
+ghost use Rattle.std.specs.List.{IsDistinct};
+ghost use Rattle.std.specs.Map.{keys_of};
 ghost use Rattle.rc_types.specs.declared.faults.Fault.TheVariants.{OutOfMemory, StaleGeneration};
+ghost use Rattle.rc_model.specs.Ids.{same_id};
 
 use crate::marks;
 use indexmap::IndexMap;
@@ -157,10 +160,11 @@ impl ServerList {
         Ok(ids)
     }
 
-    /// All ids with their marks, in the order of enlisting, as a List message tells them. Only
-    /// memory can be refused (F1).
+    /// All ids with their marks, in the order of enlisting, as a List message tells them. No id is
+    /// there twice. Only memory can be refused (F1).
     pub fn rows(&self, alloc: Global) -> Result<Vec<(ServerId, bool)>, Fault>
         ensures ok { IfOk result (λ rows. rows.items ≡ self.now.rows) }
+        ensures distinct { IsDistinct same_id (keys_of self.now.rows) }
         ensures no_memory { IfErr result (λ fault. fault ≡ OutOfMemory) }
     {
         let rows = self.rows.iter().map(|(id, up)| (*id, *up)).collect(alloc)?;

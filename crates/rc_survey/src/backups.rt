@@ -18,17 +18,20 @@ pub(crate) struct Kept {
 impl Survey {
     /// A Place, an Append or a Close has come to a backup that runs.
     pub(crate) fn store(&mut self, kept: Kept, body: &Body, answer: &[Message]) {
-        if self.servers.has_fenced(kept.backup, kept.master) {
-            self.at_fence(kept.master, body);
-            return;
-        }
-        if self.replicas.is_freed(kept.backup, kept.master, kept.seg) {
-            self.counts.reach(Rule::FreedMark);
-            return;
-        }
         match stored_in(answer) {
             Some(now) => self.stored(kept, body, now),
-            None => self.counts.reach(Rule::AppendWithoutReplica),
+            None => self.unanswered(kept, body),
+        }
+    }
+
+    /// It was not answered.
+    fn unanswered(&mut self, kept: Kept, body: &Body) {
+        if self.servers.has_fenced(kept.backup, kept.master) {
+            self.at_fence(kept.master, body);
+        } else if self.freed.has(kept.backup, kept.master, kept.seg) {
+            self.counts.reach(Rule::FreedMark);
+        } else {
+            self.counts.reach(Rule::AppendWithoutReplica);
         }
     }
 
@@ -69,7 +72,10 @@ impl Survey {
             .reach_if(now.closed, Rule::AppendAtClosedReplica);
         self.counts
             .reach_if(now.len < offset, Rule::AppendAboveLength);
-        if let Some(before) = self.replicas.open(kept.backup.index, kept.master, kept.seg) {
+        let Some(segment) = self.servers.segment(kept.master, kept.seg) else {
+            return;
+        };
+        if let Some(before) = segment.open_at(kept.backup.index) {
             self.counts.reach_if(
                 before.len >= offset.saturating_add(count),
                 Rule::AppendOfKnownEntries,
@@ -79,9 +85,9 @@ impl Survey {
 
     /// A Gather has come to a backup that runs.
     pub(crate) fn gather(&mut self, backup: ServerId, master: ServerId) -> Result<(), AllocError> {
-        let again = self.servers.has_fenced(backup, master);
+        let again = self.servers.fence(backup, master)?;
         self.counts.reach_if(again, Rule::GatherAgain);
-        self.servers.fence(backup, master)
+        Ok(())
     }
 
     /// A Fetch of so many entries has come to a backup that runs.
@@ -100,18 +106,26 @@ impl Survey {
             self.counts.reach(Rule::FreeAtFence);
             return Ok(());
         }
-        self.replicas.free(kept.backup, kept.master, kept.seg)
+        self.freed.add(kept.backup, kept.master, kept.seg)?;
+        self.servers
+            .drop_open(kept.backup.index, kept.master, kept.seg);
+        Ok(())
     }
 
     /// A host is started, and keeps these of its open replicas.
-    pub(crate) fn start(&mut self, host: u8, kept: &Seq<(ServerId, u16)>) {
-        let restart = self.replicas.restart(host, kept);
+    pub(crate) fn start(
+        &mut self,
+        host: u8,
+        kept: &Seq<(ServerId, u16)>,
+    ) -> Result<(), AllocError> {
+        self.servers.start(host)?;
+        let restart = self.servers.keep(host, kept)?;
         self.counts
             .reach_if(restart.keeps_named, Rule::RestartKeepsNamed);
         self.counts
             .reach_if(restart.drops_unnamed, Rule::RestartDropsUnnamed);
         self.counts
             .reach_if(restart.keeps_closed, Rule::RestartKeepsClosed);
-        self.servers.start(host);
+        Ok(())
     }
 }

@@ -1,5 +1,6 @@
-//! What masters have sent of their segments.
+//! What a master has sent of its segments, and which of their replicas are open.
 
+use crate::replicas::Replica;
 use indexmap::IndexMap;
 use rc_types::{Seq, ServerId};
 use std::alloc::{AllocError, Global};
@@ -29,9 +30,20 @@ impl Group {
         }
     }
 
+    /// They.
+    fn as_slice(&self) -> &[ServerId] {
+        let (ids, _) = self.ids.split_at(self.count.min(MEMBERS));
+        ids
+    }
+
     /// Whether it is one of them.
     fn has(&self, id: ServerId) -> bool {
-        self.ids.contains(&id)
+        for member in self.as_slice() {
+            if *member == id {
+                return true;
+            }
+        }
+        false
     }
 
     /// It is one of them too.
@@ -43,8 +55,17 @@ impl Group {
     }
 }
 
-/// A segment of a master.
+/// An open replica of a segment.
 #[derive(Clone, Copy)]
+struct Open {
+    host: u8,
+    replica: Replica,
+    /// The last start of the host at which it was named among those that are kept; 0 where there is none.
+    named: usize,
+}
+
+/// A segment of a master.
+#[derive(Drop)]
 pub(crate) struct Segment {
     pub(crate) epoch: u16,
     members: Group,
@@ -54,9 +75,25 @@ pub(crate) struct Segment {
     closing: Option<u16>,
     /// Whether an entry of a recovered log was appended to it.
     replayed: bool,
+    /// Its open replicas, one on each of some hosts.
+    open: Vec<Open>,
 }
 
 impl Segment {
+    /// It is opened at a first backup.
+    fn new(alloc: Global, epoch: u16, backup: ServerId) -> Segment {
+        let mut members = Group::new();
+        members.add(backup);
+        Segment {
+            epoch,
+            members,
+            before: Group::new(),
+            closing: None,
+            replayed: false,
+            open: Vec::new(alloc),
+        }
+    }
+
     /// Whether it is a member.
     pub(crate) fn has_member(&self, id: ServerId) -> bool {
         self.members.has(id)
@@ -64,8 +101,96 @@ impl Segment {
 
     /// Its members.
     pub(crate) fn members(&self) -> &[ServerId] {
-        let (members, _) = self.members.ids.split_at(self.members.count.min(MEMBERS));
-        members
+        self.members.as_slice()
+    }
+
+    /// It is placed at a backup, after it was opened.
+    fn place(&mut self, backup: ServerId, epoch: u16, closed: bool) -> Placing {
+        let changes = epoch > self.epoch;
+        if changes {
+            self.epoch = epoch;
+            self.before = self.members;
+            self.members = Group::new();
+        } else if self.members.has(backup) {
+            return Placing::Other;
+        }
+        self.members.add(backup);
+        if closed {
+            Placing::Refill
+        } else if epoch > 0 && !self.before.has(backup) {
+            Placing::Replacement
+        } else if changes {
+            Placing::Change
+        } else {
+            Placing::Other
+        }
+    }
+
+    /// It is closed: whether it was so under an earlier epoch.
+    pub(crate) fn close(&mut self) -> bool {
+        match self.closing.replace(self.epoch) {
+            Some(epoch) => epoch < self.epoch,
+            None => false,
+        }
+    }
+
+    /// An entry of a recovered log was appended to it.
+    pub(crate) fn replay(&mut self) {
+        self.replayed = true;
+    }
+
+    /// What the host has told last of its open replica.
+    pub(crate) fn open_at(&self, host: u8) -> Option<Replica> {
+        for open in &self.open {
+            if open.host == host {
+                return Some(open.replica);
+            }
+        }
+        None
+    }
+
+    /// The host tells of its open replica: whether it does so first.
+    pub(crate) fn open(&mut self, host: u8, replica: Replica) -> Result<bool, AllocError> {
+        for open in self.open.iter_mut() {
+            if open.host == host {
+                open.replica = replica;
+                return Ok(false);
+            }
+        }
+        self.open.push(Open {
+            host,
+            replica,
+            named: 0,
+        })?;
+        Ok(true)
+    }
+
+    /// The host has no open replica any more: whether it had one.
+    pub(crate) fn lose(&mut self, host: u8) -> bool {
+        let count = self.open.len();
+        self.open.retain(|open| open.host != host);
+        self.open.len() < count
+    }
+
+    /// At this start of the host its replica is named among those that are kept: whether it has an open one.
+    pub(crate) fn name(&mut self, host: u8, start: usize) -> bool {
+        for open in self.open.iter_mut() {
+            if open.host == host {
+                open.named = start;
+                return true;
+            }
+        }
+        false
+    }
+
+    /// Whether the host has an open replica that was named at this start.
+    pub(crate) fn is_named(&self, host: u8, start: usize) -> bool {
+        for open in &self.open {
+            if open.host == host {
+                return open.named == start;
+            }
+        }
+        false
     }
 }
 
@@ -84,116 +209,61 @@ pub(crate) enum Placing {
     Other,
 }
 
-/// The segments of all masters.
+/// The segments of a master.
 #[derive(Drop)]
-pub(crate) struct Logs {
-    heads: IndexMap<ServerId, u16>,
-    segments: IndexMap<(ServerId, u16), Segment>,
-    /// The version that was last appended, by master, table and key.
-    versions: IndexMap<(ServerId, u32, u64), u64>,
+pub(crate) struct Log {
+    alloc: Global,
+    /// Those that it has placed, from the first on.
+    segments: Vec<Segment>,
+    /// The version that was last appended, by table and key.
+    versions: IndexMap<(u32, u64), u64>,
 }
 
-impl Logs {
+impl Log {
     /// There are none.
-    pub(crate) fn new(alloc: Global) -> Logs {
-        Logs {
-            heads: IndexMap::new(alloc),
-            segments: IndexMap::new(alloc),
+    pub(crate) fn new(alloc: Global) -> Log {
+        Log {
+            alloc,
+            segments: Vec::new(alloc),
             versions: IndexMap::new(alloc),
         }
     }
 
-    /// The greatest segment that the master has placed; 0 where it has placed none.
-    pub(crate) fn head(&self, master: ServerId) -> u16 {
-        self.heads.get(&master).copied().unwrap_or(0)
+    /// The greatest segment that was placed; 0 where none was.
+    pub(crate) fn head(&self) -> u16 {
+        u16::try_from(self.segments.len()).unwrap_or(u16::MAX)
     }
 
     /// What is known of a segment.
-    pub(crate) fn segment(&self, master: ServerId, seg: u16) -> Option<Segment> {
-        self.segments.get(&(master, seg)).copied()
+    pub(crate) fn segment(&self, seg: u16) -> Option<&Segment> {
+        self.segments.get((seg as usize).checked_sub(1)?)
     }
 
-    /// The master places a segment at a backup.
+    /// What is known of a segment.
+    pub(crate) fn segment_mut(&mut self, seg: u16) -> Option<&mut Segment> {
+        self.segments.get_mut((seg as usize).checked_sub(1)?)
+    }
+
+    /// A segment is placed at a backup. A master opens its segments one after another, so one that is not known is the
+    /// next one.
     pub(crate) fn place(
         &mut self,
-        master: ServerId,
         backup: ServerId,
         seg: u16,
         epoch: u16,
         closed: bool,
     ) -> Result<Placing, AllocError> {
-        let Some(mut segment) = self.segment(master, seg) else {
-            return self.open(master, backup, seg, epoch);
-        };
-        let placing = if epoch > segment.epoch {
-            segment.epoch = epoch;
-            segment.before = segment.members;
-            segment.members = Group::new();
-            Placing::Change
-        } else if segment.has_member(backup) {
-            return Ok(Placing::Other);
-        } else {
-            Placing::Other
-        };
-        segment.members.add(backup);
-        self.segments.insert((master, seg), segment)?;
-        if closed {
-            return Ok(Placing::Refill);
+        if let Some(segment) = self.segment_mut(seg) {
+            return Ok(segment.place(backup, epoch, closed));
         }
-        if epoch > 0 && !segment.before.has(backup) {
-            return Ok(Placing::Replacement);
-        }
-        Ok(placing)
-    }
-
-    /// The master opens a segment at a first backup.
-    fn open(
-        &mut self,
-        master: ServerId,
-        backup: ServerId,
-        seg: u16,
-        epoch: u16,
-    ) -> Result<Placing, AllocError> {
-        let mut members = Group::new();
-        members.add(backup);
-        let segment = Segment {
-            epoch,
-            members,
-            before: Group::new(),
-            closing: None,
-            replayed: false,
-        };
-        self.segments.insert((master, seg), segment)?;
-        if seg > self.head(master) {
-            self.heads.insert(master, seg)?;
-        }
+        self.segments.push(Segment::new(self.alloc, epoch, backup))?;
         Ok(Placing::Head)
     }
 
-    /// The master closes a segment: whether it has done so under an earlier epoch.
-    pub(crate) fn close(&mut self, master: ServerId, seg: u16) -> bool {
-        let Some(segment) = self.segments.get_mut(&(master, seg)) else {
-            return false;
-        };
-        let again = match segment.closing {
-            Some(epoch) => epoch < segment.epoch,
-            None => false,
-        };
-        segment.closing = Some(segment.epoch);
-        again
-    }
-
-    /// An entry of a recovered log was appended to the segment.
-    pub(crate) fn replay(&mut self, master: ServerId, seg: u16) {
-        if let Some(segment) = self.segments.get_mut(&(master, seg)) {
-            segment.replayed = true;
-        }
-    }
-
     /// Whether one of these segments has an entry of a recovered log.
-    pub(crate) fn has_replayed(&self, master: ServerId, digest: &Seq<u16>) -> bool {
+    pub(crate) fn has_replayed(&self, digest: &Seq<u16>) -> bool {
         for seg in digest.as_slice() {
-            if let Some(segment) = self.segments.get(&(master, *seg)) {
+            if let Some(segment) = self.segment(*seg) {
                 if segment.replayed {
                     return true;
                 }
@@ -202,23 +272,14 @@ impl Logs {
         false
     }
 
-    /// The master appends this version of a key.
-    pub(crate) fn append(
-        &mut self,
-        master: ServerId,
-        table: u32,
-        key: u64,
-        version: u64,
-    ) -> Result<(), AllocError> {
-        self.versions.insert((master, table, key), version)?;
+    /// This version of a key is appended.
+    pub(crate) fn append(&mut self, table: u32, key: u64, version: u64) -> Result<(), AllocError> {
+        self.versions.insert((table, key), version)?;
         Ok(())
     }
 
-    /// The version of the key that the master has appended last.
-    pub(crate) fn version(&self, master: ServerId, table: u32, key: u64) -> u64 {
-        self.versions
-            .get(&(master, table, key))
-            .copied()
-            .unwrap_or(0)
+    /// The version of the key that was appended last.
+    pub(crate) fn version(&self, table: u32, key: u64) -> u64 {
+        self.versions.get(&(table, key)).copied().unwrap_or(0)
     }
 }

@@ -1,8 +1,7 @@
-//! What is known of recoveries: their attempts, what was answered in them, the parts of their plans, and the least
-//! pairs.
+//! What is known of recoveries: what was answered in their attempts, and the parts of their plans.
 
 use indexmap::IndexMap;
-use rc_types::{Pair, Part, ServerId};
+use rc_types::{Pair, Part, Row, Seq, ServerId};
 use std::alloc::{AllocError, Global};
 
 /// How many keys are looked at, those below.
@@ -12,7 +11,6 @@ const KEYS: usize = 4;
 #[derive(Clone, Copy)]
 struct Given {
     master: ServerId,
-    part: Part,
     granted: bool,
 }
 
@@ -23,32 +21,63 @@ struct Found {
     closed: bool,
 }
 
+/// An attempt.
+#[derive(Drop)]
+pub(crate) struct Attempt {
+    pub(crate) master: ServerId,
+    /// Whether an open row below the least pair was answered.
+    pub(crate) has_stale: bool,
+    /// What was answered of each segment, from 0 on.
+    found: Vec<Found>,
+}
+
+impl Attempt {
+    /// A row was answered, where this is the least pair.
+    fn answer(&mut self, pair: Pair, closed: bool, least: Pair) -> Result<(), AllocError> {
+        if !closed && pair < least {
+            self.has_stale = true;
+            return Ok(());
+        }
+        let at = pair.seg as usize;
+        for _ in self.found.len()..at.saturating_add(1) {
+            self.found.push(Found {
+                open: false,
+                closed: false,
+            })?;
+        }
+        if let Some(found) = self.found.get_mut(at) {
+            found.open = found.open || !closed;
+            found.closed = found.closed || closed;
+        }
+        Ok(())
+    }
+
+    /// Whether both a closed row and a valid open one of this segment were answered.
+    pub(crate) fn has_both(&self, seg: u16) -> bool {
+        match self.found.get(seg as usize) {
+            Some(found) => found.open && found.closed,
+            None => false,
+        }
+    }
+}
+
 /// What is known of recoveries.
 #[derive(Drop)]
 pub(crate) struct Recoveries {
-    masters: IndexMap<u32, ServerId>,
-    newest: IndexMap<ServerId, u32>,
-    least: IndexMap<ServerId, Pair>,
-    found: IndexMap<(u32, u16), Found>,
-    stale: IndexMap<u32, ()>,
+    alloc: Global,
+    attempts: IndexMap<u32, Attempt>,
     parts: IndexMap<u32, Given>,
     table: u32,
     terms: [u32; KEYS],
     owners: [u64; KEYS],
 }
 
-/// No pair is below it.
-const LEAST: Pair = Pair { seg: 0, epoch: 0 };
-
 impl Recoveries {
     /// There are none.
     pub(crate) fn new(alloc: Global) -> Recoveries {
         Recoveries {
-            masters: IndexMap::new(alloc),
-            newest: IndexMap::new(alloc),
-            least: IndexMap::new(alloc),
-            found: IndexMap::new(alloc),
-            stale: IndexMap::new(alloc),
+            alloc,
+            attempts: IndexMap::new(alloc),
             parts: IndexMap::new(alloc),
             table: 0,
             terms: [0; KEYS],
@@ -56,97 +85,55 @@ impl Recoveries {
         }
     }
 
-    /// Replicas of the master are asked for in this attempt: whether it replaces an earlier one.
+    /// Replicas of the master are asked for in this attempt: whether that is the first time.
     pub(crate) fn gather(&mut self, attempt: u32, master: ServerId) -> Result<bool, AllocError> {
-        if self.masters.contains_key(&attempt) {
+        if self.attempts.contains_key(&attempt) {
             return Ok(false);
         }
-        let replaces = self.newest.contains_key(&master);
-        self.masters.insert(attempt, master)?;
-        self.newest.insert(master, attempt)?;
-        Ok(replaces)
+        let begun = Attempt {
+            master,
+            has_stale: false,
+            found: Vec::new(self.alloc),
+        };
+        self.attempts.insert(attempt, begun)?;
+        Ok(true)
     }
 
-    /// Whether the attempt was replaced.
-    pub(crate) fn is_replaced(&self, attempt: u32) -> bool {
-        match self.masters.get(&attempt) {
-            Some(master) => match self.newest.get(master) {
-                Some(newest) => *newest > attempt,
-                None => false,
-            },
-            None => false,
-        }
+    /// What is known of an attempt.
+    pub(crate) fn attempt(&self, attempt: u32) -> Option<&Attempt> {
+        self.attempts.get(&attempt)
     }
 
-    /// A row was answered in this attempt.
+    /// Rows were answered in this attempt, where this is the least pair of its master.
     pub(crate) fn answer(
         &mut self,
         attempt: u32,
-        pair: Pair,
-        closed: bool,
+        rows: &Seq<Row>,
+        least: Pair,
     ) -> Result<(), AllocError> {
-        let Some(master) = self.masters.get(&attempt).copied() else {
-            return Ok(());
+        if let Some(attempt) = self.attempts.get_mut(&attempt) {
+            for row in rows.as_slice() {
+                let pair = Pair {
+                    seg: row.seg,
+                    epoch: row.epoch,
+                };
+                attempt.answer(pair, row.closed, least)?;
+            }
+        }
+        Ok(())
+    }
+
+    /// A part was given to a recovery master: whether that is the first time.
+    pub(crate) fn give(&mut self, master: ServerId, part: Part) -> Result<bool, AllocError> {
+        if self.parts.contains_key(&part.term) {
+            return Ok(false);
+        }
+        let given = Given {
+            master,
+            granted: false,
         };
-        if !closed && pair < self.least_of(master) {
-            self.stale.insert(attempt, ())?;
-            return Ok(());
-        }
-        let known = self
-            .found
-            .get(&(attempt, pair.seg))
-            .copied()
-            .unwrap_or(Found {
-                open: false,
-                closed: false,
-            });
-        self.found.insert(
-            (attempt, pair.seg),
-            Found {
-                open: known.open || !closed,
-                closed: known.closed || closed,
-            },
-        )?;
-        Ok(())
-    }
-
-    /// Whether an open row below the least pair was answered in this attempt.
-    pub(crate) fn has_stale(&self, attempt: u32) -> bool {
-        self.stale.contains_key(&attempt)
-    }
-
-    /// Whether both a closed row and a valid open one of this segment were answered in this attempt.
-    pub(crate) fn has_both(&self, attempt: u32, seg: u16) -> bool {
-        match self.found.get(&(attempt, seg)) {
-            Some(found) => found.open && found.closed,
-            None => false,
-        }
-    }
-
-    /// The least pair of the master.
-    pub(crate) fn least_of(&self, master: ServerId) -> Pair {
-        self.least.get(&master).copied().unwrap_or(LEAST)
-    }
-
-    /// This pair of the master is committed.
-    pub(crate) fn commit(&mut self, master: ServerId, pair: Pair) -> Result<(), AllocError> {
-        if pair > self.least_of(master) {
-            self.least.insert(master, pair)?;
-        }
-        Ok(())
-    }
-
-    /// A part was given to a recovery master.
-    pub(crate) fn give(&mut self, master: ServerId, part: Part) -> Result<(), AllocError> {
-        if !self.parts.contains_key(&part.term) {
-            let given = Given {
-                master,
-                part,
-                granted: false,
-            };
-            self.parts.insert(part.term, given)?;
-        }
-        Ok(())
+        self.parts.insert(part.term, given)?;
+        Ok(true)
     }
 
     /// Whether this is the new term of a part.
@@ -154,35 +141,18 @@ impl Recoveries {
         self.parts.contains_key(&term)
     }
 
-    /// Whether the master was given a part with this key that was not granted to it.
-    pub(crate) fn awaits(&self, master: ServerId, table: u32, key: u64) -> bool {
-        for given in self.parts.values() {
-            let Part {
-                table: of,
-                lo,
-                hi,
-                ..
-            } = given.part;
-            if !given.granted && given.master == master && of == table && lo <= key && key <= hi {
-                return true;
-            }
+    /// The part of this term is granted: to whom it was given, if it is a part, and granted for the first time.
+    pub(crate) fn grant(&mut self, term: u32) -> Option<ServerId> {
+        let given = self.parts.get_mut(&term)?;
+        if given.granted {
+            return None;
         }
-        false
-    }
-
-    /// A range was granted under this term: whether that is a part, and granted for the first time.
-    pub(crate) fn grant(&mut self, table: u32, lo: u64, hi: u64, term: u32) -> bool {
-        self.own(table, lo, hi, term);
-        let Some(given) = self.parts.get_mut(&term) else {
-            return false;
-        };
-        let first = !given.granted;
         given.granted = true;
-        first
+        Some(given.master)
     }
 
     /// Keys have one owner more, if the term is a new one for them. A new table begins anew.
-    fn own(&mut self, table: u32, lo: u64, hi: u64, term: u32) {
+    pub(crate) fn own(&mut self, table: u32, lo: u64, hi: u64, term: u32) {
         if table > self.table {
             self.table = table;
             self.terms = [0; KEYS];

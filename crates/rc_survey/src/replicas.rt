@@ -1,11 +1,9 @@
 //! What backups have told of their replicas, and what they have freed.
 
+use crate::servers::Servers;
 use indexmap::IndexMap;
 use rc_types::{Seq, ServerId};
 use std::alloc::{AllocError, Global};
-
-/// How many hosts there can be.
-const HOSTS: usize = 64;
 
 /// What a backup has told of a replica.
 #[derive(Clone, Copy)]
@@ -23,30 +21,39 @@ pub(crate) struct Restart {
     pub(crate) keeps_closed: bool,
 }
 
-/// The replicas of all hosts, by host, master and segment.
+/// The segments that backups have freed.
 #[derive(Drop)]
-pub(crate) struct Replicas {
-    open: IndexMap<(u8, ServerId, u16), Replica>,
-    has_closed: [bool; HOSTS],
-    freed: IndexMap<(ServerId, ServerId, u16), ()>,
+pub(crate) struct Freed {
+    segments: IndexMap<(ServerId, ServerId, u16), ()>,
 }
 
-impl Replicas {
+impl Freed {
     /// There are none.
-    pub(crate) fn new(alloc: Global) -> Replicas {
-        Replicas {
-            open: IndexMap::new(alloc),
-            has_closed: [false; HOSTS],
-            freed: IndexMap::new(alloc),
+    pub(crate) fn new(alloc: Global) -> Freed {
+        Freed {
+            segments: IndexMap::new(alloc),
         }
     }
 
-    /// What was last told of an open replica.
-    pub(crate) fn open(&self, host: u8, master: ServerId, seg: u16) -> Option<Replica> {
-        self.open.get(&(host, master, seg)).copied()
+    /// A backup frees a segment.
+    pub(crate) fn add(
+        &mut self,
+        backup: ServerId,
+        master: ServerId,
+        seg: u16,
+    ) -> Result<(), AllocError> {
+        self.segments.insert((backup, master, seg), ())?;
+        Ok(())
     }
 
-    /// A host has told of a replica.
+    /// Whether the backup has freed the segment.
+    pub(crate) fn has(&self, backup: ServerId, master: ServerId, seg: u16) -> bool {
+        self.segments.contains_key(&(backup, master, seg))
+    }
+}
+
+impl Servers {
+    /// A host has told of a replica of a segment.
     pub(crate) fn tell(
         &mut self,
         host: u8,
@@ -54,70 +61,51 @@ impl Replicas {
         seg: u16,
         replica: Replica,
     ) -> Result<(), AllocError> {
-        if !replica.closed {
-            self.open.insert((host, master, seg), replica)?;
+        let Some(segment) = self.segment_mut(master, seg) else {
             return Ok(());
-        }
-        self.open.swap_remove(&(host, master, seg));
-        let at = host as usize;
-        if at < HOSTS {
-            self.has_closed[at] = true;
+        };
+        if replica.closed {
+            let _ = segment.lose(host);
+            self.close(host);
+        } else if segment.open(host, replica)? {
+            self.open(host, master, seg)?;
         }
         Ok(())
     }
 
-    /// A backup frees a segment.
-    pub(crate) fn free(
+    /// A host has no open replica of the segment any more.
+    pub(crate) fn drop_open(&mut self, host: u8, master: ServerId, seg: u16) {
+        if let Some(segment) = self.segment_mut(master, seg) {
+            let _ = segment.lose(host);
+        }
+    }
+
+    /// The host was started once more, and keeps these of its open replicas.
+    pub(crate) fn keep(
         &mut self,
-        backup: ServerId,
-        master: ServerId,
-        seg: u16,
-    ) -> Result<(), AllocError> {
-        self.freed.insert((backup, master, seg), ())?;
-        self.open.swap_remove(&(backup.index, master, seg));
-        Ok(())
-    }
-
-    /// Whether the backup has freed the segment.
-    pub(crate) fn is_freed(&self, backup: ServerId, master: ServerId, seg: u16) -> bool {
-        self.freed.contains_key(&(backup, master, seg))
-    }
-
-    /// The host is started and keeps these of its open replicas.
-    pub(crate) fn restart(&mut self, host: u8, kept: &Seq<(ServerId, u16)>) -> Restart {
+        host: u8,
+        kept: &Seq<(ServerId, u16)>,
+    ) -> Result<Restart, AllocError> {
+        let start = self.starts(host);
         let mut restart = Restart {
             keeps_named: false,
             drops_unnamed: false,
-            keeps_closed: self.has_closed.get(host as usize).copied().unwrap_or(false),
+            keeps_closed: self.has_closed(host),
         };
-        // from the last one, since one that goes gives its place to the last
-        let count = self.open.len();
-        for back in 1..=count {
-            let at = count.saturating_sub(back);
-            let Some((key, _)) = self.open.get_index(at) else {
-                continue;
-            };
-            let (on, master, seg) = *key;
-            if on != host {
-                continue;
-            }
-            if names(kept, master, seg) {
-                restart.keeps_named = true;
-            } else {
-                restart.drops_unnamed = true;
-                self.open.swap_remove(&(on, master, seg));
+        for (master, seg) in kept.as_slice() {
+            if let Some(segment) = self.segment_mut(*master, *seg) {
+                restart.keeps_named = segment.name(host, start) || restart.keeps_named;
             }
         }
-        restart
-    }
-}
-
-/// Whether this open replica is named among those that are kept.
-fn names(kept: &Seq<(ServerId, u16)>, master: ServerId, seg: u16) -> bool {
-    for (id, number) in kept.as_slice() {
-        if *id == master && *number == seg {
-            return true;
+        for (master, seg) in &self.take_open(host) {
+            if let Some(segment) = self.segment_mut(*master, *seg) {
+                if segment.is_named(host, start) {
+                    self.open(host, *master, *seg)?;
+                } else {
+                    restart.drops_unnamed = segment.lose(host) || restart.drops_unnamed;
+                }
+            }
         }
+        Ok(restart)
     }
-    false
 }

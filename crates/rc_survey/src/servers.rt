@@ -1,75 +1,215 @@
-//! What is known of servers: which run, which were suspected, whom a backup has fenced, who was deposed, and which
-//! list each was given.
+//! What is known of hosts and of their servers: which run, which were suspected, whom a backup has fenced, who was
+//! deposed, which list each was given, and what each has sent as a master.
 
+use crate::logs::{Log, Segment};
 use indexmap::IndexMap;
-use rc_types::ServerId;
+use rc_types::{Pair, Part, ServerId};
 use std::alloc::{AllocError, Global};
+use std::mem::replace;
 
-/// How many hosts there can be.
-const HOSTS: usize = 64;
+/// No pair is below it.
+const LEAST: Pair = Pair { seg: 0, epoch: 0 };
 
-/// What is known of servers.
+/// What is known of a server that was started.
+#[derive(Drop)]
+pub(crate) struct Server {
+    runs: bool,
+    pub(crate) is_suspected: bool,
+    pub(crate) is_deposed: bool,
+    /// The greatest version of a list that it was given.
+    list: u32,
+    /// The least pair of its log.
+    least: Pair,
+    /// The newest attempt to recover it.
+    attempt: Option<u32>,
+    /// The parts of plans that it was given and that were not granted.
+    waiting: Vec<Part>,
+    /// What it has sent of its segments.
+    pub(crate) log: Log,
+}
+
+impl Server {
+    /// It was just started.
+    fn new(alloc: Global) -> Server {
+        Server {
+            runs: true,
+            is_suspected: false,
+            is_deposed: false,
+            list: 0,
+            least: LEAST,
+            attempt: None,
+            waiting: Vec::new(alloc),
+            log: Log::new(alloc),
+        }
+    }
+
+    /// It is given a list of this version: whether that is a greater one than it had.
+    pub(crate) fn list(&mut self, version: u32) -> bool {
+        let is_newer = version > self.list;
+        self.list = self.list.max(version);
+        is_newer
+    }
+
+    /// This pair of its log is committed.
+    pub(crate) fn commit(&mut self, pair: Pair) {
+        self.least = self.least.max(pair);
+    }
+
+    /// An attempt to recover it has begun: whether it replaces an earlier one.
+    pub(crate) fn recover(&mut self, attempt: u32) -> bool {
+        self.attempt.replace(attempt).is_some()
+    }
+
+    /// It is given a part of a plan.
+    pub(crate) fn await_part(&mut self, part: Part) -> Result<(), AllocError> {
+        self.waiting.push(part)?;
+        Ok(())
+    }
+
+    /// The part of this term was granted.
+    pub(crate) fn grant(&mut self, term: u32) {
+        self.waiting.retain(|part| part.term != term);
+    }
+
+    /// Whether it was given a part with this key that was not granted.
+    pub(crate) fn awaits(&self, table: u32, key: u64) -> bool {
+        for part in &self.waiting {
+            if part.table == table && part.lo <= key && key <= part.hi {
+                return true;
+            }
+        }
+        false
+    }
+}
+
+/// What is known of a host.
+#[derive(Drop)]
+struct Host {
+    /// Its servers, from the first start on.
+    servers: Vec<Server>,
+    /// The replicas of which it has told that they are open, by master and segment, since it was started last; some of
+    /// them are so no longer.
+    open: Vec<(ServerId, u16)>,
+    has_closed: bool,
+}
+
+/// What is known of hosts and servers.
 #[derive(Drop)]
 pub(crate) struct Servers {
-    newest: [u32; HOSTS],
-    runs: [bool; HOSTS],
-    suspected: IndexMap<ServerId, ()>,
+    alloc: Global,
+    hosts: Vec<Host>,
     fences: IndexMap<(ServerId, ServerId), ()>,
-    deposed: IndexMap<ServerId, ()>,
-    lists: IndexMap<ServerId, u32>,
 }
 
 impl Servers {
     /// No host was started.
     pub(crate) fn new(alloc: Global) -> Servers {
         Servers {
-            newest: [0; HOSTS],
-            runs: [false; HOSTS],
-            suspected: IndexMap::new(alloc),
+            alloc,
+            hosts: Vec::new(alloc),
             fences: IndexMap::new(alloc),
-            deposed: IndexMap::new(alloc),
-            lists: IndexMap::new(alloc),
         }
     }
 
     /// The host is started.
-    pub(crate) fn start(&mut self, host: u8) {
+    pub(crate) fn start(&mut self, host: u8) -> Result<(), AllocError> {
         let at = host as usize;
-        if at < HOSTS {
-            self.newest[at] = self.newest[at].saturating_add(1);
-            self.runs[at] = true;
+        for _ in self.hosts.len()..at.saturating_add(1) {
+            self.hosts.push(Host {
+                servers: Vec::new(self.alloc),
+                open: Vec::new(self.alloc),
+                has_closed: false,
+            })?;
         }
+        if let Some(known) = self.hosts.get_mut(at) {
+            known.servers.push(Server::new(self.alloc))?;
+        }
+        Ok(())
+    }
+
+    /// How often the host was started.
+    pub(crate) fn starts(&self, host: u8) -> usize {
+        match self.hosts.get(host as usize) {
+            Some(known) => known.servers.len(),
+            None => 0,
+        }
+    }
+
+    /// What is known of a server, if it was started.
+    pub(crate) fn get(&self, id: ServerId) -> Option<&Server> {
+        let at = (id.generation as usize).checked_sub(1)?;
+        self.hosts.get(id.index as usize)?.servers.get(at)
+    }
+
+    /// What is known of a server, if it was started.
+    pub(crate) fn get_mut(&mut self, id: ServerId) -> Option<&mut Server> {
+        let at = (id.generation as usize).checked_sub(1)?;
+        self.hosts.get_mut(id.index as usize)?.servers.get_mut(at)
+    }
+
+    /// What is known of a segment of a master, if it was placed.
+    pub(crate) fn segment(&self, master: ServerId, seg: u16) -> Option<&Segment> {
+        self.get(master)?.log.segment(seg)
+    }
+
+    /// What is known of a segment of a master, if it was placed.
+    pub(crate) fn segment_mut(&mut self, master: ServerId, seg: u16) -> Option<&mut Segment> {
+        self.get_mut(master)?.log.segment_mut(seg)
     }
 
     /// The server stops.
     pub(crate) fn stop(&mut self, id: ServerId) {
-        let at = id.index as usize;
-        if at < HOSTS {
-            self.runs[at] = false;
+        if let Some(server) = self.get_mut(id) {
+            server.runs = false;
         }
     }
 
     /// Whether the server runs.
     pub(crate) fn is_running(&self, id: ServerId) -> bool {
-        let at = id.index as usize;
-        at < HOSTS && self.runs[at] && self.newest[at] == id.generation
+        match self.get(id) {
+            Some(server) => server.runs,
+            None => false,
+        }
     }
 
     /// The server is suspected.
-    pub(crate) fn suspect(&mut self, id: ServerId) -> Result<(), AllocError> {
-        self.suspected.insert(id, ())?;
-        Ok(())
+    pub(crate) fn suspect(&mut self, id: ServerId) {
+        if let Some(server) = self.get_mut(id) {
+            server.is_suspected = true;
+        }
     }
 
     /// Whether the server was suspected.
     pub(crate) fn is_suspected(&self, id: ServerId) -> bool {
-        self.suspected.contains_key(&id)
+        match self.get(id) {
+            Some(server) => server.is_suspected,
+            None => false,
+        }
     }
 
-    /// The backup fences the master.
-    pub(crate) fn fence(&mut self, backup: ServerId, master: ServerId) -> Result<(), AllocError> {
-        self.fences.insert((backup, master), ())?;
-        Ok(())
+    /// The server learns that it was replaced.
+    pub(crate) fn depose(&mut self, id: ServerId) {
+        if let Some(server) = self.get_mut(id) {
+            server.is_deposed = true;
+        }
+    }
+
+    /// The least pair of the server's log.
+    pub(crate) fn least_of(&self, id: ServerId) -> Pair {
+        match self.get(id) {
+            Some(server) => server.least,
+            None => LEAST,
+        }
+    }
+
+    /// The newest attempt to recover the server, if there is one.
+    pub(crate) fn attempt_for(&self, id: ServerId) -> Option<u32> {
+        self.get(id)?.attempt
+    }
+
+    /// The backup fences the master: whether it has done so already.
+    pub(crate) fn fence(&mut self, backup: ServerId, master: ServerId) -> Result<bool, AllocError> {
+        Ok(self.fences.insert((backup, master), ())?.is_some())
     }
 
     /// Whether the backup has fenced the master.
@@ -77,23 +217,34 @@ impl Servers {
         self.fences.contains_key(&(backup, master))
     }
 
-    /// The server learns that it was replaced.
-    pub(crate) fn depose(&mut self, id: ServerId) -> Result<(), AllocError> {
-        self.deposed.insert(id, ())?;
+    /// The host has told of a closed replica.
+    pub(crate) fn close(&mut self, host: u8) {
+        if let Some(known) = self.hosts.get_mut(host as usize) {
+            known.has_closed = true;
+        }
+    }
+
+    /// Whether the host has told of a closed replica.
+    pub(crate) fn has_closed(&self, host: u8) -> bool {
+        match self.hosts.get(host as usize) {
+            Some(known) => known.has_closed,
+            None => false,
+        }
+    }
+
+    /// The host has told of an open replica of which it has not told before.
+    pub(crate) fn open(&mut self, host: u8, master: ServerId, seg: u16) -> Result<(), AllocError> {
+        if let Some(known) = self.hosts.get_mut(host as usize) {
+            known.open.push((master, seg))?;
+        }
         Ok(())
     }
 
-    /// Whether the server has learnt that it was replaced.
-    pub(crate) fn is_deposed(&self, id: ServerId) -> bool {
-        self.deposed.contains_key(&id)
-    }
-
-    /// The server is given a list of this version: whether that is a greater one than it had.
-    pub(crate) fn list(&mut self, id: ServerId, version: u32) -> Result<bool, AllocError> {
-        let known = self.lists.get(&id).copied().unwrap_or(0);
-        if version > known {
-            self.lists.insert(id, version)?;
+    /// The replicas of which the host has told that they are open, others from now on.
+    pub(crate) fn take_open(&mut self, host: u8) -> Vec<(ServerId, u16)> {
+        match self.hosts.get_mut(host as usize) {
+            Some(known) => replace(&mut known.open, Vec::new(self.alloc)),
+            None => Vec::new(self.alloc),
         }
-        Ok(version > known)
     }
 }

@@ -3,9 +3,9 @@
 use crate::answers::is_coordinators;
 use crate::backups::Kept;
 use crate::counts::Counts;
-use crate::logs::{Logs, Placing};
+use crate::logs::Placing;
 use crate::recoveries::Recoveries;
-use crate::replicas::{Replica, Replicas};
+use crate::replicas::{Freed, Replica};
 use crate::rules::Rule;
 use crate::servers::Servers;
 use rc_types::{Addr, Body, Code, Entry, Event, Message, Pair, Part, Seq, ServerId};
@@ -15,8 +15,7 @@ use std::alloc::{AllocError, Global};
 pub struct Survey {
     pub(crate) counts: Counts,
     pub(crate) servers: Servers,
-    pub(crate) replicas: Replicas,
-    pub(crate) logs: Logs,
+    pub(crate) freed: Freed,
     pub(crate) recoveries: Recoveries,
 }
 
@@ -25,8 +24,7 @@ impl Drop for Survey {
         let Survey {
             counts: _,
             servers: _,
-            replicas: _,
-            logs: _,
+            freed: _,
             recoveries: _,
         } = self;
     }
@@ -47,8 +45,7 @@ impl Survey {
         Survey {
             counts: Counts::new(),
             servers: Servers::new(alloc),
-            replicas: Replicas::new(alloc),
-            logs: Logs::new(alloc),
+            freed: Freed::new(alloc),
             recoveries: Recoveries::new(alloc),
         }
     }
@@ -71,8 +68,9 @@ impl Survey {
     ) -> Result<(), AllocError> {
         let (before, answer) = sent.split_at(first.min(sent.len()));
         self.counts.event(event);
-        let step = step_of(event, before);
-        self.happen(event, before, answer)?;
+        let delivered = delivered_by(event, before);
+        let step = step_of(event, delivered);
+        self.happen(event, delivered, answer)?;
         for message in answer {
             self.counts.message(message);
             self.learn(step, message)?;
@@ -84,18 +82,17 @@ impl Survey {
     fn happen(
         &mut self,
         event: &Event,
-        before: &[Message],
+        delivered: Option<&Message>,
         answer: &[Message],
     ) -> Result<(), AllocError> {
+        if let Some(message) = delivered {
+            return self.delivery(message, answer);
+        }
         match event {
-            Event::Deliver(number) => match before.get(*number) {
-                Some(message) => self.delivery(message, answer)?,
-                None => {}
-            },
             Event::Tick(_) => self.counts.reach_if(!answer.is_empty(), Rule::TickRepeats),
-            Event::Start { host, kept } => self.start(*host, kept),
+            Event::Start { host, kept } => self.start(*host, kept)?,
             Event::Stop(id) => self.servers.stop(*id),
-            Event::Suspect(id) => self.servers.suspect(*id)?,
+            Event::Suspect(id) => self.servers.suspect(*id),
             Event::Decide(_) => self.decide(answer),
             _ => {}
         }
@@ -137,10 +134,16 @@ impl Survey {
                 self.fetch(*len, answer);
                 Ok(())
             }
-            Body::List { version, rows } => self.list(to, *version, rows, answer),
+            Body::List { version, rows } => {
+                self.list(to, *version, rows, answer);
+                Ok(())
+            }
             Body::Refused {
                 code: Code::Deposed,
-            } if is_coordinators(message) => self.servers.depose(to),
+            } if is_coordinators(message) => {
+                self.servers.depose(to);
+                Ok(())
+            }
             body => {
                 self.ask(to, body, answer);
                 Ok(())
@@ -177,14 +180,13 @@ impl Survey {
                 closed,
                 ..
             } => {
-                let placing = self.logs.place(from, to, *seg, *epoch, *closed)?;
+                let placing = self.place(from, to, *seg, *epoch, *closed)?;
                 self.placed(step, placing, from, *seg, *epoch, digest);
                 Ok(())
             }
             Body::Append { seg, entries, .. } => self.append(step, from, *seg, entries),
             Body::Close { seg, .. } => {
-                let again = self.logs.close(from, *seg);
-                self.counts.reach_if(again, Rule::CloseUnderNewEpoch);
+                self.close(from, *seg);
                 Ok(())
             }
             Body::Stored {
@@ -198,9 +200,32 @@ impl Survey {
                     len: *len,
                     closed: *closed,
                 };
-                self.replicas.tell(from.index, to, *seg, replica)
+                self.servers.tell(from.index, to, *seg, replica)
             }
             _ => Ok(()),
+        }
+    }
+
+    /// A master places a segment at a backup: what that is.
+    fn place(
+        &mut self,
+        master: ServerId,
+        backup: ServerId,
+        seg: u16,
+        epoch: u16,
+        closed: bool,
+    ) -> Result<Placing, AllocError> {
+        match self.servers.get_mut(master) {
+            Some(server) => server.log.place(backup, seg, epoch, closed),
+            None => Ok(Placing::Other),
+        }
+    }
+
+    /// A master closes a segment.
+    fn close(&mut self, master: ServerId, seg: u16) {
+        if let Some(segment) = self.servers.segment_mut(master, seg) {
+            self.counts
+                .reach_if(segment.close(), Rule::CloseUnderNewEpoch);
         }
     }
 
@@ -214,15 +239,16 @@ impl Survey {
         epoch: u16,
         digest: &Seq<u16>,
     ) {
+        let Some(server) = self.servers.get(master) else {
+            return;
+        };
         match placing {
             Placing::Head if seg > 1 => {
                 self.counts.reach(Rule::Roll);
                 self.counts
                     .reach_if(step != Step::Write, Rule::RollByReplay);
-                self.counts.reach_if(
-                    self.logs.has_replayed(master, digest),
-                    Rule::DigestWithReplayed,
-                );
+                self.counts
+                    .reach_if(server.log.has_replayed(digest), Rule::DigestWithReplayed);
                 self.counts
                     .reach_if(digest.len() < seg as usize, Rule::LeftOutOfDigest);
             }
@@ -233,7 +259,7 @@ impl Survey {
         if let Placing::Change | Placing::Replacement = placing {
             self.counts.reach_if(epoch > 1, Rule::SecondChange);
             self.counts
-                .reach_if(seg < self.logs.head(master), Rule::ChangeWhileClosing);
+                .reach_if(seg < server.log.head(), Rule::ChangeWhileClosing);
         }
     }
 
@@ -248,12 +274,16 @@ impl Survey {
         if step == Step::Tick {
             return Ok(());
         }
+        let Some(server) = self.servers.get_mut(master) else {
+            return Ok(());
+        };
         if step != Step::Write {
-            self.logs.replay(master, seg);
+            if let Some(segment) = server.log.segment_mut(seg) {
+                segment.replay();
+            }
         }
         for entry in entries.as_slice() {
-            self.logs
-                .append(master, entry.table, entry.key, entry.version)?;
+            server.log.append(entry.table, entry.key, entry.version)?;
         }
         Ok(())
     }
@@ -284,7 +314,7 @@ impl Survey {
     /// A master that was suspected has acknowledged a write: perhaps before each member has fenced it.
     fn zombie(&mut self, master: ServerId, seg: u16) {
         self.counts.zombies = self.counts.zombies.saturating_add(1);
-        let Some(segment) = self.logs.segment(master, seg) else {
+        let Some(segment) = self.servers.segment(master, seg) else {
             return;
         };
         let mut fenced = true;
@@ -298,8 +328,9 @@ impl Survey {
     fn learn_of_coordinator(&mut self, to: ServerId, message: &Message) -> Result<(), AllocError> {
         match &message.body {
             Body::Gather { attempt, master } => {
-                let replaces = self.recoveries.gather(*attempt, *master)?;
-                self.counts.reach_if(replaces, Rule::AttemptReplaced);
+                if self.recoveries.gather(*attempt, *master)? {
+                    self.attempt(*attempt, *master);
+                }
             }
             Body::Plan { parts, .. } => return self.plan(to, parts),
             Body::CommitOk { seg, epoch } => {
@@ -310,7 +341,9 @@ impl Survey {
                     seg: *seg,
                     epoch: *epoch,
                 };
-                return self.recoveries.commit(to, pair);
+                if let Some(server) = self.servers.get_mut(to) {
+                    server.commit(pair);
+                }
             }
             Body::Own {
                 table,
@@ -324,19 +357,35 @@ impl Survey {
         Ok(())
     }
 
+    /// An attempt to recover the master has begun.
+    fn attempt(&mut self, attempt: u32, master: ServerId) {
+        if let Some(server) = self.servers.get_mut(master) {
+            self.counts
+                .reach_if(server.recover(attempt), Rule::AttemptReplaced);
+        }
+    }
+
     /// A plan was sent to a recovery master.
     fn plan(&mut self, to: ServerId, parts: &Seq<Part>) -> Result<(), AllocError> {
         for part in parts.as_slice() {
             self.counts.reach_if(part.lo > 0, Rule::SplitRangeRecovered);
-            self.recoveries.give(to, *part)?;
+            if self.recoveries.give(to, *part)? {
+                if let Some(server) = self.servers.get_mut(to) {
+                    server.await_part(*part)?;
+                }
+            }
         }
         Ok(())
     }
 
     /// A range was granted, for the first time or once more.
     fn own(&mut self, table: u32, lo: u64, hi: u64, term: u32) {
-        if self.recoveries.grant(table, lo, hi, term) {
+        self.recoveries.own(table, lo, hi, term);
+        if let Some(master) = self.recoveries.grant(term) {
             self.counts.recovered = self.counts.recovered.saturating_add(1);
+            if let Some(server) = self.servers.get_mut(master) {
+                server.grant(term);
+            }
         }
         self.counts.owners = self.counts.owners.max(self.recoveries.owners());
     }
@@ -354,17 +403,22 @@ fn kept_at(backup: ServerId, from: Addr, seg: u16) -> Option<Kept> {
     }
 }
 
-/// What the step was.
-fn step_of(event: &Event, before: &[Message]) -> Step {
+/// The message that the event delivers, of those that were sent before, if it delivers one.
+fn delivered_by<'a>(event: &Event, before: &'a [Message]) -> Option<&'a Message> {
     match event {
-        Event::Tick(_) => Step::Tick,
-        Event::Deliver(number) => match before.get(*number) {
-            Some(message) => match &message.body {
-                Body::Write { .. } => Step::Write,
-                Body::Stored { .. } => Step::Stored,
-                _ => Step::Other,
-            },
-            None => Step::Other,
+        Event::Deliver(number) => before.get(*number),
+        _ => None,
+    }
+}
+
+/// What the step was that has delivered this message, or none.
+fn step_of(event: &Event, delivered: Option<&Message>) -> Step {
+    match (event, delivered) {
+        (Event::Tick(_), _) => Step::Tick,
+        (_, Some(message)) => match &message.body {
+            Body::Write { .. } => Step::Write,
+            Body::Stored { .. } => Step::Stored,
+            _ => Step::Other,
         },
         _ => Step::Other,
     }

@@ -7,9 +7,10 @@ ghost use Rattle.rc_journal.specs.Sound.{IsHistory};
 ghost use Rattle.rc_seats.specs.Calls.{Covers};
 
 use rc_journal::{Journal, Naming};
+use rc_replay::run;
 use rc_seats::Seat;
 use rc_types::{Fault, TryClone};
-use rc_world::{World, run};
+use rc_world::World;
 use std::alloc::Global;
 
 /// The world of the journal's events.

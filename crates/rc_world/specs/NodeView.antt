@@ -1,5 +1,5 @@
 -- A node, and what it can be given, as the definitions see them.
-use Rattle.std.specs.Prelude.{Bool, List}
+use Rattle.std.specs.Prelude.{Bool, List, Option, Some, None}
 use Rattle.rc_types.specs.declared.ids.ServerId.{ServerId}
 use Rattle.rc_types.specs.declared.ids.Addr.{Addr}
 use Rattle.rc_types.specs.declared.ids.Addr.TheVariants.{Server, Coordinator as AtCoordinator, Outside}
@@ -25,6 +25,11 @@ abbrev pub node_of : NodeData → Node
 node_of OutsideData = TheOutside
 node_of (CoordinatorData book) = TheCoordinator (coordinator_of book)
 node_of (HostNodeData host) = TheHost (host_of host)
+
+-- the book of a node that is the coordinator
+abbrev pub book_in : NodeData → Option Book
+book_in (CoordinatorData book) = Some book
+book_in _ = None
 
 -- the node's own server; the outside and the coordinator have none
 abbrev pub own_server : Node → ServerId

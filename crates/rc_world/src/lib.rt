@@ -1,6 +1,5 @@
-//! A world: all nodes of the protocol in one value, and runs of it over lists of events. Each node
-//! follows the rules of `rc_model` to the letter, so a world is what the definitions say that its
-//! events lead to, and what is proved of these holds of it.
+//! A world: all nodes of the protocol in one value. Each node follows the rules of `rc_model` to the letter, so a
+//! world is what the definitions say that its events lead to, and what is proved of these holds of it.
 #![tactic(auto)]
 
 mod head;
@@ -16,4 +15,4 @@ mod world;
 pub use head::HostHead;
 pub use node::NodeState;
 pub use work::{NodeWork, StepFault};
-pub use world::{World, run};
+pub use world::World;

@@ -2,6 +2,7 @@
 
 ghost use Rattle.std.specs.Prelude.{◌≡◌, ◌⊎◌, ◌↔◌, ◌++◌, true, false, option_map, Some, Err};
 ghost use Rattle.std.specs.Prelude.{OnOk, OnErr, IfOk, IfErr, IfSome};
+ghost use Rattle.std.specs.Option.{option_copied};
 ghost use Rattle.rc_types.specs.declared.faults.Fault.TheVariants.{OutOfMemory, BadEvent};
 ghost use Rattle.rc_model.specs.Nodes.{outside_can, outside_sends, new_host, master_setup};
 ghost use Rattle.rc_model.specs.Coordinator.{new_coordinator};
@@ -10,7 +11,7 @@ ghost use Rattle.rc_coordinator.specs.Steps.{HasNumbers};
 ghost use Rattle.rc_world.specs.HostView.{host_of, HostHasRoom, IsMasterSetup, IsWithinLimits};
 ghost use Rattle.rc_world.specs.HostParts.{setup_of, parts_of, host_from};
 ghost use Rattle.rc_history.specs.Nodes.{TheOutside, TheCoordinator, TheHost};
-ghost use Rattle.rc_world.specs.NodeView.{node_of, own_server, work_at, NodeHasRoom};
+ghost use Rattle.rc_world.specs.NodeView.{CoordinatorData, node_of, book_in, own_server, work_at, NodeHasRoom};
 ghost use Rattle.rc_world.specs.NodeView.{may_take, after_work, coordinator_may, coordinator_after};
 ghost use Rattle.rc_world.specs.NodeView.{host_may, host_after};
 ghost use Rattle.rc_world.specs.declared.work.NodeWork.TheVariants.{Deliver};
@@ -125,6 +126,26 @@ impl<A: Allocator + Clone> NodeState<A> {
         NodeState {
             alloc,
             node: Node::Host(Host::of_parts(alloc, head, backup)),
+        }
+    }
+
+    /// The coordinator, to be looked at; none where the node is none. It takes no memory.
+    pub fn as_coordinator(&self) -> Option<&Coordinator<A>>
+        ensures { option_copied result ≡ book_in self.now }
+    {
+        match &self.node {
+            Node::Outside | Node::Host(_) => None,
+            Node::Coordinator(coordinator) => Some(coordinator),
+        }
+    }
+
+    /// The node that is this coordinator. It takes no memory.
+    pub fn of_coordinator(alloc: Global, coordinator: Coordinator<A>) -> NodeState<A>
+        ensures { result ≡ CoordinatorData coordinator }
+    {
+        NodeState {
+            alloc,
+            node: Node::Coordinator(coordinator),
         }
     }
 

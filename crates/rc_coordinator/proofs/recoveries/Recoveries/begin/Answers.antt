@@ -1,5 +1,6 @@
 use Rattle.std.proofs.Common.{◌≡◌, ℕ, ◌+◌, ◌++◌, ◌∷◌, [], List, length, sym, ap, subst, ◌∙◌, arith}
 use Rattle.std.proofs.lemmas.Grind.{common_steps}
+use Rattle.std.proofs.lemmas.List.{length-append}
 use Rattle.rc_model.specs.Attempts.{Attempt, new_attempt}
 use Rattle.rc_coordinator.specs.Asked.{AreAsked}
 use Rattle.rc_model.specs.Tables.{put_id}
@@ -24,7 +25,18 @@ invariant_of-self-2 c =
     let next : c.len.result + 1 ≡ length r.attempts.items + 1 = omega (arith, r.attempts.ok.0) in
     let now = c.insert.new.self.entries in
     let begun = asked-begun r.attempts.items r.current.entries now r.grants.grants r.asked.items c.args.master (c.len.result + 1)
-    next (number_of-updated r.current c.insert.new.self c.args.master _ c.in_ok-insert.ensures.updates) c.self.invariant in
+    next (number_of-updated r.current c.insert.new.self c.args.master _ c.in_ok-insert.ensures.updates) c.self.invariant.kept in
+    let more : AreAsked c.push.new.self.items now r.grants.grants c.push-2.new.self.items =
     subst (λ (those : List Attempt). AreAsked those now r.grants.grants c.push-2.new.self.items) (sym attempts)
     (subst (λ (those : List ℕ). AreAsked (r.attempts.items ++ new_attempt c.args.master ∷ []) now r.grants.grants those)
     (sym asked) begun)
+    in record {
+      kept = more;
+      few = omega (
+        arith,
+        ap length attempts,
+        length-append r.attempts.items (new_attempt c.args.master ∷ []),
+        c.requires,
+        ap (λ v. length v.attempts) c.self.view_is,
+      );
+    }

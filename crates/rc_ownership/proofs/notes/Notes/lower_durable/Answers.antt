@@ -15,4 +15,9 @@ invariant_of-self c =
     ∙ ap (λ entries. count_in c.self.inside.counts term - count_under term
     (take (c.self.inside.durable - c.args.count) (drop c.args.count entries))) c.as_slice.ensures.value)
     c.count_down.ensures.kept in
-    record { tables = tables; kept_within = c.self.invariant.kept_within; durable_within = c.self.invariant.durable_within; tops_are = c.self.invariant.tops_are }
+    record {
+      tables = tables;
+      kept_within = c.self.invariant.kept_within;
+      durable_within = c.self.invariant.durable_within;
+      tops_are = c.self.invariant.tops_are;
+    }

@@ -26,4 +26,9 @@ invariant_of-self c =
     ∙ ap (λ entries. count_in c.self.inside.counts term + count_under term
     (take (c.args.count - c.self.inside.durable) (drop c.self.inside.durable entries))) c.as_slice.ensures.value)
     c.count_up.ensures.kept in
-    record { tables = tables; kept_within = c.self.invariant.kept_within; durable_within = c.self.invariant.durable_within; tops_are = c.self.invariant.tops_are }
+    record {
+      tables = tables;
+      kept_within = c.self.invariant.kept_within;
+      durable_within = c.self.invariant.durable_within;
+      tops_are = c.self.invariant.tops_are;
+    }

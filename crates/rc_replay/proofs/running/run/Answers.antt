@@ -1,6 +1,6 @@
 use Rattle.std.proofs.Common.{◌<◌, length, arith}
-use Rattle.rc_world.proofs.Runs.{run_more}
-use Rattle.rc_world.proofs.world.run.Goals as goal
+use Rattle.rc_replay.proofs.Runs.{run_more}
+use Rattle.rc_replay.proofs.running.run.Goals as goal
 
 pub loop-index-preserved : goal.loop-index-preserved
 loop-index-preserved g c =

@@ -1,0 +1,183 @@
+//! A coordinator's state made of lists: its tables, its tree and its attempts, each where the lists are such as a
+//! coordinator has.
+
+ghost use Rattle.std.specs.Prelude.{◌≡◌, ◌^◌, ◌<◌, length, IfOk, IfErr};
+ghost use Rattle.std.specs.List.{IsDistinct};
+ghost use Rattle.std.specs.Map.{keys_of};
+ghost use Rattle.rc_model.specs.Ids.{same_id};
+ghost use Rattle.rc_rangetree.specs.Ranges.{AreTablets};
+ghost use Rattle.rc_coordinator.specs.Book.{IsBook};
+ghost use Rattle.rc_coordinator.specs.View.{book_of};
+ghost use Rattle.rc_coordinator.specs.declared.lists.ListsFault.TheVariants.{NoCoordinator};
+
+use crate::attempts::Attempt;
+use crate::lists::{Lists, ListsFault};
+use crate::recoveries::Recoveries;
+use crate::state::State;
+use indexmap::{IndexMap, IndexSet};
+use rc_rangetree::{RangeTree, are_tablets};
+use rc_serverlist::ServerList;
+use rc_types::{Grant, Pair, ServerId, Tablet};
+use std::alloc::{Allocator, Global};
+
+/// The state of these lists, where a coordinator has them.
+pub(crate) fn state_of<A: Allocator + Clone>(
+    alloc: Global,
+    tablets_alloc: A,
+    lists: Lists,
+) -> Result<State<A>, ListsFault>
+    ensures ok { IfOk result (λ state. book_of state ≡ lists) }
+    ensures refused { IfErr result (λ fault. fault ≡ NoCoordinator → IsBook lists → ⊥) }
+{
+    let Lists {
+        version,
+        rows,
+        ready,
+        tablets,
+        least,
+        attempts,
+        current,
+        grants,
+        last_term,
+    } = lists;
+    let servers = match servers_of(alloc, version, rows.as_slice()) {
+        Ok(servers) => servers,
+        Err(fault) => return Err(fault),
+    };
+    let (ready, least) = match tables_of(alloc, ready.as_slice(), least.as_slice()) {
+        Ok(tables) => tables,
+        Err(fault) => return Err(fault),
+    };
+    let tablets = match tree_of(tablets_alloc, tablets.as_slice()) {
+        Ok(tablets) => tablets,
+        Err(fault) => return Err(fault),
+    };
+    let current = current.as_slice();
+    let recoveries = match recoveries_of(alloc, attempts.into_vec(), current, grants.as_slice()) {
+        Ok(recoveries) => recoveries,
+        Err(fault) => return Err(fault),
+    };
+    Ok(State {
+        alloc,
+        servers,
+        ready,
+        tablets,
+        least,
+        recoveries,
+        last_term,
+    })
+}
+
+/// The list of servers with these rows, where no id stands there twice.
+fn servers_of(
+    alloc: Global,
+    version: u32,
+    rows: &[(ServerId, bool)],
+) -> Result<ServerList, ListsFault>
+    ensures ok { IfOk result (λ servers. servers ≡ record { version = version; rows = rows.now }) }
+    ensures refused { IfErr result (λ fault. fault ≡ NoCoordinator → IsDistinct same_id (keys_of rows.now) → ⊥) }
+{
+    let servers = match ServerList::from_rows(alloc, version, rows) {
+        Ok(servers) => servers,
+        Err(_) => return Err(ListsFault::OutOfMemory),
+    };
+    if servers.len() != rows.len() {
+        return Err(ListsFault::NoCoordinator);
+    }
+    Ok(servers)
+}
+
+/// The set of these ids, in this order, where none stands there twice.
+fn set_of(alloc: Global, ids: &[ServerId]) -> Result<IndexSet<ServerId>, ListsFault>
+    ensures ok { IfOk result (λ set. set.keys ≡ ids.now) }
+    ensures refused { IfErr result (λ fault. fault ≡ NoCoordinator → IsDistinct same_id ids.now → ⊥) }
+{
+    let mut set = IndexSet::new(alloc);
+    for id in ids {
+        if set.contains(id) {
+            return Err(ListsFault::NoCoordinator);
+        }
+        set.insert(*id)?;
+    }
+    Ok(set)
+}
+
+/// The map of these entries, in this order, where no id stands there twice.
+fn map_of<V: Copy + Drop>(
+    alloc: Global,
+    entries: &[(ServerId, V)],
+) -> Result<IndexMap<ServerId, V>, ListsFault>
+    ensures ok { IfOk result (λ map. map.entries ≡ entries.now) }
+    ensures refused { IfErr result (λ fault. fault ≡ NoCoordinator → IsDistinct same_id (keys_of entries.now) → ⊥) }
+{
+    let mut map = IndexMap::new(alloc);
+    for (id, value) in entries {
+        if map.contains_key(id) {
+            return Err(ListsFault::NoCoordinator);
+        }
+        map.insert(*id, *value)?;
+    }
+    Ok(map)
+}
+
+/// The tree of these tablets, where a tree has them.
+fn tree_of<A: Allocator + Clone>(alloc: A, tablets: &[Tablet]) -> Result<RangeTree<A>, ListsFault>
+    ensures ok { IfOk result (λ tree. tree.tablets ≡ tablets.now) }
+    ensures refused { IfErr result (λ fault. fault ≡ NoCoordinator → AreTablets tablets.now → ⊥) }
+{
+    if !are_tablets(tablets) {
+        return Err(ListsFault::NoCoordinator);
+    }
+    match RangeTree::from_tablets(alloc, tablets) {
+        Ok(tree) => Ok(tree),
+        Err(_) => Err(ListsFault::OutOfMemory),
+    }
+}
+
+/// These attempts, current numbers and grants, where no master stands twice among the current numbers, and there are no
+/// more attempts than numbers of four bytes.
+fn recoveries_of(
+    alloc: Global,
+    attempts: Vec<Attempt>,
+    current: &[(ServerId, u32)],
+    grants: &[Grant],
+) -> Result<Recoveries, ListsFault>
+    ensures attempts { IfOk result (λ made. made.attempts ≡ attempts.items) }
+    ensures current { IfOk result (λ made. made.current ≡ current.now) }
+    ensures grants { IfOk result (λ made. made.grants ≡ grants.now) }
+    ensures refused { IfErr result (λ fault. fault ≡ NoCoordinator → length attempts.items < 2 ^ 32 →
+        IsDistinct same_id (keys_of current.now) → ⊥) }
+{
+    if attempts.len() > u32::MAX as usize {
+        return Err(ListsFault::NoCoordinator);
+    }
+    let current = match map_of(alloc, current) {
+        Ok(current) => current,
+        Err(fault) => return Err(fault),
+    };
+    match Recoveries::from_parts(alloc, attempts, current, grants) {
+        Ok(recoveries) => Ok(recoveries),
+        Err(_) => Err(ListsFault::OutOfMemory),
+    }
+}
+
+/// The set of who is ready, and the least pairs, where no id stands twice in either.
+fn tables_of(
+    alloc: Global,
+    ready: &[ServerId],
+    least: &[(ServerId, Pair)],
+) -> Result<(IndexSet<ServerId>, IndexMap<ServerId, Pair>), ListsFault>
+    ensures ready { IfOk result (λ made. made.0.keys ≡ ready.now) }
+    ensures least { IfOk result (λ made. made.1.entries ≡ least.now) }
+    ensures refused { IfErr result (λ fault. fault ≡ NoCoordinator → IsDistinct same_id ready.now →
+        IsDistinct same_id (keys_of least.now) → ⊥) }
+{
+    let ready = match set_of(alloc, ready) {
+        Ok(ready) => ready,
+        Err(fault) => return Err(fault),
+    };
+    match map_of(alloc, least) {
+        Ok(least) => Ok((ready, least)),
+        Err(fault) => Err(fault),
+    }
+}
