@@ -2,6 +2,10 @@
 //! master, and the recoveries of crashed masters. "Coordinator" in `docs/PROTOCOL.md` has its rules;
 //! the words of the contracts are those of `rc_model`'s `Coordinator`, `Attempts`, `Deciding` and
 //! `CoordinatorStep`.
+//!
+//! To be read in this order: `coordinator`, the calls; `state`, each rule; `recoveries` with `attempts`, what is
+//! remembered of recoveries; `plans`, which tablet goes to whom; `grants`; `least`; `notices`, all other messages;
+//! `lists` and `making`, a coordinator of a save.
 #![tactic(auto)]
 
 mod attempts;

@@ -1,4 +1,4 @@
-//! Fences.
+//! What a server that has answered a Gather no longer does for the master.
 
 ghost use Rattle.rc_log_laws.specs.LogClaims.{FencesHold, WhoAnsweredIsFenced, FencedReplicasStay};
 

@@ -1,4 +1,4 @@
-//! Parts of crashed masters' logs that a master is to recover.
+//! What a master keeps of a part that it is to recover, and the Fetches for it.
 
 ghost use Rattle.std.specs.Prelude.{◌≡◌, ◌++◌, map, IfOk, OnOk, OnErr};
 ghost use Rattle.rc_model.specs.FollowUps.{attempt_of};

@@ -1,5 +1,5 @@
-//! What is promised, on top of all theorems: what a client may rely on (`service`), a computed run in which each
-//! sentence says something (`shown`), and the headline (`headline`). Nothing here runs: the functions have empty
+//! What is promised, on top of all theorems: what a client may rely on (`service`), that a run which breaks a sentence
+//! refutes it, and that none does (`runs`), and the headline (`headline`). Nothing here runs: the functions have empty
 //! bodies, and their contracts are theorems on the definitions.
 //!
 //! To be read in this order: `specs/Service.antt`, which speaks of messages, keys, terms and moments only; `service`;

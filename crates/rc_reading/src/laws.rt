@@ -1,4 +1,4 @@
-//! Laws of the definitions.
+//! Sets of hosts and of kinds are sets.
 
 ghost use Rattle.rc_reading.specs.Claims.{HostsAreSets, KindsAreSets, KindsHavePlaces};
 

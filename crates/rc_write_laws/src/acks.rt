@@ -1,4 +1,4 @@
-//! Acknowledgements.
+//! When a write is acknowledged, and that it was asked for.
 
 ghost use Rattle.rc_write_laws.specs.MomentClaims.{CountedWhenStored};
 ghost use Rattle.rc_write_laws.specs.AckClaims.{CountedIsAcknowledged, StoredIsAcknowledged, AcknowledgedOnce};
