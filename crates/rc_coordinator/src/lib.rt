@@ -3,13 +3,18 @@
 //! the words of the contracts are those of `rc_model`'s `Coordinator`, `Attempts`, `Deciding` and
 //! `CoordinatorStep`.
 //!
-//! To be read in this order: `coordinator`, the calls; `state`, each rule; `recoveries` with `attempts`, what is
-//! remembered of recoveries; `plans`, which tablet goes to whom; `grants`; `least`; `notices`, all other messages;
-//! `lists` and `making`, a coordinator of a save.
+//! To be read in this order: `coordinator`, the calls; `state`, which input is taken how; the rules by topic:
+//! `enlisting`, who is up; `deciding`, which log is chosen; `granting`, who owns what; `asking`, what the timer asks for
+//! again; `recoveries` with `attempts`, what is remembered of recoveries; `plans`, which tablet goes to whom; `grants`;
+//! `least`; `notices`, all other messages; `lists` and `making`, a coordinator of a save.
 #![tactic(auto)]
 
+mod asking;
 mod attempts;
 mod coordinator;
+mod deciding;
+mod enlisting;
+mod granting;
 mod grants;
 mod least;
 mod lists;
