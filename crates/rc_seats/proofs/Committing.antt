@@ -14,9 +14,9 @@ use Rattle.rc_history.specs.Claims.{NodeTakes}
 use Rattle.rc_history.proofs.Lists.{starts-append}
 use Rattle.rc_history.proofs.Longer.{events_of-own, longer-sent}
 use Rattle.rc_history.proofs.Steps.{node_takes}
-use Rattle.rc_ledger.specs.declared.view.Place.{Place}
-use Rattle.rc_ledger.specs.Views.{name_at}
-use Rattle.rc_ledger.specs.Law.{Knows}
+use Rattle.rc_journal.specs.declared.view.Place.{Place}
+use Rattle.rc_journal.specs.Views.{name_at}
+use Rattle.rc_journal.specs.Law.{Knows}
 use Rattle.rc_journal.specs.declared.names.SeatName.{SeatName}
 use Rattle.rc_journal.specs.Names.{WireName, name_of, number_of}
 use Rattle.rc_journal.specs.Calls as journal

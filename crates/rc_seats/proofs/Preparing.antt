@@ -14,7 +14,7 @@ use Rattle.rc_model.proofs.Ids.{same_node-true}
 use Rattle.rc_history.specs.Nodes.{Node, TheOutside, TheCoordinator, TheHost, name_of}
 use Rattle.rc_history.specs.Events.{takes}
 use Rattle.rc_history.proofs.Names.{names-kept}
-use Rattle.rc_ledger.specs.declared.view.Place.{Place}
+use Rattle.rc_journal.specs.declared.view.Place.{Place}
 use Rattle.rc_journal.specs.declared.names.SeatName.{SeatName}
 use Rattle.rc_world.specs.NodeView.{may_take, NodeHasRoom}
 use Rattle.rc_world.specs.NodeCalls.{event_of, WasSent}

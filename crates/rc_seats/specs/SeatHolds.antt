@@ -6,7 +6,7 @@ use Rattle.rc_types.specs.declared.events.Setup.{Setup}
 use Rattle.rc_types.specs.declared.messages.Message.{Message}
 use Rattle.rc_history.specs.Nodes.{Node}
 use Rattle.rc_history.specs.Events.{events_of}
-use Rattle.rc_ledger.specs.declared.view.Place.{Place}
+use Rattle.rc_journal.specs.declared.view.Place.{Place}
 use Rattle.rc_journal.specs.declared.names.SeatName.{SeatName}
 use Rattle.rc_journal.specs.Names.{number_of}
 use Rattle.rc_seats.specs.declared.offer.Offer.{Offer}

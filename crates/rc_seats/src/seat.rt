@@ -5,7 +5,7 @@ ghost use Rattle.std.specs.Prelude.{is_some, option_map, IfErr, OnOk, OnErr};
 ghost use Rattle.std.specs.List.{list_any};
 ghost use Rattle.indexmap.specs.IndexSet.{spare};
 ghost use Rattle.rc_types.specs.declared.faults.Fault.TheVariants.{OutOfMemory, BadEvent, Pending};
-ghost use Rattle.rc_ledger.specs.Views.{new_place};
+ghost use Rattle.rc_journal.specs.Views.{new_place};
 ghost use Rattle.rc_world.specs.HostView.{IsWithinLimits};
 ghost use Rattle.rc_world.specs.NodeCalls.{event_of};
 ghost use Rattle.rc_world.specs.NodeView.{node_of};

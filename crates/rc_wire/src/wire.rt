@@ -4,7 +4,7 @@ ghost use Rattle.std.specs.Prelude.{◌≡◌, ◌⊎◌, ◌+◌, ◌≤◌, tr
 ghost use Rattle.rc_types.specs.declared.faults.Fault.TheVariants.{OutOfMemory, BadEvent};
 ghost use Rattle.rc_types.specs.declared.limits.TheConstants.{MAX_EVENTS, MAX_HOSTS};
 ghost use Rattle.rc_history.specs.Events.{events_of};
-ghost use Rattle.rc_ledger.specs.Views.{name_at};
+ghost use Rattle.rc_journal.specs.Views.{name_at};
 ghost use Rattle.rc_world.specs.HostView.{IsWithinLimits};
 ghost use Rattle.rc_journal.specs.Numbers.{least_to};
 ghost use Rattle.rc_journal.specs.Calls.{new_places};
