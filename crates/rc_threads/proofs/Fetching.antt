@@ -10,7 +10,7 @@ use Rattle.rc_threads.specs.declared.steps.Step.TheVariants.{Do, Settle}
 use Rattle.rc_threads.specs.Runs.{is_fetched, none_fetched}
 use Rattle.rc_threads.specs.Ends.{IsIdle}
 use Rattle.rc_wire.specs.Seats.{seat_named, new_seats}
-use Rattle.rc_workload.specs.Workload.{push, owner, starts, created, write_of, asks, workload}
+use Rattle.rc_threads.specs.Workload.{push, owner, starts, created, write_of, asks, workload}
 
 and-more : (a b : Bool) → a ≡ true → b ≡ true → (a && b) ≡ true
 and-more a b x y = ap (λ c. c && b) x ∙ y

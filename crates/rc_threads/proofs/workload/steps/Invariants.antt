@@ -1,6 +1,6 @@
 use Rattle.std.proofs.Common.{◌≡◌}
-use Rattle.rc_workload.specs.Workload.{starts, asks}
-use Rattle.rc_workload.proofs.steps.steps.Given as goal
+use Rattle.rc_threads.specs.Workload.{starts, asks}
+use Rattle.rc_threads.proofs.workload.steps.Given as goal
 
 abbrev pub invariant-loop-host : goal.invariant-loop-host
 invariant-loop-host l = l.steps.items ≡ starts l.host

@@ -1,15 +1,17 @@
-//! The world that the steps lead to.
+//! The world that the steps of the command `threads` lead to.
 
 ghost use Rattle.std.specs.Prelude.{◌≡◌, ◌≤◌, ◌+◌, true, IfOk};
 ghost use Rattle.rc_types.specs.declared.limits.TheConstants.{MAX_HOSTS};
 ghost use Rattle.rc_world.specs.HostView.{IsWithinLimits};
 ghost use Rattle.rc_threads.specs.Runs.{none_fetched};
-ghost use Rattle.rc_workload.specs.Workload.{threads_setup};
+ghost use Rattle.rc_threads.specs.Workload.{threads_setup};
 
-use crate::steps::steps;
+use crate::gate::Gate;
+use crate::nodes::run_nodes;
+use crate::steps::Step;
+use crate::workload::steps;
 use rc_journal::{Naming, Opening, SeatName};
 use rc_seats::Seat;
-use rc_threads::{Gate, Step, run_nodes};
 use rc_types::{Fault, Seq, Setup};
 use rc_wire::Wire;
 use rc_world::World;

@@ -1,4 +1,4 @@
--- What the nodes are given to do, and the world that it leads to.
+-- What the command `threads` has nodes do, and what its world is opened with.
 use Rattle.std.specs.Prelude.{◌≡◌, ℕ, zero, suc, List, [], ◌∷◌, ◌++◌, Some, false}
 use Rattle.rc_types.specs.declared.ids.ServerId.{ServerId}
 use Rattle.rc_types.specs.declared.events.Setup.{Setup}

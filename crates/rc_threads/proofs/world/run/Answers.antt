@@ -1,5 +1,5 @@
-use Rattle.rc_workload.proofs.Fetching.{opened-idle}
-use Rattle.rc_workload.proofs.world.run.Goals as goal
+use Rattle.rc_threads.proofs.Fetching.{opened-idle}
+use Rattle.rc_threads.proofs.world.run.Goals as goal
 
 pub run_nodes-requires-clause-idle : goal.run_nodes-requires-clause-idle
 run_nodes-requires-clause-idle g c κs within =

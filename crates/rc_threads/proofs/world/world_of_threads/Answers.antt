@@ -1,5 +1,5 @@
-use Rattle.rc_workload.proofs.Fetching.{steps-none}
-use Rattle.rc_workload.proofs.world.world_of_threads.Goals as goal
+use Rattle.rc_threads.proofs.Fetching.{steps-none}
+use Rattle.rc_threads.proofs.world.world_of_threads.Goals as goal
 
 pub run-requires-clause-works : goal.run-requires-clause-works
 run-requires-clause-works g c κs within =

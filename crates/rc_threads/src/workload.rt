@@ -1,12 +1,12 @@
-//! The steps, as a list.
+//! What the command `threads` has nodes do, as a list of steps.
 
 ghost use Rattle.std.specs.Prelude.{◌≡◌, OnOk, IfOk};
 ghost use Rattle.rc_threads.specs.declared.steps.Step.TheVariants.{Do, Settle};
-ghost use Rattle.rc_workload.specs.Workload.{push, write_of, workload};
+ghost use Rattle.rc_threads.specs.Workload.{push, write_of, workload};
 
+use crate::steps::Step;
 use rc_journal::SeatName;
 use rc_seats::Work;
-use rc_threads::Step;
 use rc_types::{Body, Seq, ServerId};
 use std::alloc::{AllocError, Global};
 
