@@ -3,8 +3,8 @@ use Rattle.std.proofs.Common.{◌≡◌, ℕ, zero, suc, ◌+◌, ◌<◌, Bool,
 use Rattle.std.proofs.Common.{refl, sym, ap, ◌∙◌, subst, arith}
 use Rattle.std.specs.List.{range_with_len}
 use Rattle.rc_journal.specs.declared.names.SeatName.TheVariants.{Outside, Coordinator, Host}
-use Rattle.rc_seats.specs.declared.work.Work.TheVariants as work
-use Rattle.rc_seats.specs.SeatView.{SeatData, new_seat}
+use Rattle.rc_wire.specs.declared.work.Work.TheVariants as work
+use Rattle.rc_wire.specs.SeatView.{SeatData, new_seat}
 use Rattle.rc_threads.specs.declared.steps.Step.{Step}
 use Rattle.rc_threads.specs.declared.steps.Step.TheVariants.{Do, Settle}
 use Rattle.rc_threads.specs.Runs.{is_fetched, none_fetched}

@@ -6,8 +6,8 @@ ghost use Rattle.rc_threads.specs.Workload.{push, write_of, workload};
 
 use crate::steps::Step;
 use rc_journal::SeatName;
-use rc_seats::Work;
 use rc_types::{Body, Seq, ServerId};
+use rc_wire::Work;
 use std::alloc::{AllocError, Global};
 
 /// The server that owns the table: the first of host 0.

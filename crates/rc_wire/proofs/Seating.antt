@@ -5,7 +5,7 @@ use Rattle.rc_journal.specs.declared.view.Place.{Place}
 use Rattle.rc_journal.specs.Views.{new_place}
 use Rattle.rc_journal.specs.Names.{number_of}
 use Rattle.rc_journal.proofs.Steps.{numbered-push}
-use Rattle.rc_seats.specs.SeatView.{SeatData, new_seat}
+use Rattle.rc_wire.specs.SeatView.{SeatData, new_seat}
 use Rattle.rc_wire.specs.Seats.{seat_named, new_seats}
 
 pub seat_named-number : (number : ℕ) → number_of (seat_named number) ≡ number
