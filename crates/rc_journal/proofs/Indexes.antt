@@ -5,7 +5,7 @@ use Rattle.std.proofs.lemmas.List.{length-set, map-set}
 use Rattle.std.proofs.lemmas.Option.{slice_get-map}
 use Rattle.rc_types.specs.declared.messages.Message.{Message}
 use Rattle.rc_model.specs.World.{node_of}
-use Rattle.rc_ledger.specs.Views.{name_at}
+use Rattle.rc_journal.specs.Views.{name_at}
 use Rattle.rc_journal.specs.Names.{number_at}
 use Rattle.rc_journal.specs.Numbers.{numbers_to}
 use Rattle.rc_journal.specs.Index.{IsIndex}

@@ -1,4 +1,7 @@
+pub mod Rows
 pub mod Named
+pub mod Rule
+pub mod LedgerSteps
 pub mod Numbers
 pub mod Indexes
 pub mod Rooms

@@ -1,10 +1,21 @@
 -- Numbers of seats and names of nodes.
-use Rattle.std.proofs.Common.{◌≡◌, ◌≢◌, ℕ, true, false, refl, sym, ap, ◌∙◌}
-use Rattle.std.proofs.lemmas.Bool.{eq-eqb}
+use Rattle.std.proofs.Common.{◌≡◌, ◌≢◌, ℕ, zero, suc, true, false, refl, sym, ap, ◌∙◌}
+use Rattle.std.proofs.lemmas.Bool.{eq-eqb, ne_eqb}
 use Rattle.rc_model.specs.World.{NodeName, TheOutside, TheCoordinator, TheHost, same_node}
-use Rattle.rc_ledger.specs.Views.{name_at}
-use Rattle.rc_ledger.proofs.Names.{other-names}
+use Rattle.rc_journal.specs.Views.{name_at}
 use Rattle.rc_journal.specs.Names.{number_at}
+
+-- seats with other numbers are those of other nodes
+pub other-names : (a b : ℕ) → a ≢ b → same_node (name_at a) (name_at b) ≡ false
+other-names zero zero differ = absurd (differ refl)
+other-names zero (suc zero) differ = refl
+other-names zero (suc (suc j)) differ = refl
+other-names (suc zero) zero differ = refl
+other-names (suc zero) (suc zero) differ = absurd (differ refl)
+other-names (suc zero) (suc (suc j)) differ = refl
+other-names (suc (suc i)) zero differ = refl
+other-names (suc (suc i)) (suc zero) differ = refl
+other-names (suc (suc i)) (suc (suc j)) differ = ne_eqb i j (λ e. differ (ap (λ n. suc (suc n)) e))
 
 -- the name of a node's number is its own
 pub named : (name : NodeName) → name_at (number_at name) ≡ name

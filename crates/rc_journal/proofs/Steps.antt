@@ -9,12 +9,12 @@ use Rattle.rc_types.specs.declared.limits.TheConstants.{MAX_EVENTS}
 use Rattle.rc_model.specs.World.{opening, replay, is_possible}
 use Rattle.rc_history.specs.Events.{is_legal}
 use Rattle.rc_history.proofs.Longer.{legal_from-append, events_of-other}
-use Rattle.rc_ledger.specs.declared.ledger.Ledger.{Ledger}
-use Rattle.rc_ledger.specs.declared.view.Place.{Place}
-use Rattle.rc_ledger.specs.declared.view.View.{View}
-use Rattle.rc_ledger.specs.Views.{name_at, at_place, new_place}
-use Rattle.rc_ledger.specs.Passes.{Pass, view, IsPassOf, Added}
-use Rattle.rc_ledger.proofs.Names.{other-names}
+use Rattle.rc_journal.specs.declared.ledger.Ledger.{Ledger}
+use Rattle.rc_journal.specs.declared.view.Place.{Place}
+use Rattle.rc_journal.specs.declared.view.View.{View}
+use Rattle.rc_journal.specs.Views.{name_at, at_place, new_place}
+use Rattle.rc_journal.specs.Passes.{Pass, view, IsPassOf, Added}
+use Rattle.rc_journal.proofs.Named.{other-names}
 use Rattle.rc_journal.specs.Names.{WireName}
 use Rattle.rc_journal.specs.Index.{IsIndex}
 use Rattle.rc_journal.specs.Tokens.{place_if, place_in}

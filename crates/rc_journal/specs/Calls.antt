@@ -6,10 +6,10 @@ use Rattle.rc_types.specs.declared.events.Event.{Event}
 use Rattle.rc_types.specs.declared.messages.Message.{Message}
 use Rattle.rc_model.specs.World.{replay, is_possible, work_of}
 use Rattle.rc_history.specs.Events.{is_for}
-use Rattle.rc_ledger.specs.declared.view.Desk.{Desk}
-use Rattle.rc_ledger.specs.declared.view.Place.{Place}
-use Rattle.rc_ledger.specs.Views.{name_at, new_place}
-use Rattle.rc_ledger.specs.Law.{Knows}
+use Rattle.rc_journal.specs.declared.view.Desk.{Desk}
+use Rattle.rc_journal.specs.declared.view.Place.{Place}
+use Rattle.rc_journal.specs.Views.{name_at, new_place}
+use Rattle.rc_journal.specs.Law.{Knows}
 use Rattle.rc_journal.specs.Names.{WireName}
 use Rattle.rc_journal.specs.Sound.{IsHistory}
 

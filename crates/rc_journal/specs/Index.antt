@@ -2,7 +2,7 @@
 use Rattle.std.specs.Prelude.{◌≡◌, ℕ, ◌+◌, ◌<◌, ◌≤◌, List, length, map, Some, slice_get, vec_len, vec_capacity}
 use Rattle.rc_types.specs.declared.messages.Message.{Message}
 use Rattle.rc_model.specs.World.{node_of}
-use Rattle.rc_ledger.specs.Views.{name_at}
+use Rattle.rc_journal.specs.Views.{name_at}
 use Rattle.rc_journal.specs.Names.{number_at}
 use Rattle.rc_journal.specs.Numbers.{numbers_to}
 use Rattle.rc_journal.specs.declared.index.Index.{Index}

@@ -1,3 +1,7 @@
+pub mod Views
+pub mod Law
+pub mod Moves
+pub mod Passes
 pub mod Names
 pub mod Numbers
 pub mod Rising

@@ -6,10 +6,10 @@ use Rattle.rc_types.specs.declared.messages.Message.{Message}
 use Rattle.rc_types.specs.declared.limits.TheConstants.{MAX_EVENTS}
 use Rattle.rc_model.specs.World.{replay}
 use Rattle.rc_history.specs.Events.{is_legal, events_of}
-use Rattle.rc_ledger.specs.declared.ledger.Ledger.{Ledger}
-use Rattle.rc_ledger.specs.declared.view.Desk.{Desk}
-use Rattle.rc_ledger.specs.Views.{name_at, at_desk}
-use Rattle.rc_ledger.specs.Passes.{Pass, view, IsPassOf}
+use Rattle.rc_journal.specs.declared.ledger.Ledger.{Ledger}
+use Rattle.rc_journal.specs.declared.view.Desk.{Desk}
+use Rattle.rc_journal.specs.Views.{name_at, at_desk}
+use Rattle.rc_journal.specs.Passes.{Pass, view, IsPassOf}
 use Rattle.rc_journal.specs.Names.{WireName}
 use Rattle.rc_journal.specs.Index.{IsIndex}
 

@@ -2,10 +2,10 @@
 use Rattle.std.specs.Prelude.{◌≡◌, [], Option, Some, None}
 use Rattle.atomic_table.specs.Seated.{TableId}
 use Rattle.rc_types.specs.declared.events.Setup.{Setup}
-use Rattle.rc_ledger.specs.declared.ledger.Ledger.{Ledger}
-use Rattle.rc_ledger.specs.declared.view.Place.{Place}
-use Rattle.rc_ledger.specs.Views.{at_desk, at_place, new_desk, new_place}
-use Rattle.rc_ledger.specs.Passes.{Pass, view, IsPassOf}
+use Rattle.rc_journal.specs.declared.ledger.Ledger.{Ledger}
+use Rattle.rc_journal.specs.declared.view.Place.{Place}
+use Rattle.rc_journal.specs.Views.{at_desk, at_place, new_desk, new_place}
+use Rattle.rc_journal.specs.Passes.{Pass, view, IsPassOf}
 
 abbrev pub place_if : Option Place → Place
 place_if None = new_place 0

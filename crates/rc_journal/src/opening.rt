@@ -3,7 +3,8 @@
 ghost use Rattle.std.specs.Prelude.{◌≡◌, ◌+◌, IfOk, IfErr};
 ghost use Rattle.rc_types.specs.declared.faults.Fault.TheVariants.{OutOfMemory};
 
-use rc_ledger::{Ledger, Pass};
+use crate::law::Pass;
+use crate::ledger::Ledger;
 use rc_types::{Fault, Setup, TryClone};
 use std::alloc::Global;
 use std::marker::Model;

@@ -2,8 +2,8 @@
 
 ghost use Rattle.std.specs.Prelude.{◌≡◌};
 
+use crate::law::Pass;
 use crate::names::Naming;
-use rc_ledger::Pass;
 use std::marker::{Model, PhantomData};
 
 /// The token of a node's seat at the wire of this name, of no bytes. As a value it is what its holder
@@ -20,7 +20,7 @@ impl<N: Naming> Drop for Token<N> {
 }
 
 impl<N: Naming> Model for Token<N> {
-    ghost use Rattle.rc_ledger.specs.declared.view.Place.{Place};
+    ghost use Rattle.rc_journal.specs.declared.view.Place.{Place};
     ghost use Rattle.rc_journal.specs.Tokens.{place_in, SitsIn};
 
     ghost Value = { Place };

@@ -12,8 +12,8 @@ use Rattle.rc_types.specs.declared.messages.Message.{Message}
 use Rattle.rc_model.specs.World.{World, delivery, is_possible_job, step, is_possible}
 use Rattle.rc_types.specs.declared.ids.Addr.{Addr}
 use Rattle.rc_types.specs.declared.ids.Addr.TheVariants.{Server, Coordinator, Outside}
-use Rattle.rc_mail.specs.declared.passing.Passing.{Passing}
-use Rattle.rc_mail.specs.Settling.{events_left, is_due, next_due, due_from, pass}
+use Rattle.rc_scenes.specs.declared.passing.Passing.{Passing}
+use Rattle.rc_scenes.specs.Settling.{events_left, is_due, next_due, due_from, pass}
 use Rattle.rc_world.specs.Happened.{Happened, replayed, with_events, can_happen}
 use Rattle.rc_runs.specs.Steps.{room_at}
 use Rattle.rc_runs.proofs.Steppings.{replayed_more, taken_then}

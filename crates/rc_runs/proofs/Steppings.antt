@@ -9,9 +9,9 @@ use Rattle.rc_types.specs.declared.limits.TheConstants.{MAX_EVENTS}
 use Rattle.rc_types.specs.declared.messages.Message.{Message}
 use Rattle.rc_model.specs.World.{World, opening, step, is_possible}
 use Rattle.rc_model.proofs.Replays.{replay_from-push, noted, sent_more-step}
-use Rattle.rc_mail.specs.Delivered.{delivers}
-use Rattle.rc_mail.specs.Letters.{Letters, Waits, HasNoted}
-use Rattle.rc_mail.proofs.Deliveries.{waits_other}
+use Rattle.rc_scenes.specs.Delivered.{delivers}
+use Rattle.rc_scenes.specs.Letters.{Letters, Waits, HasNoted}
+use Rattle.rc_scenes.proofs.Deliveries.{waits_other}
 use Rattle.rc_world.specs.Happened.{Happened, replayed, with_events, sent_in, can_happen}
 use Rattle.rc_runs.specs.RunHolds.{RunHolds}
 

@@ -5,14 +5,14 @@ ghost use Rattle.std.specs.Prelude.{IfErr};
 ghost use Rattle.rc_types.specs.declared.faults.Fault.TheVariants.{OutOfMemory, BadEvent};
 ghost use Rattle.rc_types.specs.declared.events.Event.TheVariants.{Deliver};
 ghost use Rattle.rc_types.specs.declared.limits.TheConstants.{MAX_EVENTS};
-ghost use Rattle.rc_mail.specs.Settling.{due_from, settles};
+ghost use Rattle.rc_scenes.specs.Settling.{due_from, settles};
 ghost use Rattle.rc_world.specs.Happened.{with_events, can_happen, replayed, sent_in};
 ghost use Rattle.rc_world.specs.HostView.{IsWithinLimits};
 ghost use Rattle.rc_scenes.specs.Runs.{one_event, scenario_event};
 ghost use Rattle.rc_runs.specs.Steps.{GoesOn, StopsIn, RunsThrough, StopsAt};
 
-use rc_mail::{Mail, Passing};
 use rc_reading::ScenarioEvent;
+use rc_scenes::{Mail, Passing};
 use rc_types::{Event, Fault, Message, Setup};
 use rc_world::World;
 use std::alloc::{Allocator, Global};

@@ -7,8 +7,8 @@ use Rattle.rc_types.specs.declared.events.Event.{Event}
 use Rattle.rc_types.specs.declared.events.Event.TheVariants.{Deliver}
 use Rattle.rc_model.specs.World.{World, opening, step, is_possible, job_done, work_of, replay}
 use Rattle.rc_model.proofs.Replays.{replay_from-push, noted}
-use Rattle.rc_mail.specs.declared.passing.Passing.{Passing}
-use Rattle.rc_mail.specs.Settling.{events_left, due_from, none_left, one_left, pass}
+use Rattle.rc_scenes.specs.declared.passing.Passing.{Passing}
+use Rattle.rc_scenes.specs.Settling.{events_left, due_from, none_left, one_left, pass}
 use Rattle.rc_reading.specs.declared.scenarios.Scenario.{Scenario}
 use Rattle.rc_reading.specs.declared.scenarios.ScenarioEvent.{ScenarioEvent}
 use Rattle.rc_reading.specs.declared.scenarios.ScenarioEvent.TheVariants as scene

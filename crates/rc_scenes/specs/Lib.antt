@@ -1,3 +1,9 @@
+pub mod Delivered
+pub mod Passing
+pub mod Settling
+pub mod Lanes
+pub mod Waiting
+pub mod Letters
 pub mod Runs
 pub mod Printed
 pub mod Claims

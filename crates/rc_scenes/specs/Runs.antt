@@ -9,7 +9,7 @@ use Rattle.rc_reading.specs.declared.scenarios.Scenario.{Scenario}
 use Rattle.rc_reading.specs.declared.scenarios.ScenarioEvent.{ScenarioEvent}
 use Rattle.rc_reading.specs.declared.scenarios.ScenarioEvent.TheVariants.{Settle}
 use Rattle.rc_reading.specs.Scenario.{core_event}
-use Rattle.rc_mail.specs.Settling.{settles}
+use Rattle.rc_scenes.specs.Settling.{settles}
 
 -- the run goes on after the event of the world; where that isn't possible, or no room is left, this world stands
 abbrev pub one_event : ℕ → World → Event → Result World World

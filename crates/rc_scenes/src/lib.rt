@@ -1,13 +1,25 @@
-//! What the run of a scenario is, and what is printed of it: definitions, laws on them, and worked scenarios, whose
-//! contracts say what is printed for these bytes; the definitions compute it, from the bytes to the report. Nothing
-//! here runs.
+//! What a scenario delivers, and what its run is. It knows of no node that runs.
+//!
+//! `Mail` has the messages that are still to be delivered, and tells which of them a pass delivers next: `passing`,
+//! what a pass leaves alone; `mail`, the calls, over `marks` and `lines`.
+//!
+//! What the run of a scenario is, and what is printed of it, are definitions: `specs/Runs.antt`, `specs/Printed.antt`.
+//! `laws` are laws on them. All other modules are worked scenarios, whose contracts say what is printed for these
+//! bytes; the definitions compute it, from the bytes to the report, and nothing of them runs.
 #![tactic(auto)]
 
 pub mod doubts;
 pub mod epochs;
 pub mod first;
 pub mod laws;
+mod lines;
+mod mail;
+mod marks;
+mod passing;
 pub mod recoveries;
 pub mod rolls;
 pub mod worked;
 pub mod wrong;
+
+pub use mail::Mail;
+pub use passing::Passing;

@@ -1,6 +1,6 @@
 //! What is left of a scenario, and which event sent which message.
 
-use rc_saving::Left;
+use crate::saving::Left;
 use std::alloc::{AllocError, Global};
 
 /// An event that is left.

@@ -12,7 +12,7 @@ use crate::counted::Counted;
 use crate::simulating::write_answer;
 use crate::verdicts::{Output, SimFault, Verdict};
 use rc_explore::{Exploration, Options};
-use rc_saving::saved_events;
+use rc_shrink::saved_events;
 use std::alloc::{AllocError, Global};
 use std::io::Write;
 

@@ -3,7 +3,7 @@
 ghost use Rattle.std.specs.Prelude.{◌≡◌, ◌≢◌, ◌≤◌, ℕ, string_bytes, IfOk, IfErr, Err};
 ghost use Rattle.std.specs.Io.KnownBytes.{Keeps};
 ghost use Rattle.rc_types.specs.declared.limits.TheConstants.{MAX_HOSTS};
-ghost use Rattle.rc_workload.specs.Workload.{threads_setup};
+ghost use Rattle.rc_threads.specs.Workload.{threads_setup};
 ghost use Rattle.rc_sim.specs.declared.verdicts.SimFault.TheVariants.{Memory, Read as ReadFailed, Write as WriteFailed};
 ghost use Rattle.rc_sim.specs.Failures.{failed_writes};
 ghost use Rattle.rc_sim.specs.Verdicts.{Reported, Threaded, Unable};
@@ -13,8 +13,8 @@ use crate::answers::{Answer, ended};
 use crate::counted::Counted;
 use crate::simulating::write_answer;
 use crate::verdicts::{Output, SimFault, Verdict};
+use rc_threads::world_of_threads;
 use rc_types::{Code, Fault};
-use rc_workload::world_of_threads;
 use rc_world::World;
 use std::alloc::Global;
 use std::io::Write;

@@ -2,3 +2,4 @@ pub mod Found
 pub mod Turning
 pub mod Seating
 pub mod Crossing
+pub mod Fetching

@@ -6,8 +6,8 @@ use Rattle.std.specs.Result.{result_and}
 use Rattle.rc_types.specs.declared.events.Setup.{Setup}
 use Rattle.rc_types.specs.declared.faults.Fault.{Fault}
 use Rattle.rc_types.specs.declared.faults.Fault.TheVariants.{OutOfMemory, BadEvent}
-use Rattle.rc_seats.specs.declared.work.Work.{Work}
-use Rattle.rc_seats.specs.SeatView.{SeatData}
+use Rattle.rc_wire.specs.declared.work.Work.{Work}
+use Rattle.rc_wire.specs.SeatView.{SeatData}
 use Rattle.rc_threads.specs.declared.steps.Step.{Step}
 use Rattle.rc_threads.specs.Runs.{Runs, Grows, works_for}
 use Rattle.rc_threads.proofs.Turning.{grows-does, grows-same}

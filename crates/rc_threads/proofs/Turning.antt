@@ -19,11 +19,11 @@ use Rattle.rc_history.proofs.Longer.{longer-sent}
 use Rattle.rc_journal.specs.declared.names.SeatName.{SeatName}
 use Rattle.rc_journal.specs.Names.{name_of, number_of}
 use Rattle.rc_journal.specs.Numbers.{least_to}
-use Rattle.rc_seats.specs.declared.work.Work.{Work}
-use Rattle.rc_seats.specs.declared.work.Work.TheVariants as work
-use Rattle.rc_seats.specs.SeatView.{SeatData, Offered, offered_events, node_name, world_at, node_at}
-use Rattle.rc_seats.specs.Calls.{Later, Finds, Misses, Fetches}
-use Rattle.rc_seats.specs.Works.{event_for, is_delivery_of, was_delivered}
+use Rattle.rc_wire.specs.declared.work.Work.{Work}
+use Rattle.rc_wire.specs.declared.work.Work.TheVariants as work
+use Rattle.rc_wire.specs.SeatView.{SeatData, Offered, offered_events, node_name, world_at, node_at}
+use Rattle.rc_wire.specs.Calls.{Later, Finds, Misses, Fetches}
+use Rattle.rc_wire.specs.Works.{event_for, is_delivery_of, was_delivered}
 use Rattle.rc_threads.specs.declared.steps.Step.{Step}
 use Rattle.rc_threads.specs.declared.steps.Step.TheVariants.{Do, Settle}
 use Rattle.rc_threads.specs.Runs.{own_work, listed, works_for, is_fetched, none_fetched, work_in, works_in, is_new, all_new}

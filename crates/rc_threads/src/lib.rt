@@ -14,6 +14,10 @@
 //! To be read in this order: `steps`, what nodes are given to do; `specs/Runs.antt`, what is said of a run of turns;
 //! `around`, what else happens at a commit; `turns`, the turns of one seat; `specs/Ends.antt`, what is promised of each
 //! seat; `gate`; `board`, what the threads and their caller share; `seats`, what one thread does; `nodes`, the call.
+//!
+//! Over it stands what the command `threads` has nodes do: all hosts are started, a table is made for one of them and
+//! written to, and that one is then suspected and decided about. `specs/Workload.antt` says what is done; `workload`
+//! has it as a list of steps; `world` is the call.
 #![tactic(auto)]
 
 mod around;
@@ -23,9 +27,12 @@ mod nodes;
 mod seats;
 mod steps;
 mod turns;
+mod workload;
+mod world;
 
 pub use around::Around;
 pub use gate::Gate;
 pub use nodes::run_nodes;
 pub use steps::Step;
 pub use turns::{deliver_next, deliver_rest, do_next, do_until};
+pub use world::world_of_threads;

@@ -2,7 +2,7 @@
 
 ghost use Rattle.std.specs.Prelude.{◌≡◌, ◌⊎◌, ◌≤◌, true, length, None, IfOk, IfErr, OnOk};
 ghost use Rattle.rc_types.specs.declared.faults.Fault.TheVariants.{OutOfMemory, BadEvent};
-ghost use Rattle.rc_seats.specs.SeatView.{SeatData};
+ghost use Rattle.rc_wire.specs.SeatView.{SeatData};
 ghost use Rattle.rc_threads.specs.Runs.{Progress, Runs, Grows, works_for, none_fetched};
 ghost use Rattle.rc_threads.specs.Ends.{Ends};
 
@@ -12,9 +12,8 @@ use crate::gate::Gate;
 use crate::steps::Step;
 use crate::turns::{deliver_rest, do_until};
 use rc_journal::{Naming, SeatName};
-use rc_seats::Seat;
 use rc_types::{Fault, Message};
-use rc_wire::Wire;
+use rc_wire::{Seat, Wire};
 use std::alloc::Global;
 use std::sync::Wait;
 

@@ -5,8 +5,8 @@ ghost use Rattle.rc_types.specs.declared.faults.Fault.TheVariants.{OutOfMemory};
 ghost use Rattle.rc_threads.specs.Runs.{own_work};
 
 use rc_journal::SeatName;
-use rc_seats::Work;
 use rc_types::{Fault, TryClone};
+use rc_wire::Work;
 use std::alloc::Global;
 
 /// One line of what nodes are given to do.

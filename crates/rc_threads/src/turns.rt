@@ -3,16 +3,15 @@
 ghost use Rattle.std.specs.Prelude.{◌≡◌, ◌⊎◌, ℕ, ◌+◌, ◌<◌, ◌≤◌, true, length, take, None, IfOk, IfErr, OnOk, OnErr};
 ghost use Rattle.std.specs.Option.{IfSome, IfNone};
 ghost use Rattle.rc_types.specs.declared.faults.Fault.TheVariants.{OutOfMemory, BadEvent, Pending};
-ghost use Rattle.rc_seats.specs.SeatView.{SeatData};
-ghost use Rattle.rc_seats.specs.declared.work.Work.TheVariants.{Fetched};
+ghost use Rattle.rc_wire.specs.SeatView.{SeatData};
+ghost use Rattle.rc_wire.specs.declared.work.Work.TheVariants.{Fetched};
 ghost use Rattle.rc_threads.specs.Runs.{Takes, Grows, Progress, Runs, works_for, none_fetched};
 
 use crate::around::Around;
 use crate::steps::{Step, own_work};
 use rc_journal::Naming;
-use rc_seats::{Seat, Work};
 use rc_types::Fault;
-use rc_wire::Wire;
+use rc_wire::{Seat, Wire, Work};
 use std::alloc::Global;
 use std::sync::Wait;
 

@@ -3,7 +3,7 @@ use Rattle.std.specs.Prelude.{ℕ, zero, suc, List, map}
 use Rattle.std.specs.List.{range_with_len}
 use Rattle.rc_journal.specs.declared.names.SeatName.{SeatName}
 use Rattle.rc_journal.specs.declared.names.SeatName.TheVariants.{Outside, Coordinator, Host}
-use Rattle.rc_seats.specs.SeatView.{SeatData, new_seat}
+use Rattle.rc_wire.specs.SeatView.{SeatData, new_seat}
 
 -- whose seat has this number
 abbrev pub seat_named : ℕ → SeatName

@@ -6,8 +6,8 @@ ghost use Rattle.rc_world.specs.HostView.{IsWithinLimits};
 ghost use Rattle.rc_journal.specs.Calls.{new_places};
 ghost use Rattle.rc_wire.specs.Seats.{seat_named, new_seats};
 
+use crate::seat::Seat;
 use rc_journal::{Naming, SeatName, Token};
-use rc_seats::Seat;
 use rc_types::{Fault, Setup};
 use std::alloc::Global;
 

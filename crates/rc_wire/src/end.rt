@@ -4,11 +4,11 @@ ghost use Rattle.std.specs.Prelude.{◌≡◌, All, IfOk, IfErr};
 ghost use Rattle.rc_types.specs.declared.faults.Fault.TheVariants.{OutOfMemory};
 ghost use Rattle.rc_world.specs.HostView.{IsWithinLimits};
 ghost use Rattle.rc_journal.specs.Sound.{IsHistory};
-ghost use Rattle.rc_seats.specs.Calls.{Covers};
+ghost use Rattle.rc_wire.specs.Calls.{Covers};
 
+use crate::seat::Seat;
 use rc_journal::{Journal, Naming};
 use rc_replay::run;
-use rc_seats::Seat;
 use rc_types::{Fault, TryClone};
 use rc_world::World;
 use std::alloc::Global;

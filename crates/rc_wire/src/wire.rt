@@ -4,19 +4,19 @@ ghost use Rattle.std.specs.Prelude.{◌≡◌, ◌⊎◌, ◌+◌, ◌≤◌, tr
 ghost use Rattle.rc_types.specs.declared.faults.Fault.TheVariants.{OutOfMemory, BadEvent};
 ghost use Rattle.rc_types.specs.declared.limits.TheConstants.{MAX_EVENTS, MAX_HOSTS};
 ghost use Rattle.rc_history.specs.Events.{events_of};
-ghost use Rattle.rc_ledger.specs.Views.{name_at};
+ghost use Rattle.rc_journal.specs.Views.{name_at};
 ghost use Rattle.rc_world.specs.HostView.{IsWithinLimits};
 ghost use Rattle.rc_journal.specs.Numbers.{least_to};
 ghost use Rattle.rc_journal.specs.Calls.{new_places};
 ghost use Rattle.rc_journal.specs.Sound.{IsHistory};
-ghost use Rattle.rc_seats.specs.SeatView.{node_name, world_at};
-ghost use Rattle.rc_seats.specs.Calls.{Covers, Later, Fetches, Commits};
+ghost use Rattle.rc_wire.specs.SeatView.{node_name, world_at};
+ghost use Rattle.rc_wire.specs.Calls.{Covers, Later, Fetches, Commits};
 ghost use Rattle.rc_wire.specs.Seats.{new_seats};
 
 use crate::begin::seats_of;
 use crate::end::{look_at_last, replayed};
+use crate::seat::Seat;
 use rc_journal::{Journal, Naming, Opening};
-use rc_seats::Seat;
 use rc_types::Fault;
 use rc_world::World;
 use std::alloc::Global;

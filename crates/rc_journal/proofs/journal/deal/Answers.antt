@@ -1,5 +1,5 @@
 use Rattle.std.proofs.Common.{sym, ap, ◌∙◌, ◌++◌, ◌∷◌, []}
-use Rattle.rc_ledger.specs.Views.{new_place}
+use Rattle.rc_journal.specs.Views.{new_place}
 use Rattle.rc_journal.specs.Calls.{seated, new_places}
 use Rattle.rc_journal.proofs.Steps.{place-as, sits-as, places-push}
 use Rattle.rc_journal.proofs.journal.deal.Goals as goal

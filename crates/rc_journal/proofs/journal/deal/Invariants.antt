@@ -1,6 +1,6 @@
 use Rattle.std.proofs.Common.{◌≡◌}
-use Rattle.rc_ledger.specs.Views.{at_desk}
-use Rattle.rc_ledger.specs.Passes.{view, IsPassOf}
+use Rattle.rc_journal.specs.Views.{at_desk}
+use Rattle.rc_journal.specs.Passes.{view, IsPassOf}
 use Rattle.rc_journal.specs.Calls.{new_places, seated}
 use Rattle.rc_journal.proofs.journal.deal.Given as goal
 

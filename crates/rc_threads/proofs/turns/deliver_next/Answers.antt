@@ -1,5 +1,5 @@
 use Rattle.std.proofs.Common.{◌≡◌, true, false, sym, ◌∙◌, ◌+◌}
-use Rattle.rc_seats.specs.Works.{was_delivered}
+use Rattle.rc_wire.specs.Works.{was_delivered}
 use Rattle.rc_threads.proofs.Turning.{progress-later, progress-lower, progress-had, progress-fetched, progress-all}
 use Rattle.rc_threads.proofs.Turning.{had-idle, idle-later, finds-of, misses-of}
 use Rattle.rc_threads.proofs.turns.deliver_next.Goals as goal

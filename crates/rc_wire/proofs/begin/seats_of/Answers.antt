@@ -2,9 +2,9 @@ use Rattle.std.proofs.Common.{◌≡◌, ℕ, suc, ◌+◌, ◌-◌, ◌<◌, �
 use Rattle.std.proofs.Common.{arith}
 use Rattle.std.specs.List.{range_with_len}
 use Rattle.std.proofs.lemmas.List.FromFn.{length-map-range_with_len}
-use Rattle.rc_ledger.specs.Views.{new_place}
+use Rattle.rc_journal.specs.Views.{new_place}
 use Rattle.rc_journal.specs.Names.{number_of}
-use Rattle.rc_seats.specs.SeatView.{new_seat}
+use Rattle.rc_wire.specs.SeatView.{new_seat}
 use Rattle.rc_wire.specs.Seats.{seat_named, new_seats}
 use Rattle.rc_wire.proofs.Seating.{seat_named-number, places_from, places-first, seats-push}
 use Rattle.rc_wire.proofs.begin.seats_of.Goals as goal

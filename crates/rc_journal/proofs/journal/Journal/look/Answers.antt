@@ -1,7 +1,7 @@
 use Rattle.std.proofs.Common.{ap, ◌∙◌, subst, List}
 use Rattle.rc_types.specs.declared.events.Event.{Event}
-use Rattle.rc_ledger.specs.declared.view.Place.{Place}
-use Rattle.rc_ledger.specs.Views.{looked}
+use Rattle.rc_journal.specs.declared.view.Place.{Place}
+use Rattle.rc_journal.specs.Views.{looked}
 use Rattle.rc_journal.specs.Tokens.{place_in}
 use Rattle.rc_journal.specs.Sound.{desk_of}
 use Rattle.rc_journal.specs.Calls.{Tells, having_seen}

@@ -1,8 +1,8 @@
 use Rattle.std.proofs.Common.{◌<◌, length, sym, ap, ◌∙◌, ◌++◌, ◌∷◌, [], subst, List, arith}
 use Rattle.rc_types.specs.declared.events.Event.{Event}
 use Rattle.rc_types.specs.declared.limits.TheConstants.{MAX_EVENTS}
-use Rattle.rc_ledger.specs.declared.view.Place.{Place}
-use Rattle.rc_ledger.specs.Views.{with_own}
+use Rattle.rc_journal.specs.declared.view.Place.{Place}
+use Rattle.rc_journal.specs.Views.{with_own}
 use Rattle.rc_journal.specs.Tokens.{place_in}
 use Rattle.rc_journal.specs.Index.{lists_of}
 use Rattle.rc_journal.specs.Sound.{desk_of, IsHistory}

@@ -1,4 +1,0 @@
-pub mod Rows
-pub mod Names
-pub mod Rule
-pub mod Steps

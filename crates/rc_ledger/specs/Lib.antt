@@ -1,4 +1,0 @@
-pub mod Views
-pub mod Law
-pub mod Moves
-pub mod Passes

@@ -1,3 +1,0 @@
-pub mod LaneLemmas
-pub mod Waitings
-pub mod Deliveries

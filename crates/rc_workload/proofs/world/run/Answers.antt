@@ -1,6 +1,0 @@
-use Rattle.rc_workload.proofs.Fetching.{opened-idle}
-use Rattle.rc_workload.proofs.world.run.Goals as goal
-
-pub run_nodes-requires-clause-idle : goal.run_nodes-requires-clause-idle
-run_nodes-requires-clause-idle g c κs within =
-    opened-idle g.N.Naming.wire.nodes c.in_ok-wire.seats.items c.in_ok-wire.ensures.seats
