@@ -37,10 +37,11 @@ use Rattle.rc_model.specs.MasterStep.{begins_task, task_of, takes_plan, says_dep
 use Rattle.rc_model.specs.MasterStep.{deposed_takes, master_takes, master_ticks}
 use Rattle.rc_model.specs.MasterTick.{reminds, ticks}
 use Rattle.rc_model.specs.Headline.{In}
-use Rattle.rc_model.proofs.Members.{either, In-left, In-right}
+use Rattle.rc_model.proofs.Members.{In-left, In-right}
 use Rattle.rc_model.proofs.Rules.{AllDone, done-or, done-when}
-use Rattle.rc_step_laws.proofs.Lists.{put_each, true_false}
+use Rattle.rc_step_laws.proofs.Lists.{put_each}
 use Rattle.rc_log_laws.proofs.MasterWorlds.{put-cases}
+use Rattle.rc_model.proofs.Tests.{true_false, either}
 
 -- each digest has every segment up to its own
 abbrev pub WholeLog : Log → Type 0

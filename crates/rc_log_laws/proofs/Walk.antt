@@ -43,7 +43,7 @@ use Rattle.rc_model.specs.MasterStep.{begins_task, task_of, takes_plan, says_dep
 use Rattle.rc_model.specs.MasterStep.{deposed_takes, master_takes, master_ticks}
 use Rattle.rc_model.specs.Segment.{is_unclosed, with_closes_sent, with_entry}
 use Rattle.rc_model.specs.Headline.{In}
-use Rattle.rc_model.proofs.Members.{either, In-left, In-right, In-append}
+use Rattle.rc_model.proofs.Members.{In-left, In-right, In-append}
 use Rattle.std.proofs.lemmas.List.{append_assoc}
 use Rattle.rc_log_laws.specs.Freed.{IsLeftOut, GoodFrees, freed_by, freed_in}
 use Rattle.rc_log_laws.proofs.Silent.{Silent, silent-none, silent-one, silent-both, silent-map, silent-ids}
@@ -51,6 +51,7 @@ use Rattle.rc_log_laws.proofs.Silent.{silent-if, freed-append, freed-segments}
 use Rattle.rc_log_laws.proofs.Stays.{Stays, fewer, stays-refl, stays-put, stays-stored, stays-commit_noted}
 use Rattle.rc_log_laws.proofs.Stays.{stays-loses, stays-shut, stays-starts, stays-closes, stays-first, stays-roll}
 use Rattle.rc_log_laws.proofs.Stays.{writes-leave_out}
+use Rattle.rc_model.proofs.Tests.{either}
 
 -- what holds of the freed segments holds with those that are freed in the step
 abbrev pub Moves : Master → Master × List Message → Type 0

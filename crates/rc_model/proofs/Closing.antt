@@ -25,7 +25,7 @@ use Rattle.rc_model.specs.MasterStep.{master_takes_first, deposed_takes, master_
 use Rattle.rc_model.proofs.Tests.{either, true_false}
 use Rattle.rc_model.proofs.Tables.{put_each}
 use Rattle.rc_model.proofs.Phases.{freed-phase}
-use Rattle.rc_model.proofs.Walk.{OfLog, LogJoined, LogListed, LogWritten, LogFollowed, of_log-joined, of_log-listed}
+use Rattle.rc_model.proofs.Walk.{OfLog, LogJoined, LogListed, LogWritten, LogFollowed, of_log-joined, of_log-listed, same-deposed}
 use Rattle.rc_model.proofs.Walk.{of_log-taken, of_log-ticked, of_log-followed, kept-goes_on, kept-takes_first}
 use Rattle.rc_model.proofs.Walk.{kept-ticks_first}
 
@@ -145,11 +145,6 @@ kept-ticks = kept-ticks_first (OfLog LogKept) (of_log-joined LogKept kept-joined
 placed-after : (master after : Master) → is_closing master.log.phase ≡ false → PhaseKept master.log.phase after.log.phase → HeadPlaced after
 placed-after master after isn't (inl same) is = true_false (sym is ∙ (ap is_closing same ∙ isn't))
 placed-after master after isn't (inr opened) is = true_false (sym is ∙ ap is_closing opened)
-
-same-deposed : (master : Master) (body : Body) → (deposed_takes master body).0 ≡ master
-same-deposed master (Write table key value) = refl
-same-deposed master (Read table key) = refl
-same-deposed master _ = refl
 
 -- a message makes the phase Closing only where the head is placed
 pub takes-placed : (master : Master) (from : Addr) (body : Body) → is_closing master.log.phase ≡ false →

@@ -136,6 +136,12 @@ pub record Followed (R : Master → Master × List Message → Type 0) : Type 0 
     to_coordinator master.log.own (Recovered (attempt_of term master.tasks) term) ∷ [],
   )
 
+-- a deposed master stays as it is
+pub same-deposed : (master : Master) (body : Body) → (deposed_takes master body).0 ≡ master
+same-deposed master (Write table key value) = refl
+same-deposed master (Read table key) = refl
+same-deposed master _ = refl
+
 -- a full head: a roll, or nothing
 roll-cases : (master : Master) (P : Log × Result Bool Fault → Type 0) → ((fault : Fault) → P (master.log, Err fault)) →
     ((ids : List ServerId) → master.log.head < LAST_SEGMENT →

@@ -19,11 +19,11 @@ use Rattle.rc_model.specs.FollowUps.{frees_segments, follows_shut, first_open, w
 use Rattle.rc_model.specs.FollowUps.{follows_change, write_oks, new_durable, follows_stored, rolls_for_replay, replays}
 use Rattle.rc_model.specs.FollowUps.{follows_data, attempt_of, answers_part, follows_replay, or_rule, follow_up}
 use Rattle.rc_model.specs.FollowUps.{marks_shut, further, followed, measure, goes_on}
-use Rattle.rc_model.proofs.Members.{either}
 use Rattle.rc_numbers.specs.Numbers.{VersionsUpTo, body_within, MessagesWithin, LogWithin, MasterWithin}
 use Rattle.rc_numbers.proofs.Entries.{none-within, one-within, both-within, ids-within}
 use Rattle.rc_numbers.proofs.Logs.{put-within, roll-within, shut-within, freed-within}
 use Rattle.rc_numbers.proofs.Masters.{Done, still, says, logged, head-within, entry-done}
+use Rattle.rc_model.proofs.Tests.{either}
 
 module _ (n : ℕ) where
   -- what a rule leaves, where it applies

@@ -32,10 +32,10 @@ use Rattle.rc_model.specs.ListRules.{tries_first, obeys_list, takes_list}
 use Rattle.rc_model.specs.Writing.{refused, is_too_long, written, rolls_for_write, writes_under, writes_if_owned, writes, reads_if_owned}
 use Rattle.rc_model.specs.MasterTick.{fetch_of}
 use Rattle.rc_model.specs.MasterStep.{begins_task, task_of, takes_plan, says_deposed, master_takes_first}
-use Rattle.rc_model.proofs.Members.{either}
 use Rattle.rc_numbers.specs.Numbers.{VersionsUpTo, body_within, MessagesWithin, LogWithin, OwnershipWithin, MasterWithin}
 use Rattle.rc_numbers.proofs.Entries.{none-within, one-within, both-within, ids-within, All-one}
 use Rattle.rc_numbers.proofs.Logs.{first-within, roll-within, appends-within, stored-within, commit-within, loses-within}
+use Rattle.rc_model.proofs.Tests.{either}
 
 module _ (n : ℕ) where
   -- what a rule leaves, with what it sends

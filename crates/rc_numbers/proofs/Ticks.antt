@@ -22,12 +22,12 @@ use Rattle.rc_model.specs.MasterTick.{reminds_open, reminds_shut_members, remind
 use Rattle.rc_model.specs.MasterTick.{has_not_come, fetch_of, fetches_again, awaits_grant, recovered_again}
 use Rattle.rc_model.specs.MasterTick.{ready_again, reminds, ticks}
 use Rattle.rc_model.specs.MasterStep.{master_takes_first, deposed_takes, master_takes, master_ticks}
-use Rattle.rc_model.proofs.Members.{either}
 use Rattle.rc_numbers.specs.Numbers.{body_within, MessagesWithin, LogWithin, MasterWithin}
 use Rattle.rc_numbers.proofs.Entries.{versions-more, versions-drop, greatest-within, none-within, one-within, both-within, All-one}
 use Rattle.rc_numbers.proofs.Logs.{entries-within}
 use Rattle.rc_numbers.proofs.Masters.{Done, still, says, then-done, place-within, obeys-done, first-takes}
 use Rattle.rc_numbers.proofs.Followed.{goes-done}
+use Rattle.rc_model.proofs.Tests.{either}
 
 module _ (n : ℕ) where
   abbrev BodiesWithin : List Body → Type 0

@@ -40,7 +40,7 @@ use Rattle.rc_model.specs.MasterTick.{reminds_open, reminds_shut_members, remind
 use Rattle.rc_model.specs.MasterTick.{has_not_come, fetch_of, fetches_again, awaits_grant, recovered_again}
 use Rattle.rc_model.specs.MasterTick.{ready_again, reminds, ticks}
 use Rattle.rc_model.specs.MasterStep.{begins_task, task_of, takes_plan, master_takes_first, deposed_takes, master_ticks}
-use Rattle.rc_model.proofs.Members.{either}
+use Rattle.rc_model.proofs.Tests.{either}
 
 -- the message answers a read
 abbrev pub is_read_ok : Body → Bool

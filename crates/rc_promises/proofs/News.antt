@@ -27,9 +27,8 @@ use Rattle.rc_model.specs.Nodes.{server_takes, takes_if_running, ticks_if_runnin
 use Rattle.rc_model.specs.World.{World, opening, NodeName, TheOutside, TheCoordinator, TheHost, Job, work_of}
 use Rattle.rc_model.specs.World.{is_possible, node_done, job_done, step, replay}
 use Rattle.rc_model.specs.Headline.{In}
-use Rattle.rc_model.proofs.Members.{either, In-right, In-append}
+use Rattle.rc_model.proofs.Members.{In-right, In-append}
 use Rattle.rc_step_laws.specs.Moves.{MasterMoved, body_said, BackupMoved, backup_body_said, CoordinatorMoved, coordinator_body_said}
-use Rattle.rc_step_laws.proofs.Lists.{put_same, true_false}
 use Rattle.rc_step_laws.proofs.MasterSteps.{master_takes_keeps, master_ticks_keeps}
 use Rattle.rc_step_laws.proofs.Backups.{moved-backup}
 use Rattle.rc_step_laws.proofs.CoordinatorSteps as coordinator
@@ -38,6 +37,8 @@ use Rattle.rc_log_laws.proofs.Replays.{may-hear, to-coordinator-is, good-world}
 use Rattle.rc_log_laws.proofs.Since.{replay_from-append}
 use Rattle.rc_write_laws.proofs.Frame.{All-In}
 use Rattle.rc_promises.proofs.Hushed.{is_read_ok, Hushed, Hush, hush-then, hush-takes_first, hush-deposed, hush-goes, hush-master_ticks}
+use Rattle.rc_model.proofs.Tables.{put-same}
+use Rattle.rc_model.proofs.Tests.{true_false, either}
 
 -- Lists
 
@@ -301,7 +302,7 @@ module _ (world : World) (one : Event) (i : ℕ) (good : GoodWorld world) where
       world.coordinator i message.from message.body good at
       (ap (put world.hosts i (record (world.hosts i) { backup = (backup_takes (world.hosts i).backup message.from message.body).0 }))
       (good.hosts_are i).index
-      ∙ put_same world.hosts i
+      ∙ put-same world.hosts i
       (record (world.hosts i) { backup = (backup_takes (world.hosts i).backup message.from message.body).0 }))))
       (λ _. news-master master e (master_takes master message.from message.body)
       (master_takes_keeps world.sent (server_of (world.hosts i)) master message.from message.body (is-good world one i good master e)

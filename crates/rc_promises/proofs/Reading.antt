@@ -30,7 +30,6 @@ use Rattle.rc_model.specs.Headline.{In, HasMade, HasAcknowledged, WasAccepted, I
 use Rattle.rc_model.proofs.Members.{In-left, In-get, place_of}
 use Rattle.rc_step_laws.specs.Words.{Begins, log_in}
 use Rattle.rc_step_laws.specs.Facts.{IsSafe, IsWriteOk}
-use Rattle.rc_step_laws.proofs.Lists.{same_id-refl}
 use Rattle.rc_step_laws.proofs.Logs.{get-log}
 use Rattle.rc_step_laws.proofs.Places.{IsOf, places_to-are, place-logged}
 use Rattle.rc_step_laws.proofs.Tests.{In-take, get-map, filter-In}
@@ -64,6 +63,7 @@ use Rattle.rc_promises.proofs.Time.{still-granted}
 use Rattle.rc_promises.proofs.News.{WasRead, clients-are-heard}
 use Rattle.rc_promises.proofs.Found.{IsFound, read-above, read-is}
 use Rattle.rc_promises.proofs.Standing.{one-a-version, goes-from, above-safe}
+use Rattle.rc_model.proofs.Ids.{same_id-refl}
 
 -- Acknowledgements, by the places that were counted then
 

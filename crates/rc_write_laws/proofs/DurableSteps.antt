@@ -31,12 +31,12 @@ use Rattle.rc_model.specs.FollowUps.{goes_on}
 use Rattle.rc_model.specs.MasterTick.{reminds, ticks}
 use Rattle.rc_model.specs.MasterStep.{begins_task, task_of, takes_plan, says_deposed, master_takes_first}
 use Rattle.rc_model.specs.MasterStep.{deposed_takes, master_takes, master_ticks}
-use Rattle.rc_model.proofs.Members.{either}
 use Rattle.rc_write_laws.proofs.Told.{Told, InputOk, input-refl, input-trans, input-commit_noted, IsWholeTold}
 use Rattle.rc_write_laws.proofs.Told.{input-stored, input-loses, input-first, input-roll, input-appends, FollowOk}
 use Rattle.rc_write_laws.proofs.Told.{follow-refl, follow-trans, follow-alike, follow-appends, follow-shut}
 use Rattle.rc_write_laws.proofs.Told.{follow-freed, follow-same, follow-roll}
 use Rattle.rc_model.specs.Segment.{is_all_closed, with_closes_sent}
+use Rattle.rc_model.proofs.Tests.{either}
 
 -- Inputs
 

@@ -22,9 +22,9 @@ use Rattle.rc_model.specs.Log.{Log, places_in, places_to, places_of, old_head_of
 use Rattle.rc_model.specs.Heads.{opens_head, opened_first, open_first, next_digest, rolled, begin_roll, with_config}
 use Rattle.rc_model.specs.Heads.{stored, commit_noted, opens_change, refills, loses, shuts, with_shut, with_freed}
 use Rattle.rc_model.specs.Master.{to_ids}
-use Rattle.rc_model.proofs.Members.{either}
 use Rattle.rc_write_laws.specs.LimitClaims.{IsWithinLimits}
-use Rattle.rc_step_laws.proofs.Lists.{true_false, put_each}
+use Rattle.rc_step_laws.proofs.Lists.{put_each}
+use Rattle.rc_model.proofs.Tests.{true_false, either}
 
 -- Messages
 

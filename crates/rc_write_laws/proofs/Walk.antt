@@ -44,10 +44,10 @@ use Rattle.rc_model.specs.MasterTick.{fetch_of, fetches_again, awaits_grant, rec
 use Rattle.rc_model.specs.MasterTick.{ticks}
 use Rattle.rc_model.specs.MasterStep.{begins_task, task_of, takes_plan, says_deposed, master_takes_first}
 use Rattle.rc_model.specs.MasterStep.{deposed_takes, master_takes, master_ticks}
-use Rattle.rc_model.proofs.Members.{either}
 use Rattle.rc_write_laws.proofs.Quiet.{is_loud, AllSoft, soft-none, soft-one, soft-both, soft-ids, QuietLog}
 use Rattle.rc_write_laws.proofs.Quiet.{quiet-refl, quiet-trans, quiet-put, quiet-first, quiet-roll, quiet-stored}
 use Rattle.rc_write_laws.proofs.Quiet.{quiet-commit_noted, quiet-loses, quiet-shut, quiet-freed}
+use Rattle.rc_model.proofs.Tests.{either}
 
 -- what is kept by inputs: by moves one after another, and by each kind of move
 pub record IsKeptByInputs (Asked : Entry → Type 0) (R : Master → Master × List Message → Type 0) : Type 0 where
