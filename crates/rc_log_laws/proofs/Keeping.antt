@@ -39,9 +39,9 @@ use Rattle.rc_model.specs.MasterTick.{reminds, ticks}
 use Rattle.rc_model.specs.Headline.{In}
 use Rattle.rc_model.proofs.Members.{In-left, In-right}
 use Rattle.rc_model.proofs.Rules.{AllDone, done-or, done-when}
-use Rattle.rc_step_laws.proofs.Lists.{put_each}
 use Rattle.rc_log_laws.proofs.MasterWorlds.{put-cases}
 use Rattle.rc_model.proofs.Tests.{true_false, either}
+use Rattle.rc_model.proofs.Tables.{put_each}
 
 -- each digest has every segment up to its own
 abbrev pub WholeLog : Log → Type 0

@@ -18,11 +18,11 @@ use Rattle.rc_model.specs.Heads.{opens_head, opened_first, open_first, next_dige
 use Rattle.rc_model.specs.Heads.{stored, commit_noted, opens_change, refills, loses, shuts, with_shut, may_start}
 use Rattle.rc_model.specs.Heads.{may_write, left_out, with_freed, starts, closes_old, writes_on}
 use Rattle.rc_model.specs.Headline.{In}
-use Rattle.rc_model.proofs.Members.{In-append}
-use Rattle.rc_step_laws.proofs.Lists.{put_each, In-filter}
+use Rattle.rc_model.proofs.Members.{In-append, In-filter}
 use Rattle.rc_log_laws.proofs.MasterWorlds.{put-cases}
 use Rattle.rc_log_laws.specs.Freed.{IsLeftOut, GoodFrees}
 use Rattle.rc_model.proofs.Tests.{true_false, either}
+use Rattle.rc_model.proofs.Tables.{put_each}
 
 -- fewer segments were freed
 pub fewer : (more freed : List ℕ) (log : Log) → ((s : ℕ) → In s freed → In s more) → GoodFrees more log → GoodFrees freed log

@@ -15,10 +15,11 @@ use Rattle.rc_model.specs.Log.{Log, LogPlace, places_in, places_to, entries_of, 
 use Rattle.rc_model.specs.Heads.{opens_head, opened_first, open_first, appends, next_digest, rolled, begin_roll}
 use Rattle.rc_model.specs.Heads.{with_config, stored, commit_noted, opens_change, refills, loses, shuts, with_shut}
 use Rattle.rc_model.specs.Heads.{with_freed}
-use Rattle.rc_step_laws.proofs.Lists.{put_each, map-append}
+use Rattle.rc_step_laws.proofs.Lists.{map-append}
 use Rattle.rc_numbers.specs.Numbers.{VersionsUpTo, LogWithin}
 use Rattle.rc_numbers.proofs.Entries.{versions-push}
 use Rattle.rc_model.proofs.Tests.{either}
+use Rattle.rc_model.proofs.Tables.{put_each}
 
 -- the entries of all places are those of the segments
 entries-in : (seg offset : ℕ) (entries : List (Entry × Bool)) →

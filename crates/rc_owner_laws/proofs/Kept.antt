@@ -23,10 +23,10 @@ use Rattle.rc_model.specs.Coordinator.{Coordinator}
 use Rattle.rc_model.specs.Deciding.{own_body}
 use Rattle.rc_model.specs.Nodes.{HostNode}
 use Rattle.rc_model.specs.Headline.{In, HasAcknowledged}
-use Rattle.rc_model.proofs.Members.{In-left, In-right, In-get, place_of}
+use Rattle.rc_model.proofs.Members.{In-left, In-right, In-get, place_of, filter-In}
 use Rattle.rc_step_laws.specs.Words.{log_in}
 use Rattle.rc_step_laws.specs.Facts.{IsSafe, IsWriteOk}
-use Rattle.rc_step_laws.proofs.Tests.{any-one, filter-In}
+use Rattle.rc_step_laws.proofs.Tests.{any-one}
 use Rattle.rc_owner_laws.proofs.OwnersOrdered.{one-chain}
 use Rattle.rc_owner_laws.specs.Grants.{IsOwn, own_said}
 use Rattle.rc_owner_laws.specs.Terms.{IsGivenBy}

@@ -33,9 +33,8 @@ use Rattle.rc_model.specs.MasterTick.{reminds_open, reminds_shut, commits_again,
 use Rattle.rc_model.specs.MasterTick.{awaits_grant, recovered_again, ready_again, reminds, ticks}
 use Rattle.rc_model.specs.MasterStep.{begins_task, task_of, takes_plan, says_deposed, master_takes_first, deposed_takes}
 use Rattle.rc_model.specs.Headline.{In}
-use Rattle.rc_model.proofs.Members.{In-append, In-left, In-right, In-get, In-map}
+use Rattle.rc_model.proofs.Members.{In-append, In-left, In-right, In-get, In-map, In-filter}
 use Rattle.rc_model.proofs.Numbering.{places-push}
-use Rattle.rc_step_laws.proofs.Lists.{In-filter}
 use Rattle.rc_step_laws.proofs.Rolling.{roll-cases}
 use Rattle.rc_step_laws.proofs.Tests.{In-take, find-one}
 use Rattle.rc_owner_laws.specs.Parts.{PartView, part_view, WasGranted, WasPlanned, GoodParts}

@@ -24,11 +24,9 @@ use Rattle.rc_model.specs.Coordinator.{Coordinator}
 use Rattle.rc_model.specs.Deciding.{own_body, range_of}
 use Rattle.rc_model.specs.Nodes.{HostNode}
 use Rattle.rc_model.specs.Headline.{In, WasAcknowledged, HasAcknowledged, VersionsRise}
-use Rattle.rc_model.proofs.Members.{In-append, In-get, In-left, In-map, map-In}
+use Rattle.rc_model.proofs.Members.{In-append, In-get, In-left, In-map, map-In, In-filter, filter-In}
 use Rattle.rc_step_laws.specs.Words.{Begins, log_in}
 use Rattle.rc_step_laws.specs.Facts.{IsSafe, IsWriteOk, body_fine}
-use Rattle.rc_step_laws.proofs.Lists.{In-filter}
-use Rattle.rc_step_laws.proofs.Tests.{filter-In}
 use Rattle.rc_log_laws.proofs.Clauses.{accepted-is, acknowledged-is}
 use Rattle.rc_log_laws.proofs.Covers.{IsCovered, PlanIs, covered}
 use Rattle.rc_owner_laws.specs.Grants.{IsOwn, own_said}

@@ -19,10 +19,10 @@ use Rattle.rc_model.specs.Master.{Master, Task}
 use Rattle.rc_model.specs.Coordinator.{Coordinator}
 use Rattle.rc_model.specs.Nodes.{HostNode}
 use Rattle.rc_model.specs.Headline.{In}
-use Rattle.rc_model.proofs.Members.{In-left, In-right, In-append, In-get, place_of, In-map}
+use Rattle.rc_model.proofs.Members.{In-left, In-right, In-append, In-get, place_of, In-map, In-filter}
 use Rattle.rc_step_laws.specs.Words.{Begins, log_in}
 use Rattle.rc_step_laws.specs.Facts.{GoodMaster}
-use Rattle.rc_step_laws.proofs.Lists.{In-filter, get-take}
+use Rattle.rc_step_laws.proofs.Lists.{get-take}
 use Rattle.rc_step_laws.proofs.Tests.{get-map}
 use Rattle.rc_digestpick.proofs.Ascending.{IsAscending}
 use Rattle.rc_owner_laws.specs.Parts.{part_view, logged, under, AllCame, IsWaiting, HasJoined, IsPart, IsClients, IsReplayed}

@@ -24,9 +24,10 @@ use Rattle.rc_step_laws.specs.Words.{OnDifferentHosts, IsNumbered, IsOf}
 use Rattle.rc_step_laws.specs.Facts.{GoodAttempt, GoodCoordinator}
 use Rattle.rc_step_laws.specs.Later.{AttemptLater}
 use Rattle.rc_step_laws.specs.Moves.{CoordinatorMoved, coordinator_body_said}
-use Rattle.rc_step_laws.proofs.Lists.{put_id_each, get-left, get-end, get-append, get-within, get-set, set-get}
+use Rattle.rc_step_laws.proofs.Lists.{get-left, get-end, get-append, get-within, get-set, set-get}
 use Rattle.rc_model.proofs.Tests.{either}
 use Rattle.rc_model.proofs.Granting.{greater-left, greater-right}
+use Rattle.rc_model.proofs.Tables.{put_id_each}
 
 -- Pairs
 

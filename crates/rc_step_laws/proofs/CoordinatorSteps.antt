@@ -42,13 +42,12 @@ use Rattle.rc_model.proofs.Members.{In-left, In-append}
 use Rattle.rc_step_laws.specs.Words.{OnDifferentHosts, IsNumbered}
 use Rattle.rc_step_laws.specs.Facts.{IsPlan, GoodAttempt, GoodCoordinator}
 use Rattle.rc_step_laws.specs.Moves.{CoordinatorMoved, CoordinatorMayHear, coordinator_body_said}
-use Rattle.rc_step_laws.proofs.Lists.{put_id_each}
 use Rattle.rc_step_laws.proofs.Servers.{crashed-not-up, crashed-stays-crashed, crashed-stays-enlisted}
 use Rattle.rc_step_laws.proofs.Servers.{apart-crashed, apart-enlisted}
 use Rattle.rc_step_laws.proofs.Attempting.{below-refl, numbered-at, Kept, Says}
 use Rattle.rc_step_laws.proofs.Attempting.{says-none, says-one, says-each, moved-kept, moved-added, of-added}
 use Rattle.rc_step_laws.proofs.Attempting.{moved-changed, numbered-set}
-use Rattle.rc_model.proofs.Tables.{put_id-same}
+use Rattle.rc_model.proofs.Tables.{put_id-same, put_id_each}
 use Rattle.rc_model.proofs.Tests.{true_false, either}
 use Rattle.rc_model.proofs.Granting.{greater-left, greater-right}
 

@@ -29,12 +29,12 @@ use Rattle.rc_model.specs.FollowUps.{follows_change, write_oks, new_durable, fol
 use Rattle.rc_model.specs.FollowUps.{follows_data, attempt_of, answers_part, or_rule, follow_up, marks_shut, further}
 use Rattle.rc_model.specs.FollowUps.{followed, measure, goes_on}
 use Rattle.rc_model.specs.Headline.{In}
-use Rattle.rc_model.proofs.Members.{In-append, In-get, In-map}
+use Rattle.rc_model.proofs.Members.{In-append, In-get, In-map, In-filter}
 use Rattle.rc_step_laws.specs.Words.{log_in, IsOpened, HasToldClosed}
 use Rattle.rc_step_laws.specs.Facts.{IsSafe}
 use Rattle.rc_step_laws.specs.Later.{LogLater}
 use Rattle.rc_step_laws.specs.Moves.{OwnFine, MasterSays}
-use Rattle.rc_step_laws.proofs.Lists.{begins-refl, get-drop, get-take, In-filter}
+use Rattle.rc_step_laws.proofs.Lists.{begins-refl, get-drop, get-take}
 use Rattle.rc_step_laws.proofs.Logs.{Grown, safe-grown, told_closed-more}
 use Rattle.rc_step_laws.proofs.Tests.{all-each, find-one}
 use Rattle.rc_step_laws.proofs.LogMoves.{GoodSegment, GoodLog, LogMoved, more-left, segment-more, moved-log, log_moved-then}

@@ -19,12 +19,11 @@ use Rattle.rc_model.specs.Heads.{opens_head, next_digest, rolled, begin_roll}
 use Rattle.rc_model.specs.Versions.{is_of, is_outdated, is_dead}
 use Rattle.rc_model.specs.Master.{Master, durable_entries, is_dead_segment, dead_segments}
 use Rattle.rc_model.specs.Headline.{In}
-use Rattle.rc_model.proofs.Members.{In-get, In-left, In-right, In-append}
+use Rattle.rc_model.proofs.Members.{In-get, In-left, In-right, In-append, In-filter, filter-In}
 use Rattle.rc_step_laws.specs.Words.{log_in}
 use Rattle.rc_step_laws.specs.Facts.{IsOutdated, IsDead, IsDigest}
-use Rattle.rc_step_laws.proofs.Lists.{In-filter}
 use Rattle.rc_step_laws.proofs.Copies.{split}
-use Rattle.rc_step_laws.proofs.Tests.{all-each, any-one, filter-In, get-map, In-take}
+use Rattle.rc_step_laws.proofs.Tests.{all-each, any-one, get-map, In-take}
 use Rattle.rc_step_laws.proofs.LogMoves.{GoodLog}
 use Rattle.rc_step_laws.proofs.Places.{IsOf, places_to-are, place-logged}
 use Rattle.rc_step_laws.proofs.Openings.{NewDigest}

@@ -32,7 +32,6 @@ use Rattle.rc_model.specs.MasterStep.{master_takes_first, deposed_takes, master_
 use Rattle.rc_model.specs.World.{World, opening, step, replay}
 use Rattle.rc_model.specs.Headline.{In}
 use Rattle.rc_model.proofs.Replays.{replay_from-push}
-use Rattle.rc_step_laws.proofs.Lists.{put_each}
 use Rattle.rc_step_laws.proofs.Places.{numbers-In}
 use Rattle.rc_log_laws.proofs.Replays.{GoodWorld, good-world}
 use Rattle.rc_write_laws.specs.MomentClaims.{CountedWhenStored}
@@ -41,6 +40,7 @@ use Rattle.rc_write_laws.proofs.Walk.{IsKeptByInputs, first-kept_by, ticks-kept_
 use Rattle.rc_write_laws.proofs.Frame.{IsLed, led-by, kept-replay}
 use Rattle.rc_write_laws.proofs.Settling.{IsSettled, settled-kept, deposed-same}
 use Rattle.rc_model.proofs.Tests.{either}
+use Rattle.rc_model.proofs.Tables.{put_each}
 
 -- How many places are stored on all, segment by segment
 

@@ -23,8 +23,8 @@ use Rattle.rc_model.specs.Heads.{opens_head, opened_first, open_first, next_dige
 use Rattle.rc_model.specs.Heads.{stored, commit_noted, opens_change, refills, loses, shuts, with_shut, with_freed}
 use Rattle.rc_model.specs.Master.{to_ids}
 use Rattle.rc_write_laws.specs.LimitClaims.{IsWithinLimits}
-use Rattle.rc_step_laws.proofs.Lists.{put_each}
 use Rattle.rc_model.proofs.Tests.{true_false, either}
+use Rattle.rc_model.proofs.Tables.{put_each}
 
 -- Messages
 

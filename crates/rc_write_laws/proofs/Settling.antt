@@ -28,12 +28,13 @@ use Rattle.rc_model.specs.World.{replay}
 use Rattle.rc_model.specs.Durable.{all_shut_to, is_stored_on_all}
 use Rattle.rc_model.specs.Headline.{In}
 use Rattle.rc_model.proofs.Measures.{goes_on-up, goes_on-settles}
-use Rattle.rc_step_laws.proofs.Lists.{In-filter, get-left, get-within}
+use Rattle.rc_step_laws.proofs.Lists.{get-left, get-within}
 use Rattle.rc_write_laws.specs.AckClaims.{is_ack_of, counted_places, StoredIsAcknowledged}
 use Rattle.rc_write_laws.proofs.Walk.{first-kept_by, ticks-kept_by}
 use Rattle.rc_write_laws.proofs.Frame.{IsKeptByAll, kept-replay}
 use Rattle.rc_write_laws.proofs.Counting.{Acks, acks-kept, acks-takes, acks-ticks, counted-is-acknowledged}
 use Rattle.rc_model.proofs.Tests.{true_false, either}
+use Rattle.rc_model.proofs.Members.{In-filter}
 
 -- Where a place stands
 

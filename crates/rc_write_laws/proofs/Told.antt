@@ -22,9 +22,9 @@ use Rattle.rc_model.specs.Heads.{opens_head, opened_first, open_first, appends, 
 use Rattle.rc_model.specs.Heads.{with_config, stored, commit_noted, opens_change, refills, loses, shuts, with_shut}
 use Rattle.rc_model.specs.Heads.{with_freed}
 use Rattle.rc_model.specs.Headline.{In}
-use Rattle.rc_step_laws.proofs.Lists.{put_each}
 use Rattle.rc_log_laws.proofs.MasterWorlds.{put-cases}
 use Rattle.rc_model.proofs.Tests.{true_false, either}
+use Rattle.rc_model.proofs.Tables.{put_each}
 
 pub record Told (log : Log) : Type 0 where
   pub closed : (s : ℕ) (member : Member) → In member (log.segments s).config.members → told_closed member.told ≡ true →

@@ -35,7 +35,7 @@ use Rattle.rc_step_laws.specs.Facts.{IsStored, GoodMaster}
 use Rattle.rc_step_laws.specs.Later.{LogLater}
 use Rattle.rc_step_laws.proofs.Lists.{get-below, get-begins, get-within}
 use Rattle.rc_step_laws.proofs.Places.{IsOf, places_to-are, places-later, IsCovered, durable-covered}
-use Rattle.rc_step_laws.proofs.Tests.{all-each, filter-In, In-take}
+use Rattle.rc_step_laws.proofs.Tests.{all-each, In-take}
 use Rattle.rc_log_laws.proofs.Replays.{GoodWorld, led-step, good-world}
 use Rattle.rc_write_laws.specs.AckClaims.{is_write_ok, is_ack_of, counted_places}
 use Rattle.rc_write_laws.proofs.Frame.{IsLed, led-by}
@@ -46,6 +46,7 @@ use Rattle.rc_write_laws.proofs.Told.{Told, IsWholeTold}
 use Rattle.rc_write_laws.proofs.DurableSteps.{TellsWhole, StepOk, step-same, takes-step, ticks-step}
 use Rattle.rc_model.proofs.Ids.{same_id-refl}
 use Rattle.rc_model.proofs.Tests.{true_false, either}
+use Rattle.rc_model.proofs.Members.{filter-In}
 
 -- One event
 
