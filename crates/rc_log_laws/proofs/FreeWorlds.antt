@@ -197,7 +197,7 @@ module _ (world : World) (one : Event) (i : ℕ) (good : GoodWorld world) (p : A
       (λ message at from. absurd (never (sym (moved.says message at).from ∙ from) isn't)) (p m))
     where
       mine : GoodFrees (freed_of (world.sent ++ messages) (server_of (world.hosts i))) now.log
-      mine = freed-now world.sent messages (server_of (world.hosts i)) now.log (moves (freed_of world.sent (server_of (world.hosts i)))
+      mine = freed-now world.sent messages (server_of (world.hosts i)) now.log (moves.keeps (freed_of world.sent (server_of (world.hosts i)))
           (subst (λ (view : Master). GoodFrees (freed_of world.sent (server_of (world.hosts i))) view.log)
           ((good.hosts_are i).runs master e) (p (server_of (world.hosts i)))))
 
