@@ -99,15 +99,15 @@ moves-ticked : Ticked Moves
 moves-ticked = record {
   enlists = λ master. says master master _ (stays-refl master.log) refl;
   reminds = λ before master. quiet master master (reminds before master).1 (stays-refl master.log)
-      (silent-all _ (each-reminds Frees master (record {
+      (silent-all _ (each-reminds Frees before master (record {
         place = λ member seg closed at shut among. refl;
         append = λ member seg len at. refl;
         close = λ member seg at old. refl;
-        commit = λ seg awaits. refl;
+      }) (λ seg awaits. refl) (record {
         fetch = λ task row given among. refl;
         recovered = λ state among awaits. refl;
         ready = refl;
-      }) before));
+      })));
 }
 
 -- a master frees only where its new head writes

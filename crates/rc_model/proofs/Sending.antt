@@ -1,7 +1,9 @@
 -- What holds of each message that a master says again holds of all that it says.
 use Rattle.std.proofs.Common.{◌≡◌, ◌⊎◌, ℕ, ◌+◌, Bool, true, false, cond, not, nat_lt, nat_eq, ◌&&◌, List, [], ◌∷◌, ◌++◌, map}
 use Rattle.std.proofs.Common.{filter, drop, length, Option, Some, None, is_some, refl, sym, subst, inl, inr}
+use Rattle.std.specs.List.{All}
 use Rattle.std.proofs.lemmas.Bool.{and_parts, eqb-true}
+use Rattle.std.proofs.lemmas.List.Elements.{All-nil, All-cons}
 use Rattle.rc_types.specs.declared.ids.ServerId.{ServerId}
 use Rattle.rc_types.specs.declared.entries.Entry.{Entry}
 use Rattle.rc_types.specs.declared.rows.PlanRow.{PlanRow}
@@ -51,6 +53,11 @@ each-map P f xs p y at = let found = In-map f y xs at in subst P (sym found.2) (
 pub each-if : {X : Type 0} (P : X → Type 0) (b : Bool) (xs : List X) → (b ≡ true → Each P xs) → Each P (cond b xs [])
 each-if P b xs p = either (Each P) b xs [] p (λ _. each-none P)
 
+-- as the library says it
+pub each-all : {X : Type 0} (P : X → Type 0) (xs : List X) → Each P xs → All P xs
+each-all P [] p = All-nil P
+each-all P (x ∷ xs) p = All-cons P x xs (p x (inl refl)) (each-all P xs (λ y at. p y (inr at)))
+
 -- to several the same
 pub each-to_ids : (P : Message → Type 0) (own : ServerId) (ids : List ServerId) (body : Body) →
     ((id : ServerId) → In id ids → P (between own id body)) → Each P (to_ids own ids body)
@@ -74,26 +81,25 @@ each-write_oks P own (place ∷ places) p =
     ∷ write_oks own places) (write_oks own places)
     (λ client. each-more P _ (write_oks own places) (p place (inl refl) client) rest) (λ _. rest)
 
--- what a master says again, kind by kind
-pub record Reminded (P : Message → Type 0) (master : Master) : Type 0 where
-  pub place : (member : Member) (seg : ℕ) (closed : Bool) → In seg (numbers_to master.log.head) →
-      (master.log.segments seg).shut ≡ closed → In member (master.log.segments seg).config.members →
-      P (between master.log.own member.id (place_of master.log seg closed))
-  pub append : (member : Member) (seg len : ℕ) → In seg (numbers_to master.log.head) →
-      P (between master.log.own member.id (Append seg len (map (λ one. one.0) (drop len (master.log.segments seg).entries))))
-  pub close : (member : Member) (seg : ℕ) → In seg (numbers_to master.log.head) → seg + 1 ≡ master.log.head →
-      P (between master.log.own member.id (Close seg (length (master.log.segments seg).entries)))
-  pub commit : (seg : ℕ) → awaits_commit (master.log.segments seg) ≡ true →
-      P (to_coordinator master.log.own (Commit seg (master.log.segments seg).config.epoch))
+-- What a master says again, kind by kind
+
+-- copies of its segments
+pub record Copied (P : Message → Type 0) (log : Log) : Type 0 where
+  pub place : (member : Member) (seg : ℕ) (closed : Bool) → In seg (numbers_to log.head) → (log.segments seg).shut ≡ closed →
+      In member (log.segments seg).config.members → P (between log.own member.id (place_of log seg closed))
+  pub append : (member : Member) (seg len : ℕ) → In seg (numbers_to log.head) →
+      P (between log.own member.id (Append seg len (map (λ one. one.0) (drop len (log.segments seg).entries))))
+  pub close : (member : Member) (seg : ℕ) → In seg (numbers_to log.head) → seg + 1 ≡ log.head →
+      P (between log.own member.id (Close seg (length (log.segments seg).entries)))
+
+-- what it asks of holders, and tells the coordinator of its parts
+pub record Asked (P : Message → Type 0) (master : Master) : Type 0 where
   pub fetch : (task : Task) (row : PlanRow) → In task master.tasks → In row task.rows → P (fetch_of master.log.own task row)
   pub recovered : (state : PartState) → In state master.ownership.parts → awaits_grant master state ≡ true →
       P (to_coordinator master.log.own (Recovered (attempt_of state.part.term master.tasks) state.part.term))
   pub ready : P (to_coordinator master.log.own Ready)
 
-module _ (P : Message → Type 0) (master : Master) (says : Reminded P master) where
-  abbrev log : Log
-  log = master.log
-
+module _ (P : Message → Type 0) (log : Log) (says : Copied P log) where
   each-lacking : (seg : ℕ) (member : Member) (told : Option Told) → In seg (numbers_to log.head) → (log.segments seg).shut ≡ false →
       In member (log.segments seg).config.members → Each P (map (λ body. between log.own member.id body) (lacking log seg told))
   each-lacking seg member None at isn't among = each-one P _ (says.place member seg false at isn't among)
@@ -145,40 +151,47 @@ module _ (P : Message → Type 0) (master : Master) (says : Reminded P master) w
       (In-filter (λ (one : Member). not (is_some one.told)) member (standing before log seg) among).0).0)))
       (each-shut before segs (λ other at. are other (inr at)))
 
-  each-fetches : (tasks : List Task) → ((task : Task) → In task tasks → In task master.tasks) → Each P (fetches_again master tasks)
-  each-fetches [] are = each-none P
-  each-fetches (task ∷ tasks) are =
-      each-both P (map (fetch_of log.own task) (filter (has_not_come master.ownership task) task.rows)) (fetches_again master tasks)
-      (each-map P (fetch_of log.own task) (filter (has_not_come master.ownership task) task.rows)
-      (λ row among. says.fetch task row (are task (inl refl)) (In-filter (has_not_come master.ownership task) row task.rows among).0))
-      (each-fetches tasks (λ other at. are other (inr at)))
-
-  pub each-fetches_again : Each P (fetches_again master master.tasks)
-  each-fetches_again = each-fetches master.tasks (λ task at. at)
-
   pub each-copies : (before : Log) →
       Each P (reminds_open before log (numbers_to log.head) ++ reminds_shut before log (numbers_to log.head))
   each-copies before =
       each-both P (reminds_open before log (numbers_to log.head)) (reminds_shut before log (numbers_to log.head))
       (each-open before (numbers_to log.head) (λ seg at. at)) (each-shut before (numbers_to log.head) (λ seg at. at))
 
-  pub each-commits : Each P (commits_again log)
-  each-commits = each-map P (λ seg. to_coordinator log.own (Commit seg (log.segments seg).config.epoch))
-      (filter (λ seg. awaits_commit (log.segments seg)) (numbers_to log.head))
-      (λ seg at. says.commit seg (In-filter (λ s. awaits_commit (log.segments s)) seg (numbers_to log.head) at).1)
+pub each-commits : (P : Message → Type 0) (log : Log) →
+    ((seg : ℕ) → awaits_commit (log.segments seg) ≡ true → P (to_coordinator log.own (Commit seg (log.segments seg).config.epoch))) →
+    Each P (commits_again log)
+each-commits P log p = each-map P (λ seg. to_coordinator log.own (Commit seg (log.segments seg).config.epoch))
+    (filter (λ seg. awaits_commit (log.segments seg)) (numbers_to log.head))
+    (λ seg at. p seg (In-filter (λ s. awaits_commit (log.segments s)) seg (numbers_to log.head) at).1)
+
+module _ (P : Message → Type 0) (master : Master) (says : Asked P master) where
+  each-fetches : (tasks : List Task) → ((task : Task) → In task tasks → In task master.tasks) → Each P (fetches_again master tasks)
+  each-fetches [] are = each-none P
+  each-fetches (task ∷ tasks) are =
+      each-both P (map (fetch_of master.log.own task) (filter (has_not_come master.ownership task) task.rows)) (fetches_again master tasks)
+      (each-map P (fetch_of master.log.own task) (filter (has_not_come master.ownership task) task.rows)
+      (λ row among. says.fetch task row (are task (inl refl)) (In-filter (has_not_come master.ownership task) row task.rows among).0))
+      (each-fetches tasks (λ other at. are other (inr at)))
+
+  pub each-fetches_again : Each P (fetches_again master master.tasks)
+  each-fetches_again = each-fetches master.tasks (λ task at. at)
 
   pub each-recovered : Each P (recovered_again master)
-  each-recovered = each-map P (λ (state : PartState). to_coordinator log.own
+  each-recovered = each-map P (λ (state : PartState). to_coordinator master.log.own
       (Recovered (attempt_of state.part.term master.tasks) state.part.term))
       (filter (awaits_grant master) master.ownership.parts)
       (λ state at. (let found = In-filter (awaits_grant master) state master.ownership.parts at in says.recovered state found.0 found.1))
 
   pub each-ready : Each P (ready_again master)
-  each-ready = each-if P (is_writing log.phase && nat_eq (length master.ownership.grants) 0) (to_coordinator log.own Ready ∷ [])
-      (λ _. each-one P (to_coordinator log.own Ready) says.ready)
+  each-ready = each-if P (is_writing master.log.phase && nat_eq (length master.ownership.grants) 0)
+      (to_coordinator master.log.own Ready ∷ []) (λ _. each-one P (to_coordinator master.log.own Ready) says.ready)
 
-  pub each-reminds : (before : Log) → Each P (reminds before master).1
-  each-reminds before =
-      each-both P _ (ready_again master) (each-both P _ (recovered_again master) (each-both P _ (fetches_again master master.tasks)
-      (each-both P _ (commits_again log) (each-copies before) each-commits)
-      each-fetches_again) each-recovered) each-ready
+-- all of it
+pub each-reminds : (P : Message → Type 0) (before : Log) (master : Master) → Copied P master.log →
+    ((seg : ℕ) → awaits_commit (master.log.segments seg) ≡ true →
+    P (to_coordinator master.log.own (Commit seg (master.log.segments seg).config.epoch))) →
+    Asked P master → Each P (reminds before master).1
+each-reminds P before master copied commit asked =
+    each-both P _ (ready_again master) (each-both P _ (recovered_again master) (each-both P _ (fetches_again master master.tasks)
+    (each-both P _ (commits_again master.log) (each-copies P master.log copied before) (each-commits P master.log commit))
+    (each-fetches_again P master asked)) (each-recovered P master asked)) (each-ready P master asked)
