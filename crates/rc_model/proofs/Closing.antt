@@ -9,7 +9,6 @@ use Rattle.rc_types.specs.declared.kept.Phase.{Phase}
 use Rattle.rc_types.specs.declared.kept.Phase.TheVariants.{Opening, Closing, Writing}
 use Rattle.rc_types.specs.declared.messages.Message.{Message}
 use Rattle.rc_types.specs.declared.messages.Body.{Body}
-use Rattle.rc_types.specs.declared.messages.Body.TheVariants.{Write, Read}
 use Rattle.rc_model.specs.Tables.{put}
 use Rattle.rc_model.specs.ServerList.{ServerList}
 use Rattle.rc_model.specs.Config.{Config, all_placed, lose, refill, noted, committed_at}
@@ -67,7 +66,7 @@ placed-joined = record { still = λ log placed. placed; both = λ one two three 
 
 placed-written : LogWritten PlacedKept
 placed-written = record {
-  rolls = λ log digest ids writing room placed is. true_false (sym is);
+  rolls = λ servers log digest ids writing room chosen placed is. true_false (sym is);
   writes = λ log entry client writing room placed is. not_both log.phase writing is;
 }
 
@@ -120,7 +119,7 @@ same-loses servers seg log =
     (λ _. refl) (λ _. same-change seg log (lose log.own servers (log.segments seg).config))
 
 kept-listed : LogListed LogKept
-kept-listed = record { replaces = λ servers seg log. inl (same-loses servers seg log); opens = λ log ids none. inr refl }
+kept-listed = record { replaces = λ servers seg log. inl (same-loses servers seg log); opens = λ servers log ids none chosen. inr refl }
 
 kept-if : (log : Log) (b : Bool) (seg : ℕ) (config : Config) → LogKept log (cond b (with_config seg config log) log)
 kept-if log b seg config = either (LogKept log) b (with_config seg config log) log (λ _. inl refl) (λ _. inl refl)
@@ -130,7 +129,7 @@ pub kept-input : (master : Master) (from : Addr) (body : Body) → OfLog LogKept
 kept-input master from body =
     kept-takes_first (OfLog LogKept) (of_log-joined LogKept kept-joined) (of_log-listed LogKept kept-joined kept-listed) master from body
     (of_log-taken LogKept kept-joined
-    (record { rolls = λ log digest ids writing room. inr refl; writes = λ log entry client writing room. inl refl }) master from body
+    (record { rolls = λ servers log digest ids writing room chosen. inr refl; writes = λ log entry client writing room. inl refl }) master from body
     (λ teller seg epoch len closed is says.
     kept-if master.log (has_segment master.log seg) seg (noted teller epoch len closed (master.log.segments seg).config))
     (λ seg epoch is. kept-if master.log (has_segment master.log seg) seg (committed_at epoch (master.log.segments seg).config)))

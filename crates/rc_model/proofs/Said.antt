@@ -1,7 +1,6 @@
 -- What is gathered from the messages is what they say.
 use Rattle.std.proofs.Common.{◌≡◌, ◌⊎◌, ℕ, true, List, [], ◌∷◌, Some, refl, sym, ap, ◌∙◌, subst, inl, inr}
 use Rattle.std.specs.Option.{option_to_list}
-use Rattle.std.proofs.lemmas.Bool.{eqb-true, eq-eqb, and_parts, and_from}
 use Rattle.rc_types.specs.declared.ids.ServerId.{ServerId}
 use Rattle.rc_types.specs.declared.ids.Addr.{Addr}
 use Rattle.rc_types.specs.declared.ids.Addr.TheVariants.{Coordinator, Server, Outside}
@@ -10,7 +9,7 @@ use Rattle.rc_types.specs.declared.rows.Part.{Part}
 use Rattle.rc_types.specs.declared.messages.Message.{Message}
 use Rattle.rc_types.specs.declared.messages.Body.{Body}
 use Rattle.rc_types.specs.declared.messages.Body.TheVariants.{WriteOk, Plan}
-use Rattle.rc_model.specs.Ids.{same_id, is_server}
+use Rattle.rc_model.specs.Ids.{is_server}
 use Rattle.rc_model.specs.Made.{entry_at, made}
 use Rattle.rc_model.specs.Recovered.{Ack, ack_in, acknowledged, all_acknowledged, Accepted, plan_in, accepted}
 use Rattle.rc_model.specs.Headline.{In, HasMade, WasAcknowledged, HasAcknowledged, WasAccepted}

@@ -5,7 +5,6 @@ use Rattle.std.specs.List.{All}
 use Rattle.std.proofs.lemmas.Bool.{and_parts, eqb-true}
 use Rattle.std.proofs.lemmas.List.Elements.{All-nil, All-cons}
 use Rattle.rc_types.specs.declared.ids.ServerId.{ServerId}
-use Rattle.rc_types.specs.declared.entries.Entry.{Entry}
 use Rattle.rc_types.specs.declared.rows.PlanRow.{PlanRow}
 use Rattle.rc_types.specs.declared.kept.Member.{Member}
 use Rattle.rc_types.specs.declared.kept.Told.{Told}

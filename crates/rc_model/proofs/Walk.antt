@@ -1,6 +1,6 @@
 -- One walk over the rules of a master: a relation that each single rule keeps is kept by its whole steps.
 use Rattle.std.proofs.Common.{◌≡◌, ℕ, zero, suc, ◌+◌, ◌-◌, ◌<◌, not, Bool, true, false, cond, nat_lt, nat_eq, ◌&&◌, List, [], ◌∷◌}
-use Rattle.std.proofs.Common.{◌++◌, map, filter, length, Option, Some, None, Result, Ok, Err, refl, inl, inr}
+use Rattle.std.proofs.Common.{◌++◌, map, filter, length, Option, Some, None, Result, Ok, Err, refl}
 use Rattle.std.proofs.lemmas.Bool.{and_parts, eqb-true, ltb-true}
 use Rattle.rc_types.specs.declared.ids.ServerId.{ServerId}
 use Rattle.rc_types.specs.declared.ids.Addr.{Addr}
@@ -8,7 +8,6 @@ use Rattle.rc_types.specs.declared.ids.Addr.TheVariants.{Server, Coordinator}
 use Rattle.rc_types.specs.declared.entries.Entry.{Entry}
 use Rattle.rc_types.specs.declared.rows.Part.{Part}
 use Rattle.rc_types.specs.declared.rows.PlanRow.{PlanRow}
-use Rattle.rc_types.specs.declared.faults.Code.{Code}
 use Rattle.rc_types.specs.declared.faults.Fault.{Fault}
 use Rattle.rc_types.specs.declared.faults.Fault.TheVariants.{NotOwner, Rolling, ValueTooLong, Deposed}
 use Rattle.rc_types.specs.declared.faults.Fault.TheVariants.{LogFull, NoBackups}
@@ -17,7 +16,7 @@ use Rattle.rc_types.specs.declared.messages.Body.{Body}
 use Rattle.rc_types.specs.declared.messages.Body.TheVariants.{Write, Read, Stored, CommitOk, Refused, Plan, Data, Own}
 use Rattle.rc_types.specs.declared.messages.Body.TheVariants.{List as ServersOf, Close, Ready, Enlist, Recovered}
 use Rattle.rc_types.specs.declared.limits.TheConstants.{LAST_SEGMENT}
-use Rattle.rc_model.specs.Messages.{to_coordinator, refuses}
+use Rattle.rc_model.specs.Messages.{to_coordinator}
 use Rattle.rc_model.specs.ServerList.{ServerList, newer_than, is_up, from_rows}
 use Rattle.rc_model.specs.Config.{choose}
 use Rattle.rc_model.specs.Segment.{is_unclosed}
@@ -33,12 +32,11 @@ use Rattle.rc_model.specs.Writing.{writes, reads_if_owned}
 use Rattle.rc_model.specs.ListRules.{then_does, places_segment, replaces_lost, replaces_lost_of, opens_first}
 use Rattle.rc_model.specs.ListRules.{tries_first, obeys_list, takes_list}
 use Rattle.rc_model.specs.FollowUps.{close_is_due, close_marked, frees_segments, first_open, wants_commit, commits}
-use Rattle.rc_model.specs.FollowUps.{commits_open, write_oks, new_durable, rolls_for_replay, replays, follows_data}
+use Rattle.rc_model.specs.FollowUps.{commits_open, write_oks, new_durable, rolls_for_replay, replays}
 use Rattle.rc_model.specs.FollowUps.{attempt_of, answers_part, follow_up, marks_shut, further, followed, measure, goes_on}
 use Rattle.rc_model.specs.MasterTick.{fetch_of, reminds, ticks}
 use Rattle.rc_model.specs.MasterStep.{begins_task, task_of, takes_plan, says_deposed, master_takes_first}
 use Rattle.rc_model.specs.MasterStep.{deposed_takes, master_takes, master_ticks}
-use Rattle.rc_model.specs.Headline.{In}
 use Rattle.rc_model.proofs.Tests.{either}
 use Rattle.rc_model.proofs.Rules.{AllDone, done-or, done-when}
 
@@ -97,9 +95,12 @@ pub record Taken (R : Master → Master × List Message → Type 0) (master : Ma
       body ≡ Data attempt seg term entries →
       R master (record master { ownership = put_data term seg holder entries master.ownership }, [])
   pub owns : (table lo hi term previous attempt : ℕ) → body ≡ Own table lo hi term previous attempt →
-      R master (record master {
-        ownership = grant (record { range = record { table = table; lo = lo; hi = hi }; term = term }) master.ownership;
-      }, [])
+      R master (
+        record master {
+          ownership = grant (record { range = record { table = table; lo = lo; hi = hi }; term = term }) master.ownership;
+        },
+        [],
+      )
 
 -- of what a timer does
 pub record Ticked (R : Master → Master × List Message → Type 0) : Type 0 where
@@ -109,8 +110,11 @@ pub record Ticked (R : Master → Master × List Message → Type 0) : Type 0 wh
 -- of the rules that follow up
 pub record Followed (R : Master → Master × List Message → Type 0) : Type 0 where
   pub marks : (master : Master) → shuts master.log ≡ true →
-      R master (with_log master (with_segment (master.log.head - 1)
-      (record (old_head_of master.log) { shut = true }) master.log), [])
+      R master (
+        with_log master (with_segment (master.log.head - 1)
+            (record (old_head_of master.log) { shut = true }) master.log),
+        [],
+      )
   pub starts : (master : Master) → may_start master.log ≡ true →
       R master (with_log master (starts master.log), to_coordinator master.log.own Ready ∷ [])
   pub places : (master : Master) → may_close master.log ≡ true → R master (with_log master (closes_old master.log), [])
@@ -396,12 +400,13 @@ pub record LogJoined (L : Log → Log → Type 0) : Type 0 where
 -- what inputs do
 pub record LogListed (L : Log → Log → Type 0) : Type 0 where
   pub replaces : (servers : ServerList) (seg : ℕ) (log : Log) → L log (loses servers seg log).0
-  pub opens : (log : Log) (ids : List ServerId) → log.head ≡ 0 → L log (opens_head log (1 ∷ []) ids)
+  pub opens : (servers : ServerList) (log : Log) (ids : List ServerId) → log.head ≡ 0 →
+      choose 1 log.own log.factor servers ≡ Some ids → L log (opens_head log (1 ∷ []) ids)
 
 -- an entry is appended, or a roll begins
 pub record LogWritten (L : Log → Log → Type 0) : Type 0 where
-  pub rolls : (log : Log) (digest : List ℕ) (ids : List ServerId) → is_writing log.phase ≡ true → log.head < LAST_SEGMENT →
-      L log (opens_head log digest ids)
+  pub rolls : (servers : ServerList) (log : Log) (digest : List ℕ) (ids : List ServerId) → is_writing log.phase ≡ true →
+      log.head < LAST_SEGMENT → choose (log.head + 1) log.own log.factor servers ≡ Some ids → L log (opens_head log digest ids)
   pub writes : (log : Log) (entry : Entry) (client : Bool) → is_writing log.phase ≡ true → is_full log ≡ false →
       L log (appends entry client log)
 
@@ -426,7 +431,7 @@ module _ (L : Log → Log → Type 0) (joined : LogJoined L) where
   pub of_log-listed : LogListed L → Listed (OfLog L)
   of_log-listed l = record {
     replaces = λ master seg ids isn't. l.replaces master.known seg master.log;
-    opens = λ master ids none chosen. l.opens master.log ids none;
+    opens = λ master. l.opens master.known master.log;
   }
 
   -- but for what is told as stored, and as committed
@@ -437,7 +442,7 @@ module _ (L : Log → Log → Type 0) (joined : LogJoined L) where
       Taken (OfLog L) master from body
   of_log-taken w master from body stores commits = record {
     refuses = λ one fault. joined.still one.log;
-    rolls = λ ids writing room chosen. w.rolls master.log (next_digest master.log (dead_segments master)) ids writing room;
+    rolls = w.rolls master.known master.log (next_digest master.log (dead_segments master));
     writes = λ term table key value is owned. w.writes master.log (written master term table key value) true;
     reads = λ term table key is owned. joined.still master.log;
     lists = λ version rows is newer. joined.still master.log;
@@ -461,8 +466,7 @@ module _ (L : Log → Log → Type 0) (joined : LogJoined L) where
     shuts = λ master. f.shuts master.log;
     commits = λ master seg open_one wants. f.commits master.log seg;
     counts = λ master. f.counts master.log;
-    rolls = λ master ids writing room chosen.
-        w.rolls master.log (next_digest master.log (dead_segments master)) ids writing room;
+    rolls = λ master. w.rolls master.known master.log (next_digest master.log (dead_segments master));
     replays = λ master entry entries is. w.writes master.log entry false;
     answers = λ master term is. joined.still master.log;
   }
