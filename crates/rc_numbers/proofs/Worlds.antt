@@ -27,8 +27,7 @@ use Rattle.rc_numbers.specs.Numbers.{body_within, MessagesWithin, MasterWithin, 
 use Rattle.rc_numbers.specs.Claims.{NumbersGrowSlowly}
 use Rattle.rc_numbers.proofs.Entries.{All-get, body-more, messages-more, none-within, one-within, both-within}
 use Rattle.rc_numbers.proofs.Coordinators.{After, within-more, coordinator-within, new-within}
-use Rattle.rc_numbers.proofs.Masters.{Done}
-use Rattle.rc_numbers.proofs.Ticks.{master-more, tick-done, takes-done}
+use Rattle.rc_numbers.proofs.Masters.{Done, master-more, tick-done, takes-done}
 use Rattle.rc_numbers.proofs.Backups.{BackupDone, backup-done, restart-within, backup-more}
 use Rattle.rc_model.proofs.Tests.{either}
 use Rattle.rc_model.proofs.Tables.{put_each}
