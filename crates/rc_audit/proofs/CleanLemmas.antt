@@ -16,12 +16,12 @@ use Rattle.rc_model.specs.Recovered.{Ack, Accepted, acknowledged, plan_in, accep
 use Rattle.rc_model.specs.Breach.{all_agree, holds_greater, is_superseded, is_missing, first_missing, missing_of, or_else}
 use Rattle.rc_model.specs.Made.{made}
 use Rattle.rc_model.specs.Ids.{same_id, is_server}
-use Rattle.rc_model.proofs.Said.{same_id-true}
 use Rattle.rc_audit.specs.declared.missing.Clean.{Clean}
 use Rattle.rc_evidence.specs.Places.{id_order}
 use Rattle.rc_audit.specs.Clean.{AreClean}
 use Rattle.rc_evidence.proofs.PlaceLemmas.{id_from}
 use Rattle.rc_evidence.proofs.SenderLemmas.{drop_step}
+use Rattle.rc_model.proofs.Ids.{same_id-true}
 
 -- what is superseded hangs on no number of an attempt
 superseded_any : (sent : List Message) (m : ServerId) (rows : List PlanRow) (one other : ℕ) (ack : Ack) →

@@ -11,12 +11,13 @@ use Rattle.rc_types.specs.declared.messages.Message.{Message}
 use Rattle.rc_model.specs.Owners.{IsBefore, previous, onward, IsEarlier, is_earlier, grants_of}
 use Rattle.rc_model.specs.Headline.{In}
 use Rattle.rc_model.proofs.Befores.{before-through, is_before-finds, is_before-found}
-use Rattle.rc_model.proofs.Members.{either, In-left, In-right, In-append}
+use Rattle.rc_model.proofs.Members.{In-left, In-right, In-append}
 use Rattle.rc_evidence.specs.declared.grants.Grant.{Grant}
 use Rattle.rc_evidence.specs.declared.grants.TermGrants.{TermGrants}
 use Rattle.rc_evidence.specs.Grants.{grant_of, holds_point, grants_in, grants_at, AreGrants}
 use Rattle.rc_evidence.specs.Earlier.{AreEarlier, NotesTerm, unseen, IsStep, Follows}
 use Rattle.rc_evidence.proofs.GrantLemmas.{step_back, granted_at}
+use Rattle.rc_model.proofs.Tests.{either}
 
 -- fewer are unseen the more is noted
 

@@ -11,8 +11,9 @@ use Rattle.rc_model.specs.Headline.{In}
 use Rattle.rc_evidence.specs.declared.grants.Grant.{Grant}
 use Rattle.rc_evidence.specs.declared.grants.TermGrants.{TermGrants}
 use Rattle.rc_evidence.specs.Grants.{grant_of, holds_point, under, grants_at, AddsGrants, AreGrants}
-use Rattle.rc_model.proofs.Members.{either, In-get, place_of}
+use Rattle.rc_model.proofs.Members.{In-get, place_of}
 use Rattle.rc_evidence.proofs.PlaceLemmas.{taken_more}
+use Rattle.rc_model.proofs.Tests.{either}
 
 under-append : (term : ℕ) (some more : List Grant) → under term (some ++ more) ≡ under term some ++ under term more
 under-append term [] more = refl

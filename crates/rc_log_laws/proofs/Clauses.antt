@@ -20,11 +20,11 @@ use Rattle.rc_model.specs.Coordinator.{Coordinator}
 use Rattle.rc_model.specs.Nodes.{HostNode}
 use Rattle.rc_model.specs.Headline.{HasMade, HasAcknowledged, WasAccepted, IsHeld, OnlyIt, IsSuperseded, IsThere}
 use Rattle.rc_model.specs.Headline.{NothingIsMissing, NothingIsInvented}
-use Rattle.rc_model.proofs.Members.{either}
 use Rattle.rc_step_laws.specs.Words.{log_in}
 use Rattle.rc_step_laws.specs.Facts.{IsCopy, IsWriteOk, Good, body_fine}
 use Rattle.rc_step_laws.proofs.Lists.{get-begins}
 use Rattle.rc_log_laws.proofs.Covers.{PlanIs, plan-is, IsCovered, covered}
+use Rattle.rc_model.proofs.Tests.{either}
 
 -- What was made is what the log has
 

@@ -21,9 +21,9 @@ use Rattle.rc_model.specs.Nodes.{HostNode}
 use Rattle.rc_model.specs.Headline.{In, IsHeld}
 use Rattle.rc_step_laws.specs.Words.{log_in, HasTold, HasToldClosed, IsMember, IsOpenedAt, IsCommitted, IsNumbered}
 use Rattle.rc_step_laws.specs.Facts.{IsSafe, IsOutdated, IsDead, IsDigest, GoodMaster, IsPlace, IsCopy, IsAnswer, IsPlan, GoodAttempt, Good}
-use Rattle.rc_step_laws.proofs.Lists.{true_false}
 use Rattle.rc_step_laws.proofs.Copies.{split}
 use Rattle.rc_log_laws.proofs.Picked.{IsAnswered, IsTaken, IsPicked, picked-is}
+use Rattle.rc_model.proofs.Tests.{true_false}
 
 -- Pairs
 

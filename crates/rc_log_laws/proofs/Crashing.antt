@@ -5,13 +5,13 @@ use Rattle.rc_types.specs.declared.events.Event.{Event}
 use Rattle.rc_model.specs.ServerList.{is_up, has_crashed}
 use Rattle.rc_model.specs.World.{World, opening, step, replay_from, replay}
 use Rattle.rc_step_laws.proofs.Servers.{crashed-not-up}
-use Rattle.rc_step_laws.proofs.Lists.{true_false}
 use Rattle.rc_model.proofs.Replays.{replay_from-push}
 use Rattle.rc_model.specs.Nodes.{Ask, Take, Tick, Stop, Start, Suspect, Decide, Create, Split}
 use Rattle.rc_log_laws.proofs.Granted.{grants-takes, grants-ticks, grants-suspects, grants-decides, grants-creates, grants-splits}
 use Rattle.rc_log_laws.proofs.Replays.{GoodWorld, GoodStep, led-step, good-world}
 use Rattle.rc_log_laws.specs.CommitClaims.{CrashedIsNeverUp, IsGrantedTo, EachGrantGoesToTheUp, GrantsGoToTheUp, CrashedAreGrantedNoMore}
 use Rattle.rc_log_laws.proofs.Since.{replay_from-append}
+use Rattle.rc_model.proofs.Tests.{true_false}
 
 crashed-from : (world : World) (more : List Event) (m : ServerId) → GoodWorld world →
     has_crashed world.coordinator.servers m ≡ true → has_crashed (replay_from world more).coordinator.servers m ≡ true

@@ -12,11 +12,11 @@ use Rattle.rc_model.specs.Headline.{In}
 use Rattle.rc_step_laws.specs.Words.{held_at, IsOf}
 use Rattle.rc_step_laws.specs.Facts.{IsAnswer, body_fine}
 use Rattle.rc_step_laws.specs.Later.{IsNewStored}
-use Rattle.rc_step_laws.proofs.Lists.{true_false}
 use Rattle.rc_step_laws.proofs.Attempting.{numbered-same}
 use Rattle.rc_log_laws.proofs.Replays.{GoodWorld, GoodStep, led-step, good-world}
 use Rattle.rc_log_laws.specs.LogClaims.{WasAsked, FencesHold, WhoAnsweredIsFenced}
 use Rattle.rc_log_laws.proofs.Since.{replay_from-append}
+use Rattle.rc_model.proofs.Tests.{true_false}
 
 -- an answer about this master: it is fenced as long as the server is its host's last
 pub answer-about : (world : World) (y m : ServerId) (number : ℕ) (rows : List Row) → GoodWorld world →

@@ -28,10 +28,9 @@ use Rattle.rc_model.specs.World.{World, opening, NodeName, TheOutside, TheCoordi
 use Rattle.rc_model.specs.World.{work_of, is_possible, node_done, job_done, step, replay_from, replay}
 use Rattle.rc_model.specs.Recovered.{Accepted}
 use Rattle.rc_model.specs.Headline.{In, WasAccepted}
-use Rattle.rc_model.proofs.Members.{either, In-left, In-right, In-append}
+use Rattle.rc_model.proofs.Members.{In-left, In-right, In-append}
 use Rattle.rc_step_laws.specs.Facts.{GoodHost, IsPlan, body_fine}
 use Rattle.rc_step_laws.specs.Moves.{MasterMoved, BackupMoved, backup_body_said}
-use Rattle.rc_step_laws.proofs.Lists.{true_false, put_same, same_id-true, same_id-refl}
 use Rattle.rc_step_laws.proofs.MasterSteps.{master_takes_keeps, master_ticks_keeps}
 use Rattle.rc_step_laws.proofs.Backups.{moved-backup}
 use Rattle.rc_step_laws.proofs.CoordinatorSteps as coordinator
@@ -42,6 +41,9 @@ use Rattle.rc_log_laws.specs.Freed.{IsLeftOut, freed_by, freed_in, GoodFrees}
 use Rattle.rc_log_laws.specs.FreedClaims.{HasRow, RecoveriesAreDigests, HeadsAreNotShut, FreedIsLeftOut, FreedIsInNoRecovery}
 use Rattle.rc_log_laws.proofs.Stays.{fewer}
 use Rattle.rc_log_laws.proofs.Walk.{Moves, takes-moves, ticks-moves}
+use Rattle.rc_model.proofs.Tables.{put-same}
+use Rattle.rc_model.proofs.Ids.{same_id-true, same_id-refl}
+use Rattle.rc_model.proofs.Tests.{true_false, either}
 
 -- What a master has freed, of all that was sent
 
@@ -195,7 +197,7 @@ module _ (world : World) (one : Event) (i : ℕ) (good : GoodWorld world) (p : A
       (λ message at from. absurd (never (sym (moved.says message at).from ∙ from) isn't)) (p m))
     where
       mine : GoodFrees (freed_of (world.sent ++ messages) (server_of (world.hosts i))) now.log
-      mine = freed-now world.sent messages (server_of (world.hosts i)) now.log (moves (freed_of world.sent (server_of (world.hosts i)))
+      mine = freed-now world.sent messages (server_of (world.hosts i)) now.log (moves.keeps (freed_of world.sent (server_of (world.hosts i)))
           (subst (λ (view : Master). GoodFrees (freed_of world.sent (server_of (world.hosts i))) view.log)
           ((good.hosts_are i).runs master e) (p (server_of (world.hosts i)))))
 
@@ -221,7 +223,7 @@ module _ (world : World) (one : Event) (i : ℕ) (good : GoodWorld world) (p : A
       message.from message.body good at
       (ap (put world.hosts i (record (world.hosts i)
       { backup = (backup_takes (world.hosts i).backup message.from message.body).0 })) (good.hosts_are i).index ∙
-      put_same world.hosts i (record (world.hosts i)
+      put-same world.hosts i (record (world.hosts i)
       { backup = (backup_takes (world.hosts i).backup message.from message.body).0 }))))
       (λ _. done-moved master e (master_takes master message.from message.body)
       (master_takes_keeps world.sent (server_of (world.hosts i)) master message.from message.body

@@ -31,8 +31,8 @@ use Rattle.rc_model.specs.CoordinatorStep.{first_grant, creates_table, is_too_ma
 use Rattle.rc_model.specs.CoordinatorStep.{splits_unless, splits, has_open_part, asks_again, asks_again_of}
 use Rattle.rc_model.specs.CoordinatorStep.{coordinator_ticks, coordinator_takes}
 use Rattle.rc_model.specs.Headline.{In}
-use Rattle.rc_model.proofs.Members.{either, In-append}
-use Rattle.rc_step_laws.proofs.Lists.{true_false}
+use Rattle.rc_model.proofs.Members.{In-append}
+use Rattle.rc_model.proofs.Tests.{true_false, either}
 
 -- each grant among these goes to a server that is up
 abbrev pub GrantsUp : Coordinator → List Message → Type 0

@@ -19,7 +19,6 @@ use Rattle.rc_step_laws.specs.Words.{held_at}
 use Rattle.rc_step_laws.specs.Facts.{GoodHeld, GoodHost, GoodCoordinator, Good, IsTold, StillStands, IsStored, body_fine, Fine}
 use Rattle.rc_step_laws.specs.Later.{HostLater, IsNewStored}
 use Rattle.rc_step_laws.specs.Moves.{BackupMoved, backup_body_said}
-use Rattle.rc_step_laws.proofs.Lists.{put_each, put_same}
 use Rattle.rc_step_laws.proofs.Copies.{More}
 use Rattle.rc_step_laws.proofs.Attempting.{kept-refl, attempt-kept}
 use Rattle.rc_step_laws.proofs.Backups.{Quiet, own-fine}
@@ -28,6 +27,7 @@ use Rattle.rc_log_laws.proofs.Lasting.{Onward}
 use Rattle.rc_log_laws.proofs.Unmoved.{NoNewPlaceOf, NewlyToldFits, unmoved-grown, unmoved-good, unmoved-own}
 use Rattle.rc_log_laws.proofs.Worlds.{Led, good-onward, host-still, host_later-refl, coordinator_later-refl}
 use Rattle.rc_log_laws.proofs.MasterWorlds.{server-same, put-cases}
+use Rattle.rc_model.proofs.Tables.{put-same, put_each}
 
 -- the coordinator stays good where more is sent
 pub coordinator-still : (sent messages : List Message) (c : Coordinator) → GoodCoordinator sent c → GoodCoordinator (sent ++ messages) c
@@ -147,7 +147,7 @@ module _ (sent : List Message) (masters : ServerId → Master) (hosts : ℕ → 
   }
     where
       here : put hosts i (record (hosts i) { backup = after }) (hosts i).index ≡ record (hosts i) { backup = after }
-      here = ap (put hosts i (record (hosts i) { backup = after })) was.index ∙ put_same hosts i (record (hosts i) { backup = after })
+      here = ap (put hosts i (record (hosts i) { backup = after })) was.index ∙ put-same hosts i (record (hosts i) { backup = after })
 
   said-fine : (to : Addr) (says : Body) →
       backup_body_said (sent ++ messages) masters (put hosts i (record (hosts i) { backup = after })) c (hosts i) after

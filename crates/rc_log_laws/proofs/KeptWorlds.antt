@@ -17,9 +17,7 @@ use Rattle.rc_model.specs.World.{World, opening, NodeName, TheOutside, TheCoordi
 use Rattle.rc_model.specs.World.{is_possible, work_of, node_done, job_done, step, replay_from, replay}
 use Rattle.rc_model.specs.Recovered.{Accepted}
 use Rattle.rc_model.specs.Headline.{In, WasAccepted, IsHeld}
-use Rattle.rc_model.proofs.Members.{either}
 use Rattle.rc_step_laws.specs.Facts.{IsSafe, IsWriteOk}
-use Rattle.rc_step_laws.proofs.Lists.{put_id_each}
 use Rattle.rc_log_laws.proofs.Covers.{PlanIs, held-in, head-not-below}
 use Rattle.rc_log_laws.proofs.Clauses.{accepted-is, acknowledged-is, safe-there}
 use Rattle.rc_log_laws.proofs.Replays.{GoodWorld, good-step, good-opening, good-world}
@@ -27,6 +25,8 @@ use Rattle.rc_log_laws.specs.KeptClaims.{NothingIsDroppedWhereNothingIsFreed, Du
 use Rattle.rc_log_laws.proofs.Since.{since-take}
 use Rattle.rc_log_laws.proofs.SafePlaces.{stored-is-safe}
 use Rattle.rc_log_laws.proofs.Keeping.{Keeps, KeepsAfter, keeps-takes, keeps-ticks}
+use Rattle.rc_model.proofs.Tests.{either}
+use Rattle.rc_model.proofs.Tables.{put_id_each}
 
 -- each master that ever ran keeps all
 abbrev KeepsAll : (ServerId → Master) → Type 0

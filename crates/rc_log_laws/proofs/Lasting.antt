@@ -20,11 +20,12 @@ use Rattle.rc_step_laws.specs.Words.{held_at, IsOf}
 use Rattle.rc_step_laws.specs.Facts.{GoodMaster, IsStored, StillStands, IsAnswer, IsPlan, GoodReplica, GoodHeld, Good, body_fine}
 use Rattle.rc_step_laws.specs.Later.{HeldLater, HostLater, AttemptLater, IsNewStored}
 use Rattle.rc_step_laws.specs.Moves.{OwnFine, CoordinatorLater}
-use Rattle.rc_step_laws.proofs.Lists.{true_false, begins-trans}
+use Rattle.rc_step_laws.proofs.Lists.{begins-trans}
 use Rattle.rc_step_laws.proofs.Copies.{More, CopyLives, NoneNewUpTo, copy-later, grows-log}
 use Rattle.rc_step_laws.proofs.Logs.{Grown, append-grown, close-grown, write_ok-grown}
 use Rattle.rc_step_laws.proofs.Attempting.{below-trans}
 use Rattle.rc_step_laws.proofs.Backups.{own-fine}
+use Rattle.rc_model.proofs.Tests.{true_false}
 
 -- A later world
 

@@ -39,11 +39,13 @@ use Rattle.rc_model.specs.World.{is_possible, node_done, job_done, step, replay_
 use Rattle.rc_model.specs.Recovered.{pair_in, least_pair}
 use Rattle.rc_model.specs.Headline.{In}
 use Rattle.rc_step_laws.specs.Facts.{commit_ok_fine, body_fine}
-use Rattle.rc_step_laws.proofs.Attempting.{greater-first, greater-second, below-trans}
+use Rattle.rc_step_laws.proofs.Attempting.{below-trans}
 use Rattle.rc_log_laws.specs.CommitClaims.{LeastIsTheGreatestCommit}
-use Rattle.rc_model.proofs.Members.{either, In-left, In-right}
-use Rattle.rc_step_laws.proofs.Lists.{true_false, same_id-true, same_id-refl}
+use Rattle.rc_model.proofs.Members.{In-left, In-right}
 use Rattle.rc_log_laws.proofs.Replays.{GoodWorld, good-world}
+use Rattle.rc_model.proofs.Ids.{same_id-true, same_id-refl}
+use Rattle.rc_model.proofs.Tests.{true_false, either}
+use Rattle.rc_model.proofs.Granting.{greater-left, greater-right}
 
 -- Steps of the coordinator: all but a commit leave the least pairs as they are
 
@@ -249,13 +251,13 @@ told-below (first ∷ sent) m message (inl same) to =
     (greater_pair (pair_in first.body) (least_pair sent m)) (least_pair sent m)
     (λ _. subst (λ (says : Body). is_below (greater_pair (pair_in first.body) (least_pair sent m))
     (pair_in says) ≡ false) (sym (ap (λ (some : Message). some.body) same))
-    (greater-first (pair_in first.body) (least_pair sent m)))
+    (greater-left (pair_in first.body) (least_pair sent m)))
     (λ isn't. true_false (sym to ∙ (ap (λ (some : Message). is_server m some.to) same ∙ isn't)))
 told-below (first ∷ sent) m message (inr rest) to =
     either (λ (pair : Pair). is_below pair (pair_in message.body) ≡ false) (is_server m first.to)
     (greater_pair (pair_in first.body) (least_pair sent m)) (least_pair sent m)
     (λ _. below-trans (pair_in message.body) (least_pair sent m) (greater_pair (pair_in first.body) (least_pair sent m))
-    (told-below sent m message rest to) (greater-second (pair_in first.body) (least_pair sent m)))
+    (told-below sent m message rest to) (greater-right (pair_in first.body) (least_pair sent m)))
     (λ _. told-below sent m message rest to)
 
 -- and the greatest is not above what none that was told is above

@@ -18,11 +18,10 @@ use Rattle.rc_model.specs.Master.{Master}
 use Rattle.rc_model.specs.Coordinator.{Coordinator}
 use Rattle.rc_model.specs.Nodes.{HostNode, server_of}
 use Rattle.rc_model.specs.Headline.{In}
-use Rattle.rc_model.proofs.Members.{either, In-left, In-append}
+use Rattle.rc_model.proofs.Members.{In-left, In-append}
 use Rattle.rc_step_laws.specs.Facts.{GoodMaster, GoodHost, Good, body_fine, Fine}
 use Rattle.rc_step_laws.specs.Later.{HostLater, IsNewPlace}
 use Rattle.rc_step_laws.specs.Moves.{OwnFine, MasterMoved, MasterSays, body_said}
-use Rattle.rc_step_laws.proofs.Lists.{true_false, same_id-true, same_id-refl, put_each}
 use Rattle.rc_step_laws.proofs.Copies.{More}
 use Rattle.rc_step_laws.proofs.Logs.{Grown}
 use Rattle.rc_step_laws.proofs.Attempting.{kept-refl, attempt-kept}
@@ -30,6 +29,9 @@ use Rattle.rc_step_laws.proofs.Backups.{own-fine}
 use Rattle.rc_log_laws.proofs.Lasting.{Onward, held-later}
 use Rattle.rc_log_laws.proofs.Unmoved.{NoNewPlaceOf, unmoved-grown, unmoved-good, unmoved-own}
 use Rattle.rc_log_laws.proofs.Worlds.{Led, good-onward, host-still, host_later-refl, coordinator_later-refl}
+use Rattle.rc_model.proofs.Ids.{same_id-true, same_id-refl}
+use Rattle.rc_model.proofs.Tests.{true_false, either}
+use Rattle.rc_model.proofs.Tables.{put_each}
 
 -- servers are one
 pub server-same : (a b : ServerId) → Server a ≡ Server b → a ≡ b

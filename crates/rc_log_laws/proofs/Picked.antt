@@ -12,8 +12,8 @@ use Rattle.rc_model.specs.Pick.{HeldRow, rows_of, held_rows, is_valid, is_open_v
 use Rattle.rc_model.specs.Pick.{closed_first, first_by_from, first_by, head_row, row_of, insert_once, ascending}
 use Rattle.rc_model.specs.Pick.{plan_row, taken_row, row_then, taken_rows, plan_of, pick_by, pick}
 use Rattle.rc_model.specs.Headline.{In}
-use Rattle.rc_model.proofs.Members.{either, In-append}
-use Rattle.rc_step_laws.proofs.Lists.{In-filter}
+use Rattle.rc_model.proofs.Members.{In-append, In-filter}
+use Rattle.rc_model.proofs.Tests.{either}
 
 -- The first by an order is one of the list
 

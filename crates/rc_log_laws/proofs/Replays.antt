@@ -30,10 +30,9 @@ use Rattle.rc_model.specs.World.{World, opening, NodeName, TheOutside, TheCoordi
 use Rattle.rc_model.specs.World.{work_of, node_can, is_possible_job, is_possible, with_last_view, host_done, node_done}
 use Rattle.rc_model.specs.World.{job_done, step, replay_from, replay}
 use Rattle.rc_model.specs.Headline.{In, NothingIsMissing, NothingIsInvented}
-use Rattle.rc_model.proofs.Members.{either, In-get}
+use Rattle.rc_model.proofs.Members.{In-get}
 use Rattle.rc_step_laws.specs.Facts.{GoodMaster, GoodHost, Good, body_fine, Fine}
 use Rattle.rc_step_laws.specs.Moves.{OwnFine, MasterMoved, MayHear, CoordinatorMayHear, BackupMoved}
-use Rattle.rc_step_laws.proofs.Lists.{true_false, same_id-true, put_same}
 use Rattle.rc_step_laws.proofs.MasterSteps.{master_takes_keeps, master_ticks_keeps, new_master_is_good}
 use Rattle.rc_step_laws.proofs.Attempting.{new-good}
 use Rattle.rc_step_laws.proofs.CoordinatorSteps.{moved-takes, moved-suspects, moved-decides, moved-creates, moved-splits, moved-ticks}
@@ -45,6 +44,9 @@ use Rattle.rc_log_laws.proofs.Unmoved.{unmoved-grown}
 use Rattle.rc_log_laws.proofs.Worlds.{Led, host_later-refl, coordinator_later-refl, good-quiet, good-coordinator}
 use Rattle.rc_log_laws.proofs.MasterWorlds.{good-master}
 use Rattle.rc_log_laws.proofs.HostWorlds.{coordinator-still, good-backup, good-host}
+use Rattle.rc_model.proofs.Tables.{put-same}
+use Rattle.rc_model.proofs.Ids.{same_id-true}
+use Rattle.rc_model.proofs.Tests.{true_false, either}
 
 -- all facts, of a world
 abbrev pub GoodWorld : World → Type 0
@@ -284,7 +286,7 @@ module _ (world : World) (one : Event) (i : ℕ) (good : GoodWorld world) where
       message.from message.body good at
       (ap (put world.hosts i (record (world.hosts i)
       { backup = (backup_takes (world.hosts i).backup message.from message.body).0 })) (good.hosts_are i).index ∙
-      put_same world.hosts i (record (world.hosts i)
+      put-same world.hosts i (record (world.hosts i)
       { backup = (backup_takes (world.hosts i).backup message.from message.body).0 }))))
       (λ _. good-moved master e (master_takes master message.from message.body)
       (master_takes_keeps world.sent (server_of (world.hosts i)) master message.from message.body (is-good master e)

@@ -10,6 +10,7 @@ use Rattle.rc_model.specs.Master.{to_ids, to_unlost, ids_of, not_lost}
 use Rattle.rc_model.specs.FollowUps.{frees_segments}
 use Rattle.rc_model.specs.Headline.{In}
 use Rattle.rc_model.proofs.Members.{In-append}
+use Rattle.rc_model.proofs.Sending.{Each, each-to_ids}
 use Rattle.rc_log_laws.specs.Freed.{freed_by, freed_in}
 
 -- they free nothing
@@ -19,29 +20,23 @@ Silent messages = freed_in messages ≡ []
 pub silent-none : Silent []
 silent-none = refl
 
-pub silent-one : (message : Message) → freed_by message.body ≡ [] → Silent (message ∷ [])
-silent-one message is = ap (λ (some : List ℕ). some ++ []) is
-
 pub freed-append : (first second : List Message) → freed_in (first ++ second) ≡ freed_in first ++ freed_in second
 freed-append [] second = refl
 freed-append (message ∷ first) second =
     ap (λ (some : List ℕ). freed_by message.body ++ some) (freed-append first second) ∙
     sym (append_assoc (freed_by message.body) (freed_in first) (freed_in second))
 
-pub silent-both : (first second : List Message) → Silent first → Silent second → Silent (first ++ second)
-silent-both first second p q = freed-append first second ∙ (ap (λ (some : List ℕ). some ++ freed_in second) p ∙ q)
+-- the message frees nothing
+abbrev pub Frees : Message → Type 0
+Frees message = freed_by message.body ≡ []
 
-pub silent-map : {X : Type 0} (f : X → Message) → ((x : X) → freed_by (f x).body ≡ []) → (xs : List X) → Silent (map f xs)
-silent-map f each [] = refl
-silent-map f each (x ∷ xs) = ap (λ (some : List ℕ). some ++ freed_in (map f xs)) (each x) ∙ silent-map f each xs
+pub silent-all : (messages : List Message) → Each Frees messages → Silent messages
+silent-all [] all = refl
+silent-all (message ∷ messages) all =
+    ap (λ (some : List ℕ). some ++ freed_in messages) (all message (inl refl)) ∙ silent-all messages (λ other at. all other (inr at))
 
 pub silent-ids : (own : ServerId) (ids : List ServerId) (body : Body) → freed_by body ≡ [] → Silent (to_ids own ids body)
-silent-ids own [] body is = refl
-silent-ids own (id ∷ ids) body is = ap (λ (some : List ℕ). some ++ freed_in (to_ids own ids body)) is ∙ silent-ids own ids body is
-
-pub silent-if : (b : Bool) (one other : List Message) → Silent one → Silent other → Silent (cond b one other)
-silent-if true one other p q = p
-silent-if false one other p q = q
+silent-ids own ids body is = silent-all (to_ids own ids body) (each-to_ids Frees own ids body (λ id _. is))
 
 -- what the Frees of these segments free
 freed-ids : (own : ServerId) (ids : List ServerId) (seg s : ℕ) → In s (freed_in (to_ids own ids (Free seg))) → s ≡ seg

@@ -11,13 +11,13 @@ use Rattle.rc_model.specs.Nodes.{Work, Take, Tick, Stop, Start, HostNode, server
 use Rattle.rc_model.specs.Nodes.{with_backup, with_master, server_takes, takes_if_running, ticks_if_running}
 use Rattle.rc_model.specs.World.{World, opening, NodeName, TheOutside, TheCoordinator, TheHost, Job, work_of}
 use Rattle.rc_model.specs.World.{is_possible, node_done, job_done, step, replay_from, replay}
-use Rattle.rc_model.proofs.Members.{either}
 use Rattle.rc_model.proofs.Storing.{AllFencedStay, fenced-stay}
-use Rattle.rc_step_laws.proofs.Lists.{put_each}
 use Rattle.rc_log_laws.proofs.Replays.{good-world}
 use Rattle.rc_log_laws.specs.LogClaims.{FencedReplicasStay}
 use Rattle.rc_log_laws.proofs.Since.{replay_from-append}
 use Rattle.rc_log_laws.proofs.Fencing.{answer-about}
+use Rattle.rc_model.proofs.Tests.{either}
+use Rattle.rc_model.proofs.Tables.{put_each}
 
 -- a host later: as long as its generation stays, what it has fenced stays
 record StaysFenced (old new : HostNode) : Type 0 where

@@ -18,10 +18,11 @@ use Rattle.rc_model.specs.Heads.{opens_head, opened_first, open_first, next_dige
 use Rattle.rc_model.specs.Heads.{stored, commit_noted, opens_change, refills, loses, shuts, with_shut, may_start}
 use Rattle.rc_model.specs.Heads.{may_write, left_out, with_freed, starts, closes_old, writes_on}
 use Rattle.rc_model.specs.Headline.{In}
-use Rattle.rc_model.proofs.Members.{either, In-append}
-use Rattle.rc_step_laws.proofs.Lists.{put_each, true_false, In-filter}
+use Rattle.rc_model.proofs.Members.{In-append, In-filter}
 use Rattle.rc_log_laws.proofs.MasterWorlds.{put-cases}
 use Rattle.rc_log_laws.specs.Freed.{IsLeftOut, GoodFrees}
+use Rattle.rc_model.proofs.Tests.{true_false, either}
+use Rattle.rc_model.proofs.Tables.{put_each}
 
 -- fewer segments were freed
 pub fewer : (more freed : List ℕ) (log : Log) → ((s : ℕ) → In s freed → In s more) → GoodFrees more log → GoodFrees freed log
@@ -108,11 +109,6 @@ stays-loses servers seg log =
     (λ _. stays-config log seg (refill log.own servers (log.segments seg).config).0)
     (λ _. stays-change seg log (lose log.own servers (log.segments seg).config))
 
-pub stays-shut : (log : Log) → Stays log (with_shut log)
-stays-shut log =
-    either (Stays log) (shuts log) (with_segment (log.head - 1) (record (old_head_of log) { shut = true }) log) log
-    (λ _. stays-put log (log.head - 1) (record (old_head_of log) { shut = true }) refl (λ _. refl)) (λ _. stays-refl log)
-
 -- Phases
 
 pub is-writing : (phase : Phase) → is_writing phase ≡ true → phase ≡ Writing
@@ -198,7 +194,7 @@ stays-opens log digest ids may within freed good = record {
                 out.upto in let below : s < out.head = out.below in omega (arith, upto, below, same)
             new (inr old) = out.lacks log.head out.upto (omega arith) old
 
-stays-first_opened : (log : Log) (chosen : Option (List ServerId)) → log.head ≡ 0 → Stays log (opened_first log chosen).0
+pub stays-first_opened : (log : Log) (chosen : Option (List ServerId)) → log.head ≡ 0 → Stays log (opened_first log chosen).0
 stays-first_opened log None none = stays-refl log
 stays-first_opened log (Some ids) none = stays-opens log (1 ∷ []) ids (inr none) (λ t at. inl (first t at))
   where
@@ -206,10 +202,7 @@ stays-first_opened log (Some ids) none = stays-opens log (1 ∷ []) ids (inr non
     first t (inl same) = omega (arith, same, none)
     first t (inr never) = absurd never
 
-pub stays-first : (servers : ServerList) (log : Log) → log.head ≡ 0 → Stays log (open_first servers log).0
-stays-first servers log none = stays-first_opened log (choose 1 log.own log.factor servers) none
-
-stays-rolled : (log : Log) (dead : List ℕ) (chosen : Option (List ServerId)) → log.phase ≡ Writing → Stays log (rolled log dead chosen).0
+pub stays-rolled : (log : Log) (dead : List ℕ) (chosen : Option (List ServerId)) → log.phase ≡ Writing → Stays log (rolled log dead chosen).0
 stays-rolled log dead None writing = stays-refl log
 stays-rolled log dead (Some ids) writing = stays-opens log (next_digest log dead) ids (inl writing) within
   where
@@ -222,14 +215,6 @@ stays-rolled log dead (Some ids) writing = stays-opens log (next_digest log dead
         by (inl old) = inr (In-filter (λ seg. nat_eq seg log.head || not (list_any (nat_eq seg) dead)) t (head_of log).digest old).0
         by (inr (inl new)) = inl new
         by (inr (inr never)) = absurd never
-
--- a roll begins where the head writes
-pub stays-roll : (servers : ServerList) (dead : List ℕ) (log : Log) → is_writing log.phase ≡ true →
-    Stays log (begin_roll servers dead log).0
-stays-roll servers dead log writing =
-    either (λ (answer : Log × Result Bool Fault). Stays log answer.0) (nat_lt log.head LAST_SEGMENT)
-    (rolled log dead (choose (log.head + 1) log.own log.factor servers)) (log, Err LogFull)
-    (λ _. stays-rolled log dead (choose (log.head + 1) log.own log.factor servers) (is-writing log.phase writing)) (λ _. stays-refl log)
 
 -- Writing on
 

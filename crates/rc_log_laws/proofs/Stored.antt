@@ -16,11 +16,11 @@ use Rattle.rc_model.specs.Headline.{In}
 use Rattle.rc_step_laws.specs.Words.{log_in, HasTold, IsOpened}
 use Rattle.rc_step_laws.specs.Facts.{IsSafe, GoodMaster}
 use Rattle.rc_step_laws.specs.Moves.{OwnFine}
-use Rattle.rc_model.proofs.Members.{either}
 use Rattle.rc_step_laws.proofs.Lists.{get-below}
 use Rattle.rc_step_laws.proofs.MasterTold.{has-opened}
 use Rattle.rc_step_laws.proofs.Safe.{durable_len-tells, covered-safe}
 use Rattle.rc_step_laws.proofs.MasterSteps.{view-of}
+use Rattle.rc_model.proofs.Tests.{either}
 
 -- each of these segments is shut
 all_shut-each : (segments : ℕ → Segment) (n t : ℕ) → all_shut_to segments n ≡ true → 0 < t → t ≤ n → (segments t).shut ≡ true

@@ -62,7 +62,7 @@ noted-other from epoch len closed config other = rw other refl
 -- Digests
 
 -- with nothing dead, all stay
-all-stay : (head : ℕ) (digest : List ℕ) → filter (λ seg. nat_eq seg head || not (list_any (nat_eq seg) [])) digest ≡ digest
+pub all-stay : (head : ℕ) (digest : List ℕ) → filter (λ seg. nat_eq seg head || not (list_any (nat_eq seg) [])) digest ≡ digest
 all-stay head [] = refl
 all-stay head (seg ∷ digest) =
     either (λ segs. segs ≡ seg ∷ digest) (nat_eq seg head || true) (seg ∷ filter (λ s. nat_eq s head || true) digest)

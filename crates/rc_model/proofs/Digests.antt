@@ -3,7 +3,7 @@ use Rattle.std.proofs.Common.{◌≡◌, ℕ, zero, suc, ◌+◌, ◌<◌, Bool,
 use Rattle.std.proofs.Common.{List, [], ◌∷◌, ◌++◌, map, filter, Option, Some, None, Result, Ok, Err, slice_get, refl}
 use Rattle.std.proofs.Common.{sym, ap, ◌∙◌, subst}
 use Rattle.std.specs.List.{list_any, list_all}
-use Rattle.std.proofs.lemmas.Bool.{and_parts, eqb-true, ltb-true}
+use Rattle.std.proofs.lemmas.Bool.{and_parts, eqb-true, ltb-true, or_left, or_right, or_parts, not-false}
 use Rattle.rc_types.specs.declared.ids.ServerId.{ServerId}
 use Rattle.rc_types.specs.declared.entries.Entry.{Entry}
 use Rattle.rc_types.specs.declared.faults.Fault.{Fault}
@@ -45,21 +45,6 @@ any-get test (y ∷ ys) any = by (test y) refl any (any-get test ys)
     by true is any rec = record { place = 0; one = y; found = refl; passes = is }
     by false isn't any rec =
         let rest : Passes test ys = rec any in record { place = suc rest.place; one = rest.one; found = rest.found; passes = rest.passes }
-
-or_left : (a b : Bool) → a ≡ true → a || b ≡ true
-or_left a b e = ap (λ x. x || b) e
-
-or_right : (a b : Bool) → b ≡ true → a || b ≡ true
-or_right true b e = refl
-or_right false b e = e
-
-or_parts : (a b : Bool) → a || b ≡ false → (a ≡ false) × (b ≡ false)
-or_parts true b e = cc
-or_parts false b e = (refl, e)
-
-not_false : (b : Bool) → not b ≡ false → b ≡ true
-not_false true e = refl
-not_false false e = cc
 
 -- a number that is there and passes is there among those that pass
 kept : (test : ℕ → Bool) (n : ℕ) (ns : List ℕ) → list_any (nat_eq n) ns ≡ true → test n ≡ true → list_any (nat_eq n) (filter test ns) ≡ true
@@ -118,7 +103,7 @@ left-dead log dead seg there gone = by (nat_eq seg log.head || not (list_any (na
     by false goes =
         let parts : (nat_eq seg log.head ≡ false) × (not (list_any (nat_eq seg) dead) ≡ false) =
         or_parts (nat_eq seg log.head) (not (list_any (nat_eq seg) dead)) goes in
-        (not_false (list_any (nat_eq seg) dead) parts.1, parts.0)
+        (not-false (list_any (nat_eq seg) dead) parts.1, parts.0)
 
 abbrev LeavesDead : Log → List ℕ → ℕ → Log × Result Bool Fault → Type 0
 LeavesDead old dead seg answer = (began : Bool) → answer.1 ≡ Ok began → list_any (nat_eq seg) (head_of old).digest ≡ true →

@@ -21,13 +21,13 @@ use Rattle.rc_model.proofs.Tables.{put_id_each, put_id-same}
 below-itself : (a : Pair) → is_below a a ≡ false
 below-itself a = grind (arith, nat_tests)
 
-below-turned : (a b : Pair) → is_below a b ≡ true → is_below b a ≡ false
+pub below-turned : (a b : Pair) → is_below a b ≡ true → is_below b a ≡ false
 below-turned a b e = grind (arith, nat_tests)
 
-greater-left : (a b : Pair) → is_below (greater_pair a b) a ≡ false
+pub greater-left : (a b : Pair) → is_below (greater_pair a b) a ≡ false
 greater-left a b = either (λ p. is_below p a ≡ false) (is_below a b) b a (λ e. below-turned a b e) (λ _. below-itself a)
 
-greater-right : (a b : Pair) → is_below (greater_pair a b) b ≡ false
+pub greater-right : (a b : Pair) → is_below (greater_pair a b) b ≡ false
 greater-right a b = either (λ p. is_below p b ≡ false) (is_below a b) b a (λ _. below-itself b) (λ e. e)
 
 -- a least pair never falls

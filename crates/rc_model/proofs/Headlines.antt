@@ -345,7 +345,7 @@ same_numbers-true (n ∷ ns) (m ∷ ms) e =
     let parts = and_parts (nat_eq n m) (same_numbers ns ms) e in let one : n ≡ m =
     eqb-true n m parts.0 in let rest : ns ≡ ms = same_numbers-true ns ms parts.1 in cc
 
-same_numbers-refl : (ns : List ℕ) → same_numbers ns ns ≡ true
+pub same_numbers-refl : (ns : List ℕ) → same_numbers ns ns ≡ true
 same_numbers-refl [] = refl
 same_numbers-refl (n ∷ ns) = and_from (nat_eq n n) (same_numbers ns ns) (eq-eqb n n refl) (same_numbers-refl ns)
 
@@ -355,7 +355,7 @@ same_value-true None (Some b) e = cc
 same_value-true (Some a) None e = cc
 same_value-true (Some a) (Some b) e = ap Some (same_numbers-true a b e)
 
-same_value-refl : (value : Option (List ℕ)) → same_value value value ≡ true
+pub same_value-refl : (value : Option (List ℕ)) → same_value value value ≡ true
 same_value-refl None = refl
 same_value-refl (Some ns) = same_numbers-refl ns
 

@@ -5,6 +5,7 @@ use Rattle.std.proofs.lemmas.Bool.Decides.{nat_tests}
 use Rattle.rc_types.specs.declared.ids.ServerId.{ServerId}
 use Rattle.rc_model.specs.Ids.{same_id}
 use Rattle.rc_model.specs.World.{NodeName, TheOutside, TheCoordinator, TheHost, same_node}
+use Rattle.rc_types.specs.declared.ids.Addr.TheVariants.{Server}
 
 -- ids with the same parts are one
 pub same_parts : (a b : ServerId) → a.index ≡ b.index → a.generation ≡ b.generation → a ≡ b
@@ -35,3 +36,7 @@ pub same_node-refl : (a : NodeName) → same_node a a ≡ true
 same_node-refl TheOutside = refl
 same_node-refl TheCoordinator = refl
 same_node-refl (TheHost index) = eq-eqb index index refl
+
+-- one address of a server is that of one server
+pub server-same : (a b : ServerId) → Server a ≡ Server b → a ≡ b
+server-same a b e = cc

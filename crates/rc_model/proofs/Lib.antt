@@ -5,6 +5,8 @@ pub mod Storing
 pub mod Counting
 pub mod LogParts
 pub mod Rules
+pub mod Sending
+pub mod Walk
 pub mod Phases
 pub mod Measures
 mod Picks

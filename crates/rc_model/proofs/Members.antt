@@ -1,5 +1,5 @@
 -- Membership in lists, over plain variables.
-use Rattle.std.proofs.Common.{◌≡◌, ◌⊎◌, ℕ, zero, suc, ◌<◌, Bool, true, false, cond, max, List, [], ◌∷◌, ◌++◌, nat_eq}
+use Rattle.std.proofs.Common.{◌≡◌, ◌⊎◌, ℕ, zero, suc, ◌<◌, Bool, true, false, cond, max, List, [], ◌∷◌, ◌++◌, map, filter, nat_eq}
 use Rattle.std.proofs.Common.{nat_lt, Option, Some, None, slice_get, refl, sym, ap, ◌∙◌, subst, inl, inr, arith}
 use Rattle.std.specs.Option.{option_to_list}
 use Rattle.std.proofs.lemmas.Bool.{eqb-true, eq-eqb, ltb-true, lt-ltb}
@@ -8,11 +8,7 @@ use Rattle.rc_model.specs.Pick.{insert_once, ascending}
 use Rattle.rc_model.specs.Recovered.{reach, is_recovered}
 use Rattle.rc_model.specs.Breach.{segments_of}
 use Rattle.rc_model.specs.Headline.{In, IsHeld}
-
--- either result of a test
-pub either : {X : Type 0} (P : X → Type 0) (b : Bool) (x y : X) → (b ≡ true → P x) → (b ≡ false → P y) → P (cond b x y)
-either P true x y then_ else_ = then_ refl
-either P false x y then_ else_ = else_ refl
+use Rattle.rc_model.proofs.Tests.{either, true_false}
 
 pub In-left : {X : Type 0} (x : X) (xs ys : List X) → In x xs → In x (xs ++ ys)
 In-left x [] ys at = absurd at
@@ -70,6 +66,39 @@ In-gathered_rest x false piece rest at = at
 pub In-gathered_piece : {X : Type 0} (x : X) (b : Bool) (piece rest : List X) → b ≡ true → In x piece → In x (cond b (piece ++ rest) rest)
 In-gathered_piece x true piece rest e at = In-left x piece rest at
 In-gathered_piece x false piece rest e at = cc
+
+-- a member of a filtered list is one of the whole, and passes the test
+pub In-filter : {X : Type 0} (test : X → Bool) (x : X) (xs : List X) → In x (filter test xs) → In x xs × (test x ≡ true)
+In-filter test x [] at = absurd at
+In-filter test x (y ∷ xs) at = by (test y) refl (In-filter test x xs) at
+  where
+    further : In x xs × (test x ≡ true) → ((x ≡ y) ⊎ In x xs) × (test x ≡ true)
+    further p = (inr p.0, p.1)
+
+    by : (b : Bool) → test y ≡ b → (In x (filter test xs) → In x xs × (test x ≡ true)) →
+        In x (cond b (y ∷ filter test xs) (filter test xs)) → ((x ≡ y) ⊎ In x xs) × (test x ≡ true)
+    by true e rec (inl same) = (inl same, ap test same ∙ e)
+    by true e rec (inr rest) = further (rec rest)
+    by false e rec rest = further (rec rest)
+
+-- a member that passes stays in a filtered list
+pub filter-In : {X : Type 0} (test : X → Bool) (x : X) (xs : List X) → In x xs → test x ≡ true → In x (filter test xs)
+filter-In test x [] at e = absurd at
+filter-In test x (y ∷ xs) (inl same) e = either (λ l. In x l) (test y) (y ∷ filter test xs) (filter test xs)
+    (λ _. inl same) (λ no. true_false (sym e ∙ ap test same ∙ no))
+filter-In test x (y ∷ xs) (inr rest) e = either (λ l. In x l) (test y) (y ∷ filter test xs) (filter test xs)
+    (λ _. inr (filter-In test x xs rest e)) (λ _. filter-In test x xs rest e)
+
+-- a member of a mapped list is the image of one
+pub In-map : {X Y : Type 0} (f : X → Y) (y : Y) (xs : List X) → In y (map f xs) → (x : X) × (In x xs) × (y ≡ f x)
+In-map f y [] at = absurd at
+In-map f y (x ∷ xs) (inl e) = (x, inl refl, e)
+In-map f y (x ∷ xs) (inr rest) = let found = In-map f y xs rest in (found.0, inr found.1, found.2)
+
+pub map-In : {X Y : Type 0} (f : X → Y) (x : X) (xs : List X) → In x xs → In (f x) (map f xs)
+map-In f x [] at = absurd at
+map-In f x (z ∷ xs) (inl e) = inl (ap f e)
+map-In f x (z ∷ xs) (inr rest) = inr (map-In f x xs rest)
 
 -- the different numbers of a list are its numbers
 

@@ -1,7 +1,7 @@
 -- Where the phase changes, what a roll opens, and how members change.
-use Rattle.std.proofs.Common.{◌≡◌, ◌⊎◌, inl, inr, ℕ, ◌+◌, Bool, true, false, ◌&&◌, ◌||◌, nat_eq, nat_lt, List, [], ◌∷◌}
+use Rattle.std.proofs.Common.{◌≡◌, ◌⊎◌, inl, inr, ℕ, ◌+◌, true, false, ◌&&◌, ◌||◌, nat_eq, nat_lt, List, [], ◌∷◌}
 use Rattle.std.proofs.Common.{Option, Some, None, Err, refl, sym, ap, ◌∙◌}
-use Rattle.std.proofs.lemmas.Bool.{and_parts}
+use Rattle.std.proofs.lemmas.Bool.{and_parts, or_right}
 use Rattle.rc_types.specs.declared.ids.ServerId.{ServerId}
 use Rattle.rc_types.specs.declared.entries.Entry.{Entry}
 use Rattle.rc_types.specs.declared.faults.Fault.TheVariants.{LogFull}
@@ -142,10 +142,6 @@ writes-shut master =
         and_parts (head_of master.log).config.committed (all_placed (head_of master.log).config) first.1 in
         (ready.1, ready.0, ap (λ b. b || (old_head_of master.log).shut) first.0)
 
-    or_true : (a b : Bool) → b ≡ true → a || b ≡ true
-    or_true true b e = refl
-    or_true false b e = e
-
     shut : may_write master.log ≡ true → (all_placed (head_of master.log).config ≡ true) × ((head_of master.log).config.committed ≡ true)
         × (nat_eq master.log.head 1 || (old_head_of master.log).shut ≡ true)
     shut may =
@@ -156,4 +152,4 @@ writes-shut master =
         ((old_head_of master.log).shut && is_ready (head_of master.log))) may).1).1 in
         let ready : ((head_of master.log).config.committed ≡ true) × (all_placed (head_of master.log).config ≡ true) =
         and_parts (head_of master.log).config.committed (all_placed (head_of master.log).config) tests.1 in
-        (ready.1, ready.0, or_true (nat_eq master.log.head 1) (old_head_of master.log).shut tests.0)
+        (ready.1, ready.0, or_right (nat_eq master.log.head 1) (old_head_of master.log).shut tests.0)

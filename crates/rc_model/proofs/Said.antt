@@ -1,7 +1,6 @@
 -- What is gathered from the messages is what they say.
 use Rattle.std.proofs.Common.{◌≡◌, ◌⊎◌, ℕ, true, List, [], ◌∷◌, Some, refl, sym, ap, ◌∙◌, subst, inl, inr}
 use Rattle.std.specs.Option.{option_to_list}
-use Rattle.std.proofs.lemmas.Bool.{eqb-true, eq-eqb, and_parts, and_from}
 use Rattle.rc_types.specs.declared.ids.ServerId.{ServerId}
 use Rattle.rc_types.specs.declared.ids.Addr.{Addr}
 use Rattle.rc_types.specs.declared.ids.Addr.TheVariants.{Coordinator, Server, Outside}
@@ -10,25 +9,15 @@ use Rattle.rc_types.specs.declared.rows.Part.{Part}
 use Rattle.rc_types.specs.declared.messages.Message.{Message}
 use Rattle.rc_types.specs.declared.messages.Body.{Body}
 use Rattle.rc_types.specs.declared.messages.Body.TheVariants.{WriteOk, Plan}
-use Rattle.rc_model.specs.Ids.{same_id, is_server}
+use Rattle.rc_model.specs.Ids.{is_server}
 use Rattle.rc_model.specs.Made.{entry_at, made}
 use Rattle.rc_model.specs.Recovered.{Ack, ack_in, acknowledged, all_acknowledged, Accepted, plan_in, accepted}
 use Rattle.rc_model.specs.Headline.{In, HasMade, WasAcknowledged, HasAcknowledged, WasAccepted}
 use Rattle.rc_model.proofs.Members.{In-append, In-left, In-right, In-option, In-from_option, In-gathered}
 use Rattle.rc_model.proofs.Members.{In-gathered_rest, In-gathered_piece}
+use Rattle.rc_model.proofs.Ids.{same_id-true, same_id-refl}
 
 -- Who sends
-
-pub same_id-true : (a b : ServerId) → same_id a b ≡ true → a ≡ b
-same_id-true a b e =
-    let parts = and_parts _ _ e in
-    let index : a.index ≡ b.index = eqb-true a.index b.index parts.0 in
-    let generation : a.generation ≡ b.generation = eqb-true a.generation b.generation parts.1 in
-    let whole : ◌≡◌ {A = ServerId} (record { index = a.index; generation = a.generation })
-    (record { index = b.index; generation = b.generation }) = cc in whole
-
-pub same_id-refl : (a : ServerId) → same_id a a ≡ true
-same_id-refl a = and_from _ _ (eq-eqb a.index a.index refl) (eq-eqb a.generation a.generation refl)
 
 pub is_server-true : (m : ServerId) (from : Addr) → is_server m from ≡ true → from ≡ Server m
 is_server-true m (Server other) e = ap Server (sym (same_id-true m other e))

@@ -2,7 +2,7 @@
 use Rattle.std.proofs.Common.{◌≡◌, ℕ, ◌-◌, Bool, true, false, cond, not, nat_eq, nat_lt, nat_le, ◌&&◌, ◌||◌, List, []}
 use Rattle.std.proofs.Common.{◌∷◌, ◌++◌, length, drop, filter, Option, Some, None, refl, sym, ap, ◌∙◌, subst}
 use Rattle.std.specs.List.{list_any}
-use Rattle.std.proofs.lemmas.Bool.{and_parts, eqb-true, eq-eqb}
+use Rattle.std.proofs.lemmas.Bool.{and_parts, eqb-true, eq-eqb, or_left}
 use Rattle.std.proofs.lemmas.List.{append-nil}
 use Rattle.rc_types.specs.declared.ids.ServerId.{ServerId}
 use Rattle.rc_types.specs.declared.ids.Addr.{Addr}
@@ -147,10 +147,7 @@ refused-nothing : (backup : Backup) (master : ServerId) (seg : ℕ) (body : Body
 refused-nothing backup master seg body fenced =
     either (λ after. after ≡ (backup, [])) (is_refused seg (backup.held master)) (backup, [])
     (keeps backup master seg (replica_after (replica_of seg (backup.held master).replicas) body))
-    (λ _. refl) (λ not_refused. true_false (sym (or_true (backup.held master).fenced _ fenced) ∙ not_refused))
-  where
-    or_true : (a b : Bool) → a ≡ true → a || b ≡ true
-    or_true a b e = ap (λ x. x || b) e
+    (λ _. refl) (λ not_refused. true_false (sym (or_left (backup.held master).fenced _ fenced) ∙ not_refused))
 
 frees-nothing : (backup : Backup) (master : ServerId) (seg : ℕ) → (backup.held master).fenced ≡ true → frees backup master seg ≡ backup
 frees-nothing backup master seg fenced = rw fenced refl

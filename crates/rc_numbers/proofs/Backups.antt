@@ -16,10 +16,10 @@ use Rattle.rc_model.specs.Replica.{Replica, grown, placed_open, placed, appended
 use Rattle.rc_model.specs.Backup.{Held, Backup, with_held, replica_of, put_replica, without_replica, replica_after}
 use Rattle.rc_model.specs.Backup.{stored_of, is_refused, keeps, stores, insert_number, frees, rows_of_replicas}
 use Rattle.rc_model.specs.Backup.{is_in_part, data_of, answers_fetch, backup_takes, stays, restart}
-use Rattle.rc_model.proofs.Members.{either}
-use Rattle.rc_step_laws.proofs.Lists.{put_id_each}
 use Rattle.rc_numbers.specs.Numbers.{VersionsUpTo, body_within, MessagesWithin, BackupWithin}
 use Rattle.rc_numbers.proofs.Entries.{versions-more, none-within, one-within, All-one}
+use Rattle.rc_model.proofs.Tests.{either}
+use Rattle.rc_model.proofs.Tables.{put_id_each}
 
 module _ (n : ℕ) where
   abbrev Within : Replica → Type 0

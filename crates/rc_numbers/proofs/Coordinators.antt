@@ -36,10 +36,10 @@ use Rattle.rc_model.specs.CoordinatorStep.{first_grant, has_open_part, asks_agai
 use Rattle.rc_model.specs.CoordinatorStep.{creates_table, is_too_many, creates, split_fault, splits_unless, splits}
 use Rattle.rc_model.specs.CoordinatorStep.{coordinator_takes}
 use Rattle.rc_model.specs.Nodes.{Work, Take, Tick, Suspect, Decide, Create, Split, coordinator_step}
-use Rattle.rc_model.proofs.Members.{either}
 use Rattle.rc_numbers.specs.Numbers.{CoordinatorWithin, body_within, MessagesWithin}
 use Rattle.rc_numbers.proofs.Entries.{none-within, one-within, both-within}
 use Rattle.rc_numbers.proofs.Tablets.{length-marked, length-assigned, length-inserted, length-split, length-owned, length-parts}
+use Rattle.rc_model.proofs.Tests.{either}
 
 -- what is within n is within all that is more
 pub within-more : (c : Coordinator) (n m : ℕ) → n ≤ m → CoordinatorWithin n c → CoordinatorWithin m c

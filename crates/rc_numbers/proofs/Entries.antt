@@ -10,9 +10,9 @@ use Rattle.rc_types.specs.declared.messages.Body.TheVariants.{Place, Append, Dat
 use Rattle.rc_model.specs.Messages.{between}
 use Rattle.rc_model.specs.Versions.{is_of, greatest_version}
 use Rattle.rc_model.specs.Master.{to_ids}
-use Rattle.rc_model.proofs.Members.{either}
 use Rattle.rc_step_laws.proofs.Lists.{map-append}
 use Rattle.rc_numbers.specs.Numbers.{VersionsUpTo, body_within, MessagesWithin}
+use Rattle.rc_model.proofs.Tests.{either}
 
 -- what stands at a place of a list, each of whose elements has this
 pub All-get : {X : Type 0} (P : X → Type 0) (xs : List X) (k : ℕ) (x : X) → All P xs → slice_get xs k ≡ Some x → P x

@@ -3,8 +3,7 @@ pub mod Coordinators
 pub mod Entries
 pub mod Logs
 pub mod Masters
-pub mod Followed
-pub mod Ticks
+pub mod Parts
 pub mod Backups
 pub mod Worlds
 pub mod Rooms

@@ -15,10 +15,11 @@ use Rattle.rc_model.specs.Log.{Log, LogPlace, places_in, places_to, entries_of, 
 use Rattle.rc_model.specs.Heads.{opens_head, opened_first, open_first, appends, next_digest, rolled, begin_roll}
 use Rattle.rc_model.specs.Heads.{with_config, stored, commit_noted, opens_change, refills, loses, shuts, with_shut}
 use Rattle.rc_model.specs.Heads.{with_freed}
-use Rattle.rc_model.proofs.Members.{either}
-use Rattle.rc_step_laws.proofs.Lists.{put_each, map-append}
+use Rattle.rc_step_laws.proofs.Lists.{map-append}
 use Rattle.rc_numbers.specs.Numbers.{VersionsUpTo, LogWithin}
 use Rattle.rc_numbers.proofs.Entries.{versions-push}
+use Rattle.rc_model.proofs.Tests.{either}
+use Rattle.rc_model.proofs.Tables.{put_each}
 
 -- the entries of all places are those of the segments
 entries-in : (seg offset : ℕ) (entries : List (Entry × Bool)) →
@@ -47,27 +48,10 @@ module _ (n : ℕ) where
       put_each (λ s (one : Segment). VersionsUpTo n (map (λ (e : Entry × Bool). e.0) one.entries)) log.segments seg
       segment new each
 
-  opens-within : (log : Log) (digest : List ℕ) (ids : List ServerId) → LogWithin n log → LogWithin n (opens_head log digest ids)
+  pub opens-within : (log : Log) (digest : List ℕ) (ids : List ServerId) → LogWithin n log → LogWithin n (opens_head log digest ids)
   opens-within log digest ids each =
       put_each (λ s (one : Segment). VersionsUpTo n (map (λ (e : Entry × Bool). e.0) one.entries)) log.segments
       (log.head + 1) (new_segment (log.head + 1) digest ids) (All-nil (λ (entry : Entry). entry.version ≤ n)) each
-
-  opened-within : (log : Log) (ids : Option (List ServerId)) → LogWithin n log → LogWithin n (opened_first log ids).0
-  opened-within log None each = each
-  opened-within log (Some ids) each = opens-within log (1 ∷ []) ids each
-
-  pub first-within : (servers : ServerList) (log : Log) → LogWithin n log → LogWithin n (open_first servers log).0
-  first-within servers log each = opened-within log (choose 1 log.own log.factor servers) each
-
-  rolled-within : (log : Log) (dead : List ℕ) (ids : Option (List ServerId)) → LogWithin n log → LogWithin n (rolled log dead ids).0
-  rolled-within log dead None each = each
-  rolled-within log dead (Some ids) each = opens-within log (next_digest log dead) ids each
-
-  pub roll-within : (servers : ServerList) (dead : List ℕ) (log : Log) → LogWithin n log → LogWithin n (begin_roll servers dead log).0
-  roll-within servers dead log each =
-      either (λ (after : Log × Result Bool Fault). LogWithin n after.0) (nat_lt log.head LAST_SEGMENT)
-      (rolled log dead (choose (log.head + 1) log.own log.factor servers)) (log, Err LogFull)
-      (λ e. rolled-within log dead (choose (log.head + 1) log.own log.factor servers) each) (λ e. each)
 
   pub appends-within : (entry : Entry) (client : Bool) (log : Log) → LogWithin n log → entry.version ≤ n →
       LogWithin n (appends entry client log)
@@ -105,11 +89,6 @@ module _ (n : ℕ) where
       (opens_change seg log (lose log.own servers (log.segments seg).config))
       (λ e. refills-within seg log (refill log.own servers (log.segments seg).config) each)
       (λ e. change-within seg log (lose log.own servers (log.segments seg).config) each)
-
-  pub shut-within : (log : Log) → LogWithin n log → LogWithin n (with_shut log)
-  shut-within log each =
-      either (LogWithin n) (shuts log) (with_segment (log.head - 1) (record (old_head_of log) { shut = true }) log) log
-      (λ e. put-within log (log.head - 1) (record (old_head_of log) { shut = true }) each (each (log.head - 1))) (λ e. each)
 
   pub freed-within : (segs : List ℕ) (log : Log) → LogWithin n log → LogWithin n (with_freed segs log)
   freed-within [] log each = each

@@ -6,7 +6,7 @@ use Rattle.rc_types.specs.declared.rows.KeyRange.{KeyRange}
 use Rattle.rc_model.specs.Ids.{same_id}
 use Rattle.rc_model.specs.Tablets.{holds, insert_tablet, tablets_of, marked_crashed, split_at, is_range, assigned}
 use Rattle.rc_model.specs.Attempts.{GivenPart, part_of, given_to, gives_parts}
-use Rattle.rc_model.proofs.Members.{either}
+use Rattle.rc_model.proofs.Tests.{either}
 
 -- marks change no length
 pub length-marked : (owner : ServerId) (tablets : List Tablet) → length (marked_crashed owner tablets) ≡ length tablets

@@ -23,15 +23,14 @@ use Rattle.rc_model.specs.Nodes.{starts_host, next_server}
 use Rattle.rc_model.specs.World.{World, opening, NodeName, TheOutside, TheCoordinator, TheHost, Job, delivery, work_of}
 use Rattle.rc_model.specs.World.{node_can, is_possible_job, is_possible, node_done, job_done, step, replay_from}
 use Rattle.rc_model.specs.World.{replay}
-use Rattle.rc_model.proofs.Members.{either}
-use Rattle.rc_step_laws.proofs.Lists.{put_each}
 use Rattle.rc_numbers.specs.Numbers.{body_within, MessagesWithin, MasterWithin, HostWithin, WorldWithin}
 use Rattle.rc_numbers.specs.Claims.{NumbersGrowSlowly}
 use Rattle.rc_numbers.proofs.Entries.{All-get, body-more, messages-more, none-within, one-within, both-within}
 use Rattle.rc_numbers.proofs.Coordinators.{After, within-more, coordinator-within, new-within}
-use Rattle.rc_numbers.proofs.Masters.{Done}
-use Rattle.rc_numbers.proofs.Ticks.{master-more, tick-done, takes-done}
+use Rattle.rc_numbers.proofs.Masters.{Done, master-more, tick-done, takes-done}
 use Rattle.rc_numbers.proofs.Backups.{BackupDone, backup-done, restart-within, backup-more}
+use Rattle.rc_model.proofs.Tests.{either}
+use Rattle.rc_model.proofs.Tables.{put_each}
 
 -- more events allow more
 pub host-more : (n m : ℕ) → n ≤ m → (host : HostNode) → HostWithin n host → HostWithin m host

@@ -16,11 +16,11 @@ use Rattle.rc_model.specs.Headline.{In}
 use Rattle.rc_model.proofs.Members.{In-append, place_of}
 use Rattle.rc_model.proofs.Numbering.{greatest-above}
 use Rattle.rc_step_laws.specs.Words.{Begins}
-use Rattle.rc_step_laws.proofs.Lists.{true_false}
 use Rattle.rc_step_laws.proofs.Tests.{any-one, any-here, find-one}
 use Rattle.rc_owner_laws.specs.Parts.{PartView, logged, under, durable_under, IsWaiting, HasJoined, IsClients, IsReplayed, GoodParts}
 use Rattle.rc_owner_laws.proofs.PartLists.{under-append, under-here, under-none, count-take, count-grows, logged-append}
 use Rattle.rc_owner_laws.proofs.PartLists.{begins-more, IsLast, IsBefore, last-or-before}
+use Rattle.rc_model.proofs.Tests.{true_false}
 
 -- More is durable
 

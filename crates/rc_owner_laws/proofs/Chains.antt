@@ -11,10 +11,11 @@ use Rattle.rc_model.specs.Attempts.{GivenPart, part_of, given_to, gives_parts}
 use Rattle.rc_model.specs.Deciding.{range_of}
 use Rattle.rc_model.specs.Ownership.{in_range}
 use Rattle.rc_model.specs.Headline.{In}
-use Rattle.rc_model.proofs.Members.{either}
-use Rattle.rc_step_laws.proofs.Lists.{get-below, same_id-true}
+use Rattle.rc_step_laws.proofs.Lists.{get-below}
 use Rattle.rc_owner_laws.specs.Grants.{TabletsApart, grants_at, IsChain, NoneTo, OwnersDiffer, PartsApart}
 use Rattle.rc_owner_laws.proofs.Tablets.{by_test, some-none}
+use Rattle.rc_model.proofs.Ids.{same_id-true}
+use Rattle.rc_model.proofs.Tests.{either}
 
 -- Chains
 

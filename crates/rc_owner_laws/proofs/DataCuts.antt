@@ -16,13 +16,13 @@ use Rattle.rc_model.specs.Backup.{Backup, replica_of, replica_after, is_refused,
 use Rattle.rc_model.specs.Backup.{rows_of_replicas, is_in_part, data_of, answers_fetch, backup_takes}
 use Rattle.rc_model.specs.Master.{Master}
 use Rattle.rc_model.specs.Headline.{In}
-use Rattle.rc_model.proofs.Members.{either}
 use Rattle.rc_step_laws.specs.Words.{Begins, log_in}
 use Rattle.rc_step_laws.specs.Facts.{GoodHeld, GoodReplica}
 use Rattle.rc_step_laws.specs.Later.{LogLater}
 use Rattle.rc_step_laws.proofs.Lists.{begins-length}
 use Rattle.rc_step_laws.proofs.Copies.{More, grows-log}
 use Rattle.rc_owner_laws.specs.Data.{IsCut, data_between, data_fine}
+use Rattle.rc_model.proofs.Tests.{either}
 
 -- Beginnings
 

@@ -22,15 +22,15 @@ use Rattle.rc_model.specs.Nodes.{ticks_if_running}
 use Rattle.rc_model.specs.World.{World, opening, NodeName, TheOutside, TheCoordinator, TheHost, Job, work_of, node_can}
 use Rattle.rc_model.specs.World.{is_possible_job, is_possible, node_done, job_done, step, replay_from, replay}
 use Rattle.rc_model.specs.Headline.{In}
-use Rattle.rc_model.proofs.Members.{either, In-append}
+use Rattle.rc_model.proofs.Members.{In-append}
 use Rattle.rc_step_laws.specs.Moves.{MasterMoved, CoordinatorMoved, body_said, coordinator_body_said}
-use Rattle.rc_step_laws.proofs.Lists.{true_false}
 use Rattle.rc_step_laws.proofs.MasterSteps.{master_takes_keeps, master_ticks_keeps}
 use Rattle.rc_step_laws.proofs.CoordinatorSteps as coordinator
 use Rattle.rc_log_laws.proofs.Replays.{GoodWorld, GoodStep, IsGiven, is-good, is-fine, hears, is_server-true}
 use Rattle.rc_log_laws.proofs.Replays.{work_of-given, may-hear, to-coordinator-is, led-step, good-step, good-opening}
 use Rattle.rc_owner_laws.specs.Data.{data_fine, DataAreCuts}
 use Rattle.rc_owner_laws.proofs.DataCuts.{data-later, IsNoData, no-data-fine, backup-fine}
+use Rattle.rc_model.proofs.Tests.{true_false, either}
 
 abbrev pub CutsOf : World → Type 0
 CutsOf world = DataAreCuts world.sent world.masters

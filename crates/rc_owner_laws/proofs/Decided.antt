@@ -20,10 +20,13 @@ use Rattle.rc_model.specs.Coordinator.{begins_attempt}
 use Rattle.rc_model.specs.Deciding.{with_answer}
 use Rattle.rc_model.specs.Headline.{In}
 use Rattle.rc_model.proofs.Members.{In-append, In-get}
-use Rattle.rc_step_laws.proofs.Lists.{true_false, put_id_each, get-append, get-within, get-set, same_id-true}
+use Rattle.rc_step_laws.proofs.Lists.{get-append, get-within, get-set}
 use Rattle.rc_owner_laws.specs.Grants.{IsDecided, GoodGrants, own_said}
 use Rattle.rc_owner_laws.proofs.Tablets.{some-none}
 use Rattle.rc_owner_laws.proofs.Granting.{kept-good}
+use Rattle.rc_model.proofs.Ids.{same_id-true}
+use Rattle.rc_model.proofs.Tests.{true_false}
+use Rattle.rc_model.proofs.Tables.{put_id_each}
 
 -- What is found passes the test, and where nothing is found nothing passes it
 pub find-some : {X : Type 0} (test : X → Bool) (xs : List X) (x : X) → find test xs ≡ Some x → In x xs × (test x ≡ true)

@@ -32,10 +32,9 @@ use Rattle.rc_model.specs.Nodes.{ticks_if_running, next_server}
 use Rattle.rc_model.specs.World.{World, opening, NodeName, TheOutside, TheCoordinator, TheHost, Job, work_of}
 use Rattle.rc_model.specs.World.{is_possible, node_done, job_done, step, replay_from, replay}
 use Rattle.rc_model.specs.Headline.{In}
-use Rattle.rc_model.proofs.Members.{either, In-append}
+use Rattle.rc_model.proofs.Members.{In-append}
 use Rattle.rc_step_laws.specs.Words.{IsNumbered}
 use Rattle.rc_step_laws.specs.Moves.{MasterMoved, BackupMoved}
-use Rattle.rc_step_laws.proofs.Lists.{true_false, put_same, same_id-refl, same_id-true}
 use Rattle.rc_step_laws.proofs.Attempting.{numbered-at}
 use Rattle.rc_step_laws.proofs.MasterSteps.{master_takes_keeps, master_ticks_keeps}
 use Rattle.rc_step_laws.proofs.Backups.{moved-backup}
@@ -50,6 +49,9 @@ use Rattle.rc_owner_laws.proofs.OwnerSteps.{IsSenders, senders}
 use Rattle.rc_owner_laws.proofs.Marks.{ranged}
 use Rattle.rc_owner_laws.proofs.Waiting.{sender-waits, tablets-moved, new-tablets}
 use Rattle.rc_owner_laws.proofs.OwnerReplays.{OfWorld, grants-step, grants-opening, grants-world}
+use Rattle.rc_model.proofs.Tables.{put-same}
+use Rattle.rc_model.proofs.Ids.{same_id-true, same_id-refl}
+use Rattle.rc_model.proofs.Tests.{true_false, either}
 
 -- Each world keeps the tablets, and refuses no server for want of one
 
@@ -98,7 +100,7 @@ module _ (world : World) (one : Event) (i : ℕ) (good : GoodWorld world) where
       message.from message.body good at
       (ap (put world.hosts i (record (world.hosts i)
       { backup = (backup_takes (world.hosts i).backup message.from message.body).0 })) (good.hosts_are i).index ∙
-      put_same world.hosts i (record (world.hosts i)
+      put-same world.hosts i (record (world.hosts i)
       { backup = (backup_takes (world.hosts i).backup message.from message.body).0 }))))
       (λ _. from-master master (master_takes master message.from message.body)
       (master_takes_keeps world.sent (server_of (world.hosts i)) master message.from message.body

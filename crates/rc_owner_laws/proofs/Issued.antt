@@ -11,12 +11,12 @@ use Rattle.rc_model.specs.Attempts.{Decision, GivenPart}
 use Rattle.rc_model.specs.Coordinator.{Coordinator}
 use Rattle.rc_model.specs.World.{replay}
 use Rattle.rc_model.specs.Headline.{In}
-use Rattle.rc_step_laws.proofs.Tests.{In-map}
 use Rattle.rc_owner_laws.specs.Grants.{IsDecided, own_said, GrantsKept}
 use Rattle.rc_owner_laws.proofs.OwnerReplays.{grants-world}
 use Rattle.rc_owner_laws.specs.Terms.{IsGivenBy, GoodTerms}
 use Rattle.rc_owner_laws.specs.TermClaims.{Issue, issue_of, issues_in, WasIssued, TermsAreIssuedOnce}
 use Rattle.rc_owner_laws.proofs.TermReplays.{terms-world}
+use Rattle.rc_model.proofs.Members.{In-map}
 
 -- the issue of a grant
 abbrev pub of_grant : Grant → Issue

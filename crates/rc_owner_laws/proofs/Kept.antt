@@ -23,11 +23,10 @@ use Rattle.rc_model.specs.Coordinator.{Coordinator}
 use Rattle.rc_model.specs.Deciding.{own_body}
 use Rattle.rc_model.specs.Nodes.{HostNode}
 use Rattle.rc_model.specs.Headline.{In, HasAcknowledged}
-use Rattle.rc_model.proofs.Members.{In-left, In-right, In-get, place_of}
+use Rattle.rc_model.proofs.Members.{In-left, In-right, In-get, place_of, filter-In}
 use Rattle.rc_step_laws.specs.Words.{log_in}
 use Rattle.rc_step_laws.specs.Facts.{IsSafe, IsWriteOk}
-use Rattle.rc_step_laws.proofs.Lists.{true_false}
-use Rattle.rc_step_laws.proofs.Tests.{any-one, filter-In}
+use Rattle.rc_step_laws.proofs.Tests.{any-one}
 use Rattle.rc_owner_laws.proofs.OwnersOrdered.{one-chain}
 use Rattle.rc_owner_laws.specs.Grants.{IsOwn, own_said}
 use Rattle.rc_owner_laws.specs.Terms.{IsGivenBy}
@@ -40,6 +39,7 @@ use Rattle.rc_owner_laws.proofs.Bases.{IsTaskOf, task-of}
 use Rattle.rc_owner_laws.proofs.Rising.{granted_of, IsRemembered, remembered, Has, has-itself, Covers}
 use Rattle.rc_owner_laws.proofs.Rising.{starts-keeps, GoesTo, goes-on, acked, acknowledger, IsOwned, owner}
 use Rattle.rc_owner_laws.proofs.Rising.{versions-rise}
+use Rattle.rc_model.proofs.Tests.{true_false}
 
 -- What stands in a segment is among the entries of the log's places
 

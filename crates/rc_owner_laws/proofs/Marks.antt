@@ -14,12 +14,12 @@ use Rattle.rc_model.specs.Coordinator.{up_of_host}
 use Rattle.rc_model.specs.Deciding.{range_of}
 use Rattle.rc_model.specs.Ownership.{in_range}
 use Rattle.rc_model.specs.Headline.{In}
-use Rattle.rc_model.proofs.Members.{either}
 use Rattle.rc_step_laws.specs.Words.{OnDifferentHosts}
-use Rattle.rc_step_laws.proofs.Lists.{true_false, same_id-true}
 use Rattle.rc_step_laws.proofs.LogMoves.{apart-same}
 use Rattle.rc_owner_laws.specs.Waiting.{IsTablet}
 use Rattle.rc_owner_laws.proofs.Decided.{find-some, find-none}
+use Rattle.rc_model.proofs.Ids.{same_id-true}
+use Rattle.rc_model.proofs.Tests.{true_false, either}
 
 -- what holds of each of these tablets
 abbrev pub EachTablet : (Tablet → Type 0) → List Tablet → Type 0

@@ -23,9 +23,7 @@ use Rattle.rc_model.specs.Nodes.{ticks_if_running}
 use Rattle.rc_model.specs.World.{World, opening, NodeName, TheOutside, TheCoordinator, TheHost, Job, work_of, node_can}
 use Rattle.rc_model.specs.World.{is_possible_job, is_possible, node_done, job_done, step, replay_from, replay}
 use Rattle.rc_model.specs.Headline.{In}
-use Rattle.rc_model.proofs.Members.{either}
 use Rattle.rc_step_laws.specs.Moves.{MasterMoved, BackupMoved, CoordinatorLater, body_said, backup_body_said}
-use Rattle.rc_step_laws.proofs.Lists.{true_false, put_same}
 use Rattle.rc_step_laws.proofs.MasterSteps.{master_takes_keeps, master_ticks_keeps}
 use Rattle.rc_step_laws.proofs.Backups.{moved-backup}
 use Rattle.rc_step_laws.proofs.CoordinatorSteps as coordinator
@@ -35,6 +33,8 @@ use Rattle.rc_owner_laws.specs.Grants.{own_said, GoodGrants, GrantsKept}
 use Rattle.rc_owner_laws.proofs.Decided.{OwnSays}
 use Rattle.rc_owner_laws.proofs.OwnerSteps.{moved, new-grants}
 use Rattle.rc_owner_laws.proofs.OwnersOrdered.{kept-step, kept-others, kept-none}
+use Rattle.rc_model.proofs.Tables.{put-same}
+use Rattle.rc_model.proofs.Tests.{true_false, either}
 
 pub record GrantsWorld (sent : List Message) (c : Coordinator) : Type 0 where
   pub good : GoodGrants c
@@ -93,7 +93,7 @@ module _ (world : World) (one : Event) (i : ℕ) (good : GoodWorld world) where
       message.from message.body good at
       (ap (put world.hosts i (record (world.hosts i)
       { backup = (backup_takes (world.hosts i).backup message.from message.body).0 })) (good.hosts_are i).index ∙
-      put_same world.hosts i (record (world.hosts i)
+      put-same world.hosts i (record (world.hosts i)
       { backup = (backup_takes (world.hosts i).backup message.from message.body).0 }))))
       (λ _. says-master master (master_takes master message.from message.body)
       (master_takes_keeps world.sent (server_of (world.hosts i)) master message.from message.body

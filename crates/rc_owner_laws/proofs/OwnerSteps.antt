@@ -44,10 +44,9 @@ use Rattle.rc_model.specs.CoordinatorStep.{coordinator_ticks, coordinator_takes}
 use Rattle.rc_model.specs.Nodes.{Work, Take, Tick, Suspect, Decide, Create, Split, coordinator_step}
 use Rattle.rc_model.specs.Ownership.{in_range}
 use Rattle.rc_model.specs.Headline.{In}
-use Rattle.rc_model.proofs.Members.{either, In-left, In-right, In-append}
+use Rattle.rc_model.proofs.Members.{In-left, In-right, In-append}
 use Rattle.rc_step_laws.specs.Words.{IsNumbered}
 use Rattle.rc_step_laws.specs.Facts.{GoodCoordinator}
-use Rattle.rc_step_laws.proofs.Lists.{true_false, same_id-true}
 use Rattle.rc_step_laws.proofs.Servers.{crashed-not-up, crashed-stays-crashed, crashed-stays-enlisted}
 use Rattle.rc_step_laws.proofs.Attempting.{numbered-at, numbered-same, numbered-set}
 use Rattle.rc_owner_laws.specs.Grants.{TabletsApart, owner_of, owner_at, term_in, term_at, IsGiven, PartsApart}
@@ -59,6 +58,8 @@ use Rattle.rc_owner_laws.proofs.Chains.{found-at, of_owner, apart-of_owner, IsPa
 use Rattle.rc_owner_laws.proofs.Granting.{kept-good, IsNewGrant, granted-good}
 use Rattle.rc_owner_laws.proofs.Decided.{find-some, find-none, gives, given-in, OwnSays, says-none, says-one}
 use Rattle.rc_owner_laws.proofs.Decided.{says-each, says-join, says-plans, begun-good, answered-decided, newly-decided}
+use Rattle.rc_model.proofs.Ids.{same_id-true}
+use Rattle.rc_model.proofs.Tests.{true_false, either}
 
 module _ (sent : List Message) (c : Coordinator) (base : GoodCoordinator sent c) (good : GoodGrants c) where
   -- no grant is made

@@ -15,13 +15,13 @@ use Rattle.rc_model.specs.Deciding.{own_body}
 use Rattle.rc_model.specs.Ownership.{in_range}
 use Rattle.rc_model.specs.Owners.{Granted, grant_in, granted, IsGranted, covers, grants_of, IsBefore, previous, onward, IsEarlier}
 use Rattle.rc_model.specs.Headline.{In}
-use Rattle.rc_model.proofs.Members.{either, In-left, In-right, In-append, In-get, place_of}
+use Rattle.rc_model.proofs.Members.{In-left, In-right, In-append, In-get, place_of, In-filter}
 use Rattle.rc_model.proofs.Befores.{before-through}
 use Rattle.rc_step_laws.specs.Later.{AttemptLater}
 use Rattle.rc_step_laws.specs.Moves.{CoordinatorLater}
-use Rattle.rc_step_laws.proofs.Lists.{true_false, In-filter}
 use Rattle.rc_owner_laws.specs.Grants.{grants_at, term_at, IsChain, NoneTo, OwnersDiffer, IsDecided, own_said}
 use Rattle.rc_owner_laws.specs.Grants.{GoodGrants, GrantsMoved, GrantsKept}
+use Rattle.rc_model.proofs.Tests.{true_false, either}
 
 -- What was sent
 

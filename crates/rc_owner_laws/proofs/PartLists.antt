@@ -7,9 +7,9 @@ use Rattle.rc_types.specs.declared.entries.Entry.{Entry}
 use Rattle.rc_model.specs.Log.{LogPlace}
 use Rattle.rc_model.specs.Ownership.{under_term, count_under}
 use Rattle.rc_model.specs.Headline.{In}
-use Rattle.rc_model.proofs.Members.{either}
 use Rattle.rc_step_laws.specs.Words.{Begins}
 use Rattle.rc_owner_laws.specs.Parts.{logged, under}
+use Rattle.rc_model.proofs.Tests.{either}
 
 pub append-nil : {X : Type 0} (xs : List X) → xs ++ [] ≡ xs
 append-nil [] = refl

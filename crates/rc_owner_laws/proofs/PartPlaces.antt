@@ -15,13 +15,13 @@ use Rattle.rc_model.specs.Log.{with_segment, is_opening, is_closing}
 use Rattle.rc_model.specs.Heads.{opens_head, with_config, stored, commit_noted, opens_change, refills, loses, shuts}
 use Rattle.rc_model.specs.Heads.{with_shut, may_start, may_write, left_out, starts, closes_old, writes_on}
 use Rattle.rc_model.specs.Master.{Master, with_log}
-use Rattle.rc_model.proofs.Members.{either}
 use Rattle.rc_model.proofs.Tables.{put_each, put-same, put-other}
 use Rattle.rc_model.proofs.LogParts.{places_to-agrees, marked, with_freed-marked, marked-alone}
 use Rattle.rc_owner_laws.specs.Parts.{part_view, GoodParts}
 use Rattle.rc_owner_laws.specs.PartMoves.{HasHead, PartsMoved}
 use Rattle.rc_owner_laws.proofs.PartLists.{append-nil}
 use Rattle.rc_owner_laws.proofs.PartViews.{AllPlain, quiet}
+use Rattle.rc_model.proofs.Tests.{either}
 
 -- a log with the same places, of which as many are durable, and whose head may write
 pub record SamePlaces (old new : Log) : Type 0 where

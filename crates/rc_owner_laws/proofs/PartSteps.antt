@@ -33,11 +33,10 @@ use Rattle.rc_model.specs.MasterTick.{reminds_open, reminds_shut, commits_again,
 use Rattle.rc_model.specs.MasterTick.{awaits_grant, recovered_again, ready_again, reminds, ticks}
 use Rattle.rc_model.specs.MasterStep.{begins_task, task_of, takes_plan, says_deposed, master_takes_first, deposed_takes}
 use Rattle.rc_model.specs.Headline.{In}
-use Rattle.rc_model.proofs.Members.{either, In-append, In-left, In-right, In-get}
+use Rattle.rc_model.proofs.Members.{In-append, In-left, In-right, In-get, In-map, In-filter}
 use Rattle.rc_model.proofs.Numbering.{places-push}
-use Rattle.rc_step_laws.proofs.Lists.{In-filter}
 use Rattle.rc_step_laws.proofs.Rolling.{roll-cases}
-use Rattle.rc_step_laws.proofs.Tests.{In-map, In-take, find-one}
+use Rattle.rc_step_laws.proofs.Tests.{In-take, find-one}
 use Rattle.rc_owner_laws.specs.Parts.{PartView, part_view, WasGranted, WasPlanned, GoodParts}
 use Rattle.rc_owner_laws.specs.PartMoves.{HasHead, IsComplete, HasEnded, part_said, StateLater, PartsLater, PartsMoved, PartsHear}
 use Rattle.rc_owner_laws.specs.PartClaims.{TakesKeepParts, TicksKeepParts, NewHasGoodParts}
@@ -51,6 +50,7 @@ use Rattle.rc_owner_laws.proofs.Appending.{good-durable, with_place, OwnsPoint, 
 use Rattle.rc_owner_laws.proofs.States.{data-stays, SameState, was-answered}
 use Rattle.rc_owner_laws.proofs.Recovering.{with_own, good-data, owning, good-owning, attempt-stays, begun, good-begun}
 use Rattle.rc_owner_laws.proofs.Recovering.{good-answered, complete-is}
+use Rattle.rc_model.proofs.Tests.{either}
 
 -- What only grows
 

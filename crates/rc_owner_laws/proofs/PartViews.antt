@@ -13,10 +13,9 @@ use Rattle.rc_model.specs.Master.{Master, Task, to_ids}
 use Rattle.rc_model.specs.FollowUps.{attempt_of}
 use Rattle.rc_model.specs.ListRules.{then_does}
 use Rattle.rc_model.specs.Headline.{In}
-use Rattle.rc_model.proofs.Members.{In-left, In-append}
+use Rattle.rc_model.proofs.Members.{In-left, In-append, In-map}
 use Rattle.rc_step_laws.proofs.Lists.{begins-refl, begins-trans}
 use Rattle.rc_step_laws.proofs.Copies.{More}
-use Rattle.rc_step_laws.proofs.Tests.{In-map}
 use Rattle.rc_owner_laws.specs.Parts.{PartView, part_view, logged, durable_under, WasGranted, WasPlanned, HasSent}
 use Rattle.rc_owner_laws.specs.Parts.{SomeCame, AllCame, IsWaiting, HasJoined, IsPart, IsClients, GoodParts}
 use Rattle.rc_owner_laws.specs.PartMoves.{HasHead, IsComplete, part_said, StateLater, PartsLater, PartsMoved}

@@ -27,10 +27,9 @@ use Rattle.rc_model.specs.Nodes.{next_server, starts_host}
 use Rattle.rc_model.specs.World.{World, opening, NodeName, TheOutside, TheCoordinator, TheHost, Job, work_of}
 use Rattle.rc_model.specs.World.{is_possible, with_last_view, node_done, job_done, step, replay_from, replay}
 use Rattle.rc_model.specs.Headline.{In}
-use Rattle.rc_model.proofs.Members.{either, In-left, In-append}
+use Rattle.rc_model.proofs.Members.{In-left, In-append}
 use Rattle.rc_step_laws.specs.Facts.{GoodMaster}
 use Rattle.rc_step_laws.specs.Moves.{MasterMoved, BackupMoved, backup_body_said}
-use Rattle.rc_step_laws.proofs.Lists.{put_same, same_id-true}
 use Rattle.rc_step_laws.proofs.Copies.{More}
 use Rattle.rc_step_laws.proofs.Rolling.{writing-is}
 use Rattle.rc_step_laws.proofs.MasterSteps.{master_takes_keeps, master_ticks_keeps}
@@ -48,6 +47,9 @@ use Rattle.rc_owner_laws.specs.PartMoves.{HasHead, IsComplete, HasEnded, part_sa
 use Rattle.rc_owner_laws.proofs.PartViews.{good-more, said-later}
 use Rattle.rc_owner_laws.proofs.PartSteps.{takes-keep-parts, ticks-keep-parts, new-has-good-parts}
 use Rattle.rc_owner_laws.specs.Worlds.{parts_fine, PartsHold}
+use Rattle.rc_model.proofs.Tables.{put-same}
+use Rattle.rc_model.proofs.Ids.{same_id-true}
+use Rattle.rc_model.proofs.Tests.{either}
 
 -- all of the world's parts
 abbrev pub PartsOf : World → Type 0
@@ -266,7 +268,7 @@ module _ (world : World) (one : Event) (i : ℕ) (good : GoodWorld world) (grant
       message.from message.body good at
       (ap (put world.hosts i (record (world.hosts i)
       { backup = (backup_takes (world.hosts i).backup message.from message.body).0 })) (good.hosts_are i).index ∙
-      put_same world.hosts i (record (world.hosts i)
+      put-same world.hosts i (record (world.hosts i)
       { backup = (backup_takes (world.hosts i).backup message.from message.body).0 }))))
       (λ _. moves master e (master_takes master message.from message.body)
       (master_takes_keeps world.sent (server_of (world.hosts i)) master message.from message.body

@@ -26,14 +26,14 @@ use Rattle.rc_model.specs.MasterTick.{standing, to_remind, lacking, is_closing_o
 use Rattle.rc_model.specs.MasterTick.{reminds_open, reminds_shut_members, reminds_shut, awaits_commit, commits_again}
 use Rattle.rc_model.specs.MasterTick.{ready_again}
 use Rattle.rc_model.specs.Headline.{In}
-use Rattle.rc_model.proofs.Members.{either}
-use Rattle.rc_step_laws.proofs.Tests.{In-map}
+use Rattle.rc_model.proofs.Members.{In-map}
 use Rattle.rc_owner_laws.specs.Parts.{part_view, GoodParts}
 use Rattle.rc_owner_laws.specs.PartMoves.{HasHead, PartsMoved}
 use Rattle.rc_owner_laws.proofs.PartViews.{IsPlain, AllPlain, plain-none, plain-one, plain-both, plain-mapped}
 use Rattle.rc_owner_laws.proofs.PartViews.{plain-to_ids, still, moved-then_does}
 use Rattle.rc_owner_laws.proofs.PartPlaces.{SamePlaces, quiet-log, same-segment, same-loses, same-opens, same-shut}
 use Rattle.rc_owner_laws.proofs.PartPlaces.{same-starts, same-closes, same-writes}
+use Rattle.rc_model.proofs.Tests.{either}
 
 -- The list rules
 

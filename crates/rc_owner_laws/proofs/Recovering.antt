@@ -17,9 +17,9 @@ use Rattle.rc_model.specs.Ownership.{count_under, is_complete, answered_in, afte
 use Rattle.rc_model.specs.Master.{Task}
 use Rattle.rc_model.specs.FollowUps.{attempt_of}
 use Rattle.rc_model.specs.Headline.{In}
-use Rattle.rc_model.proofs.Members.{either, In-append, In-left, In-right}
+use Rattle.rc_model.proofs.Members.{In-append, In-left, In-right}
 use Rattle.rc_step_laws.specs.Words.{Begins}
-use Rattle.rc_step_laws.proofs.Lists.{true_false, begins-refl}
+use Rattle.rc_step_laws.proofs.Lists.{begins-refl}
 use Rattle.rc_owner_laws.specs.Parts.{PartView, logged, under, durable_under, WasGranted, WasPlanned, HasSent}
 use Rattle.rc_owner_laws.specs.Parts.{rows_of_task, SomeCame, AllCame, IsWaiting, HasJoined, IsPart, IsClients}
 use Rattle.rc_owner_laws.specs.Parts.{IsReplayed, GoodParts}
@@ -30,6 +30,7 @@ use Rattle.rc_owner_laws.proofs.States.{has_term, has_term-same, differ-same, on
 use Rattle.rc_owner_laws.proofs.States.{awaits-term, same-data, replay-term, IsOther, IsTaker, data-cases}
 use Rattle.rc_owner_laws.proofs.States.{some-with_row, rows-some, all-came, SameState, same-answered, answered-was}
 use Rattle.rc_owner_laws.proofs.States.{was-answered, data-stays}
+use Rattle.rc_model.proofs.Tests.{true_false, either}
 
 abbrev pub with_own : Ownership → PartView → PartView
 with_own own v = record v { own = own }

@@ -24,11 +24,9 @@ use Rattle.rc_model.specs.Coordinator.{Coordinator}
 use Rattle.rc_model.specs.Deciding.{own_body, range_of}
 use Rattle.rc_model.specs.Nodes.{HostNode}
 use Rattle.rc_model.specs.Headline.{In, WasAcknowledged, HasAcknowledged, VersionsRise}
-use Rattle.rc_model.proofs.Members.{In-append, In-get, In-left}
+use Rattle.rc_model.proofs.Members.{In-append, In-get, In-left, In-map, map-In, In-filter, filter-In}
 use Rattle.rc_step_laws.specs.Words.{Begins, log_in}
 use Rattle.rc_step_laws.specs.Facts.{IsSafe, IsWriteOk, body_fine}
-use Rattle.rc_step_laws.proofs.Lists.{true_false, In-filter}
-use Rattle.rc_step_laws.proofs.Tests.{filter-In, map-In, In-map}
 use Rattle.rc_log_laws.proofs.Clauses.{accepted-is, acknowledged-is}
 use Rattle.rc_log_laws.proofs.Covers.{IsCovered, PlanIs, covered}
 use Rattle.rc_owner_laws.specs.Grants.{IsOwn, own_said}
@@ -41,6 +39,7 @@ use Rattle.rc_owner_laws.specs.Words.{IsKeptBy, Keeps}
 use Rattle.rc_owner_laws.specs.VersionClaims.{MayFree}
 use Rattle.rc_owner_laws.proofs.Rows.{in-order, CameFor, came-for}
 use Rattle.rc_owner_laws.proofs.Bases.{cut_of, IsTaskOf, task-of, task-ascends, row-cut, IsStarted, started, joined-begins, base-safe}
+use Rattle.rc_model.proofs.Tests.{true_false}
 
 -- Lists
 

@@ -11,11 +11,12 @@ use Rattle.rc_types.specs.declared.rows.PlanRow.{PlanRow}
 use Rattle.rc_model.specs.Pick.{pick, IsPickable, ascending}
 use Rattle.rc_model.specs.Ownership.{PartRow, awaited_row, insert_row, rows_in_order}
 use Rattle.rc_model.specs.Headline.{In}
-use Rattle.rc_model.proofs.Members.{either, In-left, In-right}
+use Rattle.rc_model.proofs.Members.{In-left, In-right}
 use Rattle.rc_digestpick.proofs.Ascending.{IsBelow, IsAscending, IsAscending-ascending}
 use Rattle.rc_digestpick.proofs.Columns.{segs-taken}
 use Rattle.rc_digestpick.proofs.Pickable.{pickable-from_picked}
 use Rattle.rc_owner_laws.specs.Parts.{HasSent, AllCame}
+use Rattle.rc_model.proofs.Tests.{either}
 
 -- the segments of rows
 abbrev pub segs_of : List PlanRow → List ℕ

@@ -11,10 +11,10 @@ use Rattle.rc_model.specs.Ownership.{PartRow, PartState, is_awaited, with_row, a
 use Rattle.rc_model.specs.Ownership.{entries_that_came, under_term, joined, joining, part_with_row, data_in, replay_in}
 use Rattle.rc_model.specs.Ownership.{is_to_answer, answered_in}
 use Rattle.rc_model.specs.Headline.{In}
-use Rattle.rc_model.proofs.Members.{either}
-use Rattle.rc_step_laws.proofs.Lists.{true_false, same_id-true}
-use Rattle.rc_step_laws.proofs.Tests.{In-map}
+use Rattle.rc_model.proofs.Members.{In-map}
 use Rattle.rc_owner_laws.specs.Parts.{NoneUnder, TermsDiffer, HasSent, SomeCame, AllCame}
+use Rattle.rc_model.proofs.Ids.{same_id-true}
+use Rattle.rc_model.proofs.Tests.{true_false, either}
 
 -- one of the states has the term
 abbrev pub has_term : ℕ → List PartState → Bool

@@ -10,9 +10,8 @@ use Rattle.rc_model.specs.Ids.{same_id}
 use Rattle.rc_model.specs.Tablets.{holds, tablet_of, has_table, insert_tablet, whole_table, with_table, mark_if_owned}
 use Rattle.rc_model.specs.Tablets.{marked_crashed, split_at, is_range, has_range, assigned}
 use Rattle.rc_model.specs.Ownership.{in_range}
-use Rattle.rc_model.proofs.Members.{either}
-use Rattle.rc_step_laws.proofs.Lists.{true_false}
 use Rattle.rc_owner_laws.specs.Grants.{TabletsApart, owner_of, owner_at}
+use Rattle.rc_model.proofs.Tests.{true_false, either}
 
 -- a tablet that holds the point, before others, or the first of the others
 first-holds : (tablet : Tablet) (tablets : List Tablet) (table key : ℕ) → holds tablet table key ≡ true →

@@ -9,7 +9,7 @@ use Rattle.rc_model.specs.Nodes.{Work, Take, Suspect, Decide, Create, Split, out
 use Rattle.rc_model.specs.World.{World, opening, NodeName, TheOutside, TheCoordinator, TheHost, Job, work_of}
 use Rattle.rc_model.specs.World.{is_possible, node_done, job_done, step, replay_from, replay}
 use Rattle.rc_model.specs.Headline.{In}
-use Rattle.rc_model.proofs.Members.{either, In-left}
+use Rattle.rc_model.proofs.Members.{In-left}
 use Rattle.rc_step_laws.specs.Moves.{CoordinatorLater}
 use Rattle.rc_step_laws.proofs.Copies.{More}
 use Rattle.rc_step_laws.proofs.CoordinatorSteps as coordinator
@@ -18,6 +18,7 @@ use Rattle.rc_owner_laws.proofs.OwnerReplays.{OfWorld, grants-world}
 use Rattle.rc_owner_laws.specs.Terms.{GoodTerms}
 use Rattle.rc_owner_laws.proofs.Keeping.{terms-more}
 use Rattle.rc_owner_laws.proofs.TermSteps.{keeps-work, new-terms}
+use Rattle.rc_model.proofs.Tests.{either}
 
 abbrev pub TermsOf : World → Type 0
 TermsOf world = GoodTerms world.sent world.coordinator

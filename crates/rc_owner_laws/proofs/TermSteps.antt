@@ -39,10 +39,10 @@ use Rattle.rc_model.specs.CoordinatorStep.{splits_unless, splits, coordinator_ta
 use Rattle.rc_model.specs.Nodes.{Work, Take, Tick, Suspect, Decide, Create, Split, coordinator_step}
 use Rattle.rc_model.specs.Ownership.{in_range}
 use Rattle.rc_model.specs.Headline.{In}
-use Rattle.rc_model.proofs.Members.{either, In-get}
+use Rattle.rc_model.proofs.Members.{In-get}
 use Rattle.rc_step_laws.specs.Words.{IsNumbered}
 use Rattle.rc_step_laws.specs.Moves.{CoordinatorLater}
-use Rattle.rc_step_laws.proofs.Lists.{true_false, get-append, get-set, same_id-true}
+use Rattle.rc_step_laws.proofs.Lists.{get-append, get-set}
 use Rattle.rc_step_laws.proofs.Tests.{find-one}
 use Rattle.rc_step_laws.proofs.Attempting.{numbered-at}
 use Rattle.rc_owner_laws.specs.Grants.{owner_of, owner_at, IsDecided, GoodGrants}
@@ -52,6 +52,8 @@ use Rattle.rc_owner_laws.proofs.Decided.{gives}
 use Rattle.rc_owner_laws.specs.Terms.{IsGivenBy, GoodTerms}
 use Rattle.rc_owner_laws.proofs.Keeping.{decided-later, SameTerms, same-refl, same-trans, kept-terms, IsNewTerm}
 use Rattle.rc_owner_laws.proofs.Keeping.{granted-terms, decided-terms}
+use Rattle.rc_model.proofs.Ids.{same_id-true}
+use Rattle.rc_model.proofs.Tests.{true_false, either}
 
 find-none : {X : Type 0} (test : X → Bool) (xs : List X) (x : X) → find test xs ≡ None → In x xs → test x ≡ true → ⊥
 find-none test [] x e at passes = absurd at

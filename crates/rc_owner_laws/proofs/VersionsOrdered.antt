@@ -19,11 +19,11 @@ use Rattle.rc_model.specs.Master.{Master, Task}
 use Rattle.rc_model.specs.Coordinator.{Coordinator}
 use Rattle.rc_model.specs.Nodes.{HostNode}
 use Rattle.rc_model.specs.Headline.{In}
-use Rattle.rc_model.proofs.Members.{either, In-left, In-right, In-append, In-get, place_of}
+use Rattle.rc_model.proofs.Members.{In-left, In-right, In-append, In-get, place_of, In-map, In-filter}
 use Rattle.rc_step_laws.specs.Words.{Begins, log_in}
 use Rattle.rc_step_laws.specs.Facts.{GoodMaster}
-use Rattle.rc_step_laws.proofs.Lists.{true_false, In-filter, get-take}
-use Rattle.rc_step_laws.proofs.Tests.{In-map, get-map}
+use Rattle.rc_step_laws.proofs.Lists.{get-take}
+use Rattle.rc_step_laws.proofs.Tests.{get-map}
 use Rattle.rc_digestpick.proofs.Ascending.{IsAscending}
 use Rattle.rc_owner_laws.specs.Parts.{part_view, logged, under, AllCame, IsWaiting, HasJoined, IsPart, IsClients, IsReplayed}
 use Rattle.rc_owner_laws.proofs.PartLists.{under-append, under-here, In-under, logged-append, begins-within}
@@ -31,6 +31,7 @@ use Rattle.rc_owner_laws.specs.Worlds.{AllHold}
 use Rattle.rc_owner_laws.proofs.Rows.{segs_of, waited, in-order, below-row}
 use Rattle.rc_owner_laws.proofs.Bases.{IsTaskOf, task-of, task-ascends}
 use Rattle.rc_owner_laws.proofs.VersionCuts.{all-cut, row-made}
+use Rattle.rc_model.proofs.Tests.{true_false, either}
 
 -- Lists whose versions rise
 

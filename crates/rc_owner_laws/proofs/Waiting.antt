@@ -41,10 +41,9 @@ use Rattle.rc_model.specs.CoordinatorStep.{splits_unless, splits, has_open_part,
 use Rattle.rc_model.specs.CoordinatorStep.{coordinator_ticks, coordinator_takes}
 use Rattle.rc_model.specs.Nodes.{Work, Take, Tick, Suspect, Decide, Create, Split, coordinator_step}
 use Rattle.rc_model.specs.Headline.{In}
-use Rattle.rc_model.proofs.Members.{either, In-left, In-append}
+use Rattle.rc_model.proofs.Members.{In-left, In-append}
 use Rattle.rc_step_laws.specs.Facts.{GoodCoordinator}
 use Rattle.rc_step_laws.specs.Words.{IsNumbered}
-use Rattle.rc_step_laws.proofs.Lists.{true_false, same_id-refl}
 use Rattle.rc_step_laws.proofs.Servers.{crashed-not-up}
 use Rattle.rc_step_laws.proofs.Attempting.{numbered-at}
 use Rattle.rc_owner_laws.specs.Grants.{IsGiven, IsDecided, GoodGrants}
@@ -58,6 +57,8 @@ use Rattle.rc_owner_laws.proofs.OwnerSteps.{IsSenders, senders, senders-decided,
 use Rattle.rc_owner_laws.proofs.Marks.{EachTablet, MarkedStay, stay-marked, each-marked, IsSplit, stay-split}
 use Rattle.rc_owner_laws.proofs.Marks.{each-split, stay-inserted, each-inserted, each-assigned, stay-assigned}
 use Rattle.rc_owner_laws.proofs.Marks.{its-range, first-key, ranged, tablet-in, up-crashed, up-enlisted, up-of_host}
+use Rattle.rc_model.proofs.Ids.{same_id-refl}
+use Rattle.rc_model.proofs.Tests.{true_false, either}
 
 -- Messages
 

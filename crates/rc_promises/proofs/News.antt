@@ -27,17 +27,17 @@ use Rattle.rc_model.specs.Nodes.{server_takes, takes_if_running, ticks_if_runnin
 use Rattle.rc_model.specs.World.{World, opening, NodeName, TheOutside, TheCoordinator, TheHost, Job, work_of}
 use Rattle.rc_model.specs.World.{is_possible, node_done, job_done, step, replay}
 use Rattle.rc_model.specs.Headline.{In}
-use Rattle.rc_model.proofs.Members.{either, In-right, In-append}
+use Rattle.rc_model.proofs.Members.{In-right, In-append}
 use Rattle.rc_step_laws.specs.Moves.{MasterMoved, body_said, BackupMoved, backup_body_said, CoordinatorMoved, coordinator_body_said}
-use Rattle.rc_step_laws.proofs.Lists.{put_same, true_false}
 use Rattle.rc_step_laws.proofs.MasterSteps.{master_takes_keeps, master_ticks_keeps}
 use Rattle.rc_step_laws.proofs.Backups.{moved-backup}
 use Rattle.rc_step_laws.proofs.CoordinatorSteps as coordinator
 use Rattle.rc_log_laws.proofs.Replays.{GoodWorld, IsGiven, is-good, is-fine, hears, is_server-true, work_of-given}
 use Rattle.rc_log_laws.proofs.Replays.{may-hear, to-coordinator-is, good-world}
 use Rattle.rc_log_laws.proofs.Since.{replay_from-append}
-use Rattle.rc_write_laws.proofs.Frame.{All-In}
 use Rattle.rc_promises.proofs.Hushed.{is_read_ok, Hushed, Hush, hush-then, hush-takes_first, hush-deposed, hush-goes, hush-master_ticks}
+use Rattle.rc_model.proofs.Tables.{put-same}
+use Rattle.rc_model.proofs.Tests.{true_false, either}
 
 -- Lists
 
@@ -87,7 +87,7 @@ hushed-no : {P : Type 0} (messages before : List Message) (message : Message) (a
     messages ≡ before ++ message ∷ after → (table key version : ℕ) (value : Option (List ℕ)) →
     message.body ≡ ReadOk table key version value → P
 hushed-no messages before message after hushed e table key version value says =
-    true_false (sym (ap is_read_ok says) ∙ All-In (λ (one : Message). is_read_ok one.body ≡ false) messages message hushed
+    true_false (sym (ap is_read_ok says) ∙ hushed message
     (subst (In message) (sym e) (In-right message before (message ∷ after) (inl refl))))
 
 abbrev ReadsBy : Master → Master × List Message → Type 0
@@ -96,7 +96,7 @@ ReadsBy master done = (before : List Message) (message : Message) (after : List 
     Reads master before table key version value
 
 reads-hushed : (master : Master) (done : Master × List Message) → Hush done → ReadsBy master done
-reads-hushed master done hushed before message after e table key version value says = hushed-no done.1 before message after hushed e table
+reads-hushed master done hushed before message after e table key version value says = hushed-no done.1 before message after hushed.hushed e table
     key version value says
 
 -- the answer, and what follows up
@@ -154,10 +154,10 @@ reads-answered master None table key e before message after same t k version val
         message = cc in
         true_false (sym (ap is_read_ok says) ∙ ap (λ (one : Message). is_read_ok one.body) (sym heads))
     refusal (one ∷ rest) whole =
-        hushed-no (goes_on master).1 rest message after (hush-goes master)
+        hushed-no (goes_on master).1 rest message after (hush-goes master).hushed
         (let tails : (goes_on master).1 ≡ rest ++ message ∷ after = cc in tails) t k version value says
 reads-answered master (Some term) table key e before message after same t k version value says =
-    answer-first master term table key e (goes_on master).1 (hush-goes master) before message after same t k version value says
+    answer-first master term table key e (goes_on master).1 (hush-goes master).hushed before message after same t k version value says
 
 takes-first : (master : Master) (from : Addr) (body : Body) → ReadsBy master (then_does (master_takes_first master from body) goes_on)
 takes-first master from (Read table key) = reads-answered master (term_of master.ownership table key) table key refl
@@ -301,7 +301,7 @@ module _ (world : World) (one : Event) (i : ℕ) (good : GoodWorld world) where
       world.coordinator i message.from message.body good at
       (ap (put world.hosts i (record (world.hosts i) { backup = (backup_takes (world.hosts i).backup message.from message.body).0 }))
       (good.hosts_are i).index
-      ∙ put_same world.hosts i
+      ∙ put-same world.hosts i
       (record (world.hosts i) { backup = (backup_takes (world.hosts i).backup message.from message.body).0 }))))
       (λ _. news-master master e (master_takes master message.from message.body)
       (master_takes_keeps world.sent (server_of (world.hosts i)) master message.from message.body (is-good world one i good master e)

@@ -15,7 +15,6 @@ use Rattle.rc_model.specs.World.{replay}
 use Rattle.rc_model.specs.Headline.{HasAcknowledged, WasAcknowledged, HasMade}
 use Rattle.rc_step_laws.specs.Words.{log_in}
 use Rattle.rc_step_laws.specs.Facts.{IsWriteOk}
-use Rattle.rc_step_laws.proofs.Lists.{true_false}
 use Rattle.rc_log_laws.proofs.Clauses.{made-is}
 use Rattle.rc_log_laws.proofs.Replays.{good-world}
 use Rattle.rc_write_laws.specs.AckClaims.{IsAsked}
@@ -29,6 +28,7 @@ use Rattle.rc_write_laws.specs.Handovers.{IsHandedOn}
 use Rattle.rc_write_laws.proofs.Handing.{acknowledged-is-handed-on}
 use Rattle.rc_promises.proofs.Asked.{client-asked, versions-begin-at-one}
 use Rattle.rc_promises.specs.Service.{WasGranted, IsOfKey, OneVersionIsOneWrite, AcknowledgedIsWritten}
+use Rattle.rc_model.proofs.Tests.{true_false}
 
 -- three ways
 pub three : (a b : ℕ) → (a < b) ⊎ ((a ≡ b) ⊎ (b < a))

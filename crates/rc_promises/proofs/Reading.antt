@@ -27,13 +27,12 @@ use Rattle.rc_model.specs.FollowUps.{write_oks}
 use Rattle.rc_model.specs.Nodes.{factor_of}
 use Rattle.rc_model.specs.World.{World, replay, master_of}
 use Rattle.rc_model.specs.Headline.{In, HasMade, HasAcknowledged, WasAccepted, IsHeld}
-use Rattle.rc_model.proofs.Members.{In-left, In-get, place_of}
+use Rattle.rc_model.proofs.Members.{In-left, In-get, place_of, filter-In}
 use Rattle.rc_step_laws.specs.Words.{Begins, log_in}
 use Rattle.rc_step_laws.specs.Facts.{IsSafe, IsWriteOk}
-use Rattle.rc_step_laws.proofs.Lists.{same_id-refl}
 use Rattle.rc_step_laws.proofs.Logs.{get-log}
 use Rattle.rc_step_laws.proofs.Places.{IsOf, places_to-are, place-logged}
-use Rattle.rc_step_laws.proofs.Tests.{In-take, get-map, filter-In}
+use Rattle.rc_step_laws.proofs.Tests.{In-take, get-map}
 use Rattle.rc_log_laws.proofs.Clauses.{made-is}
 use Rattle.rc_log_laws.proofs.Replays.{good-world}
 use Rattle.rc_log_laws.proofs.Growing.{recovered-is-made}
@@ -64,6 +63,7 @@ use Rattle.rc_promises.proofs.Time.{still-granted}
 use Rattle.rc_promises.proofs.News.{WasRead, clients-are-heard}
 use Rattle.rc_promises.proofs.Found.{IsFound, read-above, read-is}
 use Rattle.rc_promises.proofs.Standing.{one-a-version, goes-from, above-safe}
+use Rattle.rc_model.proofs.Ids.{same_id-refl}
 
 -- Acknowledgements, by the places that were counted then
 

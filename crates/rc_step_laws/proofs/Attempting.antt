@@ -19,26 +19,20 @@ use Rattle.rc_model.specs.Pick.{is_below, pick, greater_pair}
 use Rattle.rc_model.specs.Attempts.{Attempt, Decision}
 use Rattle.rc_model.specs.Coordinator.{Coordinator, new_coordinator, attempt_at}
 use Rattle.rc_model.specs.Headline.{In}
-use Rattle.rc_model.proofs.Members.{either, In-left}
+use Rattle.rc_model.proofs.Members.{In-left}
 use Rattle.rc_step_laws.specs.Words.{OnDifferentHosts, IsNumbered, IsOf}
 use Rattle.rc_step_laws.specs.Facts.{GoodAttempt, GoodCoordinator}
 use Rattle.rc_step_laws.specs.Later.{AttemptLater}
 use Rattle.rc_step_laws.specs.Moves.{CoordinatorMoved, coordinator_body_said}
-use Rattle.rc_step_laws.proofs.Lists.{put_id_each, get-left, get-end, get-append, get-within, get-set, set-get}
+use Rattle.rc_step_laws.proofs.Lists.{get-left, get-end, get-append, get-within, get-set, set-get}
+use Rattle.rc_model.proofs.Tests.{either}
+use Rattle.rc_model.proofs.Granting.{greater-left, greater-right}
+use Rattle.rc_model.proofs.Tables.{put_id_each}
 
 -- Pairs
 
 pub below-refl : (p : Pair) → is_below p p ≡ false
 below-refl p = grind (arith, nat_tests)
-
-pub greater-first : (a b : Pair) → is_below (greater_pair a b) a ≡ false
-greater-first a b = either (λ (p : Pair). is_below p a ≡ false) (is_below a b) b a (λ e. asymmetric a b e) (λ _. below-refl a)
-  where
-    asymmetric : (a b : Pair) → is_below a b ≡ true → is_below b a ≡ false
-    asymmetric a b e = grind (arith, nat_tests)
-
-pub greater-second : (a b : Pair) → is_below (greater_pair a b) b ≡ false
-greater-second a b = either (λ (p : Pair). is_below p b ≡ false) (is_below a b) b a (λ _. below-refl b) (λ e. e)
 
 pub below-trans : (a b c : Pair) → is_below b a ≡ false → is_below c b ≡ false → is_below c a ≡ false
 below-trans a b c p q = grind (arith, nat_tests)

@@ -2,7 +2,7 @@
 use Rattle.std.proofs.Common.{◌≡◌, ◌⊎◌, ℕ, ◌≤◌, Bool, true, false, cond, ◌||◌, List, [], ◌∷◌, ◌++◌, length, take}
 use Rattle.std.proofs.Common.{filter, nat_eq, nat_lt, nat_le, Option, Some, None, refl, sym, ap, ◌∙◌, subst, inl, inr}
 use Rattle.std.proofs.Common.{arith}
-use Rattle.std.proofs.lemmas.Bool.{cases_eq, eq-eqb, or_cases}
+use Rattle.std.proofs.lemmas.Bool.{cases_eq, eq-eqb, or_cases, or_right, or_parts}
 use Rattle.std.specs.List.{list_any}
 use Rattle.rc_types.specs.declared.ids.ServerId.{ServerId}
 use Rattle.rc_types.specs.declared.ids.Addr.{Addr}
@@ -23,17 +23,19 @@ use Rattle.rc_model.specs.Master.{Master}
 use Rattle.rc_model.specs.Coordinator.{Coordinator}
 use Rattle.rc_model.specs.Nodes.{HostNode, server_of}
 use Rattle.rc_model.specs.Headline.{In}
-use Rattle.rc_model.proofs.Members.{either, In-left, In-append}
+use Rattle.rc_model.proofs.Members.{In-left, In-append}
 use Rattle.rc_step_laws.specs.Words.{IsOf, held_at}
 use Rattle.rc_step_laws.specs.Facts.{IsCopy, IsAnswer, IsStored, StillStands, GoodHeld, GoodReplica, GoodHost, Good}
 use Rattle.rc_step_laws.specs.Later.{HeldLater}
 use Rattle.rc_step_laws.specs.Moves.{OwnFine, BackupMoved, backup_body_said}
-use Rattle.rc_step_laws.proofs.Lists.{same_id-true, put_id_same, true_false}
 use Rattle.rc_step_laws.proofs.ReplicaLists.{replica_of-row, Ascending-filter, replica_of-filter, replica_of-without}
 use Rattle.rc_step_laws.proofs.Replicas.{Changed, Stood, AllStood}
 use Rattle.rc_step_laws.proofs.Changes.{changed-place, changed-append, changed-close}
 use Rattle.rc_step_laws.proofs.BackupTold.{NoNewPlaces, NothingNewlyTold, held-told}
 use Rattle.rc_step_laws.proofs.Storing.{held_later-refl, AllHeld, moved-kept}
+use Rattle.rc_model.proofs.Tables.{put_id-same}
+use Rattle.rc_model.proofs.Ids.{same_id-true}
+use Rattle.rc_model.proofs.Tests.{true_false, either}
 
 -- Messages that neither place nor tell
 
@@ -96,11 +98,6 @@ moved-keeps sent masters hosts c host m seg None own good unfenced changed = mov
 moved-keeps sent masters hosts c host m seg (Some after) own good unfenced changed =
     moved-kept sent masters hosts c host m seg after own good unfenced (changed after refl)
 
--- neither fenced nor freed
-or-false : (a b : Bool) → (a || b) ≡ false → (a ≡ false) × (b ≡ false)
-or-false true b e = absurd (true_false e)
-or-false false b e = (refl, e)
-
 moved-stores : (sent : List Message) (masters : ServerId → Master) (hosts : ℕ → HostNode) (c : Coordinator)
     (host : HostNode) (m : ServerId) (seg : ℕ) (body : Body) →
     host.backup.own ≡ server_of host → AllHeld sent masters host →
@@ -115,7 +112,7 @@ moved-stores sent masters hosts c host m seg body own good changed =
     (λ _. moved-still sent masters hosts c host good)
     (λ takes.
     let parts : ((host.backup.held m).fenced ≡ false) × (is_freed seg (host.backup.held m) ≡ false) =
-    or-false (host.backup.held m).fenced (is_freed seg (host.backup.held m)) takes in
+    or_parts (host.backup.held m).fenced (is_freed seg (host.backup.held m)) takes in
     moved-keeps sent masters hosts c host m seg (replica_after (replica_of seg (host.backup.held m).replicas) body) own
     good parts.0 (changed parts.1))
 
@@ -136,19 +133,15 @@ any-insert-old s n [] e = absurd (true_false (sym e))
 any-insert-old s n (k ∷ ns) e =
     either (λ (all : List ℕ). list_any (nat_eq s) all ≡ true) (nat_lt n k) (n ∷ k ∷ ns)
     (cond (nat_eq n k) (k ∷ ns) (k ∷ insert_number n ns))
-    (λ _. or-right (nat_eq s n) (list_any (nat_eq s) (k ∷ ns)) e)
+    (λ _. or_right (nat_eq s n) (list_any (nat_eq s) (k ∷ ns)) e)
     (λ _. either (λ (all : List ℕ). list_any (nat_eq s) all ≡ true) (nat_eq n k) (k ∷ ns) (k ∷ insert_number n ns)
     (λ _. e) (λ _. either_part (or_cases (nat_eq s k) (list_any (nat_eq s) ns) e) (any-insert-old s n ns)))
   where
-    or-right : (a b : Bool) → b ≡ true → (a || b) ≡ true
-    or-right true b at = refl
-    or-right false b at = at
-
     either_part : (nat_eq s k ≡ true) ⊎ (list_any (nat_eq s) ns ≡ true) →
         (list_any (nat_eq s) ns ≡ true → list_any (nat_eq s) (insert_number n ns) ≡ true) →
         (nat_eq s k || list_any (nat_eq s) (insert_number n ns)) ≡ true
     either_part (inl first) rec = ap (λ b. b || list_any (nat_eq s) (insert_number n ns)) first
-    either_part (inr rest) rec = or-right (nat_eq s k) (list_any (nat_eq s) (insert_number n ns)) (rec rest)
+    either_part (inr rest) rec = or_right (nat_eq s k) (list_any (nat_eq s) (insert_number n ns)) (rec rest)
 
 -- what a master has freed
 abbrev pub freed_held : ℕ → Held → Held
@@ -389,7 +382,7 @@ moved-fences sent masters hosts c host attempt m own good of_attempt placed =
       attempt = of_attempt;
       since = subst (λ (one : HostNode). host.generation ≤ one.generation) (sym placed) (omega arith);
       fenced = λ _. subst (λ (one : HostNode). (one.backup.held m).fenced ≡ true) (sym placed)
-          (ap (λ (one : Held). one.fenced) (put_id_same host.backup.held m (record (host.backup.held m) { fenced = true })));
+          (ap (λ (one : Held). one.fenced) (put_id-same host.backup.held m (record (host.backup.held m) { fenced = true })));
       rows_are = λ row at. row-is row at;
     }
 

@@ -1,7 +1,7 @@
 -- Each change of a replica keeps what holds of it, and raises it.
 use Rattle.std.proofs.Common.{◌≡◌, ℕ, ◌+◌, ◌-◌, ◌<◌, ◌≤◌, Bool, true, false, cond, not, ◌&&◌, List, length, drop}
 use Rattle.std.proofs.Common.{slice_get, nat_eq, nat_lt, nat_le, Option, Some, None, refl, sym, ap, ◌∙◌, subst, arith}
-use Rattle.std.proofs.lemmas.Bool.{eqb-true, eq-eqb, ltb-false, leb-true, and_parts}
+use Rattle.std.proofs.lemmas.Bool.{eqb-true, eq-eqb, ltb-false, leb-true, and_parts, not-true}
 use Rattle.std.proofs.lemmas.List.{length-append, length-drop}
 use Rattle.rc_types.specs.declared.ids.ServerId.{ServerId}
 use Rattle.rc_types.specs.declared.entries.Entry.{Entry}
@@ -12,15 +12,15 @@ use Rattle.rc_model.specs.Replica.{Replica, grown, placed, placed_open, appended
 use Rattle.rc_model.specs.Backup.{replica_after}
 use Rattle.rc_model.specs.Master.{Master}
 use Rattle.rc_model.specs.Headline.{In, HasMade}
-use Rattle.rc_model.proofs.Members.{either}
 use Rattle.rc_step_laws.specs.Words.{Begins, log_in, Stands, IsOpenedAt}
 use Rattle.rc_step_laws.specs.Facts.{GoodMaster, IsPlace, IsAppend, IsClose, GoodReplica}
 use Rattle.rc_step_laws.specs.Moves.{OwnFine}
-use Rattle.rc_step_laws.proofs.Lists.{true_false, get-within, get-below, begins-length, get-begins}
+use Rattle.rc_step_laws.proofs.Lists.{get-within, get-below, begins-length, get-begins}
 use Rattle.rc_step_laws.proofs.Copies.{split}
 use Rattle.rc_step_laws.proofs.Replicas.{begins-places, grown-places, grown-made, grown-longer, place-made}
 use Rattle.rc_step_laws.proofs.Replicas.{append-made, Changed, changed-some, changed-none, some-same, AllStood}
 use Rattle.rc_step_laws.proofs.Replicas.{AboveTold, above-whole, above-proper, placed-copy}
+use Rattle.rc_model.proofs.Tests.{true_false, either}
 
 -- what a Place that was heard is about
 pub record PlaceHeard (sent : List Message) (m : ServerId) (master : Master) (z : ServerId) (s e : ℕ) (digest : List ℕ)
@@ -270,10 +270,6 @@ appended-more sent m master z s offset entries old at append good no_gap open_so
       since = p.since;
       enough = (let one : length p.entries ≤ length old.entries = p.enough in omega (arith, one, longer));
     }
-
-not-true : (b : Bool) → not b ≡ true → b ≡ false
-not-true true e = cc
-not-true false e = refl
 
 pub changed-append : (sent : List Message) (m : ServerId) (master : Master) (z : ServerId) (s offset : ℕ)
     (entries : List Entry) (before : Option Replica) (after : Replica) →

@@ -38,16 +38,18 @@ use Rattle.rc_model.specs.CoordinatorStep.{creates_table, is_too_many, creates, 
 use Rattle.rc_model.specs.CoordinatorStep.{has_open_part, asks_again, asks_again_of, coordinator_ticks}
 use Rattle.rc_model.specs.CoordinatorStep.{coordinator_takes}
 use Rattle.rc_model.specs.Headline.{In}
-use Rattle.rc_model.proofs.Members.{either, In-left, In-append}
+use Rattle.rc_model.proofs.Members.{In-left, In-append}
 use Rattle.rc_step_laws.specs.Words.{OnDifferentHosts, IsNumbered}
 use Rattle.rc_step_laws.specs.Facts.{IsPlan, GoodAttempt, GoodCoordinator}
 use Rattle.rc_step_laws.specs.Moves.{CoordinatorMoved, CoordinatorMayHear, coordinator_body_said}
-use Rattle.rc_step_laws.proofs.Lists.{put_id_each, put_id_same, true_false}
 use Rattle.rc_step_laws.proofs.Servers.{crashed-not-up, crashed-stays-crashed, crashed-stays-enlisted}
 use Rattle.rc_step_laws.proofs.Servers.{apart-crashed, apart-enlisted}
-use Rattle.rc_step_laws.proofs.Attempting.{below-refl, greater-first, greater-second, numbered-at, Kept, Says}
+use Rattle.rc_step_laws.proofs.Attempting.{below-refl, numbered-at, Kept, Says}
 use Rattle.rc_step_laws.proofs.Attempting.{says-none, says-one, says-each, moved-kept, moved-added, of-added}
 use Rattle.rc_step_laws.proofs.Attempting.{moved-changed, numbered-set}
+use Rattle.rc_model.proofs.Tables.{put_id-same, put_id_each}
+use Rattle.rc_model.proofs.Tests.{true_false, either}
+use Rattle.rc_model.proofs.Granting.{greater-left, greater-right}
 
 -- Messages of several kinds, one after another
 
@@ -201,7 +203,7 @@ module _ (sent : List Message) (c : Coordinator) (good : GoodCoordinator sent c)
 
       rises : (m : ServerId) → is_below (put_id c.least id (greater_pair (c.least id) pair) m) (c.least m) ≡ false
       rises m = put_id_each (λ (k : ServerId) (p : Pair). is_below p (c.least k) ≡ false) c.least id
-          (greater_pair (c.least id) pair) (greater-first (c.least id) pair) (λ other. below-refl (c.least other)) m
+          (greater_pair (c.least id) pair) (greater-left (c.least id) pair) (λ other. below-refl (c.least other)) m
 
       -- that of a crashed master stays, since it isn't up
       stays : is_up c.servers id ≡ true → (m : ServerId) → has_crashed c.servers m ≡ true →
@@ -214,8 +216,8 @@ module _ (sent : List Message) (c : Coordinator) (good : GoodCoordinator sent c)
       mine = put_id_at
         where
           put_id_at : is_below (put_id c.least id (greater_pair (c.least id) pair) id) pair ≡ false
-          put_id_at = ap (λ (p : Pair). is_below p pair) (put_id_same c.least id (greater_pair (c.least id) pair)) ∙
-              greater-second (c.least id) pair
+          put_id_at = ap (λ (p : Pair). is_below p pair) (put_id-same c.least id (greater_pair (c.least id) pair)) ∙
+              greater-right (c.least id) pair
 
       granted : is_up c.servers id ≡ true →
           CoordinatorMoved sent c (

@@ -29,14 +29,14 @@ use Rattle.rc_model.specs.FollowUps.{follows_change, write_oks, new_durable, fol
 use Rattle.rc_model.specs.FollowUps.{follows_data, attempt_of, answers_part, or_rule, follow_up, marks_shut, further}
 use Rattle.rc_model.specs.FollowUps.{followed, measure, goes_on}
 use Rattle.rc_model.specs.Headline.{In}
-use Rattle.rc_model.proofs.Members.{either, In-append, In-get}
+use Rattle.rc_model.proofs.Members.{In-append, In-get, In-map, In-filter}
 use Rattle.rc_step_laws.specs.Words.{log_in, IsOpened, HasToldClosed}
 use Rattle.rc_step_laws.specs.Facts.{IsSafe}
 use Rattle.rc_step_laws.specs.Later.{LogLater}
 use Rattle.rc_step_laws.specs.Moves.{OwnFine, MasterSays}
-use Rattle.rc_step_laws.proofs.Lists.{put_same, begins-refl, true_false, get-drop, get-take, In-filter}
+use Rattle.rc_step_laws.proofs.Lists.{begins-refl, get-drop, get-take}
 use Rattle.rc_step_laws.proofs.Logs.{Grown, safe-grown, told_closed-more}
-use Rattle.rc_step_laws.proofs.Tests.{all-each, find-one, In-map}
+use Rattle.rc_step_laws.proofs.Tests.{all-each, find-one}
 use Rattle.rc_step_laws.proofs.LogMoves.{GoodSegment, GoodLog, LogMoved, more-left, segment-more, moved-log, log_moved-then}
 use Rattle.rc_step_laws.proofs.Places.{numbers-In, places_to-are, place-logged, durable-within}
 use Rattle.rc_step_laws.proofs.Safe.{durable-safe}
@@ -46,6 +46,8 @@ use Rattle.rc_step_laws.proofs.Views.{IsQuietOf, quiet-none, quiet-one, quiet-bo
 use Rattle.rc_step_laws.proofs.Views.{quiet-moved, each-to_ids}
 use Rattle.rc_step_laws.proofs.Rolling.{roll-cases, writing-is}
 use Rattle.rc_step_laws.proofs.Writing.{moved-appends, moved-opens_roll}
+use Rattle.rc_model.proofs.Tables.{put-same}
+use Rattle.rc_model.proofs.Tests.{true_false, either}
 
 -- what a rule does, where it applies, is a move
 abbrev pub Does : List Message → ServerId → Master → Option (Master × List Message) → Type 0
@@ -184,7 +186,7 @@ does-closing sent m master view = does-when sent m master (close_is_due log)
               final = over.1;
               whole = sym (length-map (old_head_of log).entries (λ (one : Entry × Bool). one.0))
                   ∙ sym (ap (λ (segment : Segment). length (map (λ (one : Entry × Bool). one.0) segment.entries))
-                  (put_same log.segments (log.head - 1) (with_closes_sent (old_head_of log))));
+                  (put-same log.segments (log.head - 1) (with_closes_sent (old_head_of log))));
             };
           }))
           (λ x t f digest entries at. close-no_place m log.own ids x t f (log.head - 1)

@@ -14,11 +14,11 @@ use Rattle.rc_model.specs.Config.{new_member, of_other_hosts, counted_from, cand
 use Rattle.rc_model.specs.Config.{and_then, substitutes, replaced}
 use Rattle.rc_model.specs.Master.{ids_of}
 use Rattle.rc_model.specs.Headline.{In}
-use Rattle.rc_model.proofs.Members.{either, In-left, In-right, In-append}
+use Rattle.rc_model.proofs.Members.{In-left, In-right, In-append, In-map, map-In, In-filter}
 use Rattle.rc_step_laws.specs.Words.{NotOnHostOf, OnDifferentHosts}
-use Rattle.rc_step_laws.proofs.Lists.{In-filter, true_false}
-use Rattle.rc_step_laws.proofs.Tests.{any-here, find-one, In-map, map-In}
+use Rattle.rc_step_laws.proofs.Tests.{any-here, find-one}
 use Rattle.rc_step_laws.proofs.LogMoves.{apart-not}
+use Rattle.rc_model.proofs.Tests.{true_false, either}
 
 -- An id on a host of none of these
 

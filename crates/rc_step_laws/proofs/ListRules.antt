@@ -20,12 +20,11 @@ use Rattle.rc_model.specs.Heads.{opened_first, open_first, with_config, opens_ch
 use Rattle.rc_model.specs.Master.{Master, with_log, to_ids, ids_of, place_of}
 use Rattle.rc_model.specs.ListRules.{places_segment, replaces_lost, replaces_lost_of, opens_first, tries_first, obeys_list, takes_list}
 use Rattle.rc_model.specs.Headline.{In}
-use Rattle.rc_model.proofs.Members.{either, In-right}
+use Rattle.rc_model.proofs.Members.{In-right, map-In}
 use Rattle.rc_step_laws.specs.Words.{log_in, IsOpened, OnDifferentHosts}
 use Rattle.rc_step_laws.specs.Facts.{IsPlace}
 use Rattle.rc_step_laws.specs.Moves.{OwnFine, MasterSays}
-use Rattle.rc_step_laws.proofs.Lists.{put_same, begins-refl, true_false}
-use Rattle.rc_step_laws.proofs.Tests.{map-In}
+use Rattle.rc_step_laws.proofs.Lists.{begins-refl}
 use Rattle.rc_step_laws.proofs.LogMoves.{GoodLog, LogMoved, IsFresh}
 use Rattle.rc_step_laws.proofs.Places.{numbers-In}
 use Rattle.rc_step_laws.proofs.Segments.{SegmentSteady, put-moved, steady-moved}
@@ -34,6 +33,8 @@ use Rattle.rc_step_laws.proofs.Views.{GoodView, Moved, moved-then_does, still, S
 use Rattle.rc_step_laws.proofs.Openings.{opens-moved}
 use Rattle.rc_step_laws.proofs.Hosts.{apart-choose, apart-substituted, apart-rows}
 use Rattle.rc_step_laws.proofs.MasterTold.{each-noted, steady-members, config-moved}
+use Rattle.rc_model.proofs.Tables.{put-same}
+use Rattle.rc_model.proofs.Tests.{true_false, either}
 
 -- A segment whole, closed where it is shut, is a Place of it
 
@@ -114,7 +115,7 @@ refilled-log sent m log s servers ids good fine opened shut =
     messages = to_ids log.own ids (place_of log_now s (log_now.segments s).shut)
 
     at_new : log_now.segments s ≡ new
-    at_new = put_same log.segments s new
+    at_new = put-same log.segments s new
 
     shut_now : (log_now.segments s).shut ≡ true
     shut_now = ap (λ (segment : Segment). segment.shut) at_new ∙ shut
@@ -206,7 +207,7 @@ changed-log sent m log s servers ids good fine opened open_now found = put-moved
     messages = to_ids log.own members_now (place_of log_now s (log_now.segments s).shut)
 
     at_new : log_now.segments s ≡ new
-    at_new = put_same log.segments s new
+    at_new = put-same log.segments s new
 
     placed_it : (x : ServerId) → In x members_now →
         In (between m x (Place s (old.config.epoch + 1) (log_now.segments s).digest (log_in log_now s) false)) messages

@@ -10,60 +10,12 @@ use Rattle.rc_model.specs.Ids.{same_id}
 use Rattle.rc_model.specs.Tables.{put, put_id}
 use Rattle.rc_model.specs.Headline.{In}
 use Rattle.rc_step_laws.specs.Words.{Begins}
-use Rattle.rc_model.proofs.Members.{either}
-
--- true is not false
-pub true_false : {P : Type 0} → true ≡ false → P
-true_false e = cc
-
--- a member of a filtered list is one of the whole, and passes the test
-pub In-filter : {X : Type 0} (test : X → Bool) (x : X) (xs : List X) → In x (filter test xs) → In x xs × (test x ≡ true)
-In-filter test x [] at = absurd at
-In-filter test x (y ∷ xs) at = by (test y) refl (In-filter test x xs) at
-  where
-    further : In x xs × (test x ≡ true) → ((x ≡ y) ⊎ In x xs) × (test x ≡ true)
-    further p = (inr p.0, p.1)
-
-    by : (b : Bool) → test y ≡ b → (In x (filter test xs) → In x xs × (test x ≡ true)) →
-        In x (cond b (y ∷ filter test xs) (filter test xs)) → ((x ≡ y) ⊎ In x xs) × (test x ≡ true)
-    by true e rec (inl same) = (inl same, ap test same ∙ e)
-    by true e rec (inr rest) = further (rec rest)
-    by false e rec rest = further (rec rest)
+use Rattle.rc_model.proofs.Members.{In-filter}
+use Rattle.rc_model.proofs.Tables.{put_each, put-same, put_id_each, put_id-same}
+use Rattle.rc_model.proofs.Ids.{same_parts, same_id-true, same_id-refl}
+use Rattle.rc_model.proofs.Tests.{true_false, either}
 
 -- Tables
-
--- what holds of the new value, and of each old one, holds of each in the table after
-pub put_each : {V : Type 0} (P : ℕ → V → Type 0) (table : ℕ → V) (key : ℕ) (value : V) → P key value →
-    ((other : ℕ) → P other (table other)) → (other : ℕ) → P other (put table key value other)
-put_each P table key value new old other =
-    either (P other) (nat_eq key other) value (table other) (λ e. subst (λ k. P k value) (eqb-true key other e) new) (λ _. old other)
-
--- the new value is found at its number
-pub put_same : {V : Type 0} (table : ℕ → V) (key : ℕ) (value : V) → put table key value key ≡ value
-put_same table key value = ap (λ b. cond b value (table key)) (eq-eqb key key refl)
-
--- ids with the same parts are one
-pub same_parts : (a b : ServerId) → a.index ≡ b.index → a.generation ≡ b.generation → a ≡ b
-same_parts a b p q j = record { index = p j; generation = q j }
-
--- ids that pass the test are one
-pub same_id-true : (a b : ServerId) → same_id a b ≡ true → a ≡ b
-same_id-true a b h = same_parts a b (grind (arith, nat_tests)) (grind (arith, nat_tests))
-
--- an id passes the test with itself
-pub same_id-refl : (a : ServerId) → same_id a a ≡ true
-same_id-refl a = grind (arith, nat_tests)
-
--- the same for a table of ids
-pub put_id_each : {V : Type 0} (P : ServerId → V → Type 0) (table : ServerId → V) (key : ServerId) (value : V) →
-    P key value → ((other : ServerId) → P other (table other)) → (other : ServerId) →
-    P other (put_id table key value other)
-put_id_each P table key value new old other =
-    either (P other) (same_id key other) value (table other) (λ e. subst (λ k. P k value) (same_id-true key other e) new) (λ _. old other)
-
--- the new value is found at its id
-pub put_id_same : {V : Type 0} (table : ServerId → V) (key : ServerId) (value : V) → put_id table key value key ≡ value
-put_id_same table key value = ap (λ b. cond b value (table key)) (same_id-refl key)
 
 -- Places of lists
 

@@ -13,7 +13,8 @@ use Rattle.rc_step_laws.specs.Facts.{IsSafe, IsOutdated, IsDead, IsDigest, IsPla
 use Rattle.rc_step_laws.specs.Later.{LogLater, IsNewPlace}
 use Rattle.rc_step_laws.specs.Moves.{OwnFine}
 use Rattle.rc_step_laws.proofs.Copies.{split, More, grows-log, final-log}
-use Rattle.rc_step_laws.proofs.Lists.{true_false, begins-length, get-begins, begins-refl, begins-trans}
+use Rattle.rc_step_laws.proofs.Lists.{begins-length, get-begins, begins-refl, begins-trans}
+use Rattle.rc_model.proofs.Tests.{true_false}
 
 -- What was told, placed or granted stays so
 

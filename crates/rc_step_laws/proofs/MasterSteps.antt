@@ -20,12 +20,10 @@ use Rattle.rc_model.specs.MasterTick.{fetch_of, ticks}
 use Rattle.rc_model.specs.MasterStep.{begins_task, task_of, takes_plan, says_deposed, master_takes_first}
 use Rattle.rc_model.specs.MasterStep.{deposed_takes, master_takes, master_ticks}
 use Rattle.rc_model.specs.Headline.{In}
-use Rattle.rc_model.proofs.Members.{either}
 use Rattle.rc_step_laws.specs.Words.{OnDifferentHosts}
 use Rattle.rc_step_laws.specs.Facts.{GoodMaster}
 use Rattle.rc_step_laws.specs.Moves.{OwnFine, MasterMoved, MayHear}
 use Rattle.rc_step_laws.specs.MasterClaims.{MasterTakesKeeps, MasterTicksKeeps, NewMasterIsGood}
-use Rattle.rc_step_laws.proofs.Lists.{true_false}
 use Rattle.rc_step_laws.proofs.LogMoves.{GoodLog}
 use Rattle.rc_step_laws.proofs.Views.{GoodView, Moved, moved-then_does, moved-quiet, quiet-none, still}
 use Rattle.rc_step_laws.proofs.Writing.{moved-writes, moved-reads, moved-refused}
@@ -33,6 +31,7 @@ use Rattle.rc_step_laws.proofs.MasterTold.{moved-stored, moved-commit}
 use Rattle.rc_step_laws.proofs.ListRules.{moved-takes_list}
 use Rattle.rc_step_laws.proofs.FollowUps.{moved-goes_on}
 use Rattle.rc_step_laws.proofs.Ticks.{fetches-quiet, moved-ticks}
+use Rattle.rc_model.proofs.Tests.{true_false, either}
 
 -- A good master's view, and back
 

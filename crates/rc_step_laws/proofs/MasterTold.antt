@@ -13,13 +13,13 @@ use Rattle.rc_model.specs.Log.{Log, has_segment}
 use Rattle.rc_model.specs.Heads.{with_config, stored, commit_noted}
 use Rattle.rc_model.specs.Master.{Master, with_log, ids_of}
 use Rattle.rc_model.specs.Headline.{In}
-use Rattle.rc_model.proofs.Members.{either}
 use Rattle.rc_step_laws.specs.Words.{IsOpened}
 use Rattle.rc_step_laws.specs.Moves.{OwnFine}
 use Rattle.rc_step_laws.proofs.LogMoves.{GoodSegment, GoodLog, LogMoved}
 use Rattle.rc_step_laws.proofs.Segments.{SegmentSteady, steady-moved, marked-steady}
 use Rattle.rc_step_laws.proofs.Members.{EachNoted, each-told, ids-told}
 use Rattle.rc_step_laws.proofs.Views.{GoodView, Moved, quiet-moved, quiet-none}
+use Rattle.rc_model.proofs.Tests.{either}
 
 -- what is noted of each member of a good segment
 pub each-noted : (sent : List Message) (m : ServerId) (phase : Phase) (head s : ℕ) (segment : Segment) →

@@ -13,10 +13,10 @@ use Rattle.rc_model.specs.ServerList.{ServerList, has_crashed}
 use Rattle.rc_model.specs.Config.{new_member, told_with, is_heard, told_if_heard, told_len, told_closed, lost_if_crashed, replaced}
 use Rattle.rc_model.specs.Master.{ids_of}
 use Rattle.rc_model.specs.Headline.{In}
-use Rattle.rc_model.proofs.Members.{either}
+use Rattle.rc_model.proofs.Members.{In-map}
 use Rattle.rc_step_laws.specs.Words.{HasTold, HasToldClosed}
-use Rattle.rc_step_laws.proofs.Lists.{same_id-true}
-use Rattle.rc_step_laws.proofs.Tests.{In-map}
+use Rattle.rc_model.proofs.Ids.{same_id-true}
+use Rattle.rc_model.proofs.Tests.{either}
 
 -- What is noted of one member was told
 

@@ -13,17 +13,18 @@ use Rattle.rc_model.specs.Log.{Log}
 use Rattle.rc_model.specs.Heads.{opens_head}
 use Rattle.rc_model.specs.Master.{to_ids, ids_of, places_head}
 use Rattle.rc_model.specs.Headline.{In}
-use Rattle.rc_model.proofs.Members.{In-right}
+use Rattle.rc_model.proofs.Members.{In-right, In-map, map-In}
 use Rattle.rc_step_laws.specs.Words.{log_in, IsMember, OnDifferentHosts}
 use Rattle.rc_step_laws.specs.Facts.{IsDead, IsDigest}
 use Rattle.rc_step_laws.specs.Later.{LogLater}
 use Rattle.rc_step_laws.specs.Moves.{OwnFine, MasterSays}
-use Rattle.rc_step_laws.proofs.Lists.{put_each, put_same, true_false, begins-refl}
+use Rattle.rc_step_laws.proofs.Lists.{begins-refl}
 use Rattle.rc_step_laws.proofs.Logs.{dead-grown, member-more, told-more, told_closed-more, committed-more}
-use Rattle.rc_step_laws.proofs.Tests.{In-map, map-In}
 use Rattle.rc_step_laws.proofs.LogMoves.{GoodLog, GoodSegment, LogMoved, IsFresh, more-left, new_places, moved-log}
 use Rattle.rc_step_laws.proofs.Segments.{SegmentLater, log-later, later-refl, counted-still, within-still}
 use Rattle.rc_step_laws.proofs.Views.{each-to_ids, place-to_ids}
+use Rattle.rc_model.proofs.Tables.{put-same, put_each}
+use Rattle.rc_model.proofs.Tests.{true_false}
 
 not_writing : {P : Type 0} → Opening ≡ Writing → P
 not_writing e = cc
@@ -48,7 +49,7 @@ placed_head m log digest ids own = sym (
     ap (λ (segment : Segment). to_ids log.own (ids_of segment.config.members)
     (Place (log.head + 1) segment.config.epoch segment.digest (map (λ (one : Entry × Bool). one.0) segment.entries)
     false))
-    (put_same log.segments (log.head + 1) (new_segment (log.head + 1) digest ids))
+    (put-same log.segments (log.head + 1) (new_segment (log.head + 1) digest ids))
     ∙ ap (λ others. to_ids log.own others (Place (log.head + 1) 0 digest [] false)) (ids-new ids)
     ∙ ap (λ id. to_ids id ids (Place (log.head + 1) 0 digest [] false)) own)
 
@@ -95,7 +96,7 @@ opened-moved sent m log digest ids good fine all_shut apart fits = moved-log sen
     sent_now = sent ++ messages
 
     at_new : new.segments h ≡ seg
-    at_new = put_same log.segments h seg
+    at_new = put-same log.segments h seg
 
     none_there : log.segments h ≡ no_segment h
     none_there = good.none_above h (omega arith)

@@ -9,11 +9,12 @@ use Rattle.rc_model.specs.Config.{durable_len}
 use Rattle.rc_model.specs.Segment.{Segment, durable_in}
 use Rattle.rc_model.specs.Log.{Log, LogPlace, places_in, places_to, places_of, numbers_to, durable_among, durable_now}
 use Rattle.rc_model.specs.Headline.{In}
-use Rattle.rc_model.proofs.Members.{In-left, In-right, In-append}
+use Rattle.rc_model.proofs.Members.{In-left, In-right, In-append, map-In}
 use Rattle.rc_step_laws.specs.Words.{Begins, log_in}
 use Rattle.rc_step_laws.specs.Later.{LogLater}
 use Rattle.rc_step_laws.proofs.Lists.{get-append, get-within, begins-refl, begins-trans}
-use Rattle.rc_step_laws.proofs.Tests.{begins-cons, map-get, map-In}
+use Rattle.rc_step_laws.proofs.Tests.{begins-cons, map-get}
+use Rattle.rc_model.proofs.LogParts.{length-places_in}
 
 -- Which they are
 
@@ -83,7 +84,7 @@ places_in-begins : (seg offset : ℕ) (xs ys : List (Entry × Bool)) → Begins 
 places_in-begins seg offset xs ys p =
     subst (λ zs. Begins (places_in seg offset xs) (places_in seg offset zs)) p.1 (places_in-append seg offset xs p.0)
 
-places_to-same : (old new : ℕ → Segment) (n : ℕ) → ((s : ℕ) → s ≤ n → (new s).entries ≡ (old s).entries) → places_to new n ≡ places_to old n
+pub places_to-same : (old new : ℕ → Segment) (n : ℕ) → ((s : ℕ) → s ≤ n → (new s).entries ≡ (old s).entries) → places_to new n ≡ places_to old n
 places_to-same old new zero same = refl
 places_to-same old new (suc n) same =
     ap (λ l. l ++ places_in (suc n) 0 (new (suc n)).entries) (places_to-same old new n (λ s upto. same s (omega arith)))
@@ -157,10 +158,6 @@ numbers-In t (suc n) at = by (numbers-In t n) (In-append t (numbers_to n) (suc n
     by rec (inl there) = (let p = rec there in (p.0, omega (arith, p.1)))
     by rec (inr (inl e)) = (omega arith, omega arith)
     by rec (inr (inr none)) = absurd none
-
-length-places_in : (seg offset : ℕ) (entries : List (Entry × Bool)) → length (places_in seg offset entries) ≡ length entries
-length-places_in seg offset [] = refl
-length-places_in seg offset (one ∷ entries) = ap (λ n. suc n) (length-places_in seg (offset + 1) entries)
 
 -- what is counted up to a segment
 record Counts (segments : ℕ → Segment) (n : ℕ) : Type 0 where

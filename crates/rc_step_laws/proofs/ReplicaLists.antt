@@ -6,8 +6,8 @@ use Rattle.rc_types.specs.declared.rows.Row.{Row}
 use Rattle.rc_model.specs.Replica.{Replica}
 use Rattle.rc_model.specs.Backup.{replica_of, put_replica, without_replica, row_of_replica, rows_of_replicas}
 use Rattle.rc_model.specs.Headline.{In}
-use Rattle.rc_model.proofs.Members.{either}
 use Rattle.rc_step_laws.specs.Facts.{AllAbove, Ascending}
+use Rattle.rc_model.proofs.Tests.{either}
 
 -- The list
 

@@ -2,7 +2,7 @@
 use Rattle.std.proofs.Common.{◌≡◌, ◌⊎◌, ℕ, ◌+◌, ◌<◌, ◌≤◌, Bool, true, false, cond, not, nat_eq, nat_lt, ◌&&◌, ◌||◌}
 use Rattle.std.proofs.Common.{List, [], ◌∷◌, ◌++◌, filter, Option, Some, None, Result, Ok, Err, refl, sym, ap, ◌∙◌}
 use Rattle.std.proofs.Common.{subst, inl, inr, arith}
-use Rattle.std.proofs.lemmas.Bool.{and_parts, eqb-true, eq-eqb, ltb-true}
+use Rattle.std.proofs.lemmas.Bool.{and_parts, eqb-true, eq-eqb, ltb-true, or_left}
 use Rattle.std.specs.List.{list_any}
 use Rattle.rc_types.specs.declared.ids.ServerId.{ServerId}
 use Rattle.rc_types.specs.declared.entries.Entry.{Entry}
@@ -19,15 +19,15 @@ use Rattle.rc_model.specs.Heads.{opens_head, next_digest, rolled, begin_roll}
 use Rattle.rc_model.specs.Versions.{is_of, is_outdated, is_dead}
 use Rattle.rc_model.specs.Master.{Master, durable_entries, is_dead_segment, dead_segments}
 use Rattle.rc_model.specs.Headline.{In}
-use Rattle.rc_model.proofs.Members.{either, In-get, In-left, In-right, In-append}
+use Rattle.rc_model.proofs.Members.{In-get, In-left, In-right, In-append, In-filter, filter-In}
 use Rattle.rc_step_laws.specs.Words.{log_in}
 use Rattle.rc_step_laws.specs.Facts.{IsOutdated, IsDead, IsDigest}
-use Rattle.rc_step_laws.proofs.Lists.{In-filter, true_false}
 use Rattle.rc_step_laws.proofs.Copies.{split}
-use Rattle.rc_step_laws.proofs.Tests.{all-each, any-one, filter-In, get-map, In-take}
+use Rattle.rc_step_laws.proofs.Tests.{all-each, any-one, get-map, In-take}
 use Rattle.rc_step_laws.proofs.LogMoves.{GoodLog}
 use Rattle.rc_step_laws.proofs.Places.{IsOf, places_to-are, place-logged}
 use Rattle.rc_step_laws.proofs.Openings.{NewDigest}
+use Rattle.rc_model.proofs.Tests.{true_false, either}
 
 -- Dead segments
 
@@ -120,10 +120,6 @@ next-digest sent m master good above = record {
         cut : (a b : ℕ) → a ≤ b → (a ≡ b) ⊎ (a < b)
         cut a b less = grind arith
 
-    or_first : (a b : Bool) → a ≡ true → (a || b) ≡ true
-    or_first true b e = refl
-    or_first false b e = true_false (sym e)
-
     or_not : (a b : Bool) → b ≡ false → (a || not b) ≡ true
     or_not true b e = refl
     or_not false false e = refl
@@ -147,7 +143,7 @@ next-digest sent m master good above = record {
     by_lacks t (inl same) over =
         inl (In-left t old (h ∷ [])
         (filter-In test t (head_of master.log).digest (subst (λ n. In n (head_of master.log).digest) (sym same) is.own)
-        (or_first (nat_eq t master.log.head) (not (list_any (nat_eq t) (dead_segments master))) (eq-eqb t master.log.head same))))
+        (or_left (nat_eq t master.log.head) (not (list_any (nat_eq t) (dead_segments master))) (eq-eqb t master.log.head same))))
     by_lacks t (inr less) over = by_digest t (is.lacks t over less)
 
 -- What a roll comes to

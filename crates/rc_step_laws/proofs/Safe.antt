@@ -9,15 +9,15 @@ use Rattle.rc_model.specs.Config.{Config, told_len, any_lost, least_told, durabl
 use Rattle.rc_model.specs.Segment.{Segment, durable_in}
 use Rattle.rc_model.specs.Log.{Log, LogPlace, places_of, durable_now}
 use Rattle.rc_model.specs.Headline.{In}
-use Rattle.rc_model.proofs.Members.{either}
+use Rattle.rc_model.proofs.Members.{In-map}
 use Rattle.rc_step_laws.specs.Words.{log_in, HasTold, IsMember}
 use Rattle.rc_step_laws.specs.Facts.{IsSafe}
 use Rattle.rc_step_laws.specs.Moves.{OwnFine}
-use Rattle.rc_step_laws.proofs.Lists.{get-within, true_false}
+use Rattle.rc_step_laws.proofs.Lists.{get-within}
 use Rattle.rc_step_laws.proofs.Copies.{split}
-use Rattle.rc_step_laws.proofs.Tests.{In-map}
 use Rattle.rc_step_laws.proofs.LogMoves.{GoodLog}
 use Rattle.rc_step_laws.proofs.Places.{IsOf, IsCovered, places_to-are, place-logged, durable-covered}
+use Rattle.rc_model.proofs.Tests.{true_false, either}
 
 -- the least that was told is told by each
 least_of-left : (o a b : ℕ) → o < min a b → o < a

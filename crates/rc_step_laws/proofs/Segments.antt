@@ -18,12 +18,14 @@ use Rattle.rc_step_laws.specs.Words.{Begins, log_in, IsOpened, HasTold, HasToldC
 use Rattle.rc_step_laws.specs.Facts.{IsSafe}
 use Rattle.rc_step_laws.specs.Later.{LogLater}
 use Rattle.rc_step_laws.specs.Moves.{OwnFine, MasterSays}
-use Rattle.rc_step_laws.proofs.Lists.{put_each, begins-refl, begins-length, true_false}
+use Rattle.rc_step_laws.proofs.Lists.{begins-refl, begins-length}
 use Rattle.rc_step_laws.proofs.Tests.{get-begins_back}
 use Rattle.rc_step_laws.proofs.Copies.{More}
 use Rattle.rc_step_laws.proofs.Logs.{member-more, told-more, told_closed-more, committed-more}
 use Rattle.rc_step_laws.proofs.LogMoves.{GoodSegment, GoodLog, LogMoved, IsFresh, more-left, segment-more, moved-log}
 use Rattle.rc_step_laws.proofs.Places.{places-later}
+use Rattle.rc_model.proofs.Tests.{true_false}
+use Rattle.rc_model.proofs.Tables.{put_each}
 
 -- what a change of one segment keeps
 pub record SegmentLater (sent : List Message) (m : ServerId) (head s : ℕ) (old new : Segment) : Type 0 where

@@ -5,9 +5,8 @@ use Rattle.rc_types.specs.declared.ids.ServerId.{ServerId}
 use Rattle.rc_model.specs.Ids.{same_id}
 use Rattle.rc_model.specs.ServerList.{ServerList, knows, marked_up, is_up, has_crashed, up_rows, index_crashed}
 use Rattle.rc_model.specs.ServerList.{enlisted, id_crashed, crashed}
-use Rattle.rc_model.proofs.Members.{either}
 use Rattle.rc_step_laws.specs.Words.{NotOnHostOf, OnDifferentHosts}
-use Rattle.rc_step_laws.proofs.Lists.{true_false}
+use Rattle.rc_model.proofs.Tests.{true_false, either}
 
 -- Crashed is for good
 

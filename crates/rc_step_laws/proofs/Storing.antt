@@ -16,15 +16,17 @@ use Rattle.rc_model.specs.Master.{Master}
 use Rattle.rc_model.specs.Coordinator.{Coordinator}
 use Rattle.rc_model.specs.Nodes.{HostNode, server_of}
 use Rattle.rc_model.specs.Headline.{In}
-use Rattle.rc_model.proofs.Members.{either, In-left}
+use Rattle.rc_model.proofs.Members.{In-left}
 use Rattle.rc_step_laws.specs.Facts.{IsTold, StillStands, GoodHeld, GoodReplica}
 use Rattle.rc_step_laws.specs.Later.{HeldLater}
 use Rattle.rc_step_laws.specs.Moves.{BackupMoved, backup_body_said}
-use Rattle.rc_step_laws.proofs.Lists.{same_id-true, same_id-refl, put_id_same, true_false}
 use Rattle.rc_step_laws.proofs.Copies.{More, placed-more}
 use Rattle.rc_step_laws.proofs.ReplicaLists.{replica_of-put, replica_of-other, Ascending-put}
 use Rattle.rc_step_laws.proofs.Replicas.{Changed}
 use Rattle.rc_step_laws.proofs.BackupTold.{NoNewPlaces, NewlyToldUpTo, replica-told, held-told, SameStored, same-stored, one-more}
+use Rattle.rc_model.proofs.Tables.{put_id-same}
+use Rattle.rc_model.proofs.Ids.{same_id-true, same_id-refl}
+use Rattle.rc_model.proofs.Tests.{true_false, either}
 
 -- ids that fail the test differ
 differs-id : (a b : ServerId) → same_id a b ≡ false → a ≡ b → ⊥
@@ -281,7 +283,7 @@ moved-kept sent masters hosts c host m seg after own good unfenced changed = rec
         (record (host.backup.held m) { replicas = put_replica seg after (host.backup.held m).replicas }) m) seg
         after.epoch (length after.entries) after.closed
     stands = subst (λ (held : Held). StillStands held seg after.epoch (length after.entries) after.closed)
-        (sym (put_id_same host.backup.held m
+        (sym (put_id-same host.backup.held m
         (record (host.backup.held m) { replicas = put_replica seg after (host.backup.held m).replicas })))
         (record {
           replica = after;

@@ -1,14 +1,15 @@
 -- More on lists, and what tests of them say.
 use Rattle.std.proofs.Common.{◌≡◌, ◌⊎◌, ℕ, zero, suc, ◌<◌, Bool, true, false, cond, ◌||◌, List, [], ◌∷◌, length, take}
 use Rattle.std.proofs.Common.{map, filter, find, slice_get, Some, refl, sym, ap, ◌∙◌, subst, inl, inr}
-use Rattle.std.proofs.lemmas.Bool.{and_parts}
+use Rattle.std.proofs.lemmas.Bool.{and_parts, or_right}
 use Rattle.std.proofs.lemmas.Option.{slice_get-map}
 use Rattle.std.specs.List.{list_all, list_any}
 use Rattle.std.specs.Option.{option_map}
 use Rattle.rc_model.specs.Headline.{In}
-use Rattle.rc_model.proofs.Members.{either, place_of}
+use Rattle.rc_model.proofs.Members.{place_of, filter-In, In-map, map-In}
 use Rattle.rc_step_laws.specs.Words.{Begins}
-use Rattle.rc_step_laws.proofs.Lists.{true_false, get-take, get-begins, get-below}
+use Rattle.rc_step_laws.proofs.Lists.{get-take, get-begins, get-below}
+use Rattle.rc_model.proofs.Tests.{true_false, either}
 
 -- where all pass a test, each does
 pub all-each : {X : Type 0} (test : X → Bool) (x : X) (xs : List X) → list_all test xs ≡ true → In x xs → test x ≡ true
@@ -27,10 +28,6 @@ any-one test (y ∷ xs) e = by (test y) refl e (any-one test xs)
     by true here e rec = (y, inl refl, here)
     by false here e rec = (let found = rec e in (found.0, inr found.1, found.2))
 
-or_right : (a b : Bool) → b ≡ true → (a || b) ≡ true
-or_right true b e = refl
-or_right false b e = e
-
 -- where one passes, the test of the list does
 pub any-here : {X : Type 0} (test : X → Bool) (x : X) (xs : List X) → In x xs → test x ≡ true → list_any test xs ≡ true
 any-here test x [] at e = absurd at
@@ -46,25 +43,6 @@ find-one test (y ∷ xs) x e = by (test y) refl e (find-one test xs x)
         (find test xs ≡ Some x → In x xs × (test x ≡ true)) → ((x ≡ y) ⊎ In x xs) × (test x ≡ true)
     by true here e rec = (let same : y ≡ x = cc in (inl (sym same), ap test (sym same) ∙ here))
     by false here e rec = (let p = rec e in (inr p.0, p.1))
-
--- a member that passes stays in a filtered list
-pub filter-In : {X : Type 0} (test : X → Bool) (x : X) (xs : List X) → In x xs → test x ≡ true → In x (filter test xs)
-filter-In test x [] at e = absurd at
-filter-In test x (y ∷ xs) (inl same) e = either (λ l. In x l) (test y) (y ∷ filter test xs) (filter test xs)
-    (λ _. inl same) (λ no. true_false (sym e ∙ ap test same ∙ no))
-filter-In test x (y ∷ xs) (inr rest) e = either (λ l. In x l) (test y) (y ∷ filter test xs) (filter test xs)
-    (λ _. inr (filter-In test x xs rest e)) (λ _. filter-In test x xs rest e)
-
--- a member of a mapped list is the image of one
-pub In-map : {X Y : Type 0} (f : X → Y) (y : Y) (xs : List X) → In y (map f xs) → (x : X) × (In x xs) × (y ≡ f x)
-In-map f y [] at = absurd at
-In-map f y (x ∷ xs) (inl e) = (x, inl refl, e)
-In-map f y (x ∷ xs) (inr rest) = let found = In-map f y xs rest in (found.0, inr found.1, found.2)
-
-pub map-In : {X Y : Type 0} (f : X → Y) (x : X) (xs : List X) → In x xs → In (f x) (map f xs)
-map-In f x [] at = absurd at
-map-In f x (z ∷ xs) (inl e) = inl (ap f e)
-map-In f x (z ∷ xs) (inr rest) = inr (map-In f x xs rest)
 
 -- what stands in a mapped list is the image of what stands there
 pub get-map : {X Y : Type 0} (f : X → Y) (xs : List X) (k : ℕ) (y : Y) → slice_get (map f xs) k ≡ Some y →

@@ -26,16 +26,17 @@ use Rattle.rc_model.specs.MasterTick.{reminds_members, reminds_open, reminds_shu
 use Rattle.rc_model.specs.MasterTick.{commits_again, has_not_come, fetch_of, fetches_again, awaits_grant}
 use Rattle.rc_model.specs.MasterTick.{recovered_again, ready_again, reminds, ticks}
 use Rattle.rc_model.specs.Headline.{In}
-use Rattle.rc_model.proofs.Members.{either, In-append}
+use Rattle.rc_model.proofs.Members.{In-append, In-map, map-In, In-filter}
 use Rattle.rc_step_laws.specs.Words.{Stands, IsOpened, IsMember}
 use Rattle.rc_step_laws.specs.Moves.{MasterSays, body_said}
-use Rattle.rc_step_laws.proofs.Lists.{true_false, get-drop, In-filter}
-use Rattle.rc_step_laws.proofs.Tests.{In-map, map-In, get-map, map-get}
+use Rattle.rc_step_laws.proofs.Lists.{get-drop}
+use Rattle.rc_step_laws.proofs.Tests.{get-map, map-get}
 use Rattle.rc_step_laws.proofs.LogMoves.{GoodLog}
 use Rattle.rc_step_laws.proofs.Places.{numbers-In}
 use Rattle.rc_step_laws.proofs.Views.{GoodView, Moved, moved-then_does, moved-quiet, same-moved, AllQuiet, IsQuiet}
 use Rattle.rc_step_laws.proofs.Views.{IsQuietOf, quiet-none, quiet-one, quiet-both, quiet-says}
 use Rattle.rc_step_laws.proofs.ListRules.{place-whole, moved-obeys}
+use Rattle.rc_model.proofs.Tests.{true_false, either}
 
 -- Messages that may be said again: a proper Place among them goes to a member
 

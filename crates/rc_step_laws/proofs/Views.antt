@@ -13,11 +13,10 @@ use Rattle.rc_model.specs.Log.{Log}
 use Rattle.rc_model.specs.Master.{Master, to_ids}
 use Rattle.rc_model.specs.ListRules.{then_does}
 use Rattle.rc_model.specs.Headline.{In}
-use Rattle.rc_model.proofs.Members.{In-append}
+use Rattle.rc_model.proofs.Members.{In-append, In-map}
 use Rattle.rc_step_laws.specs.Words.{IsMember, OnDifferentHosts}
 use Rattle.rc_step_laws.specs.Moves.{OwnFine, MasterSays, body_said}
 use Rattle.rc_step_laws.proofs.Logs.{log_later-refl}
-use Rattle.rc_step_laws.proofs.Tests.{In-map}
 use Rattle.rc_step_laws.proofs.LogMoves.{GoodLog, LogMoved, more-left, segment-more, moved-log, log_moved-then}
 
 -- Views

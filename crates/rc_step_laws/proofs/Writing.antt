@@ -22,17 +22,19 @@ use Rattle.rc_model.specs.Master.{Master, with_log, durable_entries, to_ids, ids
 use Rattle.rc_model.specs.Writing.{refused, is_too_long, written, rolls_for_write, writes_under, writes_if_owned}
 use Rattle.rc_model.specs.Writing.{writes, reads_if_owned, reads}
 use Rattle.rc_model.specs.Headline.{In}
-use Rattle.rc_model.proofs.Members.{either}
+use Rattle.rc_model.proofs.Members.{In-map}
 use Rattle.rc_step_laws.specs.Words.{Stands}
 use Rattle.rc_step_laws.specs.Moves.{OwnFine, MasterSays}
-use Rattle.rc_step_laws.proofs.Lists.{put_same, get-end, true_false}
-use Rattle.rc_step_laws.proofs.Tests.{In-map}
+use Rattle.rc_step_laws.proofs.Lists.{get-end}
 use Rattle.rc_step_laws.proofs.LogMoves.{GoodSegment, GoodLog, LogMoved, more-left, segment-more}
 use Rattle.rc_step_laws.proofs.Segments.{put-moved}
 use Rattle.rc_step_laws.proofs.Views.{GoodView, Moved, moved-then, moved-quiet, quiet-one, each-to_ids, view-after}
 use Rattle.rc_step_laws.proofs.Openings.{opens-moved}
 use Rattle.rc_step_laws.proofs.Rolling.{next-digest, roll-cases, writing-is}
 use Rattle.rc_step_laws.proofs.Hosts.{apart-choose}
+use Rattle.rc_model.proofs.Tables.{put-same}
+use Rattle.rc_model.proofs.Tests.{true_false, either}
+use Rattle.std.proofs.lemmas.Bool.{not-false}
 
 -- An entry
 
@@ -94,7 +96,7 @@ appends-log sent m log entry client ids good fine writing = put-moved sent m log
         says = record {
           opened = record { above = good.writing_opened writing; below = omega arith };
           stands = subst (λ (segment : Segment). Stands (entry ∷ []) (length (head_of log).entries)
-              (map (λ (one : Entry × Bool). one.0) segment.entries)) (sym (put_same log.segments h new))
+              (map (λ (one : Entry × Bool). one.0) segment.entries)) (sym (put-same log.segments h new))
               (stands-new (head_of log).entries entry client);
         };
       });
@@ -164,7 +166,7 @@ moved-writes_under sent m master term table key value view =
     (appends_entry master (written master term table key value) true))
     (λ _. moved-refused sent m master Rolling view)
     (λ is. (
-    let writing : master.log.phase ≡ Writing = writing-is master.log.phase (not_not (is_writing master.log.phase) is) in
+    let writing : master.log.phase ≡ Writing = writing-is master.log.phase (not-false (is_writing master.log.phase) is) in
     either P (is_full master.log) (rolls_for_write master (begin_roll master.known (dead_segments master) master.log))
     (appends_entry master (written master term table key value) true)
     (λ _. moved-rolls_for_write sent m master view writing)
@@ -172,10 +174,6 @@ moved-writes_under sent m master term table key value view =
   where
     P : Master × List Message → Type 0
     P after = Moved sent m master after
-
-    not_not : (b : Bool) → not b ≡ false → b ≡ true
-    not_not true e = refl
-    not_not false e = true_false e
 
 moved-writes_if_owned : (sent : List Message) (m : ServerId) (master : Master) (term : Option ℕ) (table key : ℕ)
     (value : Option (List ℕ)) → GoodView sent m master

@@ -21,9 +21,8 @@ use Rattle.rc_model.specs.MasterStep.{master_takes, master_ticks}
 use Rattle.rc_model.specs.MasterTick.{commits_again}
 use Rattle.rc_model.specs.World.{replay}
 use Rattle.rc_model.specs.Headline.{In}
-use Rattle.rc_model.proofs.Members.{either, In-left, In-append, place_of}
+use Rattle.rc_model.proofs.Members.{In-left, In-append, place_of}
 use Rattle.rc_step_laws.specs.Words.{log_in}
-use Rattle.rc_step_laws.proofs.Lists.{same_id-refl}
 use Rattle.rc_step_laws.proofs.Places.{IsOf, places_to-are, place-logged}
 use Rattle.rc_write_laws.specs.AckClaims.{is_ack_of, counted_places, WasAsked, IsAsked, AcknowledgedWasAsked}
 use Rattle.rc_write_laws.proofs.Quiet.{places-same}
@@ -31,6 +30,8 @@ use Rattle.rc_write_laws.proofs.Walk.{IsKept, takes-kept, tick-kept}
 use Rattle.rc_write_laws.proofs.Frame.{IsKeptByAll, kept-replay}
 use Rattle.rc_write_laws.proofs.Counting.{added, places-appended, filter-in, counted-is-acknowledged}
 use Rattle.rc_write_laws.proofs.Settling.{ok_of}
+use Rattle.rc_model.proofs.Ids.{same_id-refl}
+use Rattle.rc_model.proofs.Tests.{either}
 
 -- Each client's place holds what was asked
 

@@ -23,14 +23,15 @@ use Rattle.rc_model.specs.FollowUps.{write_oks, new_durable, commits}
 use Rattle.rc_model.specs.MasterStep.{master_takes, master_ticks}
 use Rattle.rc_model.specs.MasterTick.{commits_again, awaits_commit}
 use Rattle.rc_model.specs.Headline.{In}
-use Rattle.rc_model.proofs.Members.{either}
 use Rattle.rc_step_laws.specs.Facts.{GoodMaster}
-use Rattle.rc_step_laws.proofs.Lists.{true_false, put_same, same_id-true, same_id-refl}
 use Rattle.rc_step_laws.proofs.Places.{durable-within}
 use Rattle.rc_write_laws.specs.AckClaims.{is_write_ok, is_ack_of, acks_in, counted_places, CountedIsAcknowledged}
 use Rattle.rc_write_laws.proofs.Quiet.{is_loud, AllSoft, soft-ids, QuietLog, places-same, put-beside}
 use Rattle.rc_write_laws.proofs.Walk.{IsKept, takes-kept, tick-kept}
 use Rattle.rc_write_laws.proofs.Frame.{OthersSay, IsKeptByAll, kept-replay}
+use Rattle.rc_model.proofs.Tables.{put-same}
+use Rattle.rc_model.proofs.Ids.{same_id-true, same_id-refl}
+use Rattle.rc_model.proofs.Tests.{true_false, either}
 
 server-is : (m : ServerId) (from : Addr) → is_server m from ≡ true → from ≡ Server m
 server-is m (Server other) e = ap Server (sym (same_id-true m other e))
@@ -149,7 +150,7 @@ places-appended segments (suc n) one =
     (put-beside segments (suc n) (with_entry one.0 one.1 (segments (suc n))) s
     (λ e. absurd (omega (arith, e, upto))))))
     ∙ (ap (λ (segment : Segment). places_to segments n ++ places_in (suc n) 0 segment.entries)
-    (put_same segments (suc n) (with_entry one.0 one.1 (segments (suc n))))
+    (put-same segments (suc n) (with_entry one.0 one.1 (segments (suc n))))
     ∙ (ap (λ l. places_to segments n ++ l) (places_in-more (suc n) 0 (segments (suc n)).entries (one ∷ []) ∙
     ap (λ k. places_in (suc n) 0 (segments (suc n)).entries ++ places_in (suc n) k (one ∷ [])) (omega arith))
     ∙ sym (append_assoc (places_to segments n) (places_in (suc n) 0 (segments (suc n)).entries)

@@ -26,15 +26,15 @@ use Rattle.rc_model.specs.Nodes.{starts_host, next_server}
 use Rattle.rc_model.specs.World.{World, opening, NodeName, TheOutside, TheCoordinator, TheHost, Job, work_of}
 use Rattle.rc_model.specs.World.{is_possible, with_last_view, node_done, job_done, step, replay_from, replay}
 use Rattle.rc_model.specs.Headline.{In}
-use Rattle.rc_model.proofs.Members.{either}
 use Rattle.rc_step_laws.specs.Facts.{GoodMaster, GoodHost}
 use Rattle.rc_step_laws.specs.Moves.{MasterMoved}
-use Rattle.rc_step_laws.proofs.Lists.{true_false, same_id-true, same_id-refl}
 use Rattle.rc_step_laws.proofs.MasterSteps.{master_takes_keeps, master_ticks_keeps}
 use Rattle.rc_step_laws.proofs.CoordinatorSteps as coordinator
 use Rattle.rc_log_laws.proofs.Replays.{GoodWorld, IsGiven, is-good, is-fine, hears, is_server-true, work_of-given}
 use Rattle.rc_log_laws.proofs.Replays.{may-hear, to-coordinator-is, good-step, good-opening}
 use Rattle.rc_write_laws.proofs.Quiet.{is_loud, AllSoft, soft-none, soft-one}
+use Rattle.rc_model.proofs.Ids.{same_id-true, same_id-refl}
+use Rattle.rc_model.proofs.Tests.{true_false, either}
 
 -- others than this master say nothing loud in its name
 abbrev pub OthersSay : ServerId → List Message → Type 0

@@ -36,12 +36,12 @@ use Rattle.rc_model.specs.Nodes.{Work, Take, Suspect, Decide, Create, Split, coo
 use Rattle.rc_model.specs.World.{World, opening, NodeName, TheOutside, TheCoordinator, TheHost, Job, work_of}
 use Rattle.rc_model.specs.World.{is_possible, node_done, job_done, step, replay_from, replay}
 use Rattle.rc_model.specs.Headline.{In}
-use Rattle.rc_model.proofs.Members.{either}
 use Rattle.rc_model.proofs.Replays.{replay_from-push}
-use Rattle.rc_step_laws.proofs.Lists.{same_id-true}
 use Rattle.rc_log_laws.proofs.Replays.{GoodWorld, IsGiven, work_of-given, to-coordinator-is, led-step, good-world}
 use Rattle.rc_write_laws.specs.CommitClaims.{CommitsAreInOrder, LeastPairsAreInOrder}
 use Rattle.rc_write_laws.proofs.Ordering.{commits-are-asked-in-order}
+use Rattle.rc_model.proofs.Ids.{same_id-true}
+use Rattle.rc_model.proofs.Tests.{either}
 
 -- The least pairs after a step of the coordinator: as before, or a pair whose commit was asked
 

@@ -31,16 +31,17 @@ use Rattle.rc_model.specs.MasterTick.{ticks}
 use Rattle.rc_model.specs.MasterStep.{master_takes_first, deposed_takes, master_takes, master_ticks}
 use Rattle.rc_model.specs.World.{World, opening, step, replay}
 use Rattle.rc_model.specs.Headline.{In}
-use Rattle.rc_model.proofs.Members.{either}
 use Rattle.rc_model.proofs.Replays.{replay_from-push}
-use Rattle.rc_step_laws.proofs.Lists.{put_each}
+use Rattle.rc_model.proofs.Walk.{OfLog, LogJoined, LogFollowed, of_log-joined, of_log-followed, kept-goes_on, same-deposed}
 use Rattle.rc_step_laws.proofs.Places.{numbers-In}
 use Rattle.rc_log_laws.proofs.Replays.{GoodWorld, good-world}
 use Rattle.rc_write_laws.specs.MomentClaims.{CountedWhenStored}
 use Rattle.rc_write_laws.proofs.Quiet.{put-beside}
 use Rattle.rc_write_laws.proofs.Walk.{IsKeptByInputs, first-kept_by, ticks-kept_by}
 use Rattle.rc_write_laws.proofs.Frame.{IsLed, led-by, kept-replay}
-use Rattle.rc_write_laws.proofs.Settling.{IsSettled, settled-kept, deposed-same}
+use Rattle.rc_write_laws.proofs.Settling.{IsSettled, settled-kept}
+use Rattle.rc_model.proofs.Tests.{either}
+use Rattle.rc_model.proofs.Tables.{put_each}
 
 -- How many places are stored on all, segment by segment
 
@@ -150,16 +151,6 @@ follows-opens log digest ids =
     (sym (put-beside log.segments (log.head + 1) (new_segment (log.head + 1) digest ids) s
     (λ same. absurd (omega (arith, same, upto))))) (more-same (log.segments s)))
 
-follows-rolled : (log : Log) (dead : List ℕ) (ids : Option (List ServerId)) → Follows log (rolled log dead ids).0
-follows-rolled log dead None = follows-refl log
-follows-rolled log dead (Some ids) = follows-opens log (next_digest log dead) ids
-
-follows-roll : (servers : ServerList) (dead : List ℕ) (log : Log) → Follows log (begin_roll servers dead log).0
-follows-roll servers dead log =
-    either (λ (after : Log × Result Bool Fault). Follows log after.0) (nat_lt log.head LAST_SEGMENT)
-    (rolled log dead (choose (log.head + 1) log.own log.factor servers)) (log, Err LogFull)
-    (λ e. follows-rolled log dead (choose (log.head + 1) log.own log.factor servers)) (λ e. follows-refl log)
-
 follows-appends : (entry : Entry) (client : Bool) (log : Log) → Follows log (appends entry client log)
 follows-appends entry client log =
     follows-put log log.head (with_entry entry client (head_of log))
@@ -168,12 +159,6 @@ follows-appends entry client log =
       longer = omega (arith, length_push (head_of log).entries (entry, client));
       stored = omega (arith, length_push (head_of log).entries (entry, client));
     })
-
-follows-shut : (log : Log) → Follows log (with_shut log)
-follows-shut log =
-    either (Follows log) (shuts log) (with_segment (log.head - 1) (record (old_head_of log) { shut = true }) log) log
-    (λ e. follows-put log (log.head - 1) (record (old_head_of log) { shut = true })
-    (record { shut = λ e. refl; longer = omega arith; stored = omega arith })) (λ e. follows-refl log)
 
 follows-freed : (segs : List ℕ) (log : Log) → Follows log (with_freed segs log)
 follows-freed [] log = follows-refl log
@@ -190,92 +175,34 @@ follows-phase log new durable head segments =
 
 -- The rules
 
-abbrev Does : Master → Option (Master × List Message) → Type 0
-Does master None = Unit {0}
-Does master (Some done) = Follows master.log done.0.log
+joined : LogJoined Follows
+joined = record { still = follows-refl; both = follows-then }
 
-does-when : (master : Master) (b : Bool) (done : Master × List Message) → (b ≡ true → Follows master.log done.0.log) →
-    Does master (when b done)
-does-when master true done p = p refl
-does-when master false done p = tt
+-- a segment is changed, but for its members and entries
+marked : (log : Log) (seg : ℕ) (segment : Segment) → ((log.segments seg).shut ≡ true → segment.shut ≡ true) →
+    length segment.entries ≡ length (log.segments seg).entries → durable_in segment ≡ durable_in (log.segments seg) →
+    Follows log (with_segment seg segment log)
+marked log seg segment shut long stored = follows-put log seg segment
+    (record { shut = shut; longer = omega (arith, long); stored = omega (arith, stored) })
 
-does-or : (master : Master) (one other : Option (Master × List Message)) → Does master one → Does master other →
-    Does master (or_rule one other)
-does-or master None other p q = q
-does-or master (Some done) other p q = p
+by_rule : LogFollowed Follows
+by_rule = record {
+  marks = λ log is. marked log (log.head - 1) (record (old_head_of log) { shut = true }) (λ _. refl) refl refl;
+  starts = λ log may. follows-phase log (starts log) refl refl refl;
+  places = λ log may. follows-phase log (closes_old log) refl refl refl;
+  closes = λ log due. marked log (log.head - 1) (with_closes_sent (old_head_of log)) (λ e. e) refl refl;
+  shuts = λ log may. follows-then log (starts log) (writes_on log) (follows-phase log (starts log) refl refl refl)
+      (follows-freed (left_out log) (starts log));
+  commits = λ log seg. marked log seg (record (log.segments seg) { commit_sent = true }) (λ e. e) refl refl;
+  counts = λ log more. (let less : log.durable < durable_now log = ltb-true log.durable (durable_now log) more in
+      record { now = omega arith; rises = omega arith; count = omega arith });
+}
 
-does-commits : (master : Master) (seg : Option ℕ) → Does master (commits_open master seg)
-does-commits master None = tt
-does-commits master (Some seg) = does-when master (wants_commit (master.log.segments seg)) (commits master seg)
-    (λ _. follows-put master.log seg (record (master.log.segments seg) { commit_sent = true })
-    (record { shut = λ e. e; longer = omega arith; stored = omega arith }))
-
-does-stored : (master : Master) → Does master (follows_stored master)
-does-stored master = does-when master (nat_lt master.log.durable (durable_now master.log))
-    (with_log master (record master.log { durable = durable_now master.log }), _)
-    (λ e. (let less : master.log.durable < durable_now master.log = ltb-true master.log.durable (durable_now master.log)
-    e in record { now = omega arith; rises = omega arith; count = omega arith }))
-
-does-rolls : (master : Master) (done : Log × Result Bool Fault) → Follows master.log done.0 → Does master (rolls_for_replay master done)
-does-rolls master (log, Ok began) p = p
-does-rolls master (log, Err fault) p = tt
-
-does-replays : (master : Master) (entries : List Entry) → Does master (replays master entries)
-does-replays master [] = tt
-does-replays master (entry ∷ entries) =
-    either (Does master) (is_full master.log)
-    (rolls_for_replay master (begin_roll master.known (dead_segments master) master.log))
-    (Some (appends_entry (record master { ownership = after_replay master.ownership }) entry false))
-    (λ e. does-rolls master (begin_roll master.known (dead_segments master) master.log)
-    (follows-roll master.known (dead_segments master) master.log))
-    (λ e. follows-appends entry false master.log)
-
-does-data : (master : Master) → Does master (follows_data master)
-does-data master = either (Does master) (is_writing master.log.phase) (replays master master.ownership.replay) None
-    (λ e. does-replays master master.ownership.replay) (λ e. tt)
-
-does-answers : (master : Master) (term : Option ℕ) → Does master (answers_part master term)
-does-answers master None = tt
-does-answers master (Some term) = follows-refl master.log
-
-does-follow_up : (master : Master) → Does master (follow_up master)
-does-follow_up master =
-    does-or master (follows_start master) _
-    (does-when master (may_start master.log) (with_log master (starts master.log), _)
-    (λ _. follows-phase master.log (starts master.log) refl refl refl))
-    (does-or master (follows_placed master) _
-    (does-when master (may_close master.log) (with_log master (closes_old master.log), _)
-    (λ _. follows-phase master.log (closes_old master.log) refl refl refl))
-    (does-or master (follows_closing master) _ (does-when master (close_is_due master.log) (with_log master (close_marked master.log), _)
-    (λ _. follows-put master.log (master.log.head - 1) (with_closes_sent (old_head_of master.log))
-    (record { shut = λ e. e; longer = omega arith; stored = omega arith })))
-    (does-or master (follows_shut master) _ (does-when master (may_write master.log) (with_log master (writes_on master.log), _)
-    (λ _. follows-then master.log (starts master.log) (writes_on master.log)
-    (follows-phase master.log (starts master.log) refl refl refl)
-    (follows-freed (left_out master.log) (starts master.log))))
-    (does-or master (follows_change master) _ (does-commits master (first_open master.log))
-    (does-or master (follows_stored master) _ (does-stored master)
-    (does-or master (follows_data master) (follows_replay master) (does-data master)
-    (does-answers master (to_answer (durable_entries master) master.ownership))))))))
-
-further-follows : (found : Option (Master × List Message)) (master : Master) (others : Master → Master × List Message) →
-    Does master found → ((next : Master) → Follows next.log (others next).0.log) →
-    Follows master.log (further found master others).0.log
-further-follows None master others p q = follows-refl master.log
-further-follows (Some (next, messages)) master others p q = follows-then master.log next.log (others next).0.log p (q next)
-
-followed-follows : (times : ℕ) (master : Master) → Follows master.log (followed times master).0.log
-followed-follows zero master = follows-shut master.log
-followed-follows (suc times) master =
-    follows-then master.log (marks_shut master).log (followed (suc times) master).0.log (follows-shut master.log)
-    (further-follows (follow_up (marks_shut master)) (marks_shut master) (followed times)
-    (does-follow_up (marks_shut master)) (followed-follows times))
-
-goes-follows : (master : Master) → Follows master.log (goes_on master).0.log
-goes-follows master =
-    either (λ (after : Master × List Message). Follows master.log after.0.log) master.deposed (master, [])
-    (followed (measure master) master) (λ e. follows-refl master.log)
-    (λ e. followed-follows (measure master) master)
+goes-follows : (master : Master) → OfLog Follows master (goes_on master)
+goes-follows = kept-goes_on (OfLog Follows) (of_log-joined Follows joined) (of_log-followed Follows joined (record {
+  rolls = λ servers log digest ids writing room chosen. follows-opens log digest ids;
+  writes = λ log entry client writing room. follows-appends entry client log;
+}) by_rule)
 
 -- A step: an input counts nothing, and then the rules follow
 
@@ -306,7 +233,7 @@ takes-counts : (master : Master) (from : Addr) (body : Body) → Counts master.l
 takes-counts master from body =
     either (λ (after : Master × List Message). Counts master.log after.0.log) master.deposed (deposed_takes master body)
     (then_does (master_takes_first master from body) goes_on)
-    (λ _. subst (λ (after : Master). Counts master.log after.log) (sym (deposed-same master body)) (counts-same master.log))
+    (λ _. subst (λ (after : Master). Counts master.log after.log) (sym (same-deposed master body)) (counts-same master.log))
     (λ _. then-counts master.log (master_takes_first master from body)
     (first-kept_by (λ entry. Unit {0}) CountStays count-kept master from body (λ table key value under e. tt)))
 

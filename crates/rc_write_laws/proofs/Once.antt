@@ -14,11 +14,10 @@ use Rattle.rc_model.specs.Segment.{Segment}
 use Rattle.rc_model.specs.Log.{Log, LogPlace, places_in, places_to, places_of}
 use Rattle.rc_model.specs.FollowUps.{write_oks}
 use Rattle.rc_model.specs.World.{replay}
-use Rattle.rc_model.proofs.Members.{either}
-use Rattle.rc_step_laws.proofs.Lists.{true_false}
 use Rattle.rc_write_laws.specs.AckClaims.{is_write_ok, is_ack_of, counted_places, names_place, acks_place, AcknowledgedOnce}
 use Rattle.rc_write_laws.proofs.Counting.{and-false, oks-append, server-own, counted-is-acknowledged}
 use Rattle.rc_write_laws.proofs.Settling.{ok_of, place_at}
+use Rattle.rc_model.proofs.Tests.{true_false, either}
 
 -- of what passes a weaker test, the same passes
 filter-within : {X : Type 0} (weak strong : X → Bool) → ((x : X) → strong x ≡ true → weak x ≡ true) → (xs : List X) →

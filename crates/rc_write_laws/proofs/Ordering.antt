@@ -18,16 +18,17 @@ use Rattle.rc_model.specs.FollowUps.{write_oks, new_durable, first_open, commits
 use Rattle.rc_model.specs.MasterStep.{master_takes, master_ticks}
 use Rattle.rc_model.specs.MasterTick.{commits_again, awaits_commit}
 use Rattle.rc_model.specs.Headline.{In}
-use Rattle.rc_model.proofs.Members.{either, In-append}
+use Rattle.rc_model.proofs.Members.{In-append, In-map, In-filter}
 use Rattle.rc_step_laws.specs.Facts.{GoodMaster}
-use Rattle.rc_step_laws.proofs.Lists.{true_false, put_each, In-filter}
-use Rattle.rc_step_laws.proofs.Tests.{find-one, In-map}
+use Rattle.rc_step_laws.proofs.Tests.{find-one}
 use Rattle.rc_step_laws.proofs.Places.{In-numbers}
 use Rattle.rc_write_laws.specs.CommitClaims.{CommitsAreAskedInOrder}
 use Rattle.rc_write_laws.proofs.Quiet.{is_loud, AllSoft, soft-ids, QuietLog}
 use Rattle.rc_write_laws.proofs.Walk.{IsKept, takes-kept, tick-kept}
 use Rattle.rc_write_laws.proofs.Frame.{All-In, OthersSay, IsKeptByAll, kept-replay}
 use Rattle.rc_write_laws.proofs.Settling.{ok_of}
+use Rattle.rc_model.proofs.Tests.{true_false, either}
+use Rattle.rc_model.proofs.Tables.{put_each}
 
 -- the segment is one of the log, and each earlier one is shut
 pub record IsNext (log : Log) (s : ℕ) : Type 0 where

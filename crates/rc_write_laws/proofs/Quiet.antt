@@ -10,6 +10,7 @@ use Rattle.rc_types.specs.declared.ids.ServerId.{ServerId}
 use Rattle.rc_types.specs.declared.faults.Fault.{Fault}
 use Rattle.rc_types.specs.declared.faults.Fault.TheVariants.{LogFull, EpochsExhausted}
 use Rattle.rc_types.specs.declared.limits.TheConstants.{LAST_SEGMENT, LAST_EPOCH}
+use Rattle.rc_types.specs.declared.kept.Phase.{Phase}
 use Rattle.rc_types.specs.declared.messages.Message.{Message}
 use Rattle.rc_types.specs.declared.messages.Body.{Body}
 use Rattle.rc_types.specs.declared.messages.Body.TheVariants.{WriteOk, Commit}
@@ -22,9 +23,10 @@ use Rattle.rc_model.specs.Log.{Log, places_in, places_to, places_of, old_head_of
 use Rattle.rc_model.specs.Heads.{opens_head, opened_first, open_first, next_digest, rolled, begin_roll, with_config}
 use Rattle.rc_model.specs.Heads.{stored, commit_noted, opens_change, refills, loses, shuts, with_shut, with_freed}
 use Rattle.rc_model.specs.Master.{to_ids}
-use Rattle.rc_model.proofs.Members.{either}
 use Rattle.rc_write_laws.specs.LimitClaims.{IsWithinLimits}
-use Rattle.rc_step_laws.proofs.Lists.{true_false, put_each}
+use Rattle.rc_model.proofs.Tests.{true_false, either}
+use Rattle.rc_model.proofs.Tables.{put_each}
+use Rattle.rc_model.proofs.Sending.{Each, each-all}
 
 -- Messages
 
@@ -46,8 +48,8 @@ soft-none = All-nil is_soft
 pub soft-one : (message : Message) → is_loud message.body ≡ false → AllSoft (message ∷ [])
 soft-one message p = All-cons is_soft message [] p soft-none
 
-pub soft-both : (first second : List Message) → AllSoft first → AllSoft second → AllSoft (first ++ second)
-soft-both first second p q = All-append is_soft first second p q
+pub soft-all : (messages : List Message) → Each is_soft messages → AllSoft messages
+soft-all messages each = each-all is_soft messages each
 
 pub soft-ids : (own : ServerId) (ids : List ServerId) (body : Body) → is_loud body ≡ false → AllSoft (to_ids own ids body)
 soft-ids own ids body p = All-map is_soft (λ (id : ServerId). between own id body) ids (λ k d less. p)
@@ -90,6 +92,20 @@ quiet-trans old middle new p q = record {
   head = omega (arith, p.head, q.head);
   shut = λ s upto e. q.shut s (omega (arith, upto, p.head)) (p.shut s upto e);
   asked = λ s e. p.asked s (q.asked s e);
+}
+
+-- another phase
+pub quiet-phase : (log : Log) (phase : Phase) → QuietLog log (record log { phase = phase })
+quiet-phase log phase = record {
+  own = refl;
+  factor = refl;
+  durable = refl;
+  size = refl;
+  limits = λ h. record { head = h.head; epochs = h.epochs; entries = h.entries };
+  places = refl;
+  head = omega arith;
+  shut = λ s upto e. e;
+  asked = λ s e. e;
 }
 
 -- the same entries give the same places
@@ -155,7 +171,7 @@ places-opened_at segments segment n h is none =
     subst (λ k. places_to (λ s. cond (nat_eq k s) segment (segments s)) k ≡ places_to segments n) (sym is)
     (places-opened segments segment n none)
 
-quiet-opens : (log : Log) (digest : List ℕ) (ids : List ServerId) → log.head < LAST_SEGMENT → QuietLog log (opens_head log digest ids)
+pub quiet-opens : (log : Log) (digest : List ℕ) (ids : List ServerId) → log.head < LAST_SEGMENT → QuietLog log (opens_head log digest ids)
 quiet-opens log digest ids room = record {
   own = refl;
   factor = refl;
@@ -177,23 +193,6 @@ quiet-opens log digest ids room = record {
       (log.head + 1) (new_segment (log.head + 1) digest ids)
       (λ never. true_false (sym never)) (λ k e. e);
 }
-
-quiet-opened : (log : Log) (ids : Option (List ServerId)) → log.head < LAST_SEGMENT → QuietLog log (opened_first log ids).0
-quiet-opened log None room = quiet-refl log
-quiet-opened log (Some ids) room = quiet-opens log (1 ∷ []) ids room
-
-pub quiet-first : (servers : ServerList) (log : Log) → log.head ≡ 0 → QuietLog log (open_first servers log).0
-quiet-first servers log none = quiet-opened log (choose 1 log.own log.factor servers) (omega (arith, none))
-
-quiet-rolled : (log : Log) (dead : List ℕ) (ids : Option (List ServerId)) → log.head < LAST_SEGMENT → QuietLog log (rolled log dead ids).0
-quiet-rolled log dead None room = quiet-refl log
-quiet-rolled log dead (Some ids) room = quiet-opens log (next_digest log dead) ids room
-
-pub quiet-roll : (servers : ServerList) (dead : List ℕ) (log : Log) → QuietLog log (begin_roll servers dead log).0
-quiet-roll servers dead log =
-    either (λ (after : Log × Result Bool Fault). QuietLog log after.0) (nat_lt log.head LAST_SEGMENT)
-    (rolled log dead (choose (log.head + 1) log.own log.factor servers)) (log, Err LogFull)
-    (λ e. quiet-rolled log dead (choose (log.head + 1) log.own log.factor servers) (ltb-true log.head LAST_SEGMENT e)) (λ e. quiet-refl log)
 
 -- the limit of an epoch is kept
 abbrev KeepsEpoch : Config → Config → Type 0
@@ -262,11 +261,6 @@ quiet-loses servers seg log =
     (epoch-refills (with_lost servers (log.segments seg).config)
     (substitutes_for log.own servers (with_lost servers (log.segments seg).config))))
     (λ e. quiet-change seg log (lose log.own servers (log.segments seg).config) (epoch-lose log.own servers (log.segments seg).config))
-
-pub quiet-shut : (log : Log) → QuietLog log (with_shut log)
-quiet-shut log =
-    either (QuietLog log) (shuts log) (with_segment (log.head - 1) (record (old_head_of log) { shut = true }) log) log
-    (λ e. quiet-put log (log.head - 1) (record (old_head_of log) { shut = true }) refl (λ e. refl) (λ e. e) (λ e. e)) (λ e. quiet-refl log)
 
 pub quiet-freed : (segs : List ℕ) (log : Log) → QuietLog log (with_freed segs log)
 quiet-freed [] log = quiet-refl log

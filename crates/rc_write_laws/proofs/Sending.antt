@@ -23,15 +23,16 @@ use Rattle.rc_model.specs.Nodes.{next_server, server_takes, takes_if_running, ti
 use Rattle.rc_model.specs.World.{World, opening, NodeName, TheOutside, TheCoordinator, TheHost, Job, is_possible}
 use Rattle.rc_model.specs.World.{work_of, node_done, job_done, step, replay_from, replay}
 use Rattle.rc_model.specs.Headline.{In, HasMade}
-use Rattle.rc_model.proofs.Members.{either, In-append, In-left}
+use Rattle.rc_model.proofs.Members.{In-append, In-left}
 use Rattle.rc_step_laws.specs.Facts.{StillStands}
 use Rattle.rc_step_laws.specs.Moves.{MasterMoved, CoordinatorMoved, BackupMoved, stored_said}
-use Rattle.rc_step_laws.proofs.Lists.{put_same}
 use Rattle.rc_step_laws.proofs.MasterSteps.{master_takes_keeps, master_ticks_keeps}
 use Rattle.rc_step_laws.proofs.CoordinatorSteps.{moved-takes, moved-suspects, moved-decides, moved-creates, moved-splits, moved-ticks}
 use Rattle.rc_step_laws.proofs.Backups.{moved-backup}
 use Rattle.rc_log_laws.proofs.Replays.{GoodWorld, IsGiven, may-hear, to-coordinator-is, is-good, is-fine, hears}
 use Rattle.rc_log_laws.proofs.Replays.{is_server-true, work_of-given, good-step, good-opening}
+use Rattle.rc_model.proofs.Tables.{put-same}
+use Rattle.rc_model.proofs.Tests.{either}
 
 -- the master has sent an entry for the place
 abbrev pub IsSent : List Message → ServerId → ℕ → ℕ → Type 0
@@ -129,7 +130,7 @@ module _ (world : World) (one : Event) (i : ℕ) (good : GoodWorld world) where
       message.from message.body good at
       (ap (put world.hosts i (record (world.hosts i)
       { backup = (backup_takes (world.hosts i).backup message.from message.body).0 })) (good.hosts_are i).index ∙
-      put_same world.hosts i (record (world.hosts i)
+      put-same world.hosts i (record (world.hosts i)
       { backup = (backup_takes (world.hosts i).backup message.from message.body).0 }))))
       (λ _. by-master world (server_of (world.hosts i)) master (master_takes master message.from message.body)
       (master_takes_keeps world.sent (server_of (world.hosts i)) master message.from message.body

@@ -27,13 +27,15 @@ use Rattle.rc_model.specs.Nodes.{factor_of}
 use Rattle.rc_model.specs.World.{replay}
 use Rattle.rc_model.specs.Durable.{all_shut_to, is_stored_on_all}
 use Rattle.rc_model.specs.Headline.{In}
-use Rattle.rc_model.proofs.Members.{either}
 use Rattle.rc_model.proofs.Measures.{goes_on-up, goes_on-settles}
-use Rattle.rc_step_laws.proofs.Lists.{true_false, In-filter, get-left, get-within}
+use Rattle.rc_step_laws.proofs.Lists.{get-left, get-within}
 use Rattle.rc_write_laws.specs.AckClaims.{is_ack_of, counted_places, StoredIsAcknowledged}
+use Rattle.rc_model.proofs.Walk.{same-deposed}
 use Rattle.rc_write_laws.proofs.Walk.{first-kept_by, ticks-kept_by}
 use Rattle.rc_write_laws.proofs.Frame.{IsKeptByAll, kept-replay}
 use Rattle.rc_write_laws.proofs.Counting.{Acks, acks-kept, acks-takes, acks-ticks, counted-is-acknowledged}
+use Rattle.rc_model.proofs.Tests.{true_false, either}
+use Rattle.rc_model.proofs.Members.{In-filter}
 
 -- Where a place stands
 
@@ -204,17 +206,12 @@ goes-settled master factor =
 then-settled : (first : Master × List Message) → first.0.log.factor ≢ 0 → Settled (then_does first goes_on).0
 then-settled (master, messages) factor = goes-settled master factor
 
-pub deposed-same : (master : Master) (body : Body) → (deposed_takes master body).0 ≡ master
-deposed-same master (Write table key value) = refl
-deposed-same master (Read table key) = refl
-deposed-same master _ = refl
-
 takes-settled : (master : Master) (from : Addr) (body : Body) → master.log.factor ≢ 0 → Settled master →
     Settled (master_takes master from body).0
 takes-settled master from body factor was =
     either (λ (after : Master × List Message). Settled after.0) master.deposed (deposed_takes master body)
     (then_does (master_takes_first master from body) goes_on)
-    (λ _. subst Settled (sym (deposed-same master body)) was)
+    (λ _. subst Settled (sym (same-deposed master body)) was)
     (λ _. then-settled (master_takes_first master from body)
     (λ none. factor (sym (first-kept_by (λ entry. Unit {0}) Acks acks-kept.inputs master from body
     (λ table key value under e. tt)).factor ∙ none)))

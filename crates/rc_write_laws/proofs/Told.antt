@@ -22,9 +22,9 @@ use Rattle.rc_model.specs.Heads.{opens_head, opened_first, open_first, appends, 
 use Rattle.rc_model.specs.Heads.{with_config, stored, commit_noted, opens_change, refills, loses, shuts, with_shut}
 use Rattle.rc_model.specs.Heads.{with_freed}
 use Rattle.rc_model.specs.Headline.{In}
-use Rattle.rc_model.proofs.Members.{either}
-use Rattle.rc_step_laws.proofs.Lists.{put_each, true_false}
 use Rattle.rc_log_laws.proofs.MasterWorlds.{put-cases}
+use Rattle.rc_model.proofs.Tests.{true_false, either}
+use Rattle.rc_model.proofs.Tables.{put_each}
 
 pub record Told (log : Log) : Type 0 where
   pub closed : (s : ℕ) (member : Member) → In member (log.segments s).config.members → told_closed member.told ≡ true →
@@ -416,30 +416,12 @@ opens-shut log digest ids =
     put-cases (λ k (one : Segment). one.shut ≡ true → (log.segments k).shut ≡ true) log.segments (log.head + 1)
     (new_segment (log.head + 1) digest ids) (λ e. true_false (sym e)) (λ k _ e. e)
 
-input-chosen : (log : Log) (digest : List ℕ) (ids : List ServerId) (seg : ℕ) (servers : ServerList) →
+pub input-chosen : (log : Log) (digest : List ℕ) (ids : List ServerId) (seg : ℕ) (servers : ServerList) →
     choose seg log.own log.factor servers ≡ Some ids → InputOk log (opens_head log digest ids)
 input-chosen log digest ids seg servers e = record {
   keeps = λ told. told-opens log digest ids (chosen-some seg log.own log.factor servers ids told.factor e) told;
   shut = opens-shut log digest ids;
 }
-
-pub input-first : (servers : ServerList) (log : Log) → InputOk log (open_first servers log).0
-input-first servers log = by (choose 1 log.own log.factor servers) refl
-  where
-    by : (chosen : Option (List ServerId)) → choose 1 log.own log.factor servers ≡ chosen → InputOk log (opened_first log chosen).0
-    by None e = input-refl log
-    by (Some ids) e = input-chosen log (1 ∷ []) ids 1 servers e
-
-input-rolled : (log : Log) (dead : List ℕ) (servers : ServerList) (chosen : Option (List ServerId)) →
-    choose (log.head + 1) log.own log.factor servers ≡ chosen → InputOk log (rolled log dead chosen).0
-input-rolled log dead servers None e = input-refl log
-input-rolled log dead servers (Some ids) e = input-chosen log (next_digest log dead) ids (log.head + 1) servers e
-
-pub input-roll : (servers : ServerList) (dead : List ℕ) (log : Log) → InputOk log (begin_roll servers dead log).0
-input-roll servers dead log =
-    either (λ (answer : Log × Result Bool Fault). InputOk log answer.0) (nat_lt log.head LAST_SEGMENT)
-    (rolled log dead (choose (log.head + 1) log.own log.factor servers)) (log, Err LogFull)
-    (λ _. input-rolled log dead servers (choose (log.head + 1) log.own log.factor servers) refl) (λ _. input-refl log)
 
 -- an entry goes to the head, whose members have told no end
 pub input-appends : (entry : Entry) (client : Bool) (log : Log) → InputOk log (appends entry client log)
@@ -503,32 +485,28 @@ follow-appends entry client log = record {
 }
 
 -- the old head is shut where it is closed on all its members
-pub follow-shut : (log : Log) → FollowOk log (with_shut log)
-follow-shut log =
-    either (FollowOk log) (shuts log) (with_segment (log.head - 1) (record (old_head_of log) { shut = true }) log) log
-    (λ e. shut e) (λ _. follow-refl log)
+pub follow-marks : (log : Log) → shuts log ≡ true →
+    FollowOk log (with_segment (log.head - 1) (record (old_head_of log) { shut = true }) log)
+follow-marks log e = record {
+  keeps = λ told. told-put log (log.head - 1) (record (old_head_of log) { shut = true }) told (record {
+    closed = told.closed (log.head - 1);
+    within = λ _. omega (arith, over);
+    members = told.members (log.head - 1);
+  });
+  upto = omega arith;
+  config = λ s upto. put_each (λ k (one : Segment). one.config ≡ (log.segments k).config) log.segments
+      (log.head - 1) (record (old_head_of log) { shut = true }) refl (λ k. refl) s;
+  closes = λ told s is. put_each (λ k (one : Segment). one.shut ≡ true →
+      ((log.segments k).shut ≡ true) ⊎ (is_all_closed one ≡ true)) log.segments (log.head - 1)
+      (record (old_head_of log) { shut = true })
+      (λ _. inr parts.1) (λ k now. inl now) s is;
+}
   where
-    shut : shuts log ≡ true → FollowOk log (with_segment (log.head - 1) (record (old_head_of log) { shut = true }) log)
-    shut e = record {
-      keeps = λ told. told-put log (log.head - 1) (record (old_head_of log) { shut = true }) told (record {
-        closed = told.closed (log.head - 1);
-        within = λ _. omega (arith, over);
-        members = told.members (log.head - 1);
-      });
-      upto = omega arith;
-      config = λ s upto. put_each (λ k (one : Segment). one.config ≡ (log.segments k).config) log.segments
-          (log.head - 1) (record (old_head_of log) { shut = true }) refl (λ k. refl) s;
-      closes = λ told s is. put_each (λ k (one : Segment). one.shut ≡ true →
-          ((log.segments k).shut ≡ true) ⊎ (is_all_closed one ≡ true)) log.segments (log.head - 1)
-          (record (old_head_of log) { shut = true })
-          (λ _. inr parts.1) (λ k now. inl now) s is;
-    }
-      where
-        parts : (has_old_head log ≡ true) × (is_all_closed (old_head_of log) ≡ true)
-        parts = and_parts (has_old_head log) (is_all_closed (old_head_of log)) e
+    parts : (has_old_head log ≡ true) × (is_all_closed (old_head_of log) ≡ true)
+    parts = and_parts (has_old_head log) (is_all_closed (old_head_of log)) e
 
-        over : 1 < log.head
-        over = ltb-true 1 log.head parts.0
+    over : 1 < log.head
+    over = ltb-true 1 log.head parts.0
 
 pub follow-freed : (segs : List ℕ) (log : Log) → FollowOk log (with_freed segs log)
 follow-freed [] log = follow-refl log
@@ -558,7 +536,7 @@ follow-same old new head segments factor = record {
   closes = λ told s e. inl (subst (λ (table : ℕ → Segment). (table s).shut ≡ true) segments e);
 }
 
-follow-chosen : (log : Log) (digest : List ℕ) (ids : List ServerId) (servers : ServerList) →
+pub follow-chosen : (log : Log) (digest : List ℕ) (ids : List ServerId) (servers : ServerList) →
     choose (log.head + 1) log.own log.factor servers ≡ Some ids → FollowOk log (opens_head log digest ids)
 follow-chosen log digest ids servers e = record {
   keeps = λ told. told-opens log digest ids (chosen-some (log.head + 1) log.own log.factor servers ids told.factor e) told;
@@ -567,14 +545,3 @@ follow-chosen log digest ids servers e = record {
       (log.head + 1) (new_segment (log.head + 1) digest ids) (λ beyond. absurd (omega (arith, beyond))) (λ k _ _. refl);
   closes = λ told s is. inl (opens-shut log digest ids s is);
 }
-
-follow-rolled : (log : Log) (dead : List ℕ) (servers : ServerList) (chosen : Option (List ServerId)) →
-    choose (log.head + 1) log.own log.factor servers ≡ chosen → FollowOk log (rolled log dead chosen).0
-follow-rolled log dead servers None e = follow-refl log
-follow-rolled log dead servers (Some ids) e = follow-chosen log (next_digest log dead) ids servers e
-
-pub follow-roll : (servers : ServerList) (dead : List ℕ) (log : Log) → FollowOk log (begin_roll servers dead log).0
-follow-roll servers dead log =
-    either (λ (answer : Log × Result Bool Fault). FollowOk log answer.0) (nat_lt log.head LAST_SEGMENT)
-    (rolled log dead (choose (log.head + 1) log.own log.factor servers)) (log, Err LogFull)
-    (λ _. follow-rolled log dead servers (choose (log.head + 1) log.own log.factor servers) refl) (λ _. follow-refl log)

@@ -29,14 +29,13 @@ use Rattle.rc_model.specs.FollowUps.{write_oks}
 use Rattle.rc_model.specs.Nodes.{factor_of}
 use Rattle.rc_model.specs.World.{World, opening, step, replay}
 use Rattle.rc_model.specs.Headline.{In}
-use Rattle.rc_model.proofs.Members.{either}
 use Rattle.rc_model.proofs.Replays.{replay_from-push}
 use Rattle.rc_step_laws.specs.Words.{log_in}
 use Rattle.rc_step_laws.specs.Facts.{IsStored, GoodMaster}
 use Rattle.rc_step_laws.specs.Later.{LogLater}
-use Rattle.rc_step_laws.proofs.Lists.{true_false, get-below, get-begins, get-within, same_id-refl}
+use Rattle.rc_step_laws.proofs.Lists.{get-below, get-begins, get-within}
 use Rattle.rc_step_laws.proofs.Places.{IsOf, places_to-are, places-later, IsCovered, durable-covered}
-use Rattle.rc_step_laws.proofs.Tests.{all-each, filter-In, In-take}
+use Rattle.rc_step_laws.proofs.Tests.{all-each, In-take}
 use Rattle.rc_log_laws.proofs.Replays.{GoodWorld, led-step, good-world}
 use Rattle.rc_write_laws.specs.AckClaims.{is_write_ok, is_ack_of, counted_places}
 use Rattle.rc_write_laws.proofs.Frame.{IsLed, led-by}
@@ -45,6 +44,9 @@ use Rattle.rc_write_laws.proofs.Moments.{Counts, counts-on}
 use Rattle.rc_write_laws.specs.DurableClaims.{StoredIsDurable, CountedIsDurable, AcknowledgedIsDurable}
 use Rattle.rc_write_laws.proofs.Told.{Told, IsWholeTold}
 use Rattle.rc_write_laws.proofs.DurableSteps.{TellsWhole, StepOk, step-same, takes-step, ticks-step}
+use Rattle.rc_model.proofs.Ids.{same_id-refl}
+use Rattle.rc_model.proofs.Tests.{true_false, either}
+use Rattle.rc_model.proofs.Members.{filter-In}
 
 -- One event
 
