@@ -42,8 +42,9 @@ use Rattle.rc_log_laws.specs.FreedClaims.{HasRow, RecoveriesAreDigests, HeadsAre
 use Rattle.rc_log_laws.proofs.Stays.{fewer}
 use Rattle.rc_log_laws.proofs.Walk.{Moves, takes-moves, ticks-moves}
 use Rattle.rc_model.proofs.Tables.{put-same}
-use Rattle.rc_model.proofs.Ids.{same_id-true, same_id-refl}
+use Rattle.rc_model.proofs.Ids.{same_id-true, same_id-refl, server-same}
 use Rattle.rc_model.proofs.Tests.{true_false, either}
+use Rattle.rc_model.proofs.Said.{is_server-true as server-true}
 
 -- What a master has freed, of all that was sent
 
@@ -71,12 +72,6 @@ freed_of-in (message ∷ messages) m s at =
     by false rec (inl never) = absurd never
     by b rec (inr rest) = In-right s (freed_by message.body) (freed_in messages) (rec rest)
 
--- a server's address is its own
-is_server-of : (m : ServerId) (from : Addr) → is_server m from ≡ true → from ≡ Server m
-is_server-of m (Server id) e = ap Server (sym (same_id-true m id e))
-is_server-of m AtCoordinator e = true_false (sym e)
-is_server-of m Outside e = true_false (sym e)
-
 -- who says no Free in its name frees nothing of it
 abbrev NoFrees : ServerId → List Message → Type 0
 NoFrees m messages = (message : Message) → In message messages → message.from ≡ Server m → freed_by message.body ≡ []
@@ -89,7 +84,7 @@ none-freed (message ∷ messages) m none s at =
   where
     by : (b : Bool) → is_server m message.from ≡ b → In s (cond b (freed_by message.body) []) ⊎
         In s (freed_of messages m) → (In s (freed_of messages m) → ⊥) → ⊥
-    by true is (inl here) rec = subst (In s) (none message (inl refl) (is_server-of m message.from is)) here
+    by true is (inl here) rec = subst (In s) (none message (inl refl) (server-true m message.from is)) here
     by false is (inl never) rec = never
     by b is (inr rest) rec = rec rest
 
@@ -146,7 +141,7 @@ outside-none (Ask to asked) m message (inl same) from = never (sym (ap (λ (one 
 outside-none (Ask to asked) m message (inr never) from = absurd never
 outside-none _ m message at from = absurd at
 
-coordinator-from : (world : World) (work : Work) → GoodWorld world → IsGiven world.sent TheCoordinator work →
+pub coordinator-from : (world : World) (work : Work) → GoodWorld world → IsGiven world.sent TheCoordinator work →
     (message : Message) → In message (coordinator_step world.coordinator work).1 → message.from ≡ AtCoordinator
 coordinator-from world (Take taken) good given =
     (coordinator.moved-takes world.sent world.coordinator good.coordinator taken.from taken.body
@@ -201,12 +196,9 @@ module _ (world : World) (one : Event) (i : ℕ) (good : GoodWorld world) (p : A
           (subst (λ (view : Master). GoodFrees (freed_of world.sent (server_of (world.hosts i))) view.log)
           ((good.hosts_are i).runs master e) (p (server_of (world.hosts i)))))
 
-      one-server : (a b : ServerId) → Server a ≡ Server b → a ≡ b
-      one-server a b e = cc
-
       never : Server (server_of (world.hosts i)) ≡ Server m → same_id now.log.own m ≡ false → ⊥
       never same isn't =
-          true_false (sym (ap (λ (k : ServerId). same_id k m) (moved.good.own ∙ one-server (server_of (world.hosts i)) m
+          true_false (sym (ap (λ (k : ServerId). same_id k m) (moved.good.own ∙ server-same (server_of (world.hosts i)) m
           same) ∙ same_id-refl m) ∙ isn't)
 
   done-server : (master : Master) → (world.hosts i).master ≡ Some master → (message : Message) →

@@ -33,8 +33,9 @@ use Rattle.rc_step_laws.proofs.CoordinatorSteps as coordinator
 use Rattle.rc_log_laws.proofs.Replays.{GoodWorld, IsGiven, is-good, is-fine, hears, is_server-true, work_of-given}
 use Rattle.rc_log_laws.proofs.Replays.{may-hear, to-coordinator-is, good-step, good-opening}
 use Rattle.rc_write_laws.proofs.Quiet.{is_loud, AllSoft, soft-none, soft-one}
-use Rattle.rc_model.proofs.Ids.{same_id-true, same_id-refl}
+use Rattle.rc_model.proofs.Ids.{same_id-true, same_id-refl, server-same}
 use Rattle.rc_model.proofs.Tests.{true_false, either}
+use Rattle.rc_log_laws.proofs.FreeWorlds.{coordinator-from}
 
 -- others than this master say nothing loud in its name
 abbrev pub OthersSay : ServerId → List Message → Type 0
@@ -129,29 +130,10 @@ module _ (P Q : List Message → ServerId → Master → Type 0) (led : IsLed P 
   not-server_too : {Q : Type 0} (m : ServerId) → Outside ≡ Server m → Q
   not-server_too m e = cc
 
-  one-server : (a b : ServerId) → Server a ≡ Server b → a ≡ b
-  one-server a b e = cc
-
   outside-others : (work : Work) (m : ServerId) → OthersSay m (outside_sends work)
   outside-others (Ask to body) m message (inl same) from = not-server_too m (sym (ap (λ (one : Message). one.from) same) ∙ from)
   outside-others (Ask to body) m message (inr never) from = absurd never
   outside-others _ m message at from = absurd at
-
-  coordinator-from : (world : World) (work : Work) → GoodWorld world → IsGiven world.sent TheCoordinator work →
-      (message : Message) → In message (coordinator_step world.coordinator work).1 → message.from ≡ AtCoordinator
-  coordinator-from world (Take taken) good given =
-      (coordinator.moved-takes world.sent world.coordinator good.coordinator taken.from taken.body
-      (may-hear world.sent world.masters world.hosts world.coordinator good taken.from taken.body
-      (subst (λ (to : Addr). In (record { from = taken.from; to = to; body = taken.body }) world.sent)
-      (to-coordinator-is taken.to given.1) given.0))).from
-  coordinator-from world (Tick addr) good given = (coordinator.moved-ticks world.sent world.coordinator good.coordinator).from
-  coordinator-from world (Suspect id) good given = (coordinator.moved-suspects world.sent world.coordinator good.coordinator id).from
-  coordinator-from world (Decide id) good given = (coordinator.moved-decides world.sent world.coordinator good.coordinator id).from
-  coordinator-from world (Create table owner) good given =
-      (coordinator.moved-creates world.sent world.coordinator good.coordinator table owner).from
-  coordinator-from world (Split table at) good given =
-      (coordinator.moved-splits world.sent world.coordinator good.coordinator table at).from
-  coordinator-from world _ good given = λ message at. absurd at
 
   module _ (world : World) (one : Event) (i : ℕ) (good : GoodWorld world) (p : OfAll P world.sent world.masters) where
     abbrev Done : HostNode × List Message → Type 0
@@ -188,7 +170,7 @@ module _ (P Q : List Message → ServerId → Master → Type 0) (led : IsLed P 
       where
         never : Server (server_of (world.hosts i)) ≡ Server m → same_id now.log.own m ≡ false → ⊥
         never same isn't =
-            true_false (sym (ap (λ (k : ServerId). same_id k m) (moved.good.own ∙ one-server (server_of (world.hosts i))
+            true_false (sym (ap (λ (k : ServerId). same_id k m) (moved.good.own ∙ server-same (server_of (world.hosts i))
             m same) ∙ same_id-refl m) ∙ isn't)
 
     -- what holds of the master that runs

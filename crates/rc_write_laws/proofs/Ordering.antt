@@ -2,7 +2,7 @@
 use Rattle.std.proofs.Common.{◌≡◌, ◌⊎◌, ℕ, zero, suc, ◌<◌, ◌≤◌, Bool, true, false, cond, not, List, [], ◌∷◌, ◌++◌}
 use Rattle.std.proofs.Common.{length, filter, find, Some, refl, sym, ap, ◌∙◌, subst, inl, inr, arith}
 use Rattle.std.specs.List.{All}
-use Rattle.std.proofs.lemmas.Bool.{and_parts}
+use Rattle.std.proofs.lemmas.Bool.{and_parts, not-false}
 use Rattle.std.proofs.lemmas.List.Elements.{All-nil, All-cons}
 use Rattle.rc_types.specs.declared.ids.ServerId.{ServerId}
 use Rattle.rc_types.specs.declared.entries.Entry.{Entry}
@@ -172,10 +172,6 @@ first-next : (segments : ℕ → Segment) (n s : ℕ) → find (λ seg. not (seg
 first-next segments zero s e = cc
 first-next segments (suc n) s e = by (first-next segments n s) (find-in (λ seg. not (segments seg).shut) (numbers_to n) (suc n ∷ []) s e)
   where
-    not-false : (b : Bool) → not b ≡ false → b ≡ true
-    not-false true e = refl
-    not-false false e = true_false e
-
     last : find (λ seg. not (segments seg).shut) (suc n ∷ []) ≡ Some s → s ≡ suc n
     last found = one (find-one (λ seg. not (segments seg).shut) (suc n ∷ []) s found).0
       where
