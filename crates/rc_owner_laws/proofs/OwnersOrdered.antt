@@ -23,7 +23,7 @@ use Rattle.rc_owner_laws.specs.Grants.{grants_at, term_at, IsChain, NoneTo, Owne
 use Rattle.rc_owner_laws.specs.Grants.{GoodGrants, GrantsMoved, GrantsKept}
 use Rattle.rc_model.proofs.Tests.{true_false, either}
 use Rattle.rc_model.proofs.Ids.{server-same}
-use Rattle.rc_owner_laws.proofs.Rising.{remembered}
+use Rattle.rc_owner_laws.proofs.Rising.{remembered, IsRemembered, granted_of}
 use Rattle.rc_owner_laws.proofs.Keeping.{decided-later}
 
 -- What was sent
@@ -74,34 +74,6 @@ pub kept-none : GrantsKept [] new_coordinator
 kept-none = record { told = λ grant at. absurd at; known = λ message at. absurd at }
 
 -- The grants of the messages are those that are remembered
-
-abbrev pub granted_of : Grant → Granted
-granted_of grant = record {
-  owner = Server grant.owner;
-  table = grant.range.table;
-  lo = grant.range.lo;
-  hi = grant.range.hi;
-  term = grant.term;
-  previous = grant.previous;
-  attempt = grant.attempt;
-}
-
--- a grant among those sent is one that is remembered
-record IsRemembered (c : Coordinator) (one : Granted) : Type 0 where
-  grant : Grant
-  among : In grant c.grants
-  is : one ≡ granted_of grant
-
-remembered-in : (c : Coordinator) (to : Addr) (body : Body) (one : Granted) → own_said c to body →
-    In one (grant_in to body) → IsRemembered c one
-remembered-in c to (Own table lo hi term before attempt) one own at =
-    by (subst (λ (body : Body). In one (grant_in (Server own.grant.owner) body)) own.body_is
-    (subst (λ (addr : Addr). In one (grant_in addr (Own table lo hi term before attempt))) own.to_is at))
-  where
-    by : (one ≡ granted_of own.grant) ⊎ ⊥ → IsRemembered c one
-    by (inl e) = record { grant = own.grant; among = own.among; is = e }
-    by (inr never) = absurd never
-remembered-in c to _ one own at = absurd at
 
 -- and each that is remembered is among those sent
 granted-in : (sent : List Message) (message : Message) (one : Granted) → In message sent →

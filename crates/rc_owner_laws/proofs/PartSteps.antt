@@ -1,5 +1,5 @@
 -- Each step of a master keeps its parts.
-use Rattle.std.proofs.Common.{drop, take, ◌≡◌, ◌⊎◌, ℕ, zero, suc, ◌<◌, Bool, true, false, cond, not, List, [], ◌∷◌}
+use Rattle.std.proofs.Common.{◌-◌, drop, take, ◌≡◌, ◌⊎◌, ℕ, zero, suc, ◌<◌, Bool, true, false, cond, not, List, [], ◌∷◌}
 use Rattle.std.proofs.Common.{◌++◌, length, map, filter, nat_lt, find, Option, Some, None, option_map, refl, sym, ap}
 use Rattle.std.proofs.Common.{◌∙◌, subst, inl, inr, arith}
 use Rattle.std.proofs.lemmas.Bool.{and_parts, ltb-true}
@@ -432,7 +432,7 @@ module _ (sent : List Message) (m : ServerId) where
     deposes = λ head good. quiet sent m master (record master { deposed = true }) [] good head refl plain-none;
     begins = λ one attempt crashed seg rows parts part is at new. parts-begins (task_of attempt crashed rows part) one
         (planned-heard from (part_view master) attempt crashed seg rows parts (heard is) part at) new;
-    comes = λ holder attempt seg term entries is told. parts-data attempt seg term holder entries master
+    comes = λ holder attempt seg term entries is told head good. parts-data attempt seg term holder entries master head good
         (subst (λ (sender : Addr). PartsHear sent m (part_view master) sender (body.Data attempt seg term entries)) is (heard told));
     owns = λ table lo hi term before attempt is head good. (
         let p = own-heard from (part_view master) table lo hi term before attempt (heard is) in

@@ -51,7 +51,7 @@ use Rattle.rc_model.proofs.Tables.{put-same, put_id-same}
 use Rattle.rc_model.proofs.Ids.{same_id-true}
 use Rattle.rc_model.proofs.Tests.{either}
 use Rattle.rc_step_laws.proofs.LogMoves.{more-left}
-use Rattle.rc_log_laws.proofs.FreeWorlds.{coordinator-from}
+use Rattle.rc_log_laws.proofs.EachMaster.{coordinator-from}
 
 -- all of the world's parts
 abbrev pub PartsOf : World → Type 0

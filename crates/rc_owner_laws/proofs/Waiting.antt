@@ -45,14 +45,13 @@ use Rattle.rc_model.proofs.Members.{In-left, In-append}
 use Rattle.rc_step_laws.specs.Facts.{GoodCoordinator}
 use Rattle.rc_step_laws.specs.Words.{IsNumbered}
 use Rattle.rc_step_laws.proofs.Servers.{crashed-not-up}
-use Rattle.rc_step_laws.proofs.Attempting.{numbered-at}
+use Rattle.rc_step_laws.proofs.Attempting.{numbered-at, undecided-none}
 use Rattle.rc_owner_laws.specs.Grants.{IsGiven, IsDecided, GoodGrants}
 use Rattle.rc_owner_laws.specs.Waiting.{IsTablet, GoodTablets, lacks_tablet, NoneLacksTablet, TabletsMoved}
 use Rattle.rc_owner_laws.proofs.Tablets.{some-none}
 use Rattle.rc_owner_laws.proofs.Chains.{of_owner, IsPartOf, part-of}
 use Rattle.rc_owner_laws.proofs.Granting.{IsNewGrant}
 use Rattle.rc_owner_laws.proofs.Decided.{gives, begun-decided, answered-decided, newly-decided}
-use Rattle.rc_owner_laws.proofs.OwnerSteps.{undecided-none}
 use Rattle.rc_owner_laws.proofs.OwnerSteps.{IsSenders, senders, senders-decided, senders-open, new-grant}
 use Rattle.rc_owner_laws.proofs.Marks.{EachTablet, MarkedStay, stay-marked, each-marked, IsSplit, stay-split}
 use Rattle.rc_owner_laws.proofs.Marks.{each-split, stay-inserted, each-inserted, each-assigned, stay-assigned}

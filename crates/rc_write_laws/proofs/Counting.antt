@@ -26,9 +26,9 @@ use Rattle.rc_model.specs.Headline.{In}
 use Rattle.rc_step_laws.specs.Facts.{GoodMaster}
 use Rattle.rc_step_laws.proofs.Places.{durable-within, places_to-same}
 use Rattle.rc_write_laws.specs.AckClaims.{is_write_ok, is_ack_of, acks_in, counted_places, CountedIsAcknowledged}
-use Rattle.rc_write_laws.proofs.Quiet.{is_loud, AllSoft, soft-ids, QuietLog, put-beside}
+use Rattle.rc_write_laws.proofs.Quiet.{is_loud, AllSoft, soft-ids, QuietLog, put-beside, others-soft}
 use Rattle.rc_write_laws.proofs.Walk.{IsKept, takes-kept, tick-kept}
-use Rattle.rc_write_laws.proofs.Frame.{OthersSay, IsKeptByAll, kept-replay}
+use Rattle.rc_log_laws.proofs.EachMaster.{OthersSay, IsKeptByAll, kept-replay}
 use Rattle.rc_model.proofs.Tables.{put-same}
 use Rattle.rc_model.proofs.Ids.{same_id-true, same_id-refl}
 use Rattle.rc_model.proofs.Tests.{true_false, either}
@@ -296,7 +296,7 @@ acked-others sent messages m master p others =
         by (is_server m message.from) refl
       where
         by : (b : Bool) → is_server m message.from ≡ b → (b && is_write_ok message.body) ≡ false
-        by true e = soft-body message.body (others message at (is_server-true m message.from e))
+        by true e = soft-body message.body (others-soft message.body (others message at (is_server-true m message.from e)))
         by false e = refl
 
 acked-after : (sent : List Message) (m : ServerId) (master : Master) (after : Master × List Message) →

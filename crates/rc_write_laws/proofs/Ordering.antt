@@ -25,7 +25,8 @@ use Rattle.rc_step_laws.proofs.Places.{In-numbers}
 use Rattle.rc_write_laws.specs.CommitClaims.{CommitsAreAskedInOrder}
 use Rattle.rc_write_laws.proofs.Quiet.{is_loud, AllSoft, soft-ids, QuietLog}
 use Rattle.rc_write_laws.proofs.Walk.{IsKept, takes-kept, tick-kept}
-use Rattle.rc_write_laws.proofs.Frame.{All-In, OthersSay, IsKeptByAll, kept-replay}
+use Rattle.rc_write_laws.proofs.Quiet.{All-In}
+use Rattle.rc_log_laws.proofs.EachMaster.{OthersSay, IsKeptByAll, kept-replay}
 use Rattle.rc_write_laws.proofs.Settling.{ok_of}
 use Rattle.rc_model.proofs.Tests.{true_false, either}
 use Rattle.rc_model.proofs.Tables.{put_each}
@@ -281,7 +282,7 @@ order-others sent messages m master p others = record {
   where
     by : (s e : ℕ) → In (to_coordinator m (Commit s e)) sent ⊎ In (to_coordinator m (Commit s e)) messages → IsNext master.log s
     by s e (inl at) = p.said s e at
-    by s e (inr at) = true_false (others (to_coordinator m (Commit s e)) at refl)
+    by s e (inr at) = true_false (sym (others (to_coordinator m (Commit s e)) at refl))
 
 order-kept : (setup : Setup) → IsKeptByAll setup InOrder
 order-kept setup = record {

@@ -27,6 +27,10 @@ use Rattle.rc_write_laws.specs.LimitClaims.{IsWithinLimits}
 use Rattle.rc_model.proofs.Tests.{true_false, either}
 use Rattle.rc_model.proofs.Tables.{put_each}
 use Rattle.rc_model.proofs.Sending.{Each, each-all}
+use Rattle.rc_log_laws.proofs.EachMaster.{is_others}
+use Rattle.rc_model.specs.Headline.{In}
+use Rattle.std.proofs.Common.{inl, inr}
+use Rattle.std.proofs.lemmas.List.Elements.{All-head, All-tail}
 use Rattle.rc_step_laws.proofs.Places.{places_to-same}
 
 -- Messages
@@ -54,6 +58,17 @@ soft-all messages each = each-all is_soft messages each
 
 pub soft-ids : (own : ServerId) (ids : List ServerId) (body : Body) → is_loud body ≡ false → AllSoft (to_ids own ids body)
 soft-ids own ids body p = All-map is_soft (λ (id : ServerId). between own id body) ids (λ k d less. p)
+
+-- what others say in a master's name is soft
+pub others-soft : (body : Body) → is_others body ≡ true → is_loud body ≡ false
+others-soft (WriteOk seg offset term table key version) e = true_false (sym e)
+others-soft (Commit seg epoch) e = true_false (sym e)
+others-soft _ e = refl
+
+pub All-In : {X : Type 0} (P : X → Type 0) (xs : List X) (x : X) → All P xs → In x xs → P x
+All-In P [] x all at = absurd at
+All-In P (y ∷ xs) x all (inl e) = subst P (sym e) (All-head P y xs all)
+All-In P (y ∷ xs) x all (inr rest) = All-In P xs x (All-tail P y xs all) rest
 
 -- Logs
 

@@ -38,7 +38,7 @@ use Rattle.rc_step_laws.proofs.Places.{IsOf, places_to-are, places-later, IsCove
 use Rattle.rc_step_laws.proofs.Tests.{all-each, In-take}
 use Rattle.rc_log_laws.proofs.Replays.{GoodWorld, led-step, good-world}
 use Rattle.rc_write_laws.specs.AckClaims.{is_write_ok, is_ack_of, counted_places}
-use Rattle.rc_write_laws.proofs.Frame.{IsLed, led-by}
+use Rattle.rc_log_laws.proofs.EachMaster.{IsLed, led-by}
 use Rattle.rc_write_laws.proofs.Counting.{counted-is-acknowledged}
 use Rattle.rc_write_laws.proofs.Moments.{Counts, counts-on}
 use Rattle.rc_write_laws.specs.DurableClaims.{StoredIsDurable, CountedIsDurable, AcknowledgedIsDurable}
