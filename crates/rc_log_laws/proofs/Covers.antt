@@ -24,6 +24,7 @@ use Rattle.rc_step_laws.specs.Facts.{IsSafe, IsOutdated, IsDead, IsDigest, GoodM
 use Rattle.rc_step_laws.proofs.Copies.{split}
 use Rattle.rc_log_laws.proofs.Picked.{IsAnswered, IsTaken, IsPicked, picked-is}
 use Rattle.rc_model.proofs.Tests.{true_false}
+use Rattle.rc_step_laws.proofs.Attempting.{numbered-same}
 
 -- Pairs
 
@@ -171,15 +172,6 @@ pub record PlanIs (sent : List Message) (masters : ServerId → Master) (c : Coo
   -- of a segment of the head's digest, and each of those has one
   pub within : (one : PlanRow) → In one rows → In one.seg row.digest
   pub all : (s : ℕ) → In s row.digest → (one : PlanRow) × (In one rows) × (one.seg ≡ s)
-
--- attempts of one number are one
-numbered-same : (attempts : List Attempt) (number : ℕ) (one other : Attempt) → IsNumbered attempts number one →
-    IsNumbered attempts number other → one ≡ other
-numbered-same attempts number one other p q =
-    let places : p.place ≡ q.place = omega (arith, p.number_is, q.number_is) in
-    let here : slice_get attempts q.place ≡ Some one = subst (λ k. slice_get attempts k ≡ Some one) places p.attempt_is in
-    let there : slice_get attempts q.place ≡ Some other = q.attempt_is in
-    cc
 
 -- a row of an answer of an attempt is a copy of its master's
 answered-copy : (sent : List Message) (masters : ServerId → Master) (hosts : ℕ → HostNode) (c : Coordinator) → Good sent masters hosts c →

@@ -33,6 +33,7 @@ use Rattle.rc_model.specs.CoordinatorStep.{coordinator_ticks, coordinator_takes}
 use Rattle.rc_model.specs.Headline.{In}
 use Rattle.rc_model.proofs.Members.{In-append}
 use Rattle.rc_model.proofs.Tests.{true_false, either}
+use Rattle.rc_model.proofs.Ids.{server-same}
 
 -- each grant among these goes to a server that is up
 abbrev pub GrantsUp : Coordinator → List Message → Type 0
@@ -240,12 +241,9 @@ grants-commits c id pair =
     ) (c, refuses_server id Deposed ∷ [])
     (λ is m s e at. to_it is m s e at) (λ _. plain-grants c (refuses_server id Deposed ∷ []) (plain-refuses id Deposed))
   where
-    same-server : (a b : ServerId) → Server a ≡ Server b → a ≡ b
-    same-server a b e = cc
-
     to_it : is_up c.servers id ≡ true → GrantsUp c (from_coordinator id (CommitOk pair.seg pair.epoch) ∷ [])
     to_it is m s e (inl same) = subst (λ (one : ServerId). is_up c.servers one ≡ true)
-        (sym (same-server m id (ap (λ (one : Message). one.to) same))) is
+        (sym (server-same m id (ap (λ (one : Message). one.to) same))) is
     to_it is m s e (inr never) = absurd never
 
 pub grants-takes : (c : Coordinator) (from : Addr) (body : Body) → GrantsUp c (coordinator_takes c from body).1

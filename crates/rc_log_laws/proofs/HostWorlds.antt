@@ -26,8 +26,9 @@ use Rattle.rc_log_laws.proofs.Granted.{GrantsUp}
 use Rattle.rc_log_laws.proofs.Lasting.{Onward}
 use Rattle.rc_log_laws.proofs.Unmoved.{NoNewPlaceOf, NewlyToldFits, unmoved-grown, unmoved-good, unmoved-own}
 use Rattle.rc_log_laws.proofs.Worlds.{Led, good-onward, host-still, host_later-refl, coordinator_later-refl}
-use Rattle.rc_log_laws.proofs.MasterWorlds.{server-same, put-cases}
+use Rattle.rc_log_laws.proofs.MasterWorlds.{put-cases}
 use Rattle.rc_model.proofs.Tables.{put-same, put_each}
+use Rattle.rc_model.proofs.Ids.{server-same}
 
 -- the coordinator stays good where more is sent
 pub coordinator-still : (sent messages : List Message) (c : Coordinator) → GoodCoordinator sent c → GoodCoordinator (sent ++ messages) c

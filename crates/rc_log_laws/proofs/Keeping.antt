@@ -160,7 +160,7 @@ keeps-taken master from body = record {
       (noted teller epoch len closed (master.log.segments seg).config);
   commits = λ seg epoch is. keeps-config master (has_segment master.log seg) seg (committed_at epoch (master.log.segments seg).config);
   deposes = λ k. record { free = k.free; whole = k.whole };
-  begins = λ one task new k. record { free = k.free; whole = k.whole };
+  begins = λ one attempt crashed head rows parts part is at new k. record { free = k.free; whole = k.whole };
   comes = λ holder attempt seg term entries is says k. record { free = k.free; whole = k.whole };
   owns = λ table lo hi term previous attempt is k. record { free = k.free; whole = k.whole };
 }

@@ -24,6 +24,7 @@ use Rattle.rc_log_laws.proofs.Replays.{GoodWorld, good-step, good-opening, good-
 use Rattle.rc_log_laws.specs.KeptClaims.{NothingIsDroppedWhereNothingIsFreed, DurableIsHeldWhereNothingIsFreed}
 use Rattle.rc_log_laws.proofs.Since.{since-take}
 use Rattle.rc_log_laws.proofs.SafePlaces.{stored-is-safe}
+use Rattle.rc_log_laws.proofs.EachMaster.{IsKeptByAll, kept-replay}
 use Rattle.rc_log_laws.proofs.Keeping.{Keeps, KeepsAfter, keeps-takes, keeps-ticks}
 use Rattle.rc_model.proofs.Tests.{either}
 use Rattle.rc_model.proofs.Tables.{put_id_each}
@@ -32,100 +33,19 @@ use Rattle.rc_model.proofs.Tables.{put_id_each}
 abbrev KeepsAll : (ServerId → Master) → Type 0
 KeepsAll masters = (m : ServerId) → Keeps (masters m)
 
--- the master of a host, where it runs, keeps all
-abbrev KeepsRunning : HostNode → Type 0
-KeepsRunning host = (master : Master) → host.master ≡ Some master → Keeps master
-
-abbrev KeepsHost : HostNode × List Message → Type 0
-KeepsHost after = KeepsRunning after.0
-
-some-one : (one other : Master) → Some one ≡ Some other → one ≡ other
-some-one one other e = cc
-
-of-master : (host : HostNode) (after : Master × List Message) → KeepsAfter after → KeepsHost (with_master host after)
-of-master host after k master e = subst Keeps (some-one after.0 master e) k
-
-of-server : (host : HostNode) (master : Master) (message : Message) → KeepsRunning host → host.master ≡ Some master →
-    KeepsHost (server_takes host master message)
-of-server host master message k e =
-    either KeepsHost (is_for_backup message.body)
-    (with_backup host (backup_takes host.backup message.from message.body))
-    (with_master host (master_takes master message.from message.body))
-    (λ _. k) (λ _. of-master host (master_takes master message.from message.body)
-    (keeps-takes master message.from message.body (k master e)))
-
-of-takes : (host : HostNode) (found : Option Master) (message : Message) → KeepsRunning host → host.master ≡ found →
-    KeepsHost (takes_if_running host found message)
-of-takes host None message k e = k
-of-takes host (Some master) message k e =
-    either KeepsHost (is_server (server_of host) message.to) (server_takes host master message) (host, [])
-    (λ _. of-server host master message k e) (λ _. k)
-
-of-ticks : (host : HostNode) (found : Option Master) → KeepsRunning host → host.master ≡ found → KeepsHost (ticks_if_running host found)
-of-ticks host None k e = k
-of-ticks host (Some master) k e = of-master host (master_ticks master) (keeps-ticks master (k master e))
-
-of-host : (host : HostNode) (work : Work) → KeepsRunning host → Keeps (new_master (next_server host) host.setup) →
-    KeepsHost (host_step host work)
-of-host host (Take message) k fresh = of-takes host host.master message k refl
-of-host host (Tick addr) k fresh = of-ticks host host.master k refl
-of-host host (Stop id) k fresh = λ master never. absurd (none_some master never)
-  where
-    none_some : (master : Master) → None ≡ Some master → ⊥
-    none_some master never = cc
-of-host host (Start kept) k fresh = λ master e. subst Keeps (some-one (new_master (next_server host) host.setup) master e) fresh
-of-host host (Ask to asked) k fresh = k
-of-host host (Suspect id) k fresh = k
-of-host host (Decide id) k fresh = k
-of-host host (Create table owner) k fresh = k
-of-host host (Split table at) k fresh = k
-
--- a world's hosts
-running : (world : World) → GoodWorld world → KeepsAll world.masters → (i : ℕ) → KeepsRunning (world.hosts i)
-running world good k i master e = subst Keeps ((good.hosts_are i).runs master e) (k (server_of (world.hosts i)))
-
-fresh-one : (world : World) → GoodWorld world → KeepsAll world.masters → (i : ℕ) →
-    Keeps (new_master (next_server (world.hosts i)) (world.hosts i).setup)
-fresh-one world good k i = subst Keeps started (k (next_server (world.hosts i)))
-  where
-    started : world.masters (next_server (world.hosts i)) ≡ new_master (next_server (world.hosts i)) (world.hosts i).setup
-    started = subst (λ n. world.masters (record { index = n; generation = (world.hosts i).generation + 1 }) ≡ new_master
-        (record { index = n; generation = (world.hosts i).generation + 1 }) (world.hosts i).setup)
-        (sym (good.hosts_are i).index) ((good.hosts_are i).unstarted ((world.hosts i).generation + 1) (omega arith))
-
-with-view : (masters : ServerId → Master) (found : Option Master) → KeepsAll masters →
-    ((master : Master) → found ≡ Some master → Keeps master) → KeepsAll (with_last_view masters found)
-with-view masters None k one m = k m
-with-view masters (Some master) k one m =
-    put_id_each (λ key (value : Master). Keeps value) masters master.log.own master (one master refl) k m
-
-keeps-node : (world : World) (one : Event) (node : NodeName) (work : Work) → GoodWorld world → KeepsAll world.masters →
-    KeepsAll (node_done world one node work).masters
-keeps-node world one TheOutside work good k = k
-keeps-node world one TheCoordinator work good k = k
-keeps-node world one (TheHost i) work good k =
-    with-view world.masters (host_step (world.hosts i) work).0.master k
-    (of-host (world.hosts i) work (running world good k i) (fresh-one world good k i))
-
-keeps-job : (world : World) (one : Event) (found : Option Job) → GoodWorld world → KeepsAll world.masters →
-    KeepsAll (job_done world one found).masters
-keeps-job world one None good k = k
-keeps-job world one (Some job) good k = keeps-node world one job.node job.work good k
-
-keeps-step : (world : World) (one : Event) → GoodWorld world → KeepsAll world.masters → KeepsAll (step world one).masters
-keeps-step world one good k =
-    either (λ (after : World). KeepsAll after.masters) (is_possible world one)
-    (job_done world one (work_of world.sent one)) world (λ _. keeps-job world one (work_of world.sent one) good k)
-    (λ _. k)
-
-keeps-replay : (world : World) (events : List Event) → GoodWorld world → KeepsAll world.masters →
-    KeepsAll (replay_from world events).masters
-keeps-replay world [] good k = k
-keeps-replay world (one ∷ events) good k = keeps-replay (step world one) events (good-step world one good) (keeps-step world one good k)
+keeps-kept : (setup : Setup) → setup.free ≡ false → IsKeptByAll setup (λ sent m master. Keeps master)
+keeps-kept setup free = record {
+  opened = λ m. record { free = free; whole = λ s t upto above below. absurd (omega arith) };
+  led = record {
+    same = λ sent m master k. k;
+    others = λ sent messages m master k others. k;
+    takes = λ sent m master from body good k at. keeps-takes master from body k;
+    ticks = λ sent m master good k. keeps-ticks master k;
+  };
+}
 
 keeps-world : (setup : Setup) (events : List Event) → setup.free ≡ false → KeepsAll (replay setup events).masters
-keeps-world setup events free = keeps-replay (opening setup) events (good-opening setup)
-    (λ m. record { free = free; whole = λ s t upto above below. absurd (omega arith) })
+keeps-world setup events free m = kept-replay setup (λ sent m master. Keeps master) (keeps-kept setup free) events m
 
 -- Each safe place is held
 

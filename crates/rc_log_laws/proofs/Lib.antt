@@ -14,6 +14,7 @@ pub mod SafePlaces
 pub mod Growing
 pub mod Fencing
 pub mod Staying
+pub mod EachMaster
 pub mod Keeping
 pub mod KeptWorlds
 pub mod Crashing

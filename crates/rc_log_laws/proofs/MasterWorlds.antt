@@ -29,13 +29,9 @@ use Rattle.rc_step_laws.proofs.Backups.{own-fine}
 use Rattle.rc_log_laws.proofs.Lasting.{Onward, held-later}
 use Rattle.rc_log_laws.proofs.Unmoved.{NoNewPlaceOf, unmoved-grown, unmoved-good, unmoved-own}
 use Rattle.rc_log_laws.proofs.Worlds.{Led, good-onward, host-still, host_later-refl, coordinator_later-refl}
-use Rattle.rc_model.proofs.Ids.{same_id-true, same_id-refl}
+use Rattle.rc_model.proofs.Ids.{same_id-true, same_id-refl, server-same}
 use Rattle.rc_model.proofs.Tests.{true_false, either}
-use Rattle.rc_model.proofs.Tables.{put_each}
-
--- servers are one
-pub server-same : (a b : ServerId) → Server a ≡ Server b → a ≡ b
-server-same a b e = cc
+use Rattle.rc_model.proofs.Tables.{put_each, put_id-same}
 
 -- the test fails for ids that differ
 no-match : (a b : ServerId) → (a ≡ b → ⊥) → same_id a b ≡ false
@@ -48,9 +44,6 @@ no-match a b differs = by (same_id a b) refl
 pub put_id-other : {V : Type 0} (table : ServerId → V) (key other : ServerId) (value : V) → (key ≡ other → ⊥) →
     put_id table key value other ≡ table other
 put_id-other table key other value differs = ap (λ b. cond b value (table other)) (no-match key other differs)
-
-pub put_id-here : {V : Type 0} (table : ServerId → V) (key : ServerId) (value : V) → put_id table key value key ≡ value
-put_id-here table key value = ap (λ b. cond b value (table key)) (same_id-refl key)
 
 -- what is at each id of a table after a put, where that of the others may ask that they differ
 pub put_id-cases : {V : Type 0} (P : ServerId → V → Type 0) (table : ServerId → V) (key : ServerId) (value : V) →
@@ -172,7 +165,7 @@ module _ (sent : List Message) (masters : ServerId → Master) (hosts : ℕ → 
   mine = record {
     index = was.index;
     own = was.own;
-    runs = λ master e. (let is : after ≡ master = cc in ap (put_id masters z after) server ∙ (put_id-here masters z after ∙ is));
+    runs = λ master e. (let is : after ≡ master = cc in ap (put_id masters z after) server ∙ (put_id-same masters z after ∙ is));
     unstarted = λ g above. put_id-other masters z (record { index = i; generation = g }) after
         (λ same. not_now g above same) ∙ was.unstarted g above;
     held = λ m. held-later sent masters hosts c (sent ++ messages) (put_id masters z after)
@@ -224,7 +217,7 @@ module _ (sent : List Message) (masters : ServerId → Master) (hosts : ℕ → 
           (said-fine sent (sent ++ messages) z (masters z).log (put_id masters z after)
           (put hosts i (record (hosts i) { master = Some after })) c message.to message.body
           (subst (λ (one : Master). body_said sent (sent ++ messages) z (masters z).log one.log message.to message.body)
-          (sym (put_id-here masters z after)) said.says))
+          (sym (put_id-same masters z after)) said.says))
 
       by : (message : Message) → In message sent ⊎ In message messages →
           In message sent ⊎ Fine (sent ++ messages) (put_id masters z after)

@@ -1,7 +1,7 @@
 -- What a picked plan has: a valid open head row, and for each segment of its digest a valid row, all from the answers.
 use Rattle.std.proofs.Common.{◌≡◌, ◌⊎◌, ℕ, Bool, true, false, cond, not, List, [], ◌∷◌, filter, nat_eq, nat_lt, Option}
 use Rattle.std.proofs.Common.{Some, None, Result, Ok, Err, refl, sym, ap, ◌∙◌, subst, inl, inr}
-use Rattle.std.proofs.lemmas.Bool.{eqb-true, and_parts}
+use Rattle.std.proofs.lemmas.Bool.{eqb-true, and_parts, not-true}
 use Rattle.rc_types.specs.declared.ids.ServerId.{ServerId}
 use Rattle.rc_types.specs.declared.ids.Pair.{Pair}
 use Rattle.rc_types.specs.declared.rows.Row.{Row}
@@ -80,11 +80,6 @@ pub record IsHead (min : Pair) (replies : List (ServerId × List Row)) (head : H
   pub answered : IsAnswered replies head
   pub unclosed : head.row.closed ≡ false
   pub valid : is_valid min head.row ≡ true
-
--- the test of a boolean's opposite
-not-true : (b : Bool) → not b ≡ true → b ≡ false
-not-true true e = cc
-not-true false e = refl
 
 head-is : (min : Pair) (replies : List (ServerId × List Row)) (head : HeldRow) → head_row min replies ≡ Some head → IsHead min replies head
 head-is min replies head e =

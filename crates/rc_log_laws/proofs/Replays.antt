@@ -36,7 +36,7 @@ use Rattle.rc_step_laws.specs.Moves.{OwnFine, MasterMoved, MayHear, CoordinatorM
 use Rattle.rc_step_laws.proofs.MasterSteps.{master_takes_keeps, master_ticks_keeps, new_master_is_good}
 use Rattle.rc_step_laws.proofs.Attempting.{new-good}
 use Rattle.rc_step_laws.proofs.CoordinatorSteps.{moved-takes, moved-suspects, moved-decides, moved-creates, moved-splits, moved-ticks}
-use Rattle.rc_step_laws.proofs.Backups.{Quiet, quiet-none, own-fine, moved-backup, moved-restart}
+use Rattle.rc_step_laws.proofs.Backups.{Quiet, quiet-none, own-fine, moved-backup, moved-restart, server-is}
 use Rattle.rc_log_laws.proofs.Clauses.{nothing-missing, nothing-invented}
 use Rattle.rc_log_laws.proofs.Granted.{GrantsUp, grants-takes, grants-ticks, grants-suspects, grants-decides}
 use Rattle.rc_log_laws.proofs.Granted.{grants-creates, grants-splits}
@@ -193,15 +193,10 @@ put-found : (hosts : ℕ → HostNode) (i : ℕ) → put hosts i (hosts i) ≡ h
 put-found hosts i = fun_ext (λ j. either (λ (host : HostNode). host ≡ hosts j) (nat_eq i j) (hosts i) (hosts j)
     (λ e. ap hosts (eqb-true i j e)) (λ _. refl))
 
-put_id-found : (masters : ServerId → Master) (key : ServerId) (master : Master) → masters key ≡ master → put_id masters key master ≡ masters
+pub put_id-found : (masters : ServerId → Master) (key : ServerId) (master : Master) → masters key ≡ master → put_id masters key master ≡ masters
 put_id-found masters key master is =
     fun_ext (λ other. either (λ (one : Master). one ≡ masters other) (same_id key other) master (masters other)
     (λ e. sym is ∙ ap masters (same_id-true key other e)) (λ _. refl))
-
--- the server of a host by the host's place
-server-here : (sent : List Message) (masters : ServerId → Master) (i : ℕ) (host : HostNode) →
-    GoodHost sent masters i host → server_of host ≡ record { index = i; generation = host.generation }
-server-here sent masters i host good = ap (λ n. record { index = n; generation = host.generation }) good.index
 
 -- the last view of a running master is the one that the world keeps
 last-view : (sent : List Message) (masters : ServerId → Master) (hosts : ℕ → HostNode) (c : Coordinator) →
@@ -234,7 +229,7 @@ module _ (world : World) (one : Event) (i : ℕ) (good : GoodWorld world) where
       (put world.hosts i (record (world.hosts i) { master = Some after.0 })) world.coordinator
       (ap (λ (key : ServerId). put_id world.masters key after.0) moved.good.own) refl
       (good-master world.sent world.masters world.hosts world.coordinator good i (server_of (world.hosts i))
-      (server-here world.sent world.masters i (world.hosts i) (good.hosts_are i)) after.0 after.1
+      (server-is world.sent world.masters i (world.hosts i) (good.hosts_are i)) after.0 after.1
       (subst (λ (old : Master). MasterMoved world.sent (server_of (world.hosts i)) old after)
       (sym ((good.hosts_are i).runs master e)) moved))
 

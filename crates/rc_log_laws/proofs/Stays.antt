@@ -23,6 +23,7 @@ use Rattle.rc_log_laws.proofs.MasterWorlds.{put-cases}
 use Rattle.rc_log_laws.specs.Freed.{IsLeftOut, GoodFrees}
 use Rattle.rc_model.proofs.Tests.{true_false, either}
 use Rattle.rc_model.proofs.Tables.{put_each}
+use Rattle.rc_step_laws.proofs.Rolling.{writing-is}
 
 -- fewer segments were freed
 pub fewer : (more freed : List ℕ) (log : Log) → ((s : ℕ) → In s freed → In s more) → GoodFrees more log → GoodFrees freed log
@@ -110,11 +111,6 @@ stays-loses servers seg log =
     (λ _. stays-change seg log (lose log.own servers (log.segments seg).config))
 
 -- Phases
-
-pub is-writing : (phase : Phase) → is_writing phase ≡ true → phase ≡ Writing
-is-writing Writing e = refl
-is-writing Opening e = true_false (sym e)
-is-writing Closing e = true_false (sym e)
 
 pub stays-starts : (log : Log) → may_start log ≡ true → Stays log (starts log)
 stays-starts log may = stays-alike log (starts log) (record {

@@ -23,7 +23,7 @@ use Rattle.rc_step_laws.proofs.MasterSteps.{view-of}
 use Rattle.rc_model.proofs.Tests.{either}
 
 -- each of these segments is shut
-all_shut-each : (segments : ℕ → Segment) (n t : ℕ) → all_shut_to segments n ≡ true → 0 < t → t ≤ n → (segments t).shut ≡ true
+pub all_shut-each : (segments : ℕ → Segment) (n t : ℕ) → all_shut_to segments n ≡ true → 0 < t → t ≤ n → (segments t).shut ≡ true
 all_shut-each segments zero t e above upto = absurd (omega arith)
 all_shut-each segments (suc n) t e above upto =
     by (or_last t n upto) (λ less. all_shut-each segments n t (and_parts (segments (suc n)).shut (all_shut_to segments n) e).1 above less)

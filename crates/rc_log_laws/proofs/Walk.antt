@@ -23,8 +23,9 @@ use Rattle.rc_model.proofs.Sending.{Each, each-map, each-write_oks, each-reminds
 use Rattle.rc_log_laws.specs.Freed.{IsLeftOut, GoodFrees, freed_by, freed_in}
 use Rattle.rc_log_laws.proofs.Silent.{Silent, Frees, silent-none, silent-ids, silent-all, freed-append, freed-segments}
 use Rattle.rc_log_laws.proofs.Stays.{Stays, fewer, stays-refl, stays-put, stays-stored, stays-commit_noted}
-use Rattle.rc_log_laws.proofs.Stays.{stays-loses, stays-starts, stays-closes, stays-first_opened, stays-rolled, is-writing}
+use Rattle.rc_log_laws.proofs.Stays.{stays-loses, stays-starts, stays-closes, stays-first_opened, stays-rolled}
 use Rattle.rc_log_laws.proofs.Stays.{writes-leave_out}
+use Rattle.rc_step_laws.proofs.Rolling.{writing-is}
 
 -- what holds of the freed segments holds with those that are freed in the step
 pub record Moves (old : Master) (after : Master × List Message) : Type 0 where
@@ -60,7 +61,7 @@ moves-head master log stays = quiet master (with_log master log) (places_head lo
 moves-rolls : (master : Master) → Rolls Moves master
 moves-rolls master ids writing room chosen =
     moves-head master (opens_head master.log (next_digest master.log (dead_segments master)) ids)
-    (stays-rolled master.log (dead_segments master) (Some ids) (is-writing master.log.phase writing))
+    (stays-rolled master.log (dead_segments master) (Some ids) (writing-is master.log.phase writing))
 
 moves-listed : Listed Moves
 moves-listed = record {
@@ -90,7 +91,8 @@ moves-taken master from body = record {
   commits = λ seg epoch is. quiet master (with_log master (commit_noted seg epoch master.log)) []
       (stays-commit_noted seg epoch master.log) silent-none;
   deposes = quiet master (record master { deposed = true }) [] (stays-refl master.log) silent-none;
-  begins = λ one task new. quiet one _ _ (stays-refl one.log) (silent-all _ (each-map Frees _ task.rows (λ row _. refl)));
+  begins = λ one attempt crashed head rows parts part is at new. quiet one _ _ (stays-refl one.log)
+      (silent-all _ (each-map Frees _ rows (λ row _. refl)));
   comes = λ holder attempt seg term entries is says. quiet master _ [] (stays-refl master.log) silent-none;
   owns = λ table lo hi term previous attempt is. quiet master _ [] (stays-refl master.log) silent-none;
 }

@@ -1,6 +1,6 @@
 -- One walk over the rules of a master: a relation that each single rule keeps is kept by its whole steps.
 use Rattle.std.proofs.Common.{◌≡◌, ℕ, zero, suc, ◌+◌, ◌-◌, ◌<◌, not, Bool, true, false, cond, nat_lt, nat_eq, ◌&&◌, List, [], ◌∷◌}
-use Rattle.std.proofs.Common.{◌++◌, map, filter, length, Option, Some, None, Result, Ok, Err, refl}
+use Rattle.std.proofs.Common.{◌++◌, map, filter, length, Option, Some, None, Result, Ok, Err, refl, inl, inr}
 use Rattle.std.proofs.lemmas.Bool.{and_parts, eqb-true, ltb-true}
 use Rattle.rc_types.specs.declared.ids.ServerId.{ServerId}
 use Rattle.rc_types.specs.declared.ids.Addr.{Addr}
@@ -37,6 +37,7 @@ use Rattle.rc_model.specs.FollowUps.{attempt_of, answers_part, follow_up, marks_
 use Rattle.rc_model.specs.MasterTick.{fetch_of, reminds, ticks}
 use Rattle.rc_model.specs.MasterStep.{begins_task, task_of, takes_plan, says_deposed, master_takes_first}
 use Rattle.rc_model.specs.MasterStep.{deposed_takes, master_takes, master_ticks}
+use Rattle.rc_model.specs.Headline.{In}
 use Rattle.rc_model.proofs.Tests.{either}
 use Rattle.rc_model.proofs.Rules.{AllDone, done-or, done-when}
 
@@ -89,8 +90,9 @@ pub record Taken (R : Master → Master × List Message → Type 0) (master : Ma
       R master (with_log master (commit_noted seg epoch master.log), [])
   pub deposes : R master (record master { deposed = true }, [])
   -- a part of a plan, when others may have been begun before it
-  pub begins : (one : Master) (task : Task) → knows_term one.ownership task.part.term ≡ false →
-      R one (begun task one, map (fetch_of one.log.own task) task.rows)
+  pub begins : (one : Master) (attempt : ℕ) (crashed : ServerId) (head : ℕ) (rows : List PlanRow) (parts : List Part) (part : Part) →
+      body ≡ Plan attempt crashed head rows parts → In part parts → knows_term one.ownership part.term ≡ false →
+      R one (begun (task_of attempt crashed rows part) one, map (fetch_of one.log.own (task_of attempt crashed rows part)) rows)
   pub comes : (holder : ServerId) (attempt seg term : ℕ) (entries : List Entry) → from ≡ Server holder →
       body ≡ Data attempt seg term entries →
       R master (record master { ownership = put_data term seg holder entries master.ownership }, [])
@@ -334,15 +336,15 @@ module _ (R : Master → Master × List Message → Type 0) (joined : Joined R) 
   -- Plans
 
   pub kept-plan : (attempt : ℕ) (crashed : ServerId) (rows : List PlanRow) (parts : List Part) →
-      ((master : Master) (part : Part) → knows_term master.ownership part.term ≡ false →
+      ((master : Master) (part : Part) → In part parts → knows_term master.ownership part.term ≡ false →
       R master (begun (task_of attempt crashed rows part) master, map (fetch_of master.log.own (task_of attempt crashed rows part)) rows)) →
       (master : Master) → R master (takes_plan attempt crashed rows parts master)
   kept-plan attempt crashed rows [] p master = joined.still master
   kept-plan attempt crashed rows (part ∷ parts) p master =
       kept-then master (begins_task (task_of attempt crashed rows part) master) (takes_plan attempt crashed rows parts)
       (either (R master) (knows_term master.ownership part.term) (master, []) (_, _)
-      (λ _. joined.still master) (λ new. p master part new))
-      (kept-plan attempt crashed rows parts p)
+      (λ _. joined.still master) (λ new. p master part (inl refl) new))
+      (kept-plan attempt crashed rows parts (λ one other at. p one other (inr at)))
 
   -- Messages
 
@@ -359,7 +361,7 @@ module _ (R : Master → Master × List Message → Type 0) (joined : Joined R) 
       either (λ (after : Master). R master (after, [])) (says_deposed reason) (record master { deposed = true }) master
       (λ _. t.deposes) (λ _. joined.still master)
   kept-takes_first l master from (Plan attempt crashed head rows parts) t =
-      kept-plan attempt crashed rows parts (λ one part. t.begins one (task_of attempt crashed rows part)) master
+      kept-plan attempt crashed rows parts (λ one part. t.begins one attempt crashed head rows parts part refl) master
   kept-takes_first l master (Server holder) (Data attempt seg term entries) t = t.comes holder attempt seg term entries refl refl
   kept-takes_first l master from (Own table lo hi term previous attempt) t = t.owns table lo hi term previous attempt refl
   kept-takes_first l master from body t = joined.still master
@@ -449,7 +451,7 @@ module _ (L : Log → Log → Type 0) (joined : LogJoined L) where
     stores = stores;
     commits = commits;
     deposes = joined.still master.log;
-    begins = λ one task new. joined.still one.log;
+    begins = λ one attempt crashed head rows parts part is at new. joined.still one.log;
     comes = λ holder attempt seg term entries is says. joined.still master.log;
     owns = λ table lo hi term previous attempt is. joined.still master.log;
   }

@@ -96,12 +96,12 @@ module _ (n : ℕ) where
     commits = λ seg epoch is h. none (logged master (commit_noted seg epoch master.log) h
         (commit-within n seg epoch master.log h.log));
     deposes = λ h. none (record { log = h.log; ownership = h.ownership });
-    begins = λ one task new h. record {
+    begins = λ one attempt crashed head rows parts part is at new h. record {
       master = record {
         log = h.log;
-        ownership = begin-within n task.part (map (λ row. (row.seg, row.holder)) task.rows) one.ownership h.ownership;
+        ownership = begin-within n part (map (λ row. (row.seg, row.holder)) rows) one.ownership h.ownership;
       };
-      messages = each-all is_within _ (each-map is_within _ task.rows (λ row _. tt));
+      messages = each-all is_within _ (each-map is_within _ rows (λ row _. tt));
     };
     comes = λ holder attempt seg term entries is says_so h. none (record {
       log = h.log;

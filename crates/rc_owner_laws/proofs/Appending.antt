@@ -2,7 +2,7 @@
 use Rattle.std.proofs.Common.{◌≡◌, ◌⊎◌, ℕ, ◌+◌, ◌<◌, ◌≤◌, Bool, true, false, ◌&&◌, List, [], ◌∷◌, ◌++◌, length, map}
 use Rattle.std.proofs.Common.{take, nat_eq, find, Option, Some, None, option_map, refl, sym, ap, ◌∙◌, subst, inl, inr}
 use Rattle.std.proofs.Common.{arith}
-use Rattle.std.proofs.lemmas.Bool.{eqb-true, eq-eqb}
+use Rattle.std.proofs.lemmas.Bool.{eqb-true, eq-eqb, and_from}
 use Rattle.std.proofs.lemmas.List.{append_assoc, length-append, length-map}
 use Rattle.rc_types.specs.declared.ids.ServerId.{ServerId}
 use Rattle.rc_types.specs.declared.entries.Entry.{Entry}
@@ -151,15 +151,11 @@ knows-part own term e = or-left (has_part own term) (owns_term own term) e
 
 -- A client's entry
 
-is-of-true : (term table key : ℕ) (entry : Entry) → entry.term ≡ term → entry.table ≡ table → entry.key ≡ key →
+pub is-of-true : (term table key : ℕ) (entry : Entry) → entry.term ≡ term → entry.table ≡ table → entry.key ≡ key →
     is_of term table key entry ≡ true
 is-of-true term table key entry a b c =
-    both (nat_eq entry.term term) (nat_eq entry.table table && nat_eq entry.key key) (eq-eqb entry.term term a)
-    (both (nat_eq entry.table table) (nat_eq entry.key key) (eq-eqb entry.table table b) (eq-eqb entry.key key c))
-  where
-    both : (a b : Bool) → a ≡ true → b ≡ true → (a && b) ≡ true
-    both true b p q = q
-    both false b p q = true_false (sym p)
+    and_from (nat_eq entry.term term) (nat_eq entry.table table && nat_eq entry.key key) (eq-eqb entry.term term a)
+    (and_from (nat_eq entry.table table) (nat_eq entry.key key) (eq-eqb entry.table table b) (eq-eqb entry.key key c))
 
 pub good-client : (sent : List Message) (m : ServerId) (v : PartView) (place : LogPlace) → place.client ≡ true →
     GoodParts sent m v → OwnsPoint v.own place.entry.term place.entry.table place.entry.key →

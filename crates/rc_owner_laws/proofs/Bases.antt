@@ -34,19 +34,11 @@ use Rattle.rc_owner_laws.proofs.PartLists.{under-append, under-In, begins-within
 use Rattle.rc_owner_laws.specs.Worlds.{AllHold}
 use Rattle.rc_owner_laws.specs.Words.{IsSafelyLogged}
 use Rattle.rc_owner_laws.proofs.Rows.{segs_of, rows-ascend, one-row}
+use Rattle.rc_step_laws.proofs.Attempting.{numbered-same}
 
 -- what a row of a task is to bring: the log of its master below the row's length, cut to the part
 abbrev pub cut_of : (ServerId → Master) → Task → PlanRow → List Entry
 cut_of masters task row = filter (is_in_part task.part) (take row.len (log_in (masters task.master).log row.seg))
-
--- decisions of one number are one
-numbered-same : (attempts : List Attempt) (number : ℕ) (one other : Attempt) → IsNumbered attempts number one →
-    IsNumbered attempts number other → one ≡ other
-numbered-same attempts number one other p q =
-    let places : p.place ≡ q.place = omega (arith, p.number_is, q.number_is) in
-    let here : slice_get attempts q.place ≡ Some one = subst (λ k. slice_get attempts k ≡ Some one) places p.attempt_is in
-    let there : slice_get attempts q.place ≡ Some other = q.attempt_is in
-    cc
 
 pub decided-same : (attempts : List Attempt) (number : ℕ) (m k : ServerId) (one other : Decision) →
     IsDecided attempts number m one → IsDecided attempts number k other → (m ≡ k) × (one ≡ other)

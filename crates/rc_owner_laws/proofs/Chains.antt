@@ -13,9 +13,10 @@ use Rattle.rc_model.specs.Ownership.{in_range}
 use Rattle.rc_model.specs.Headline.{In}
 use Rattle.rc_step_laws.proofs.Lists.{get-below}
 use Rattle.rc_owner_laws.specs.Grants.{TabletsApart, grants_at, IsChain, NoneTo, OwnersDiffer, PartsApart}
-use Rattle.rc_owner_laws.proofs.Tablets.{by_test, some-none}
+use Rattle.rc_owner_laws.proofs.Tablets.{some-none}
 use Rattle.rc_model.proofs.Ids.{same_id-true}
 use Rattle.rc_model.proofs.Tests.{either}
+use Rattle.rc_step_laws.proofs.Copies.{split}
 
 -- Chains
 
@@ -69,7 +70,7 @@ found-at (first ∷ tablets) tablet table key apart (inl same) e =
 found-at (first ∷ tablets) tablet table key apart (inr rest) e = by (found-at tablets tablet table key apart.1 rest e)
   where
     by : tablet_of tablets table key ≡ Some tablet → tablet_of (first ∷ tablets) table key ≡ Some tablet
-    by found = by_test (holds first table key)
+    by found = split (holds first table key)
         (λ here. some-none (sym found ∙ apart.0 table key here))
         (λ lacks. ap (λ b. cond b (Some first) (tablet_of tablets table key)) lacks ∙ found)
 
@@ -92,7 +93,7 @@ of_owner owner (first ∷ tablets) tablet at = by (same_id owner first.owner) re
 none-of_owner : (owner : ServerId) (tablets : List Tablet) (table key : ℕ) → tablet_of tablets table key ≡ None →
     tablet_of (tablets_of owner tablets) table key ≡ None
 none-of_owner owner [] table key e = refl
-none-of_owner owner (first ∷ tablets) table key e = by_test (holds first table key)
+none-of_owner owner (first ∷ tablets) table key e = split (holds first table key)
     (λ here. some-none (sym (ap (λ b. cond b (Some first) (tablet_of tablets table key)) here) ∙ e))
     (λ lacks. either (λ (kept : List Tablet). tablet_of kept table key ≡ None) (same_id owner first.owner)
     (first ∷ tablets_of owner tablets) (tablets_of owner tablets)

@@ -27,19 +27,7 @@ use Rattle.rc_owner_laws.proofs.Granting.{kept-good}
 use Rattle.rc_model.proofs.Ids.{same_id-true}
 use Rattle.rc_model.proofs.Tests.{true_false}
 use Rattle.rc_model.proofs.Tables.{put_id_each}
-
--- What is found passes the test, and where nothing is found nothing passes it
-pub find-some : {X : Type 0} (test : X → Bool) (xs : List X) (x : X) → find test xs ≡ Some x → In x xs × (test x ≡ true)
-find-some test [] x e = cc
-find-some test (y ∷ xs) x e = by (test y) refl (find-some test xs x) e
-  where
-    further : In x xs × (test x ≡ true) → ((x ≡ y) ⊎ In x xs) × (test x ≡ true)
-    further p = (inr p.0, p.1)
-
-    by : (b : Bool) → test y ≡ b → (find test xs ≡ Some x → In x xs × (test x ≡ true)) →
-        cond b (Some y) (find test xs) ≡ Some x → ((x ≡ y) ⊎ In x xs) × (test x ≡ true)
-    by true is rec e = let same : y ≡ x = cc in (inl (sym same), subst (λ z. test z ≡ true) same is)
-    by false is rec e = further (rec e)
+use Rattle.rc_step_laws.proofs.Tests.{find-one}
 
 pub find-none : {X : Type 0} (test : X → Bool) (xs : List X) (x : X) → find test xs ≡ None → In x xs → test x ≡ true → ⊥
 find-none test [] x e at passes = absurd at

@@ -44,14 +44,15 @@ use Rattle.rc_owner_laws.specs.Grants.{IsGiven, IsPlanOf}
 use Rattle.rc_owner_laws.specs.Waiting.{IsTablet, GoodTablets, lacks_tablet, NoneLacksTablet}
 use Rattle.rc_owner_laws.specs.Recoveries.{IsPlanned, IsOwned, IsAnsweredByOwn, PlannedPartsAreTablets}
 use Rattle.rc_owner_laws.specs.Recoveries.{PlannedPartsCanBeGranted, NoServerLacksATablet}
-use Rattle.rc_owner_laws.proofs.Decided.{find-some, find-none, gives}
+use Rattle.rc_owner_laws.proofs.Decided.{find-none, gives}
 use Rattle.rc_owner_laws.proofs.OwnerSteps.{IsSenders, senders}
 use Rattle.rc_owner_laws.proofs.Marks.{ranged}
 use Rattle.rc_owner_laws.proofs.Waiting.{sender-waits, tablets-moved, new-tablets}
 use Rattle.rc_owner_laws.proofs.OwnerReplays.{OfWorld, grants-step, grants-opening, grants-world}
 use Rattle.rc_model.proofs.Tables.{put-same}
-use Rattle.rc_model.proofs.Ids.{same_id-true, same_id-refl}
+use Rattle.rc_model.proofs.Ids.{same_id-true, same_id-refl, server-same}
 use Rattle.rc_model.proofs.Tests.{true_false, either}
+use Rattle.rc_step_laws.proofs.Tests.{find-one}
 
 -- Each world keeps the tablets, and refuses no server for want of one
 
@@ -216,10 +217,7 @@ module _ (setup : Setup) (events : List Event) (id : ServerId) (number : ℕ) (m
   of = grants.kept.known (from_coordinator id (PlanBody number master planned.head planned.rows planned.parts)) planned.planned
 
   given : In (gives id part) of.decision.parts
-  given = subst (λ (m : ServerId). In (gives m part) of.decision.parts) (one of.id id (sym of.to_is)) (of.given part planned.among)
-    where
-      one : (a b : ServerId) → Server a ≡ Server b → a ≡ b
-      one a b e = cc
+  given = subst (λ (m : ServerId). In (gives m part) of.decision.parts) (server-same of.id id (sym of.to_is)) (of.given part planned.among)
 
   -- what was granted was sent
   owned : IsGiven (replay setup events).coordinator.grants (gives id part) → IsOwned (replay setup events).sent id part
@@ -256,7 +254,7 @@ module _ (setup : Setup) (events : List Event) (id : ServerId) (number : ℕ) (m
           ∙ (ap (λ b. cond b (part_in id part.term of.decided.attempt.decided) None) is_now ∙
           ap (part_in id part.term) of.decided.decided)) ∙ none
 
-  -- what a Recovered of one that is up is answered by
+  -- what a Recovered of server-same that is up is answered by
   answer-is : is_up (replay setup events).coordinator.servers id ≡ true →
       (takes_recovered (replay setup events).coordinator id number part.term).1
       ≡ (grants_or_repeats (replay setup events).coordinator id number part.term
@@ -279,7 +277,7 @@ module _ (setup : Setup) (events : List Event) (id : ServerId) (number : ℕ) (m
     where
       tests : (nat_eq grant.term part.term ≡ true) × (same_id grant.owner id ≡ true)
       tests = and_parts (nat_eq grant.term part.term) (same_id grant.owner id)
-          (find-some (is_grant_to id part.term) (replay setup events).coordinator.grants grant is).1
+          (find-one (is_grant_to id part.term) (replay setup events).coordinator.grants grant is).1
 
   granted-now : is_up (replay setup events).coordinator.servers id ≡ true →
       grant_to (replay setup events).coordinator id part.term ≡ None → (mine : Part) →

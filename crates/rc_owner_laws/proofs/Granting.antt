@@ -13,8 +13,8 @@ use Rattle.rc_model.specs.Headline.{In}
 use Rattle.rc_model.proofs.Members.{In-left, In-append}
 use Rattle.rc_owner_laws.specs.Grants.{TabletsApart, owner_at, term_in, term_at, grants_at, IsChain, OwnersDiffer}
 use Rattle.rc_owner_laws.specs.Grants.{IsGiven, IsDecided, GoodGrants}
-use Rattle.rc_owner_laws.proofs.Tablets.{by_test}
 use Rattle.rc_owner_laws.proofs.Chains.{chain-append, differ-append, grants_at-within, grants_at-beside}
+use Rattle.rc_step_laws.proofs.Copies.{split}
 
 -- no grant is made, and who owns what stays
 pub kept-good : (c : Coordinator) → GoodGrants c →
@@ -78,12 +78,12 @@ pub granted-good : (c : Coordinator) → GoodGrants c → (tablets : List Tablet
     GoodGrants (record c { tablets = tablets; grants = c.grants ++ grant ∷ []; last_term = last })
 granted-good c good tablets grant last new = record {
   apart = new.apart;
-  issued = λ table key. by_test (in_range grant.range table key)
+  issued = λ table key. split (in_range grant.range table key)
       (λ e. subst (λ n. n ≤ last) (sym (ap term_in (new.within table key e))) new.upto)
       (λ e. subst (λ n. n ≤ last) (sym (ap term_in (new.beside table key e)))
       (let one : term_at c.tablets table key ≤ c.last_term = good.issued table key in
       let two : c.last_term ≤ last = new.more in omega (arith, one, two)));
-  chains = λ table key. by_test (in_range grant.range table key)
+  chains = λ table key. split (in_range grant.range table key)
       (λ e. subst (λ (grants : List Grant). IsChain 0 grants (term_at tablets table key))
       (sym (grants_at-within c.grants grant table key e))
       (subst (IsChain 0 (grants_at c.grants table key ++ grant ∷ [])) (sym (ap term_in (new.within table key e)))
@@ -92,13 +92,13 @@ granted-good c good tablets grant last new = record {
       (λ e. subst (λ (grants : List Grant). IsChain 0 grants (term_at tablets table key))
       (sym (grants_at-beside c.grants grant table key e))
       (subst (IsChain 0 (grants_at c.grants table key)) (sym (ap term_in (new.beside table key e))) (good.chains table key)));
-  owners = λ table key one at. by_test (in_range grant.range table key)
+  owners = λ table key one at. split (in_range grant.range table key)
       (λ e. owner table key one e (In-append one (grants_at c.grants table key) (grant ∷ [])
       (subst (λ (grants : List Grant). In one grants) (grants_at-within c.grants grant table key e) at)))
       (λ e. old_owner table key one e
       (good.owners table key one
       (subst (λ (grants : List Grant). In one grants) (grants_at-beside c.grants grant table key e) at)));
-  once = λ table key. by_test (in_range grant.range table key)
+  once = λ table key. split (in_range grant.range table key)
       (λ e. subst (λ (grants : List Grant). OwnersDiffer grants) (sym (grants_at-within c.grants grant table key e))
       (differ-append (grants_at c.grants table key) grant (good.once table key)
       (λ other at. other_owner table key other e (good.owners table key other at))))
@@ -109,7 +109,7 @@ granted-good c good tablets grant last new = record {
     (good.fresh number master decision decided given at).1,
   );
   parted = good.parted;
-  waiting = λ number master decision decided is_current given at not_given table key within. by_test (in_range grant.range table key)
+  waiting = λ number master decision decided is_current given at not_given table key within. split (in_range grant.range table key)
       (λ e. absurd (new.elsewhere number master decision decided is_current given at not_given table key within e))
       (λ e. new.beside table key e ∙ good.waiting number master decision decided is_current given at
       (λ old. not_given (given-more given old)) table key within);

@@ -20,9 +20,8 @@ use Rattle.rc_step_laws.specs.Words.{IsNumbered}
 use Rattle.rc_step_laws.specs.Later.{AttemptLater}
 use Rattle.rc_step_laws.specs.Moves.{CoordinatorLater}
 use Rattle.rc_step_laws.proofs.Lists.{get-set}
-use Rattle.rc_step_laws.proofs.Copies.{More}
+use Rattle.rc_step_laws.proofs.Copies.{More, split}
 use Rattle.rc_owner_laws.specs.Grants.{owner_at, IsDecided, GoodGrants}
-use Rattle.rc_owner_laws.proofs.Tablets.{by_test}
 use Rattle.rc_owner_laws.proofs.Chains.{IsPartOf, part-of}
 use Rattle.rc_owner_laws.specs.Terms.{IsGrantedTo, IsGivenBy, GoodTerms}
 
@@ -157,7 +156,7 @@ pub granted-terms : (sent : List Message) (c : Coordinator) (tablets : List Tabl
     IsNewTerm sent c tablets grant last → GoodTerms sent c →
     GoodTerms sent (record c { tablets = tablets; grants = c.grants ++ grant ∷ []; last_term = last })
 granted-terms sent c tablets grant last new good = record {
-  owned = λ table key owner term e. by_test (in_range grant.range table key)
+  owned = λ table key owner term e. split (in_range grant.range table key)
       (λ within. mine table key owner term within (sym (new.within table key within) ∙ e))
       (λ beside. granted-later c.grants (c.grants ++ grant ∷ []) all owner term table key
       (good.owned table key owner term (sym (new.beside table key beside) ∙ e)));

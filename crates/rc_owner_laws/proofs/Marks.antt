@@ -17,9 +17,11 @@ use Rattle.rc_model.specs.Headline.{In}
 use Rattle.rc_step_laws.specs.Words.{OnDifferentHosts}
 use Rattle.rc_step_laws.proofs.LogMoves.{apart-same}
 use Rattle.rc_owner_laws.specs.Waiting.{IsTablet}
-use Rattle.rc_owner_laws.proofs.Decided.{find-some, find-none}
+use Rattle.rc_owner_laws.proofs.Decided.{find-none}
 use Rattle.rc_model.proofs.Ids.{same_id-true}
 use Rattle.rc_model.proofs.Tests.{true_false, either}
+use Rattle.rc_step_laws.proofs.Hosts.{insert-In, order-In}
+use Rattle.rc_step_laws.proofs.Tests.{find-one}
 
 -- what holds of each of these tablets
 abbrev pub EachTablet : (Tablet → Type 0) → List Tablet → Type 0
@@ -282,28 +284,6 @@ order-in y [] at = at
 order-in y (id ∷ ids) (inl same) = insert-in y id (ids_in_order ids) (inl same)
 order-in y (id ∷ ids) (inr rest) = insert-in y id (ids_in_order ids) (inr (order-in y ids rest))
 
-insert-of : (y id : ServerId) (ids : List ServerId) → In y (insert_id id ids) → (y ≡ id) ⊎ In y ids
-insert-of y id [] at = at
-insert-of y id (other ∷ ids) at =
-    either (λ l. In y l → (y ≡ id) ⊎ ((y ≡ other) ⊎ In y ids)) (id_before id other) (id ∷ other ∷ ids) (other ∷ insert_id id ids)
-    (λ _ there. there) (λ _ there. by (insert-of y id ids) there) at
-  where
-    further : (y ≡ id) ⊎ In y ids → (y ≡ id) ⊎ ((y ≡ other) ⊎ In y ids)
-    further (inl same) = inl same
-    further (inr rest) = inr (inr rest)
-
-    by : (In y (insert_id id ids) → (y ≡ id) ⊎ In y ids) → (y ≡ other) ⊎ In y (insert_id id ids) → (y ≡ id) ⊎ ((y ≡ other) ⊎ In y ids)
-    by rec (inl same) = inr (inl same)
-    by rec (inr rest) = further (rec rest)
-
-order-of : (y : ServerId) (ids : List ServerId) → In y (ids_in_order ids) → In y ids
-order-of y [] at = at
-order-of y (id ∷ ids) at = by (order-of y ids) (insert-of y id (ids_in_order ids) at)
-  where
-    by : (In y (ids_in_order ids) → In y ids) → (y ≡ id) ⊎ In y (ids_in_order ids) → (y ≡ id) ⊎ In y ids
-    by rec (inl same) = inl same
-    by rec (inr rest) = inr (rec rest)
-
 -- an id that is up is the one of its host that is found
 pub up-of_host : (servers : ServerList) (m : ServerId) (index : ℕ) → OnDifferentHosts (up_rows servers.rows) →
     is_up servers m ≡ true → nat_eq m.index index ≡ true → up_of_host index servers ≡ Some m
@@ -317,6 +297,6 @@ up-of_host servers m index apart e same = by (up_of_host index servers) refl
         (order-in m (up_rows servers.rows) there) same)
     by (Some x) is =
         let one : In x (up servers) × (nat_eq x.index index ≡ true) =
-        find-some (λ (id : ServerId). nat_eq id.index index) (up servers) x is in
-        ap Some (apart-same x m (up_rows servers.rows) apart (order-of x (up_rows servers.rows) one.0) there
+        find-one (λ (id : ServerId). nat_eq id.index index) (up servers) x is in
+        ap Some (apart-same x m (up_rows servers.rows) apart (order-In x (up_rows servers.rows) one.0) there
         (eqb-true x.index index one.1 ∙ sym (eqb-true m.index index same)))

@@ -138,7 +138,7 @@ module _ (world : World) (one : Event) (i : ℕ) (good : GoodWorld world) where
       started message (inr never) = absurd never
   says-host _ given = λ message never. absurd never
 
-later-coordinator : (world : World) (work : Work) → GoodWorld world → IsGiven world.sent TheCoordinator work →
+pub later-coordinator : (world : World) (work : Work) → GoodWorld world → IsGiven world.sent TheCoordinator work →
     CoordinatorLater world.coordinator (coordinator_step world.coordinator work).0
 later-coordinator world (Take message) good given =
     (coordinator.moved-takes world.sent world.coordinator good.coordinator message.from message.body

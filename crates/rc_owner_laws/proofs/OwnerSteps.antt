@@ -2,7 +2,7 @@
 use Rattle.std.proofs.Common.{◌≡◌, ◌⊎◌, ℕ, suc, ◌+◌, ◌-◌, ◌<◌, ◌≤◌, Bool, true, false, cond, not, ◌&&◌, List, [], ◌∷◌}
 use Rattle.std.proofs.Common.{◌++◌, length, filter, nat_eq, slice_get, slice_set, Option, Some, None, option_map}
 use Rattle.std.proofs.Common.{Result, Ok, Err, refl, sym, ap, ◌∙◌, subst, inl, inr, arith}
-use Rattle.std.proofs.lemmas.Bool.{eqb-true, and_parts}
+use Rattle.std.proofs.lemmas.Bool.{eqb-true, and_parts, not-false}
 use Rattle.std.proofs.lemmas.Bool.Decides.{nat_tests}
 use Rattle.rc_types.specs.declared.ids.ServerId.{ServerId}
 use Rattle.rc_types.specs.declared.ids.Pair.{Pair}
@@ -48,18 +48,20 @@ use Rattle.rc_model.proofs.Members.{In-left, In-right, In-append}
 use Rattle.rc_step_laws.specs.Words.{IsNumbered}
 use Rattle.rc_step_laws.specs.Facts.{GoodCoordinator}
 use Rattle.rc_step_laws.proofs.Servers.{crashed-not-up, crashed-stays-crashed, crashed-stays-enlisted}
-use Rattle.rc_step_laws.proofs.Attempting.{numbered-at, numbered-same, numbered-set}
+use Rattle.rc_step_laws.proofs.Attempting.{numbered-at, numbered-same, numbered-set, undecided-none}
 use Rattle.rc_owner_laws.specs.Grants.{TabletsApart, owner_of, owner_at, term_in, term_at, IsGiven, PartsApart}
 use Rattle.rc_owner_laws.specs.Grants.{IsDecided, GoodGrants, GrantsMoved}
-use Rattle.rc_owner_laws.proofs.Tablets.{by_test, some-none, owner_at-marked, apart-marked, owner_at-split}
+use Rattle.rc_owner_laws.proofs.Tablets.{some-none, owner_at-marked, apart-marked, owner_at-split}
 use Rattle.rc_owner_laws.proofs.Tablets.{apart-split, owner_at-new, owner_at-beside, owner_at-before, apart-new}
 use Rattle.rc_owner_laws.proofs.Tablets.{assigned-beside, assigned-within, apart-assigned}
 use Rattle.rc_owner_laws.proofs.Chains.{found-at, of_owner, apart-of_owner, IsPartOf, part-of, length-gives, parts-apart, part-once}
 use Rattle.rc_owner_laws.proofs.Granting.{kept-good, IsNewGrant, granted-good}
-use Rattle.rc_owner_laws.proofs.Decided.{find-some, find-none, gives, given-in, OwnSays, says-none, says-one}
+use Rattle.rc_owner_laws.proofs.Decided.{find-none, gives, given-in, OwnSays, says-none, says-one}
 use Rattle.rc_owner_laws.proofs.Decided.{says-each, says-join, says-plans, begun-good, answered-decided, newly-decided}
 use Rattle.rc_model.proofs.Ids.{same_id-true}
 use Rattle.rc_model.proofs.Tests.{true_false, either}
+use Rattle.rc_step_laws.proofs.Tests.{find-one}
+use Rattle.rc_step_laws.proofs.Copies.{split}
 
 module _ (sent : List Message) (c : Coordinator) (base : GoodCoordinator sent c) (good : GoodGrants c) where
   -- no grant is made
@@ -175,10 +177,6 @@ module _ (sent : List Message) (c : Coordinator) (base : GoodCoordinator sent c)
 
   -- Answers
 
-  pub undecided-none : (decided : Option Decision) → is_undecided decided ≡ true → decided ≡ None
-  undecided-none None e = refl
-  undecided-none (Some decision) e = cc
-
   moved-keeps_answer_in : (from : ServerId) (number : ℕ) (rows : List Row) (found : Option Attempt) →
       GrantsMoved c (keeps_answer_in c from number rows found, [])
   moved-keeps_answer_in from number rows None = still
@@ -214,7 +212,7 @@ module _ (sent : List Message) (c : Coordinator) (base : GoodCoordinator sent c)
   pub above-first : (table at : ℕ) (tablets : List Tablet) (found : Option Tablet) →
       tablet_of tablets table at ≡ found → split_fault tablets at found ≡ None → 0 < at
   above-first table at tablets None e fine = some-none fine
-  above-first table at tablets (Some tablet) e fine = by_test (nat_eq at tablet.lo)
+  above-first table at tablets (Some tablet) e fine = split (nat_eq at tablet.lo)
       (λ same. some-none (sym (ap
       (λ b. cond b (Some BadSplit)
       (cond tablet.crashed (Some Recovering) (cond (is_too_many tablets) (Some TooManyTablets) None))) same) ∙
@@ -451,7 +449,7 @@ module _ (sent : List Message) (c : Coordinator) (base : GoodCoordinator sent c)
   senders-in id number term part attempt None numbered current is found = cc
   senders-in id number term part attempt (Some decision) numbered current is found =
       let one : In part (parts_of id decision.parts) × (nat_eq part.term term ≡ true) =
-      find-some (λ (p : Part). nat_eq p.term term) (parts_of id decision.parts) part found in
+      find-one (λ (p : Part). nat_eq p.term term) (parts_of id decision.parts) part found in
       record {
         attempt = attempt;
         numbered = numbered;
@@ -597,9 +595,9 @@ module _ (sent : List Message) (c : Coordinator) (base : GoodCoordinator sent c)
   moved-grants_or_repeats id number term (Some grant) found is_up_now =
       quiet c (from_coordinator id (own_body grant) ∷ []) good refl (says-one c (Server id) (own_body grant) (record {
         grant = grant;
-        among = (find-some (is_grant_to id term) c.grants grant found).0;
+        among = (find-one (is_grant_to id term) c.grants grant found).0;
         to_is = ap Server (sym (same_id-true grant.owner id (and_parts (nat_eq grant.term term) (same_id grant.owner id)
-            (find-some (is_grant_to id term) c.grants grant found).1).1));
+            (find-one (is_grant_to id term) c.grants grant found).1).1));
         body_is = refl;
       }))
   moved-grants_or_repeats id number term None found is_up_now =
@@ -658,11 +656,7 @@ module _ (sent : List Message) (c : Coordinator) (base : GoodCoordinator sent c)
       (λ _. refused TooManyTablets)
       (λ _. granted (with_table table owner (c.last_term + 1) c.tablets) (first_grant table owner (c.last_term + 1)) (c.last_term + 1)
       (new-table table owner (and_parts (is_up c.servers owner) (c.ready owner)
-      (not_false (is_up c.servers owner && c.ready owner) able)).0 fresh))))
-    where
-      not_false : (b : Bool) → not b ≡ false → b ≡ true
-      not_false true e = refl
-      not_false false e = absurd (true_false e)
+      (not-false (is_up c.servers owner && c.ready owner) able)).0 fresh))))
 
   -- All of them
 

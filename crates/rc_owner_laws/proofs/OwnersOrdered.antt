@@ -15,36 +15,18 @@ use Rattle.rc_model.specs.Deciding.{own_body}
 use Rattle.rc_model.specs.Ownership.{in_range}
 use Rattle.rc_model.specs.Owners.{Granted, grant_in, granted, IsGranted, covers, grants_of, IsBefore, previous, onward, IsEarlier}
 use Rattle.rc_model.specs.Headline.{In}
-use Rattle.rc_model.proofs.Members.{In-left, In-right, In-append, In-get, place_of, In-filter}
+use Rattle.rc_model.proofs.Members.{In-left, In-right, In-append, In-get, place_of, In-filter, filter-In}
 use Rattle.rc_model.proofs.Befores.{before-through}
 use Rattle.rc_step_laws.specs.Later.{AttemptLater}
 use Rattle.rc_step_laws.specs.Moves.{CoordinatorLater}
 use Rattle.rc_owner_laws.specs.Grants.{grants_at, term_at, IsChain, NoneTo, OwnersDiffer, IsDecided, own_said}
 use Rattle.rc_owner_laws.specs.Grants.{GoodGrants, GrantsMoved, GrantsKept}
 use Rattle.rc_model.proofs.Tests.{true_false, either}
+use Rattle.rc_model.proofs.Ids.{server-same}
+use Rattle.rc_owner_laws.proofs.Rising.{remembered, IsRemembered, granted_of}
+use Rattle.rc_owner_laws.proofs.Keeping.{decided-later}
 
 -- What was sent
-
--- a decision is for good
-decided-later : (old new : Coordinator) → CoordinatorLater old new →
-    (number : ℕ) (master : ServerId) (decision : Decision) → IsDecided old.attempts number master decision →
-    IsDecided new.attempts number master decision
-decided-later old new later number master decision d = by (later.attempts number d.attempt d.numbered)
-  where
-    by : AttemptLater new.attempts number d.attempt → IsDecided new.attempts number master decision
-    by now = record {
-      attempt = now.now;
-      numbered = now.numbered;
-      master_is = now.master ∙ d.master_is;
-      decided = which now.decided;
-    }
-      where
-        which : (d.attempt.decided ≡ now.now.decided) ⊎ (d.attempt.decided ≡ None) → now.now.decided ≡ Some decision
-        which (inl same) = sym same ∙ d.decided
-        which (inr none) = absurd (never (sym none ∙ d.decided))
-          where
-            never : None ≡ Some decision → ⊥
-            never e = cc
 
 said-later : (old new : Coordinator) → CoordinatorLater old new →
     ((grant : Grant) → In grant old.grants → In grant new.grants) → (to : Addr) (body : Body) → own_said old to body →
@@ -93,46 +75,6 @@ kept-none = record { told = λ grant at. absurd at; known = λ message at. absur
 
 -- The grants of the messages are those that are remembered
 
-abbrev pub granted_of : Grant → Granted
-granted_of grant = record {
-  owner = Server grant.owner;
-  table = grant.range.table;
-  lo = grant.range.lo;
-  hi = grant.range.hi;
-  term = grant.term;
-  previous = grant.previous;
-  attempt = grant.attempt;
-}
-
--- a grant among those sent is one that is remembered
-record IsRemembered (c : Coordinator) (one : Granted) : Type 0 where
-  grant : Grant
-  among : In grant c.grants
-  is : one ≡ granted_of grant
-
-remembered-in : (c : Coordinator) (to : Addr) (body : Body) (one : Granted) → own_said c to body →
-    In one (grant_in to body) → IsRemembered c one
-remembered-in c to (Own table lo hi term before attempt) one own at =
-    by (subst (λ (body : Body). In one (grant_in (Server own.grant.owner) body)) own.body_is
-    (subst (λ (addr : Addr). In one (grant_in addr (Own table lo hi term before attempt))) own.to_is at))
-  where
-    by : (one ≡ granted_of own.grant) ⊎ ⊥ → IsRemembered c one
-    by (inl e) = record { grant = own.grant; among = own.among; is = e }
-    by (inr never) = absurd never
-remembered-in c to _ one own at = absurd at
-
-remembered : (c : Coordinator) (sent : List Message) →
-    ((message : Message) → In message sent → own_said c message.to message.body) → (one : Granted) →
-    In one (granted sent) → IsRemembered c one
-remembered c [] known one at = absurd at
-remembered c (message ∷ sent) known one at = by (In-append one (grant_in message.to message.body) (granted sent) at)
-    (λ rest. remembered c sent (λ other there. known other (inr there)) one rest)
-  where
-    by : In one (grant_in message.to message.body) ⊎ In one (granted sent) →
-        (In one (granted sent) → IsRemembered c one) → IsRemembered c one
-    by (inl here) rec = remembered-in c message.to message.body one (known message (inl refl)) here
-    by (inr rest) rec = rec rest
-
 -- and each that is remembered is among those sent
 granted-in : (sent : List Message) (message : Message) (one : Granted) → In message sent →
     In one (grant_in message.to message.body) → In one (granted sent)
@@ -141,13 +83,6 @@ granted-in (first ∷ sent) message one (inl same) here =
     In-left one (grant_in first.to first.body) (granted sent) (subst (λ (m : Message). In one (grant_in m.to m.body)) same here)
 granted-in (first ∷ sent) message one (inr rest) here =
     In-right one (grant_in first.to first.body) (granted sent) (granted-in sent message one rest here)
-
-filter-in : {X : Type 0} (test : X → Bool) (x : X) (xs : List X) → In x xs → test x ≡ true → In x (filter test xs)
-filter-in test x [] at e = absurd at
-filter-in test x (y ∷ xs) (inl same) e = either (λ l. In x l) (test y) (y ∷ filter test xs) (filter test xs)
-    (λ _. inl same) (λ no. true_false (sym e ∙ (ap test same ∙ no)))
-filter-in test x (y ∷ xs) (inr rest) e = either (λ l. In x l) (test y) (y ∷ filter test xs) (filter test xs)
-    (λ _. inr (filter-in test x xs rest e)) (λ _. filter-in test x xs rest e)
 
 -- Chains
 
@@ -230,7 +165,7 @@ module _ (sent : List Message) (c : Coordinator) (good : GoodGrants c) (kept : G
       let was : IsRemembered c one = remembered c sent kept.known one at in
       record {
         grant = was.grant;
-        among = filter-in (λ (g : Grant). in_range g.range table key) was.grant c.grants was.among
+        among = filter-In (λ (g : Grant). in_range g.range table key) was.grant c.grants was.among
             (sym (ap (covers table key) was.is) ∙ on);
         is = was.is;
       }
@@ -239,7 +174,7 @@ module _ (sent : List Message) (c : Coordinator) (good : GoodGrants c) (kept : G
   all-among grant at =
       let was : In grant c.grants × (in_range grant.range table key ≡ true) =
       In-filter (λ (g : Grant). in_range g.range table key) grant c.grants at in
-      filter-in (covers table key) (granted_of grant) (granted sent)
+      filter-In (covers table key) (granted_of grant) (granted sent)
       (granted-in sent (from_coordinator grant.owner (own_body grant)) (granted_of grant) (kept.told grant was.0) (inl refl)) was.1
 
   pub one-chain : (one other : Granted) → IsGranted sent one → covers table key one ≡ true → IsGranted sent other →
@@ -272,8 +207,5 @@ module _ (sent : List Message) (c : Coordinator) (good : GoodGrants c) (kept : G
       let a : IsAt one = at-point one (In-get (granted sent) p.0 one p.1) on in
       let b : IsAt other = at-point other (In-get (granted sent) q.0 other q.1) of in
       a.is ∙ (ap granted_of (same-owner (grants_at c.grants table key) (good.once table key) a.grant b.grant a.among b.among
-      (server_same a.grant.owner b.grant.owner (sym (ap (λ (g : Granted). g.owner) a.is) ∙
+      (server-same a.grant.owner b.grant.owner (sym (ap (λ (g : Granted). g.owner) a.is) ∙
       (same ∙ ap (λ (g : Granted). g.owner) b.is)))) ∙ sym b.is)
-    where
-      server_same : (a b : ServerId) → Server a ≡ Server b → a ≡ b
-      server_same a b e = cc

@@ -1,8 +1,9 @@
 -- Each step of a master keeps its parts.
-use Rattle.std.proofs.Common.{drop, take, ◌≡◌, ◌⊎◌, ℕ, zero, suc, ◌<◌, Bool, true, false, cond, not, List, [], ◌∷◌}
+use Rattle.std.proofs.Common.{◌-◌, drop, take, ◌≡◌, ◌⊎◌, ℕ, zero, suc, ◌<◌, Bool, true, false, cond, not, List, [], ◌∷◌}
 use Rattle.std.proofs.Common.{◌++◌, length, map, filter, nat_lt, find, Option, Some, None, option_map, refl, sym, ap}
 use Rattle.std.proofs.Common.{◌∙◌, subst, inl, inr, arith}
 use Rattle.std.proofs.lemmas.Bool.{and_parts, ltb-true}
+use Rattle.std.proofs.lemmas.List.{append-nil}
 use Rattle.rc_types.specs.declared.ids.ServerId.{ServerId}
 use Rattle.rc_types.specs.declared.ids.Addr.{Addr}
 use Rattle.rc_types.specs.declared.ids.Addr.TheVariants.{Server, Coordinator, Outside}
@@ -43,9 +44,15 @@ use Rattle.rc_owner_laws.specs.PartClaims.{TakesKeepParts, TicksKeepParts, NewHa
 use Rattle.rc_owner_laws.proofs.PartViews.{IsPlain, AllPlain, plain-says, plain-none, plain-one, plain-both, plain-to_ids}
 use Rattle.rc_owner_laws.proofs.PartViews.{later-refl, quiet, still, moved-then, moved-then_does}
 use Rattle.rc_owner_laws.proofs.PartPlaces.{same-stored, same-committed, quiet-log}
-use Rattle.rc_owner_laws.proofs.Quiet.{parts-takes_list, parts-obeys, parts-rolls, Does, does-when, does-start}
-use Rattle.rc_owner_laws.proofs.Quiet.{does-placed, does-closing, does-shut, does-change, parts-marks_shut}
-use Rattle.rc_owner_laws.proofs.Quiet.{plain-reminds_open, plain-reminds_shut, plain-commits_again, plain-ready_again}
+use Rattle.rc_model.specs.Heads.{closes_old, left_out, starts, writes_on}
+use Rattle.rc_model.specs.Log.{old_head_of, with_segment}
+use Rattle.rc_model.specs.Segment.{is_unclosed, with_closes_sent}
+use Rattle.rc_model.specs.FollowUps.{close_marked, frees_segments}
+use Rattle.rc_model.specs.MasterStep.{master_takes, master_ticks}
+use Rattle.rc_model.proofs.Walk.{Taken, Ticked, Followed, begun as begun_master, kept-takes, kept-ticks}
+use Rattle.rc_model.proofs.Sending.{each-map, each-frees, each-write_oks, each-reminds}
+use Rattle.rc_owner_laws.proofs.PartPlaces.{same-segment, same-starts, same-closes, same-writes}
+use Rattle.rc_owner_laws.proofs.Quiet.{Kept, parts-joined, parts-listed, parts-rolls}
 use Rattle.rc_owner_laws.proofs.Appending.{good-durable, with_place, OwnsPoint, owns-point, good-client, replayed, good-replayed}
 use Rattle.rc_owner_laws.proofs.States.{data-stays, SameState, was-answered}
 use Rattle.rc_owner_laws.proofs.Recovering.{with_own, good-data, owning, good-owning, attempt-stays, begun, good-begun}
@@ -73,8 +80,7 @@ In-drop (suc n) (y ∷ xs) x at = inr (In-drop n xs x at)
 module _ (sent : List Message) (m : ServerId) where
   -- A write
 
-  parts-refused : (master : Master) (fault : Fault) → HasHead master.log → GoodParts sent m (part_view master) →
-      PartsMoved sent m master (refused master fault)
+  parts-refused : (master : Master) (fault : Fault) → Kept sent m master (refused master fault)
   parts-refused master fault head good = quiet sent m master master (refuses master.log.own fault ∷ []) good head refl
       (plain-one (refuses master.log.own fault) tt)
 
@@ -90,10 +96,23 @@ module _ (sent : List Message) (m : ServerId) where
       ap (λ places. record { places = places; durable = master.log.durable; own = master.ownership; tasks = master.tasks })
       (places-push master.log.segments master.log.head entry client (head writing))
 
-  parts-write : (master : Master) (term table key : ℕ) (value : Option (List ℕ)) → HasHead master.log →
-      GoodParts sent m (part_view master) → OwnsPoint master.ownership term table key →
-      PartsMoved sent m master (writes_under master term table key value)
-  parts-write master term table key value head good owns = by (is_writing master.log.phase) refl (is_full master.log)
+  -- a client's entry is appended
+  parts-write : (master : Master) (term table key : ℕ) (value : Option (List ℕ)) →
+      term_of master.ownership table key ≡ Some term → is_writing master.log.phase ≡ true →
+      Kept sent m master (appends_entry master (written master term table key value) true)
+  parts-write master term table key value owned writing head good =
+      let now : part_view (appends_entry master entry true).0 ≡ with_place place (part_view master) =
+      appended-view master entry true head writing in
+      record {
+        head = head;
+        good = subst (GoodParts sent m) (sym now)
+            (good-client sent m (part_view master) place refl good (owns-point master.ownership table key term owned) refl);
+        later = subst (PartsLater (part_view master)) (sym now)
+            (later-places (part_view master) (place ∷ []) master.ownership refl refl);
+        says = plain-says (part_view (appends_entry master entry true).0) (appends_entry master entry true).1
+            (plain-to_ids master.log.own (ids_of (not_lost (master.log.segments master.log.head).config.members))
+            (body.Append master.log.head (length (head_of master.log).entries) (entry ∷ [])) tt);
+      }
     where
       entry : Entry
       entry = written master term table key value
@@ -106,68 +125,36 @@ module _ (sent : List Message) (m : ServerId) where
         client = true;
       }
 
-      by : (b : Bool) → is_writing master.log.phase ≡ b → (full : Bool) → PartsMoved sent m master (cond (not b) (refused master Rolling)
-          (cond full (rolls_for_write master (begin_roll master.known (dead_segments master) master.log))
-          (appends_entry master (written master term table key value) true)))
-      by false e full = parts-refused master Rolling head good
-      by true e true = roll-cases (λ result. PartsMoved sent m master (rolls_for_write master result)) master.known
-          (dead_segments master) master.log
-          (λ fault. parts-refused master fault head good)
-          (λ ids chosen. parts-rolls sent m master (next_digest master.log (dead_segments master)) ids
-          (refuses master.log.own Rolling ∷ []) (plain-one (refuses master.log.own Rolling) tt) head good)
-      by true e false =
-          let now : part_view (appends_entry master entry true).0 ≡ with_place place (part_view master) =
-          appended-view master entry true head e in
-          record {
-            head = head;
-            good = subst (GoodParts sent m) (sym now) (good-client sent m (part_view master) place refl good owns refl);
-            later = subst (PartsLater (part_view master)) (sym now)
-                (later-places (part_view master) (place ∷ []) master.ownership refl refl);
-            says = plain-says (part_view (appends_entry master entry true).0) (appends_entry master entry true).1
-                (plain-to_ids master.log.own (ids_of (not_lost (master.log.segments master.log.head).config.members))
-                (body.Append master.log.head (length (head_of master.log).entries) (entry ∷ [])) tt);
-          }
-
-  parts-writes : (master : Master) (table key : ℕ) (value : Option (List ℕ)) → HasHead master.log →
-      GoodParts sent m (part_view master) → PartsMoved sent m master (writes master table key value)
-  parts-writes master table key value head good =
-      either (λ after. PartsMoved sent m master after) (is_too_long value) (refused master ValueTooLong)
-      (writes_if_owned master (term_of master.ownership table key) table key value)
-      (λ _. parts-refused master ValueTooLong head good) (λ _. by (term_of master.ownership table key) refl)
-    where
-      by : (found : Option ℕ) → term_of master.ownership table key ≡ found →
-          PartsMoved sent m master (writes_if_owned master found table key value)
-      by None e = parts-refused master NotOwner head good
-      by (Some term) e = parts-write master term table key value head good (owns-point master.ownership table key term e)
-
-  parts-reads : (master : Master) (table key : ℕ) → HasHead master.log → GoodParts sent m (part_view master) →
-      PartsMoved sent m master (reads master table key)
-  parts-reads master table key head good = by (term_of master.ownership table key)
-    where
-      by : (found : Option ℕ) → PartsMoved sent m master (reads_if_owned master found table key)
-      by None = parts-refused master NotOwner head good
-      by (Some term) = quiet sent m master master (reads_if_owned master (Some term) table key).1 good head refl (plain-one _ tt)
-
   -- Durable places
 
-  does-stored : (master : Master) → HasHead master.log → GoodParts sent m (part_view master) → Does sent m master (follows_stored master)
-  does-stored master head good = does-when sent m master (nat_lt master.log.durable (durable_now master.log))
+  parts-counts : (master : Master) → nat_lt master.log.durable (durable_now master.log) ≡ true → Kept sent m master
       (with_log master (record master.log { durable = durable_now master.log }), write_oks master.log.own (new_durable master.log))
-      (λ e. (
+  parts-counts master e head good =
       let more : master.log.durable < durable_now master.log = ltb-true master.log.durable (durable_now master.log) e in
       record {
         head = head;
         good = good-durable sent m (part_view master) (durable_now master.log) good (omega arith);
         later = record {
-          places = ([], Rattle.rc_owner_laws.proofs.PartLists.append-nil (places_of master.log));
+          places = ([], append-nil (places_of master.log));
           durable = omega arith;
           grants = λ one at. at;
           tasks = λ task at. at;
           attempts = λ task at. refl;
           joined = λ state at rows. record { now = state; among = at; part_is = refl; rows = rows; size = refl };
         };
-        says = oks (new_durable master.log) (λ place at. among place at);
-      }))
+        says = each-write_oks (λ message. part_said v_now message.to message.body) master.log.own (new_durable master.log)
+            (λ place at client. record {
+              place = place;
+              among = among place at;
+              client = client;
+              seg_is = refl;
+              offset_is = refl;
+              term_is = refl;
+              table_is = refl;
+              key_is = refl;
+              version_is = refl;
+            });
+      }
     where
       v_now : PartView
       v_now = part_view (with_log master (record master.log { durable = durable_now master.log }))
@@ -178,59 +165,21 @@ module _ (sent : List Message) (m : ServerId) where
           (In-drop master.log.durable (take (durable_now master.log) (places_of master.log)) place at) in
           In-get (places_of master.log) found.0 place found.2
 
-      oks : (places : List LogPlace) → ((place : LogPlace) → In place places → In place (places_of master.log)) →
-          (message : Message) → In message (write_oks master.log.own places) → part_said v_now message.to message.body
-      oks [] all message at = absurd at
-      oks (place ∷ places) all message at = by place.client refl (oks places (λ other there. all other (inr there)) message) at
-        where
-          ok : Message
-          ok = to_outside master.log.own (body.WriteOk place.seg place.offset place.entry.term place.entry.table
-              place.entry.key place.entry.version)
-
-          by : (b : Bool) → place.client ≡ b → (In message (write_oks master.log.own places) → part_said v_now message.to message.body) →
-              In message (cond b (ok ∷ write_oks master.log.own places) (write_oks master.log.own places)) →
-              part_said v_now message.to message.body
-          by true client rec (inl same) = subst (λ (one : Message). part_said v_now one.to one.body) (sym same) (record {
-            place = place;
-            among = all place (inl refl);
-            client = client;
-            seg_is = refl;
-            offset_is = refl;
-            term_is = refl;
-            table_is = refl;
-            key_is = refl;
-            version_is = refl;
-          })
-          by true client rec (inr rest) = rec rest
-          by false client rec rest = rec rest
-
   -- Replaying
 
-  does-replays : (master : Master) (entries : List Entry) → master.ownership.replay ≡ entries → HasHead master.log →
-      GoodParts sent m (part_view master) → is_writing master.log.phase ≡ true →
-      Does sent m master (replays master entries)
-  does-replays master [] waits head good writing = tt
-  does-replays master (entry ∷ entries) waits head good writing =
-      either (Does sent m master) (is_full master.log) (rolls_for_replay master (begin_roll master.known (dead_segments master) master.log))
-      (Some (appends_entry (record master { ownership = after_replay master.ownership }) entry false))
-      (λ _. roll-cases (λ result. Does sent m master (rolls_for_replay master result)) master.known (dead_segments master) master.log
-      (λ fault. tt) (λ ids chosen. rolled ids))
-      (λ _. appended)
+  parts-replays : (master : Master) (entry : Entry) (entries : List Entry) → master.ownership.replay ≡ entry ∷ entries →
+      is_writing master.log.phase ≡ true →
+      Kept sent m master (appends_entry (record master { ownership = after_replay master.ownership }) entry false)
+  parts-replays master entry entries waits writing head good = record {
+    head = head;
+    good = subst (GoodParts sent m) (sym now) (good-replayed sent m (part_view master) place entries good waits refl);
+    later = subst (PartsLater (part_view master)) (sym now)
+        (later-places (part_view master) (place ∷ []) (record master.ownership { replay = entries }) refl refl);
+    says = plain-says (part_view (appends_entry next entry false).0) (appends_entry next entry false).1
+        (plain-to_ids master.log.own (ids_of (not_lost (master.log.segments master.log.head).config.members))
+        (body.Append master.log.head (length (head_of master.log).entries) (entry ∷ [])) tt);
+  }
     where
-      digest : List ℕ
-      digest = next_digest master.log (dead_segments master)
-
-      rolled : (ids : List ServerId) →
-          PartsMoved sent m master (
-            with_log master
-                (opens_head master.log (next_digest master.log (dead_segments master)) ids),
-            places_head (opens_head master.log (next_digest master.log (dead_segments master)) ids),
-          )
-      rolled ids =
-          subst (λ messages. PartsMoved sent m master (with_log master (opens_head master.log digest ids), messages))
-          (Rattle.rc_owner_laws.proofs.PartLists.append-nil (places_head (opens_head master.log digest ids)))
-          (parts-rolls sent m master digest ids [] plain-none head good)
-
       place : LogPlace
       place = record { seg = master.log.head; offset = length (head_of master.log).entries; entry = entry; client = false }
 
@@ -246,27 +195,11 @@ module _ (sent : List Message) (m : ServerId) where
             tasks = master.tasks;
           }) waits
 
-      appended : PartsMoved sent m master (appends_entry (record master { ownership = after_replay master.ownership }) entry false)
-      appended = record {
-        head = head;
-        good = subst (GoodParts sent m) (sym now) (good-replayed sent m (part_view master) place entries good waits refl);
-        later = subst (PartsLater (part_view master)) (sym now)
-            (later-places (part_view master) (place ∷ []) (record master.ownership { replay = entries }) refl refl);
-        says = plain-says (part_view (appends_entry next entry false).0) (appends_entry next entry false).1
-            (plain-to_ids master.log.own (ids_of (not_lost (master.log.segments master.log.head).config.members))
-            (body.Append master.log.head (length (head_of master.log).entries) (entry ∷ [])) tt);
-      }
-
-  does-data : (master : Master) → HasHead master.log → GoodParts sent m (part_view master) → Does sent m master (follows_data master)
-  does-data master head good =
-      either (Does sent m master) (is_writing master.log.phase) (replays master master.ownership.replay) None
-      (λ e. does-replays master master.ownership.replay refl head good e) (λ _. tt)
-
   -- The end of a part
 
   later-answered : (v : PartView) (durable : List Entry) → PartsLater v (with_own (after_answer durable v.own) v)
   later-answered v durable = record {
-    places = ([], Rattle.rc_owner_laws.proofs.PartLists.append-nil v.places);
+    places = ([], append-nil v.places);
     durable = omega arith;
     grants = λ one at. at;
     tasks = λ task at. at;
@@ -278,10 +211,11 @@ module _ (sent : List Message) (m : ServerId) where
           SameState state now → StateLater (with_own (after_answer durable v.own) v) state
       stays state rows (now, at, same) = record { now = now; among = at; part_is = same.part; rows = same.rows ∙ rows; size = same.size }
 
-  does-answers : (master : Master) (found : Option ℕ) → to_answer (durable_entries master) master.ownership ≡ found →
-      HasHead master.log → GoodParts sent m (part_view master) → Does sent m master (answers_part master found)
-  does-answers master None e head good = tt
-  does-answers master (Some term) e head good = by (find (is_to_answer (durable_entries master)) master.ownership.parts) refl e
+  parts-answers : (master : Master) (term : ℕ) → to_answer (durable_entries master) master.ownership ≡ Some term → Kept sent m master (
+        record master { ownership = after_answer (durable_entries master) master.ownership },
+        to_coordinator master.log.own (body.Recovered (attempt_of term master.tasks) term) ∷ [],
+      )
+  parts-answers master term e head good = by (find (is_to_answer (durable_entries master)) master.ownership.parts) refl e
     where
       v_now : PartView
       v_now = with_own (after_answer (durable_entries master) master.ownership) (part_view master)
@@ -330,72 +264,27 @@ module _ (sent : List Message) (m : ServerId) where
           some-same : Some state.part.term ≡ Some term → state.part.term ≡ term
           some-same same = cc
 
-  -- The first rule that applies, until none does
-
-  does-or : (master : Master) (one other : Option (Master × List Message)) → Does sent m master one →
-      Does sent m master other → Does sent m master (or_rule one other)
-  does-or master None other p q = q
-  does-or master (Some done) other p q = p
-
-  does-follow_up : (master : Master) → HasHead master.log → GoodParts sent m (part_view master) → Does sent m master (follow_up master)
-  does-follow_up master head good =
-      does-or master (follows_start master) _ (does-start sent m master head good)
-      (does-or master (follows_placed master) _ (does-placed sent m master head good)
-      (does-or master (follows_closing master) _ (does-closing sent m master head good)
-      (does-or master (follows_shut master) _ (does-shut sent m master head good)
-      (does-or master (follows_change master) _ (does-change sent m master head good)
-      (does-or master (follows_stored master) _ (does-stored master head good)
-      (does-or master (follows_data master) _ (does-data master head good)
-      (does-answers master (to_answer (durable_entries master) master.ownership) refl head good)))))))
-
-  parts-further : (master : Master) (found : Option (Master × List Message)) (others : Master → Master × List Message) →
-      HasHead master.log → GoodParts sent m (part_view master) → Does sent m master found →
-      ((next : Master) → HasHead next.log → GoodParts sent m (part_view next) → PartsMoved sent m next (others next)) →
-      PartsMoved sent m master (further found master others)
-  parts-further master None others head good does rest = still sent m master head good
-  parts-further master (Some done) others head good does rest =
-      moved-then sent m master done (others done.0) does (rest done.0 does.head does.good)
-
-  parts-followed : (times : ℕ) (master : Master) → HasHead master.log → GoodParts sent m (part_view master) →
-      PartsMoved sent m master (followed times master)
-  parts-followed zero master head good = parts-marks_shut sent m master head good
-  parts-followed (suc times) master head good =
-      let first : PartsMoved sent m master (marks_shut master, []) = parts-marks_shut sent m master head good in
-      moved-then sent m master (marks_shut master, []) (further (follow_up (marks_shut master)) (marks_shut master)
-      (λ next. followed times next)) first
-      (parts-further (marks_shut master) (follow_up (marks_shut master)) (λ next. followed times next) first.head
-      first.good (does-follow_up (marks_shut master) first.head first.good)
-      (λ next has now. parts-followed times next has now))
-
-  parts-goes_on : (master : Master) → HasHead master.log → GoodParts sent m (part_view master) → PartsMoved sent m master (goes_on master)
-  parts-goes_on master head good =
-      either (λ after. PartsMoved sent m master after) master.deposed (master, []) (followed (measure master) master)
-      (λ _. still sent m master head good) (λ _. parts-followed (measure master) master head good)
-
   -- A plan
 
-  asked : (v : PartView) (own : ServerId) (task : Task) (rows : List PlanRow) → In task v.tasks →
-      ((row : PlanRow) → In row rows → In row task.rows) → (message : Message) →
-      In message (map (fetch_of own task) rows) → part_said v message.to message.body
-  asked v own task rows among all message at =
-      let found = In-map (fetch_of own task) message rows at in
-      subst (λ (one : Message). part_said v one.to one.body) (sym found.2) (record {
-        task = task;
-        among = among;
-        attempt_is = refl;
-        master_is = refl;
-        part_is = refl;
-        row = found.0;
-        row_among = all found.0 found.1;
-        to_is = refl;
-        seg_is = refl;
-        len_is = refl;
-      })
+  asked : (v : PartView) (task : Task) (row : PlanRow) → In task v.tasks → In row task.rows →
+      part_said v (Server row.holder) (body.Fetch task.attempt task.master row.seg row.len task.part)
+  asked v task row among row_among = record {
+    task = task;
+    among = among;
+    attempt_is = refl;
+    master_is = refl;
+    part_is = refl;
+    row = row;
+    row_among = row_among;
+    to_is = refl;
+    seg_is = refl;
+    len_is = refl;
+  }
 
   later-begun : (v : PartView) (good : GoodParts sent m v) (task : Task) (was : WasPlanned sent m task)
       (unknown : knows_term v.own task.part.term ≡ false) → PartsLater v (begun sent m v good task was unknown)
   later-begun v good task was unknown = record {
-    places = ([], Rattle.rc_owner_laws.proofs.PartLists.append-nil v.places);
+    places = ([], append-nil v.places);
     durable = omega arith;
     grants = λ one at. at;
     tasks = λ one at. In-left one v.tasks (task ∷ []) at;
@@ -403,50 +292,28 @@ module _ (sent : List Message) (m : ServerId) where
     joined = λ state at rows. record { now = state; among = In-left state v.own.parts _ at; part_is = refl; rows = rows; size = refl };
   }
 
-  parts-begins : (task : Task) (master : Master) → HasHead master.log → GoodParts sent m (part_view master) →
-      WasPlanned sent m task → PartsMoved sent m master (begins_task task master)
-  parts-begins task master head good was =
-      either (λ after. PartsMoved sent m master after) (knows_term master.ownership task.part.term) (master, [])
-      (new, map (fetch_of master.log.own task) task.rows)
-      (λ _. still sent m master head good) (λ unknown. starts unknown)
-    where
-      new : Master
-      new = record master {
-        ownership = begin_part task.part (map (λ row. (row.seg, row.holder)) task.rows) master.ownership;
+  parts-begins : (task : Task) (master : Master) → WasPlanned sent m task → knows_term master.ownership task.part.term ≡ false →
+      Kept sent m master (begun_master task master, map (fetch_of master.log.own task) task.rows)
+  parts-begins task master was unknown head good =
+      let now : part_view (begun_master task master) ≡ begun sent m (part_view master) good task was unknown =
+      ap (λ b. record {
+        places = places_of master.log;
+        durable = master.log.durable;
+        own = cond b master.ownership
+            (record master.ownership {
+              parts = master.ownership.parts ++ Rattle.rc_model.specs.Ownership.new_part
+                  task.part (map (λ row. (row.seg, row.holder)) task.rows) ∷ [];
+            });
         tasks = master.tasks ++ task ∷ [];
+      }) unknown in
+      record {
+        head = head;
+        good = subst (GoodParts sent m) (sym now) (good-begun sent m (part_view master) good task was unknown);
+        later = subst (PartsLater (part_view master)) (sym now) (later-begun (part_view master) good task was unknown);
+        says = each-map (λ message. part_said (part_view (begun_master task master)) message.to message.body)
+            (fetch_of master.log.own task) task.rows
+            (λ row at. asked (part_view (begun_master task master)) task row (In-right task master.tasks (task ∷ []) (inl refl)) at);
       }
-
-      starts : knows_term master.ownership task.part.term ≡ false →
-          PartsMoved sent m master (new, map (fetch_of master.log.own task) task.rows)
-      starts unknown =
-          let now : part_view new ≡ begun sent m (part_view master) good task was unknown =
-          ap (λ b. record {
-            places = places_of master.log;
-            durable = master.log.durable;
-            own = cond b master.ownership
-                (record master.ownership {
-                  parts = master.ownership.parts ++ Rattle.rc_model.specs.Ownership.new_part
-                      task.part (map (λ row. (row.seg, row.holder)) task.rows) ∷ [];
-                });
-            tasks = master.tasks ++ task ∷ [];
-          }) unknown in
-          record {
-            head = head;
-            good = subst (GoodParts sent m) (sym now) (good-begun sent m (part_view master) good task was unknown);
-            later = subst (PartsLater (part_view master)) (sym now) (later-begun (part_view master) good task was unknown);
-            says = asked (part_view new) master.log.own task task.rows (In-right task master.tasks (task ∷ []) (inl refl)) (λ row at. at);
-          }
-
-  parts-takes_plan : (attempt : ℕ) (crashed : ServerId) (rows : List PlanRow) (parts : List Part) (master : Master) →
-      HasHead master.log → GoodParts sent m (part_view master) →
-      ((part : Part) → In part parts → WasPlanned sent m (task_of attempt crashed rows part)) →
-      PartsMoved sent m master (takes_plan attempt crashed rows parts master)
-  parts-takes_plan attempt crashed rows [] master head good was = still sent m master head good
-  parts-takes_plan attempt crashed rows (part ∷ parts) master head good was =
-      let task : Task = task_of attempt crashed rows part in
-      moved-then_does sent m master (begins_task task master) (λ after. takes_plan attempt crashed rows parts after)
-      (parts-begins task master head good (was part (inl refl)))
-      (λ has now. parts-takes_plan attempt crashed rows parts (begins_task task master).0 has now (λ other at. was other (inr at)))
 
   -- A row, and a grant
 
@@ -458,7 +325,7 @@ module _ (sent : List Message) (m : ServerId) where
     head = head;
     good = good-data sent m (part_view master) good term seg from entries (record { attempt = attempt; among = at });
     later = record {
-      places = ([], Rattle.rc_owner_laws.proofs.PartLists.append-nil (places_of master.log));
+      places = ([], append-nil (places_of master.log));
       durable = omega arith;
       grants = λ one there. there;
       tasks = λ task there. there;
@@ -488,7 +355,7 @@ module _ (sent : List Message) (m : ServerId) where
         head = head;
         good = good-owning sent m (part_view master) good granted was new ended;
         later = record {
-          places = ([], Rattle.rc_owner_laws.proofs.PartLists.append-nil (places_of master.log));
+          places = ([], append-nil (places_of master.log));
           durable = omega arith;
           grants = λ one at. In-left one master.ownership.grants (granted ∷ []) at;
           tasks = λ task at. at;
@@ -500,92 +367,25 @@ module _ (sent : List Message) (m : ServerId) where
 
   -- The timer
 
-  says-fetches : (master : Master) (tasks : List Task) → ((task : Task) → In task tasks → In task master.tasks) →
-      (message : Message) → In message (fetches_again master tasks) →
-      part_said (part_view master) message.to message.body
-  says-fetches master [] all message at = absurd at
-  says-fetches master (task ∷ tasks) all message at =
-      by (In-append message (map (fetch_of master.log.own task) (filter (has_not_come master.ownership task) task.rows))
-      (fetches_again master tasks) at)
-      (says-fetches master tasks (λ other there. all other (inr there)) message)
-    where
-      by : In message (map (fetch_of master.log.own task) (filter (has_not_come master.ownership task) task.rows)) ⊎
-          In message (fetches_again master tasks) →
-          (In message (fetches_again master tasks) → part_said (part_view master) message.to message.body) →
-          part_said (part_view master) message.to message.body
-      by (inl here) rec = asked (part_view master) master.log.own task
-          (filter (has_not_come master.ownership task) task.rows) (all task (inl refl))
-          (λ row there. (In-filter (has_not_come master.ownership task) row task.rows there).0) message here
-      by (inr there) rec = rec there
-
-  says-recovered : (master : Master) (message : Message) → In message (recovered_again master) →
-      part_said (part_view master) message.to message.body
-  says-recovered master message at =
-      let found = In-map (λ (state : PartState). to_coordinator master.log.own
-      (body.Recovered (attempt_of state.part.term master.tasks) state.part.term)) message
-      (filter (awaits_grant master) master.ownership.parts) at in
-      let p = In-filter (awaits_grant master) found.0 master.ownership.parts found.1 in
-      subst (λ (one : Message). part_said (part_view master) one.to one.body) (sym found.2) (record {
-        complete = complete-is (part_view master) found.0 p.0 (and_parts (is_complete (durable_entries master) found.0)
-            (not (owns_term master.ownership found.0.part.term)) p.1).0;
-        attempt_is = refl;
-      })
-
-  parts-reminds : (before : Log) (master : Master) → HasHead master.log → GoodParts sent m (part_view master) →
-      PartsMoved sent m master (reminds before master)
+  parts-reminds : (before : Log) (master : Master) → Kept sent m master (reminds before master)
   parts-reminds before master head good = record {
     head = head;
     good = good;
     later = later-refl (part_view master);
-    says = λ message at. said message (In-append message (opens ++ shuts ++ commits ++ fetches ++ recovered) (ready_again master) at);
+    says = each-reminds (λ message. part_said (part_view master) message.to message.body) before master (record {
+      place = λ member seg closed at shut among. tt;
+      append = λ member seg len at. tt;
+      close = λ member seg at old. tt;
+    }) (λ seg awaits. tt) (record {
+      fetch = λ task row given among. asked (part_view master) task row given among;
+      recovered = λ state among awaits. record {
+        complete = complete-is (part_view master) state among (and_parts (is_complete (durable_entries master) state)
+            (not (owns_term master.ownership state.part.term)) awaits).0;
+        attempt_is = refl;
+      };
+      ready = tt;
+    });
   }
-    where
-      v : PartView
-      v = part_view master
-
-      opens : List Message
-      opens = reminds_open before master.log (numbers_to master.log.head)
-
-      shuts : List Message
-      shuts = reminds_shut before master.log (numbers_to master.log.head)
-
-      commits : List Message
-      commits = commits_again master.log
-
-      fetches : List Message
-      fetches = fetches_again master master.tasks
-
-      recovered : List Message
-      recovered = recovered_again master
-
-      plain : AllPlain (opens ++ shuts ++ commits)
-      plain = plain-both (opens ++ shuts) commits
-          (plain-both opens shuts (plain-reminds_open before master.log (numbers_to master.log.head))
-          (plain-reminds_shut before master.log (numbers_to master.log.head)))
-          (plain-commits_again master.log)
-
-      third : (message : Message) → In message (opens ++ shuts ++ commits) ⊎ In message fetches → part_said v message.to message.body
-      third message (inl here) = plain-says v (opens ++ shuts ++ commits) plain message here
-      third message (inr there) = says-fetches master master.tasks (λ task at. at) message there
-
-      second : (message : Message) → In message (opens ++ shuts ++ commits ++ fetches) ⊎ In message recovered →
-          part_said v message.to message.body
-      second message (inl here) = third message (In-append message (opens ++ shuts ++ commits) fetches here)
-      second message (inr there) = says-recovered master message there
-
-      said : (message : Message) → In message (opens ++ shuts ++ commits ++ fetches ++ recovered) ⊎
-          In message (ready_again master) → part_said v message.to message.body
-      said message (inl here) = second message (In-append message (opens ++ shuts ++ commits ++ fetches) recovered here)
-      said message (inr there) = plain-says v (ready_again master) (plain-ready_again master) message there
-
-  parts-ticks : (master : Master) → HasHead master.log → GoodParts sent m (part_view master) → PartsMoved sent m master (ticks master)
-  parts-ticks master head good =
-      either (λ after. PartsMoved sent m master after) (is_up master.known master.log.own)
-      (then_does (obeys_list master) (reminds master.log)) (master, to_coordinator master.log.own body.Enlist ∷ [])
-      (λ _. moved-then_does sent m master (obeys_list master) (reminds master.log) (parts-obeys sent m master head good)
-      (λ has now. parts-reminds master.log (obeys_list master).0 has now))
-      (λ _. quiet sent m master master (to_coordinator master.log.own body.Enlist ∷ []) good head refl
-      (plain-one (to_coordinator master.log.own body.Enlist) tt))
 
   -- A message
 
@@ -616,61 +416,82 @@ module _ (sent : List Message) (m : ServerId) where
   own-heard Coordinator v table lo hi term before attempt p = p
   own-heard Outside v table lo hi term before attempt p = p
 
-  parts-first : (master : Master) (from : Addr) (says : Body) → HasHead master.log →
-      GoodParts sent m (part_view master) → PartsHear sent m (part_view master) from says →
-      PartsMoved sent m master (master_takes_first master from says)
-  parts-first master from (body.Write table key value) head good hear = parts-writes master table key value head good
-  parts-first master from (body.Read table key) head good hear = parts-reads master table key head good
-  parts-first master from (body.List version rows) head good hear = parts-takes_list sent m master (from_rows version rows) head good
-  parts-first master (Server from) (body.Stored seg epoch len closed) head good hear =
-      quiet-log sent m master (stored seg from epoch len closed master.log) [] head good
-      (same-stored seg from epoch len closed master.log) plain-none
-  parts-first master from (body.CommitOk seg epoch) head good hear =
-      quiet-log sent m master (commit_noted seg epoch master.log) [] head good (same-committed seg epoch master.log)
-      plain-none
-  parts-first master Coordinator (body.Refused reason) head good hear =
-      either (λ after. PartsMoved sent m master (after, [])) (says_deposed reason) (record master { deposed = true }) master
-      (λ _. quiet sent m master (record master { deposed = true }) [] good head refl plain-none) (λ _. still sent m master head good)
-  parts-first master from (body.Plan attempt crashed seg rows parts) head good hear =
-      parts-takes_plan attempt crashed rows parts master head good
-      (planned-heard from (part_view master) attempt crashed seg rows parts hear)
-  parts-first master (Server from) (body.Data attempt seg term entries) head good hear =
-      parts-data attempt seg term from entries master head good hear
-  parts-first master from (body.Own table lo hi term before attempt) head good hear =
-      let p = own-heard from (part_view master) table lo hi term before attempt hear in
-      parts-grant (record { range = record { table = table; lo = lo; hi = hi }; term = term }) master head good
-      (record {
-        message = record { from = from; to = Server m; body = body.Own table lo hi term before attempt };
-        among = p.0;
-        to = refl;
-        previous = before;
-        attempt = attempt;
-        says = refl;
-      }) p.1
-  parts-first master from _ head good hear = still sent m master head good
+  parts-taken : (master : Master) (from : Addr) (says : Body) → PartsHear sent m (part_view master) from says →
+      Taken (Kept sent m) master from says
+  parts-taken master from says hear = record {
+    refuses = parts-refused;
+    rolls = parts-rolls sent m master;
+    writes = λ term table key value is owned writing room. parts-write master term table key value owned writing;
+    reads = λ term table key is owned head good.
+        quiet sent m master master (reads_if_owned master (Some term) table key).1 good head refl (plain-one _ tt);
+    lists = λ version rows is newer head good. quiet sent m master (record master { known = from_rows version rows }) [] good head refl plain-none;
+    stores = λ teller seg epoch len closed is told head good. quiet-log sent m master (stored seg teller epoch len closed master.log) []
+        head good (same-stored seg teller epoch len closed master.log) plain-none;
+    commits = λ seg epoch is head good. quiet-log sent m master (commit_noted seg epoch master.log) [] head good
+        (same-committed seg epoch master.log) plain-none;
+    deposes = λ head good. quiet sent m master (record master { deposed = true }) [] good head refl plain-none;
+    begins = λ one attempt crashed seg rows parts part is at new. parts-begins (task_of attempt crashed rows part) one
+        (planned-heard from (part_view master) attempt crashed seg rows parts (heard is) part at) new;
+    comes = λ holder attempt seg term entries is told head good. parts-data attempt seg term holder entries master head good
+        (subst (λ (sender : Addr). PartsHear sent m (part_view master) sender (body.Data attempt seg term entries)) is (heard told));
+    owns = λ table lo hi term before attempt is head good. (
+        let p = own-heard from (part_view master) table lo hi term before attempt (heard is) in
+        parts-grant (record { range = record { table = table; lo = lo; hi = hi }; term = term }) master head good
+        (record {
+          message = record { from = from; to = Server m; body = body.Own table lo hi term before attempt };
+          among = p.0;
+          to = refl;
+          previous = before;
+          attempt = attempt;
+          says = refl;
+        }) p.1);
+  }
+    where
+      heard : {other : Body} → says ≡ other → PartsHear sent m (part_view master) from other
+      heard is = subst (PartsHear sent m (part_view master) from) is hear
 
-  parts-deposed : (master : Master) (says : Body) → HasHead master.log → GoodParts sent m (part_view master) →
-      PartsMoved sent m master (deposed_takes master says)
-  parts-deposed master (body.Write table key value) head good = parts-refused master Deposed head good
-  parts-deposed master (body.Read table key) head good = parts-refused master Deposed head good
-  parts-deposed master _ head good = still sent m master head good
+  parts-ticked : Ticked (Kept sent m)
+  parts-ticked = record {
+    enlists = λ master head good. quiet sent m master master (to_coordinator master.log.own body.Enlist ∷ []) good head refl
+        (plain-one (to_coordinator master.log.own body.Enlist) tt);
+    reminds = parts-reminds;
+  }
+
+  parts-followed : Followed (Kept sent m)
+  parts-followed = record {
+    marks = λ master is head good. quiet-log sent m master _ [] head good
+        (same-segment master.log (master.log.head - 1) (record (old_head_of master.log) { shut = true }) refl) plain-none;
+    starts = λ master may head good. quiet-log sent m master (starts master.log) (to_coordinator master.log.own body.Ready ∷ []) head good
+        (same-starts master.log may) (plain-one (to_coordinator master.log.own body.Ready) tt);
+    places = λ master may head good. quiet-log sent m master (closes_old master.log) [] head good (same-closes master.log) plain-none;
+    closes = λ master due head good. quiet-log sent m master (close_marked master.log) _ head good
+        (same-segment master.log (master.log.head - 1) (with_closes_sent (old_head_of master.log)) refl)
+        (plain-to_ids master.log.own
+        (ids_of (filter (is_unclosed (old_head_of master.log)) (old_head_of master.log).config.members))
+        (body.Close (master.log.head - 1) (length (old_head_of master.log).entries)) tt);
+    shuts = λ master may head good. quiet-log sent m master (writes_on master.log) (frees_segments master.log (left_out master.log))
+        head good (same-writes master.log may)
+        (each-frees (λ message. IsPlain message.body) master.log (left_out master.log) (λ seg id at. tt));
+    commits = λ master seg open_one wants head good.
+        quiet-log sent m master (with_segment seg (record (master.log.segments seg) { commit_sent = true }) master.log)
+        (to_coordinator master.log.own (body.Commit seg (master.log.segments seg).config.epoch) ∷ []) head good
+        (same-segment master.log seg (record (master.log.segments seg) { commit_sent = true }) refl)
+        (plain-one (to_coordinator master.log.own (body.Commit seg (master.log.segments seg).config.epoch)) tt);
+    counts = parts-counts;
+    rolls = parts-rolls sent m;
+    replays = λ master entry entries is writing room. parts-replays master entry entries is writing;
+    answers = parts-answers;
+  }
 
 -- The claims
 
 pub takes-keep-parts : TakesKeepParts
 takes-keep-parts sent m master from says head good hear =
-    either (λ after. PartsMoved sent m master after) master.deposed (deposed_takes master says)
-    (then_does (master_takes_first master from says) goes_on)
-    (λ _. parts-deposed sent m master says head good)
-    (λ _. moved-then_does sent m master (master_takes_first master from says) goes_on (parts-first sent m master from says head good hear)
-    (λ has now. parts-goes_on sent m (master_takes_first master from says).0 has now))
+    kept-takes (Kept sent m) (parts-joined sent m) (parts-listed sent m) (parts-followed sent m) master from says
+    (parts-taken sent m master from says hear) head good
 
 pub ticks-keep-parts : TicksKeepParts
-ticks-keep-parts sent m master head good =
-    either (λ after. PartsMoved sent m master after) master.deposed (master, []) (then_does (ticks master) goes_on)
-    (λ _. still sent m master head good)
-    (λ _. moved-then_does sent m master (ticks master) goes_on (parts-ticks sent m master head good)
-    (λ has now. parts-goes_on sent m (ticks master).0 has now))
+ticks-keep-parts sent m = kept-ticks (Kept sent m) (parts-joined sent m) (parts-listed sent m) (parts-followed sent m) (parts-ticked sent m)
 
 pub new-has-good-parts : NewHasGoodParts
 new-has-good-parts m setup = record {

@@ -35,9 +35,9 @@ use Rattle.rc_step_laws.proofs.Rolling.{writing-is}
 use Rattle.rc_step_laws.proofs.MasterSteps.{master_takes_keeps, master_ticks_keeps}
 use Rattle.rc_step_laws.proofs.Backups.{moved-backup}
 use Rattle.rc_step_laws.proofs.CoordinatorSteps as coordinator
-use Rattle.rc_log_laws.proofs.Replays.{GoodWorld, IsGiven, is-good, is-fine, hears, is_server-true, work_of-given}
+use Rattle.rc_log_laws.proofs.Replays.{GoodWorld, IsGiven, is-good, is-fine, hears, is_server-true, work_of-given, put_id-found}
 use Rattle.rc_log_laws.proofs.Replays.{may-hear, to-coordinator-is, good-world}
-use Rattle.rc_log_laws.proofs.MasterWorlds.{put_id-here, put_id-cases}
+use Rattle.rc_log_laws.proofs.MasterWorlds.{put_id-cases}
 use Rattle.rc_log_laws.proofs.Since.{replay_from-append}
 use Rattle.rc_owner_laws.specs.Grants.{IsOwn, IsPlanOf, GrantsKept}
 use Rattle.rc_owner_laws.proofs.OwnerReplays.{OfWorld, grants-world}
@@ -47,16 +47,15 @@ use Rattle.rc_owner_laws.specs.PartMoves.{HasHead, IsComplete, HasEnded, part_sa
 use Rattle.rc_owner_laws.proofs.PartViews.{good-more, said-later}
 use Rattle.rc_owner_laws.proofs.PartSteps.{takes-keep-parts, ticks-keep-parts, new-has-good-parts}
 use Rattle.rc_owner_laws.specs.Worlds.{parts_fine, PartsHold}
-use Rattle.rc_model.proofs.Tables.{put-same}
+use Rattle.rc_model.proofs.Tables.{put-same, put_id-same}
 use Rattle.rc_model.proofs.Ids.{same_id-true}
 use Rattle.rc_model.proofs.Tests.{either}
+use Rattle.rc_step_laws.proofs.LogMoves.{more-left}
+use Rattle.rc_log_laws.proofs.EachMaster.{coordinator-from}
 
 -- all of the world's parts
 abbrev pub PartsOf : World → Type 0
 PartsOf world = PartsHold world.sent world.masters
-
-more-left : (sent messages : List Message) → More sent (sent ++ messages)
-more-left sent messages message at = In-left message sent messages at
 
 -- Where no master moves
 
@@ -128,18 +127,13 @@ moved sent masters m after p done from = record {
     by message (inr new) =
         subst (λ (addr : Addr). parts_fine (put_id masters m after.0) addr message.to message.body) (sym (from message new))
         (subst (λ (master : Master). part_said (part_view master) message.to message.body)
-        (sym (put_id-here masters m after.0)) (done.says message new))
+        (sym (put_id-same masters m after.0)) (done.says message new))
 
 -- a head that writes is one
 has-head : (sent : List Message) (m : ServerId) (master : Master) → GoodMaster sent m master → HasHead master.log
 has-head sent m master good writes = good.writing_opened (writing-is master.log.phase writes)
 
 -- Hosts
-
-put_id-found : (masters : ServerId → Master) (key : ServerId) (master : Master) → masters key ≡ master → put_id masters key master ≡ masters
-put_id-found masters key master is =
-    fun_ext (λ other. either (λ (one : Master). one ≡ masters other) (same_id key other) master (masters other)
-    (λ e. sym is ∙ ap masters (same_id-true key other e)) (λ _. refl))
 
 module _ (world : World) (one : Event) (i : ℕ) (good : GoodWorld world) (grants : OfWorld world)
     (terms : GoodTerms world.sent world.coordinator) (parts : PartsOf world) where
@@ -333,21 +327,6 @@ module _ (world : World) (one : Event) (i : ℕ) (good : GoodWorld world) (grant
 
 -- Events
 
-from-coordinator : (world : World) (work : Work) → GoodWorld world → IsGiven world.sent TheCoordinator work →
-    (message : Message) → In message (coordinator_step world.coordinator work).1 → message.from ≡ AtCoordinator
-from-coordinator world (Take message) good given =
-    (coordinator.moved-takes world.sent world.coordinator good.coordinator message.from message.body
-    (may-hear world.sent world.masters world.hosts world.coordinator good message.from message.body
-    (subst (λ (to : Addr). In (record { from = message.from; to = to; body = message.body }) world.sent)
-    (to-coordinator-is message.to given.1) given.0))).from
-from-coordinator world (Suspect id) good given = (coordinator.moved-suspects world.sent world.coordinator good.coordinator id).from
-from-coordinator world (Decide id) good given = (coordinator.moved-decides world.sent world.coordinator good.coordinator id).from
-from-coordinator world (Create table owner) good given =
-    (coordinator.moved-creates world.sent world.coordinator good.coordinator table owner).from
-from-coordinator world (Split table at) good given = (coordinator.moved-splits world.sent world.coordinator good.coordinator table at).from
-from-coordinator world (Tick addr) good given = (coordinator.moved-ticks world.sent world.coordinator good.coordinator).from
-from-coordinator world _ good given = λ message never. absurd never
-
 parts-node : (world : World) (one : Event) (node : NodeName) (work : Work) → GoodWorld world → OfWorld world →
     GoodTerms world.sent world.coordinator → PartsOf world → IsGiven world.sent node work →
     PartsOf (node_done world one node work)
@@ -356,7 +335,7 @@ parts-node world one TheOutside work good grants terms p given =
 parts-node world one TheCoordinator work good grants terms p given =
     unmoved world.sent world.masters (coordinator_step world.coordinator work).1 p
     (fine-coordinator world.masters (coordinator_step world.coordinator work).1
-    (from-coordinator world work good given))
+    (coordinator-from world work good given))
 parts-node world one (TheHost i) work good grants terms p given = parts-host world one i good grants terms p work given
 
 parts-job : (world : World) (one : Event) (found : Option Job) → work_of world.sent one ≡ found → GoodWorld world →

@@ -2,7 +2,7 @@
 use Rattle.std.proofs.Common.{◌≡◌, ◌⊎◌, ℕ, ◌<◌, ◌≤◌, Bool, true, false, cond, ◌||◌, List, [], ◌∷◌, ◌++◌, length, map}
 use Rattle.std.proofs.Common.{take, nat_eq, nat_le, Some, None, refl, sym, ap, ◌∙◌, subst, inl, inr, arith}
 use Rattle.std.specs.List.{list_any}
-use Rattle.std.proofs.lemmas.Bool.{and_parts, eqb-true, eq-eqb, leb-true}
+use Rattle.std.proofs.lemmas.Bool.{and_parts, eqb-true, eq-eqb, leb-true, or_right, or_left, or_parts}
 use Rattle.std.proofs.lemmas.List.{length-map}
 use Rattle.rc_types.specs.declared.ids.ServerId.{ServerId}
 use Rattle.rc_types.specs.declared.entries.Entry.{Entry}
@@ -26,7 +26,7 @@ use Rattle.rc_owner_laws.specs.Parts.{IsReplayed, GoodParts}
 use Rattle.rc_owner_laws.specs.PartMoves.{IsComplete}
 use Rattle.rc_owner_laws.proofs.PartLists.{append-nil, under-append, under-all, under-none, count-take, nothing-more}
 use Rattle.rc_owner_laws.proofs.Appending.{knows-part, owns-granted}
-use Rattle.rc_owner_laws.proofs.States.{has_term, has_term-same, differ-same, one-term, differ-append, awaits-some}
+use Rattle.rc_owner_laws.proofs.States.{has_term, has_term-same, differ-same, one-term, differ-append, awaits-some, joined-part}
 use Rattle.rc_owner_laws.proofs.States.{awaits-term, same-data, replay-term, IsOther, IsTaker, data-cases}
 use Rattle.rc_owner_laws.proofs.States.{some-with_row, rows-some, all-came, SameState, same-answered, answered-was}
 use Rattle.rc_owner_laws.proofs.States.{was-answered, data-stays}
@@ -36,18 +36,6 @@ abbrev pub with_own : Ownership → PartView → PartView
 with_own own v = record v { own = own }
 
 -- Tests of two
-
-or-left : (a b : Bool) → a ≡ true → (a || b) ≡ true
-or-left true b e = refl
-or-left false b e = true_false (sym e)
-
-or-right : (a b : Bool) → b ≡ true → (a || b) ≡ true
-or-right true b e = refl
-or-right false b e = e
-
-or-parts : (a b : Bool) → (a || b) ≡ false → (a ≡ false) × (b ≡ false)
-or-parts true b e = true_false e
-or-parts false b e = (refl, e)
 
 -- A row comes
 
@@ -164,10 +152,6 @@ module _ (sent : List Message) (m : ServerId) (v : PartView) (good : GoodParts s
             none_waits = under-data state.part.term (ap (under state.part.term) (joins false e)) ∙ p.none_waits;
             unowned = p.unowned;
           }))
-
-  joined-part : (state : PartState) → (joined state).part ≡ state.part
-  joined-part state = either (λ (now : PartState). now.part ≡ state.part) (all_came state.rows)
-      (record state { rows = []; size = length (entries_that_came state.rows) }) state (λ _. refl) (λ _. refl)
 
   taker : (now : PartState) → IsTaker term seg from entries v.own.parts (replay_in term seg from entries v.own.parts)
       now → IsPart sent m (with_own (put_data term seg from entries v.own) v) now
@@ -301,7 +285,7 @@ module _ (sent : List Message) (m : ServerId) (v : PartView) (good : GoodParts s
     entries = p.entries;
     came = p.came;
     size = p.size;
-    fresh = λ unowned. p.fresh (or-parts (owns_term v.own state.part.term) (nat_eq granted.term state.part.term)
+    fresh = λ unowned. p.fresh (or_parts (owns_term v.own state.part.term) (nat_eq granted.term state.part.term)
         (sym (owns-now state.part.term) ∙ unowned)).0;
     owned = λ owns. by (owns_term v.own state.part.term) refl (nat_eq granted.term state.part.term) refl
         (sym (owns-now state.part.term) ∙ owns);
@@ -438,7 +422,7 @@ module _ (sent : List Message) (m : ServerId) (v : PartView) (good : GoodParts s
   }
 
   tests : (has_part v.own task.part.term ≡ false) × (owns_term v.own task.part.term ≡ false)
-  tests = or-parts (has_part v.own task.part.term) (owns_term v.own task.part.term) unknown
+  tests = or_parts (has_part v.own task.part.term) (owns_term v.own task.part.term) unknown
 
   no-task : (other : Task) → In other v.tasks → other.part.term ≡ task.part.term → ⊥
   no-task other at e = true_false (sym (good.task_known other at) ∙ (ap (has_part v.own) e ∙ tests.0))
@@ -461,8 +445,8 @@ module _ (sent : List Message) (m : ServerId) (v : PartView) (good : GoodParts s
 
   has-new : (states : List PartState) →
       has_term task.part.term (states ++ new_part task.part (map (λ row. (row.seg, row.holder)) task.rows) ∷ []) ≡ true
-  has-new [] = or-left (nat_eq task.part.term task.part.term) false (eq-eqb task.part.term task.part.term refl)
-  has-new (state ∷ states) = or-right (nat_eq state.part.term task.part.term)
+  has-new [] = or_left (nat_eq task.part.term task.part.term) false (eq-eqb task.part.term task.part.term refl)
+  has-new (state ∷ states) = or_right (nat_eq state.part.term task.part.term)
       (has_term task.part.term (states ++ new_part task.part (map (λ row. (row.seg, row.holder)) task.rows) ∷ []))
       (has-new states)
 
@@ -470,8 +454,8 @@ module _ (sent : List Message) (m : ServerId) (v : PartView) (good : GoodParts s
   knows-begun term e = by (has_part v.own term) refl e
     where
       by : (b : Bool) → has_part v.own term ≡ b → (b || owns_term v.own term) ≡ true → knows_term begun.own term ≡ true
-      by true has p = or-left (has_part begun.own term) (owns_term v.own term) (has-more term v.own.parts has)
-      by false has p = or-right (has_part begun.own term) (owns_term v.own term) p
+      by true has p = or_left (has_part begun.own term) (owns_term v.own term) (has-more term v.own.parts has)
+      by false has p = or_right (has_part begun.own term) (owns_term v.own term) p
 
   how-begun : (state : PartState) (one : Task) → IsWaiting sent m v one state ⊎ HasJoined sent m v one state →
       IsWaiting sent m begun one state ⊎ HasJoined sent m begun one state

@@ -1,7 +1,7 @@
 -- A handover keeps what was acknowledged, so versions rise over the owners of a point.
 use Rattle.std.proofs.Common.{◌≡◌, ◌⊎◌, ℕ, zero, suc, ◌<◌, ◌≤◌, Bool, true, false, ◌&&◌, List, [], ◌∷◌, ◌++◌, length}
 use Rattle.std.proofs.Common.{map, take, drop, nat_eq, slice_get, Some, refl, sym, ap, ◌∙◌, subst, inl, inr, arith}
-use Rattle.std.proofs.lemmas.Bool.{eqb-true, eq-eqb}
+use Rattle.std.proofs.lemmas.Bool.{eqb-true, eq-eqb, and_from}
 use Rattle.std.proofs.lemmas.List.{take-append-drop, length-map}
 use Rattle.rc_types.specs.declared.ids.ServerId.{ServerId}
 use Rattle.rc_types.specs.declared.ids.Addr.{Addr}
@@ -65,18 +65,14 @@ In-taken (suc n) (y ∷ xs) (suc k) x less e = inr (In-taken n xs k x (omega ari
 
 range-holds : (part : Part) (entry : Entry) → entry.term ≡ part.previous →
     in_range (range_of part) entry.table entry.key ≡ true → is_in_part part entry ≡ true
-range-holds part entry e holds = both (nat_eq entry.term part.previous) _ (eq-eqb entry.term part.previous e)
+range-holds part entry e holds = and_from (nat_eq entry.term part.previous) _ (eq-eqb entry.term part.previous e)
     (turned (nat_eq part.table entry.table) (nat_eq entry.table part.table) _ turns holds)
   where
-    both : (a b : Bool) → a ≡ true → b ≡ true → (a && b) ≡ true
-    both true b p q = q
-    both false b p q = true_false (sym p)
-
     turns : nat_eq part.table entry.table ≡ true → nat_eq entry.table part.table ≡ true
     turns p = eq-eqb entry.table part.table (sym (eqb-true part.table entry.table p))
 
     turned : (a b c : Bool) → (a ≡ true → b ≡ true) → (a && c) ≡ true → (b && c) ≡ true
-    turned true b c turn p = both b c (turn refl) p
+    turned true b c turn p = and_from b c (turn refl) p
     turned false b c turn p = true_false (sym p)
 
 -- Grants that were sent

@@ -2,7 +2,7 @@
 use Rattle.std.proofs.Common.{◌≡◌, ◌⊎◌, ℕ, Bool, true, false, cond, ◌||◌, List, [], ◌∷◌, ◌++◌, length, map, nat_eq}
 use Rattle.std.proofs.Common.{Option, Some, None, is_some, refl, sym, ap, ◌∙◌, subst, inl, inr}
 use Rattle.std.specs.List.{list_any}
-use Rattle.std.proofs.lemmas.Bool.{and_parts, eqb-true, eq-eqb}
+use Rattle.std.proofs.lemmas.Bool.{and_parts, eqb-true, eq-eqb, or_right}
 use Rattle.rc_types.specs.declared.ids.ServerId.{ServerId}
 use Rattle.rc_types.specs.declared.entries.Entry.{Entry}
 use Rattle.rc_types.specs.declared.messages.Message.{Message}
@@ -108,7 +108,7 @@ pub awaits-term : (term seg : ℕ) (from : ServerId) (state : PartState) → awa
 awaits-term term seg from state e = eqb-true state.part.term term
     (and_parts (nat_eq state.part.term term) (list_any (is_awaited seg from) state.rows) e).0
 
-joined-part : (state : PartState) → (joined state).part ≡ state.part
+pub joined-part : (state : PartState) → (joined state).part ≡ state.part
 joined-part state = either (λ (now : PartState). now.part ≡ state.part) (all_came state.rows)
     (record state { rows = []; size = length (entries_that_came state.rows) }) state (λ _. refl) (λ _. refl)
 
@@ -135,10 +135,6 @@ replay-term term seg from entries [] entry at = absurd at
 replay-term term seg from entries (state ∷ states) entry at =
     by (awaits term seg from state) refl at (replay-term term seg from entries states entry)
   where
-    or-right : (a b : Bool) → b ≡ true → (a || b) ≡ true
-    or-right true b e = refl
-    or-right false b e = e
-
     by : (b : Bool) → awaits term seg from state ≡ b →
         In entry (cond b (joining (part_with_row seg from entries state)) (replay_in term seg from entries states)) →
         (In entry (replay_in term seg from entries states) → (entry.term ≡ term) × (has_term term states ≡ true)) →
@@ -149,7 +145,7 @@ replay-term term seg from entries (state ∷ states) entry at =
           ap (λ b. b || has_term term states)
               (eq-eqb state.part.term term same),
         )
-    by false is now rec = (let p = rec now in (p.0, or-right (nat_eq state.part.term term) (has_term term states) p.1))
+    by false is now rec = (let p = rec now in (p.0, or_right (nat_eq state.part.term term) (has_term term states) p.1))
 
 -- a state after a row has come: it was there and no other of its term has taken the row, or it is the one that has
 pub record IsOther (term : ℕ) (states : List PartState) (replay : List Entry) (now : PartState) : Type 0 where

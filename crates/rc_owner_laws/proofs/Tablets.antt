@@ -12,6 +12,7 @@ use Rattle.rc_model.specs.Tablets.{marked_crashed, split_at, is_range, has_range
 use Rattle.rc_model.specs.Ownership.{in_range}
 use Rattle.rc_owner_laws.specs.Grants.{TabletsApart, owner_of, owner_at}
 use Rattle.rc_model.proofs.Tests.{true_false, either}
+use Rattle.rc_step_laws.proofs.Copies.{split}
 
 -- a tablet that holds the point, before others, or the first of the others
 first-holds : (tablet : Tablet) (tablets : List Tablet) (table key : ℕ) → holds tablet table key ≡ true →
@@ -21,11 +22,6 @@ first-holds tablet tablets table key e = ap (λ b. cond b (Some tablet) (tablet_
 first-lacks : (tablet : Tablet) (tablets : List Tablet) (table key : ℕ) → holds tablet table key ≡ false →
     tablet_of (tablet ∷ tablets) table key ≡ tablet_of tablets table key
 first-lacks tablet tablets table key e = ap (λ b. cond b (Some tablet) (tablet_of tablets table key)) e
-
--- either value of a test
-pub by_test : {P : Type 0} (b : Bool) → (b ≡ true → P) → (b ≡ false → P) → P
-by_test true then_ else_ = then_ refl
-by_test false then_ else_ = else_ refl
 
 pub some-none : {X P : Type 0} {x : X} → Some x ≡ None → P
 some-none e = cc
@@ -45,7 +41,7 @@ pub marked-tablet : (owner : ServerId) (tablets : List Tablet) (table key : ℕ)
     tablet_of (marked_crashed owner tablets) table key ≡ option_map (mark_if_owned owner) (tablet_of tablets table key)
 marked-tablet owner [] table key = refl
 marked-tablet owner (tablet ∷ tablets) table key =
-    by_test (holds tablet table key)
+    split (holds tablet table key)
     (λ e. first-holds (mark_if_owned owner tablet) (marked_crashed owner tablets) table key (mark-holds owner tablet table key ∙ e)
     ∙ sym (ap (option_map (mark_if_owned owner)) (first-holds tablet tablets table key e)))
     (λ e. first-lacks (mark_if_owned owner tablet) (marked_crashed owner tablets) table key (mark-holds owner tablet table key ∙ e)
@@ -98,7 +94,7 @@ owner_at-split table at (tablet ∷ tablets) other key =
   where
     rest : owner_at (split_at table at tablets) other key ≡ owner_at tablets other key →
         owner_at (tablet ∷ split_at table at tablets) other key ≡ owner_at (tablet ∷ tablets) other key
-    rest rec = by_test (holds tablet other key)
+    rest rec = split (holds tablet other key)
         (λ e. ap (option_map owner_of) (first-holds tablet (split_at table at tablets) other key e ∙
         sym (first-holds tablet tablets other key e)))
         (λ e. ap (option_map owner_of) (first-lacks tablet (split_at table at tablets) other key e)
@@ -107,17 +103,17 @@ owner_at-split table at (tablet ∷ tablets) other key =
     halves : holds tablet table at ≡ true →
         owner_at (record tablet { hi = at - 1 } ∷ record tablet { lo = at } ∷ tablets) other key ≡ owner_at
         (tablet ∷ tablets) other key
-    halves e = by_test (holds (record tablet { hi = at - 1 }) other key)
+    halves e = split (holds (record tablet { hi = at - 1 }) other key)
         (λ here. ap (option_map owner_of) (first-holds (record tablet { hi = at - 1 }) (record tablet { lo = at } ∷ tablets) other key here)
         ∙ sym (ap (option_map owner_of) (first-holds tablet tablets other key (lower-within tablet table at other key e here))))
         (λ not_here. ap (option_map owner_of)
         (first-lacks (record tablet { hi = at - 1 }) (record tablet { lo = at } ∷ tablets) other key not_here)
-        ∙ by_test (holds tablet other key)
+        ∙ split (holds tablet other key)
         (λ whole. ap (option_map owner_of) (first-holds (record tablet { lo = at }) tablets other key
         (lower-lacks tablet at other key not_here whole))
         ∙ sym (ap (option_map owner_of) (first-holds tablet tablets other key whole)))
         (λ none. ap (option_map owner_of) (first-lacks (record tablet { lo = at }) tablets other key
-        (by_test (holds (record tablet { lo = at }) other key)
+        (split (holds (record tablet { lo = at }) other key)
         (λ up. true_false (sym (upper-within tablet table at other key e up) ∙ none)) (λ no. no)))
         ∙ sym (ap (option_map owner_of) (first-lacks tablet tablets other key none))))
 
@@ -168,7 +164,7 @@ inserted new (tablet ∷ tablets) table key e none =
     either (λ (now : List Tablet). tablet_of now table key ≡ Some new) (nat_lt new.table tablet.table)
     (new ∷ tablet ∷ tablets) (tablet ∷ insert_tablet new tablets)
     (λ _. first-holds new (tablet ∷ tablets) table key e)
-    (λ _. by_test (holds tablet table key)
+    (λ _. split (holds tablet table key)
     (λ here. some-none (sym (first-holds tablet tablets table key here) ∙ none))
     (λ lacks. first-lacks tablet (insert_tablet new tablets) table key lacks ∙ inserted new tablets table key e
     (sym (first-lacks tablet tablets table key lacks) ∙ none)))
@@ -180,7 +176,7 @@ beside new (tablet ∷ tablets) table key e =
     either (λ (now : List Tablet). tablet_of now table key ≡ tablet_of (tablet ∷ tablets) table key)
     (nat_lt new.table tablet.table) (new ∷ tablet ∷ tablets) (tablet ∷ insert_tablet new tablets)
     (λ _. first-lacks new (tablet ∷ tablets) table key e)
-    (λ _. by_test (holds tablet table key)
+    (λ _. split (holds tablet table key)
     (λ here. first-holds tablet (insert_tablet new tablets) table key here ∙ sym (first-holds tablet tablets table key here))
     (λ lacks. first-lacks tablet (insert_tablet new tablets) table key lacks ∙
     (beside new tablets table key e ∙ sym (first-lacks tablet tablets table key lacks))))
@@ -194,14 +190,14 @@ apart-inserted new (tablet ∷ tablets) none apart =
     (tablet ∷ insert_tablet new tablets)
     (λ _. (none, (apart.0, apart.1)))
     (λ _. (
-      λ table key here. by_test (holds new table key)
+      λ table key here. split (holds new table key)
           (λ both. some-none (sym (first-holds tablet tablets table key here) ∙ none table key both))
           (λ lacks. beside new tablets table key lacks ∙ apart.0 table key here),
       apart-inserted new tablets (λ table key e. later table key e) apart.1,
     ))
   where
     later : (table key : ℕ) → holds new table key ≡ true → tablet_of tablets table key ≡ None
-    later table key e = by_test (holds tablet table key)
+    later table key e = split (holds tablet table key)
         (λ here. some-none (sym (first-holds tablet tablets table key here) ∙ none table key e))
         (λ lacks. sym (first-lacks tablet tablets table key lacks) ∙ none table key e)
 
@@ -262,7 +258,7 @@ ranged-some range (tablet ∷ tablets) table key has e none = by (is_range range
         (has_range range tablets ≡ true → in_range range table key ≡ true → tablet_of tablets table key ≡ None → ⊥) →
         (is_range range tablet || has_range range tablets) ≡ true → ⊥
     by true is rec h = some-none (sym (first-holds tablet tablets table key (range-holds range tablet table key is ∙ e)) ∙ none)
-    by false is rec h = by_test (holds tablet table key)
+    by false is rec h = split (holds tablet table key)
         (λ there. some-none (sym (first-holds tablet tablets table key there) ∙ none))
         (λ lacks. rec (sym (ap (λ b. b || has_range range tablets) is) ∙ h) e (sym (first-lacks tablet tablets table key lacks) ∙ none))
 
@@ -277,7 +273,7 @@ assigned-beside range id term (tablet ∷ tablets) table key e =
     (λ is. first-lacks (record tablet { owner = id; term = term; crashed = false }) tablets table key
     (range-holds range tablet table key is ∙ e)
     ∙ sym (first-lacks tablet tablets table key (range-holds range tablet table key is ∙ e)))
-    (λ _. by_test (holds tablet table key)
+    (λ _. split (holds tablet table key)
     (λ here. first-holds tablet (assigned range id term tablets) table key here ∙ sym (first-holds tablet tablets table key here))
     (λ lacks. first-lacks tablet (assigned range id term tablets) table key lacks ∙
     (assigned-beside range id term tablets table key e ∙ sym (first-lacks tablet tablets table key lacks))))
@@ -297,7 +293,7 @@ assigned-within range id term (tablet ∷ tablets) table key apart has e =
   where
     later : (has_range range tablets ≡ true → owner_at (assigned range id term tablets) table key ≡ Some (id, term)) →
         has_range range tablets ≡ true → owner_at (tablet ∷ assigned range id term tablets) table key ≡ Some (id, term)
-    later rec rest = by_test (holds tablet table key)
+    later rec rest = split (holds tablet table key)
         (λ here. absurd (ranged-some range tablets table key rest e (apart.0 table key here)))
         (λ lacks. ap (option_map owner_of) (first-lacks tablet (assigned range id term tablets) table key lacks) ∙ rec rest)
 
@@ -313,7 +309,7 @@ apart-assigned range id term (tablet ∷ tablets) apart =
     none-assigned : (ts : List Tablet) (table key : ℕ) → tablet_of ts table key ≡ None →
         tablet_of (assigned range id term ts) table key ≡ None
     none-assigned [] table key e = refl
-    none-assigned (one ∷ ts) table key e = by_test (holds one table key)
+    none-assigned (one ∷ ts) table key e = split (holds one table key)
         (λ here. some-none (sym (first-holds one ts table key here) ∙ e))
         (λ lacks. either (λ (now : List Tablet). tablet_of now table key ≡ None) (is_range range one)
         (record one { owner = id; term = term; crashed = false } ∷ ts) (one ∷ assigned range id term ts)

@@ -14,11 +14,12 @@ use Rattle.rc_step_laws.specs.Moves.{CoordinatorLater}
 use Rattle.rc_step_laws.proofs.Copies.{More}
 use Rattle.rc_step_laws.proofs.CoordinatorSteps as coordinator
 use Rattle.rc_log_laws.proofs.Replays.{GoodWorld, IsGiven, work_of-given, may-hear, to-coordinator-is, good-world}
-use Rattle.rc_owner_laws.proofs.OwnerReplays.{OfWorld, grants-world}
+use Rattle.rc_owner_laws.proofs.OwnerReplays.{OfWorld, grants-world, later-coordinator}
 use Rattle.rc_owner_laws.specs.Terms.{GoodTerms}
 use Rattle.rc_owner_laws.proofs.Keeping.{terms-more}
 use Rattle.rc_owner_laws.proofs.TermSteps.{keeps-work, new-terms}
 use Rattle.rc_model.proofs.Tests.{either}
+use Rattle.rc_step_laws.proofs.LogMoves.{more-left}
 
 abbrev pub TermsOf : World → Type 0
 TermsOf world = GoodTerms world.sent world.coordinator
@@ -28,22 +29,6 @@ heard : (world : World) (message : Message) → IsGiven world.sent TheCoordinato
 heard world message given =
     subst (λ (to : Addr). In (record { from = message.from; to = to; body = message.body }) world.sent)
     (to-coordinator-is message.to given.1) given.0
-
-later-coordinator : (world : World) (work : Work) → GoodWorld world → IsGiven world.sent TheCoordinator work →
-    CoordinatorLater world.coordinator (coordinator_step world.coordinator work).0
-later-coordinator world (Take message) good given =
-    (coordinator.moved-takes world.sent world.coordinator good.coordinator message.from message.body
-    (may-hear world.sent world.masters world.hosts world.coordinator good message.from message.body (heard world message given))).later
-later-coordinator world (Suspect id) good given = (coordinator.moved-suspects world.sent world.coordinator good.coordinator id).later
-later-coordinator world (Decide id) good given = (coordinator.moved-decides world.sent world.coordinator good.coordinator id).later
-later-coordinator world (Create table owner) good given =
-    (coordinator.moved-creates world.sent world.coordinator good.coordinator table owner).later
-later-coordinator world (Split table at) good given =
-    (coordinator.moved-splits world.sent world.coordinator good.coordinator table at).later
-later-coordinator world _ good given = (coordinator.moved-ticks world.sent world.coordinator good.coordinator).later
-
-more-left : (sent messages : List Message) → More sent (sent ++ messages)
-more-left sent messages message at = In-left message sent messages at
 
 terms-node : (world : World) (one : Event) (node : NodeName) (work : Work) → GoodWorld world → OfWorld world →
     TermsOf world → IsGiven world.sent node work → TermsOf (node_done world one node work)

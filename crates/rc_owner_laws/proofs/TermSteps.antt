@@ -44,40 +44,16 @@ use Rattle.rc_step_laws.specs.Words.{IsNumbered}
 use Rattle.rc_step_laws.specs.Moves.{CoordinatorLater}
 use Rattle.rc_step_laws.proofs.Lists.{get-append, get-set}
 use Rattle.rc_step_laws.proofs.Tests.{find-one}
-use Rattle.rc_step_laws.proofs.Attempting.{numbered-at}
+use Rattle.rc_step_laws.proofs.Attempting.{numbered-at, undecided-none}
 use Rattle.rc_owner_laws.specs.Grants.{owner_of, owner_at, IsDecided, GoodGrants}
 use Rattle.rc_owner_laws.proofs.Tablets.{some-none, owner_at-marked, owner_at-split, owner_at-new, owner_at-beside}
 use Rattle.rc_owner_laws.proofs.Tablets.{assigned-beside, assigned-within}
-use Rattle.rc_owner_laws.proofs.Decided.{gives}
+use Rattle.rc_owner_laws.proofs.Decided.{gives, given-in, find-none}
 use Rattle.rc_owner_laws.specs.Terms.{IsGivenBy, GoodTerms}
 use Rattle.rc_owner_laws.proofs.Keeping.{decided-later, SameTerms, same-refl, same-trans, kept-terms, IsNewTerm}
 use Rattle.rc_owner_laws.proofs.Keeping.{granted-terms, decided-terms}
 use Rattle.rc_model.proofs.Ids.{same_id-true}
 use Rattle.rc_model.proofs.Tests.{true_false, either}
-
-find-none : {X : Type 0} (test : X → Bool) (xs : List X) (x : X) → find test xs ≡ None → In x xs → test x ≡ true → ⊥
-find-none test [] x e at passes = absurd at
-find-none test (y ∷ xs) x e at passes = by (test y) refl (find-none test xs x) e at
-  where
-    by : (b : Bool) → test y ≡ b → (find test xs ≡ None → In x xs → test x ≡ true → ⊥) →
-        cond b (Some y) (find test xs) ≡ None → (x ≡ y) ⊎ In x xs → ⊥
-    by true is rec e at = some-none e
-    by false is rec e (inl same) = true_false (sym passes ∙ (ap test same ∙ is))
-    by false is rec e (inr rest) = rec e rest passes
-
-given-in : (id : ServerId) (parts : List GivenPart) (part : Part) → In part (parts_of id parts) → In (record { to = id; part = part }) parts
-given-in id [] part at = absurd at
-given-in id (first ∷ parts) part at = by (same_id id first.to) refl (given-in id parts part) at
-  where
-    by : (b : Bool) → same_id id first.to ≡ b → (In part (parts_of id parts) → In (record { to = id; part = part }) parts) →
-        In part (cond b (first.part ∷ parts_of id parts) (parts_of id parts)) →
-        (gives id part ≡ first) ⊎ In (record { to = id; part = part }) parts
-    by true e rec (inl same) = inl (both (same_id-true id first.to e) same)
-      where
-        both : id ≡ first.to → part ≡ first.part → gives id part ≡ first
-        both p q j = record { to = p j; part = q j }
-    by true e rec (inr rest) = inr (rec rest)
-    by false e rec rest = inr (rec rest)
 
 -- Steps in which no term is issued
 
@@ -172,10 +148,6 @@ same-commits c id pair =
     ) (c, refuses_server id Deposed ∷ [])
     (λ _. same-tablets c c.tablets (record c { least = put_id c.least id (greater_pair (c.least id) pair) }) refl refl
     refl (λ table key. refl)) (λ _. same-refl c)
-
-undecided-none : (decided : Option Decision) → is_undecided decided ≡ true → decided ≡ None
-undecided-none None e = refl
-undecided-none (Some decision) e = cc
 
 same-answer : (c : Coordinator) (from : ServerId) (number : ℕ) (rows : List Row) (found : Option Attempt) →
     SameTerms c (keeps_answer_in c from number rows found)

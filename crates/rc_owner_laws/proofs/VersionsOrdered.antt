@@ -2,7 +2,7 @@
 use Rattle.std.proofs.Common.{◌≡◌, ◌⊎◌, ℕ, zero, suc, ◌+◌, ◌<◌, ◌≤◌, Bool, true, false, ◌&&◌, List, [], ◌∷◌, ◌++◌}
 use Rattle.std.proofs.Common.{length, map, filter, take, nat_eq, slice_get, Some, refl, sym, ap, ◌∙◌, subst, inl, inr}
 use Rattle.std.proofs.Common.{arith}
-use Rattle.std.proofs.lemmas.Bool.{and_parts, eqb-true}
+use Rattle.std.proofs.lemmas.Bool.{and_parts, eqb-true, and_from}
 use Rattle.std.proofs.lemmas.List.{append_assoc, length-append, length-map}
 use Rattle.rc_types.specs.declared.ids.ServerId.{ServerId}
 use Rattle.rc_types.specs.declared.entries.Entry.{Entry}
@@ -381,12 +381,8 @@ module _ (sent : List Message) (masters : ServerId → Master) (hosts : ℕ → 
           turns : nat_eq entry.table task.part.table ≡ true → nat_eq task.part.table entry.table ≡ true
           turns e = Rattle.std.proofs.lemmas.Bool.eq-eqb task.part.table entry.table (sym (eqb-true entry.table task.part.table e))
 
-          both : (a b : Bool) → a ≡ true → b ≡ true → (a && b) ≡ true
-          both true b e f = f
-          both false b e f = true_false (sym e)
-
           turned : (a b d : Bool) → (a ≡ true → b ≡ true) → (a && d) ≡ true → (b && d) ≡ true
-          turned true b d turn e = both b d (turn refl) e
+          turned true b d turn e = and_from b d (turn refl) e
           turned false b d turn e = true_false (sym e)
 
   -- the entry of a place that no client wrote: what its log has under the term up to it is the beginning of a base

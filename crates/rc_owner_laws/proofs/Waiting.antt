@@ -2,7 +2,7 @@
 use Rattle.std.proofs.Common.{◌≡◌, ◌⊎◌, ℕ, ◌+◌, ◌-◌, ◌≤◌, Bool, true, false, cond, not, ◌&&◌, List, [], ◌∷◌, ◌++◌}
 use Rattle.std.proofs.Common.{length, filter, nat_eq, slice_get, Option, Some, None, Result, Ok, Err, refl, sym, ap}
 use Rattle.std.proofs.Common.{◌∙◌, subst, inl, inr, arith}
-use Rattle.std.proofs.lemmas.Bool.{and_parts}
+use Rattle.std.proofs.lemmas.Bool.{and_parts, not-false}
 use Rattle.std.proofs.lemmas.Bool.Decides.{nat_tests}
 use Rattle.rc_types.specs.declared.ids.ServerId.{ServerId}
 use Rattle.rc_types.specs.declared.ids.Pair.{Pair}
@@ -45,20 +45,20 @@ use Rattle.rc_model.proofs.Members.{In-left, In-append}
 use Rattle.rc_step_laws.specs.Facts.{GoodCoordinator}
 use Rattle.rc_step_laws.specs.Words.{IsNumbered}
 use Rattle.rc_step_laws.proofs.Servers.{crashed-not-up}
-use Rattle.rc_step_laws.proofs.Attempting.{numbered-at}
+use Rattle.rc_step_laws.proofs.Attempting.{numbered-at, undecided-none}
 use Rattle.rc_owner_laws.specs.Grants.{IsGiven, IsDecided, GoodGrants}
 use Rattle.rc_owner_laws.specs.Waiting.{IsTablet, GoodTablets, lacks_tablet, NoneLacksTablet, TabletsMoved}
-use Rattle.rc_owner_laws.proofs.Tablets.{by_test, some-none}
+use Rattle.rc_owner_laws.proofs.Tablets.{some-none}
 use Rattle.rc_owner_laws.proofs.Chains.{of_owner, IsPartOf, part-of}
 use Rattle.rc_owner_laws.proofs.Granting.{IsNewGrant}
 use Rattle.rc_owner_laws.proofs.Decided.{gives, begun-decided, answered-decided, newly-decided}
-use Rattle.rc_owner_laws.proofs.OwnerSteps.{undecided-none}
 use Rattle.rc_owner_laws.proofs.OwnerSteps.{IsSenders, senders, senders-decided, senders-open, new-grant}
 use Rattle.rc_owner_laws.proofs.Marks.{EachTablet, MarkedStay, stay-marked, each-marked, IsSplit, stay-split}
 use Rattle.rc_owner_laws.proofs.Marks.{each-split, stay-inserted, each-inserted, each-assigned, stay-assigned}
 use Rattle.rc_owner_laws.proofs.Marks.{its-range, first-key, ranged, tablet-in, up-crashed, up-enlisted, up-of_host}
 use Rattle.rc_model.proofs.Ids.{same_id-refl}
 use Rattle.rc_model.proofs.Tests.{true_false, either}
+use Rattle.rc_step_laws.proofs.Copies.{split}
 
 -- Messages
 
@@ -209,7 +209,7 @@ module _ (sent : List Message) (c : Coordinator) (base : GoodCoordinator sent c)
   stays-up : (id : ServerId) (older : Option ServerId) → up_of_host id.index c.servers ≡ older → (tablet : Tablet) →
       (older ≡ Some tablet.owner → ⊥) → IsMarked c.servers tablet → IsMarked (enlisted id c.servers) tablet
   stays-up id older is tablet other (inr e) = inr e
-  stays-up id older is tablet other (inl e) = by_test (nat_eq tablet.owner.index id.index)
+  stays-up id older is tablet other (inl e) = split (nat_eq tablet.owner.index id.index)
       (λ same. absurd (other (sym is ∙ up-of_host c.servers tablet.owner id.index base.servers e same)))
       (λ differs. inl (up-enlisted id tablet.owner c.servers differs e))
 
@@ -295,12 +295,12 @@ module _ (sent : List Message) (c : Coordinator) (base : GoodCoordinator sent c)
   split-is : (table at : ℕ) (found : Option Tablet) → tablet_of c.tablets table at ≡ found →
       split_fault c.tablets at found ≡ None → IsSplit c.tablets table at
   split-is table at None e fine = some-none fine
-  split-is table at (Some tablet) e fine = by_test (nat_eq at tablet.lo)
+  split-is table at (Some tablet) e fine = split (nat_eq at tablet.lo)
       (λ same. some-none (sym (ap
       (λ b. cond b (Some BadSplit)
       (cond tablet.crashed (Some Recovering) (cond (is_too_many c.tablets) (Some TooManyTablets) None))) same) ∙
       fine))
-      (λ inside. by_test tablet.crashed
+      (λ inside. split tablet.crashed
       (λ marked. some-none (sym (ap (λ b. cond b (Some Recovering) (cond (is_too_many c.tablets) (Some TooManyTablets) None)) marked)
       ∙ (sym (ap (λ b. cond b (Some BadSplit)
       (cond tablet.crashed (Some Recovering) (cond (is_too_many c.tablets) (Some TooManyTablets) None))) inside) ∙
@@ -480,7 +480,7 @@ module _ (sent : List Message) (c : Coordinator) (base : GoodCoordinator sent c)
           c.current master ≡ other → (given : GivenPart) → In given decision.parts →
           (IsGiven (c.grants ++ grant_of number id part ∷ []) given → ⊥) → IsTablet c.tablets master given.part →
           IsTablet (assigned (range_of part) id part.term c.tablets) master given.part
-      by other master decision is current given at ungiven waits = by_test (is_range (range_of part) waits.tablet)
+      by other master decision is current given at ungiven waits = split (is_range (range_of part) waits.tablet)
           (λ same. absurd (new.elsewhere other master decision is current given at ungiven waits.tablet.table waits.tablet.lo
           (first-key (range_of given.part) waits.tablet (its-range c.tablets master given.part waits)
           (good.proper waits.tablet waits.among))
@@ -553,12 +553,8 @@ module _ (sent : List Message) (c : Coordinator) (base : GoodCoordinator sent c)
       (λ _. quiet (creates_table c table owner).0 (creates_table c table owner).1
       (created-good table owner
       (and_parts (is_up c.servers owner) (c.ready owner)
-      (not_false (is_up c.servers owner && c.ready owner) able)).0)
+      (not-false (is_up c.servers owner && c.ready owner) able)).0)
       (one-lacks (Server owner) (own_body (first_grant table owner (c.last_term + 1))) refl))))
-    where
-      not_false : (b : Bool) → not b ≡ false → b ≡ true
-      not_false true e = refl
-      not_false false e = absurd (true_false e)
 
   -- All of them
 

@@ -17,7 +17,7 @@ use Rattle.rc_model.proofs.Members.{In-left}
 use Rattle.rc_log_laws.specs.WordClaims.{sent_after}
 use Rattle.rc_write_laws.specs.AckClaims.{WasAsked}
 use Rattle.rc_write_laws.proofs.Asking.{asks-takes, asks-ticks}
-use Rattle.rc_write_laws.proofs.Frame.{IsKeptByAll, kept-replay}
+use Rattle.rc_log_laws.proofs.EachMaster.{IsKeptByAll, kept-replay}
 use Rattle.rc_owner_laws.proofs.Rising.{IsAcked, acked}
 use Rattle.rc_owner_laws.proofs.VersionReplays.{all-world}
 use Rattle.rc_promises.specs.Service.{HasAsked}

@@ -1,21 +1,12 @@
 -- What a read finds among entries: the greatest version of its key under its term, of one of them, or 0.
 use Rattle.std.proofs.Common.{◌≡◌, ◌⊎◌, ℕ, ◌<◌, ◌≤◌, Bool, true, false, ◌&&◌, nat_eq, nat_lt, List, [], ◌∷◌, None}
 use Rattle.std.proofs.Common.{refl, sym, ap, ◌∙◌, subst, inl, inr, arith}
-use Rattle.std.proofs.lemmas.Bool.{and_parts, eqb-true, eq-eqb, ltb-true}
+use Rattle.std.proofs.lemmas.Bool.{and_parts, eqb-true, eq-eqb, ltb-true, and_from}
 use Rattle.rc_types.specs.declared.entries.Entry.{Entry}
 use Rattle.rc_model.specs.Versions.{is_of, Found, or_greater, read_from, read_of}
 use Rattle.rc_model.specs.Headline.{In}
 use Rattle.rc_model.proofs.Tests.{true_false, either}
-
-both : (a b : Bool) → a ≡ true → b ≡ true → (a && b) ≡ true
-both true b p q = q
-both false b p q = true_false (sym p)
-
-pub is-of : (term table key : ℕ) (entry : Entry) → entry.term ≡ term → entry.table ≡ table → entry.key ≡ key →
-    is_of term table key entry ≡ true
-is-of term table key entry a b c =
-    both (nat_eq entry.term term) (nat_eq entry.table table && nat_eq entry.key key) (eq-eqb entry.term term a)
-    (both (nat_eq entry.table table) (nat_eq entry.key key) (eq-eqb entry.table table b) (eq-eqb entry.key key c))
+use Rattle.rc_owner_laws.proofs.Appending.{is-of-true}
 
 of-is : (term table key : ℕ) (entry : Entry) → is_of term table key entry ≡ true → (entry.term ≡ term) × (entry.table ≡ table)
     × (entry.key ≡ key)
@@ -60,7 +51,7 @@ module _ (term table key : ℕ) where
           (is_of term table key entry && nat_lt found.version entry.version) ≡ false → entry.version ≤ found.version
       not-less (inr p) e = p
       not-less (inl less) e = true_false
-          (sym (both (is_of term table key entry) (nat_lt found.version entry.version) of (less-test found.version entry.version less)) ∙ e)
+          (sym (and_from (is_of term table key entry) (nat_lt found.version entry.version) of (less-test found.version entry.version less)) ∙ e)
 
   from-least : (found : Found) (entries : List Entry) → found.version ≤ (read_from term table key found entries).version
   from-least found [] = omega arith
@@ -139,7 +130,7 @@ module _ (term table key : ℕ) where
   -- no entry of the key under the term is above what a read finds
   pub read-above : (entries : List Entry) (entry : Entry) → In entry entries → entry.term ≡ term → entry.table ≡ table → entry.key ≡ key →
       entry.version ≤ (read_of term table key entries).version
-  read-above entries entry at a b c = from-above (record { version = 0; value = None }) entries entry at (is-of term table key entry a b c)
+  read-above entries entry at a b c = from-above (record { version = 0; value = None }) entries entry at (is-of-true term table key entry a b c)
 
   -- and above 0 it is one of them
   pub read-is : (entries : List Entry) → ((read_of term table key entries).version ≡ 0 → ⊥) →

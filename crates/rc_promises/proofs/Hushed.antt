@@ -72,7 +72,7 @@ taken master from body isn't = record {
   stores = λ teller seg epoch len closed is told. none;
   commits = λ seg epoch is. none;
   deposes = none;
-  begins = λ other task new. record { hushed = each-map is_hushed _ task.rows (λ row _. refl) };
+  begins = λ other attempt crashed head rows parts part is at new. record { hushed = each-map is_hushed _ rows (λ row _. refl) };
   comes = λ holder attempt seg term entries is says. none;
   owns = λ table lo hi term previous attempt is. none;
 }

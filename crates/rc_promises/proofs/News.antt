@@ -38,6 +38,7 @@ use Rattle.rc_log_laws.proofs.Since.{replay_from-append}
 use Rattle.rc_promises.proofs.Hushed.{is_read_ok, Hushed, Hush, hush-then, hush-takes_first, hush-deposed, hush-goes, hush-master_ticks}
 use Rattle.rc_model.proofs.Tables.{put-same}
 use Rattle.rc_model.proofs.Tests.{true_false, either}
+use Rattle.rc_model.proofs.Ids.{server-same}
 
 -- Lists
 
@@ -242,9 +243,6 @@ coordinator-moved world (Split table at) good given = news-coordinator world (co
     (coordinator.moved-splits world.sent world.coordinator good.coordinator table at)
 coordinator-moved world _ good given = news-none world
 
-one-server : (a b : ServerId) → Server a ≡ Server b → a ≡ b
-one-server a b e = cc
-
 module _ (world : World) (one : Event) (i : ℕ) (good : GoodWorld world) where
   news-backup : (after : Backup × List Message) →
       BackupMoved world.sent world.masters (put world.hosts i (record (world.hosts i) { backup = after.0 })) world.coordinator
@@ -278,7 +276,7 @@ module _ (world : World) (one : Event) (i : ℕ) (good : GoodWorld world) where
         subst (λ (view : Master). Reads view before table key version value)
         (sym ((good.hosts_are i).runs master e)
         ∙ ap world.masters
-        (one-server (server_of (world.hosts i)) m (sym (moved.says message (among message after.1 before rest whole)).from ∙ from)))
+        (server-same (server_of (world.hosts i)) m (sym (moved.says message (among message after.1 before rest whole)).from ∙ from)))
         (reads before message rest whole table key version value says);
   }
     where

@@ -28,6 +28,7 @@ use Rattle.rc_worked.specs.Sentences.{sees_own, sees_by_then, sees_value, sees_u
 use Rattle.rc_log_laws.specs.WordClaims.{sent_after}
 use Rattle.rc_promises.specs.Service.{WasGranted, HasAsked, IsOfKey, IsWritten, IsOneWrite, Answer, HasRead, SeesEveryWrite}
 use Rattle.rc_model.proofs.Ids.{same_id-true, same_id-refl}
+use Rattle.rc_model.proofs.Headlines.{same_numbers-refl, same_value-refl}
 
 -- Tests of lists
 
@@ -53,14 +54,6 @@ else-from true c holds = refl
 else-from false c holds = holds refl
 
 -- Values
-
-same_numbers-refl : (ns : List ℕ) → same_numbers ns ns ≡ true
-same_numbers-refl [] = refl
-same_numbers-refl (n ∷ ns) = and_from (nat_eq n n) (same_numbers ns ns) (eq-eqb n n refl) (same_numbers-refl ns)
-
-same_value-refl : (value : Option (List ℕ)) → same_value value value ≡ true
-same_value-refl None = refl
-same_value-refl (Some ns) = same_numbers-refl ns
 
 same_value-from : (a b : Option (List ℕ)) → a ≡ b → same_value a b ≡ true
 same_value-from a b e = subst (λ c. same_value a c ≡ true) e (same_value-refl a)

@@ -1,5 +1,5 @@
 -- The coordinator's list of attempts, of which one is added or changed; and what its moves have in common.
-use Rattle.std.proofs.Common.{◌≡◌, ◌⊎◌, ℕ, zero, suc, ◌+◌, ◌-◌, ◌<◌, ◌≤◌, true, false, List, [], ◌∷◌, ◌++◌, length}
+use Rattle.std.proofs.Common.{Option, ◌≡◌, ◌⊎◌, ℕ, zero, suc, ◌+◌, ◌-◌, ◌<◌, ◌≤◌, true, false, List, [], ◌∷◌, ◌++◌, length}
 use Rattle.std.proofs.Common.{nat_eq, slice_get, slice_set, Some, None, Ok, refl, sym, ap, ◌∙◌, subst, inl, inr, arith}
 use Rattle.std.proofs.lemmas.Bool.{eqb-false}
 use Rattle.std.proofs.lemmas.Bool.Decides.{nat_tests}
@@ -16,7 +16,7 @@ use Rattle.rc_model.specs.Tables.{put_id}
 use Rattle.rc_model.specs.Messages.{from_coordinator, to_each, to_coordinator}
 use Rattle.rc_model.specs.ServerList.{has_crashed, up_rows}
 use Rattle.rc_model.specs.Pick.{is_below, pick, greater_pair}
-use Rattle.rc_model.specs.Attempts.{Attempt, Decision}
+use Rattle.rc_model.specs.Attempts.{Attempt, Decision, is_undecided}
 use Rattle.rc_model.specs.Coordinator.{Coordinator, new_coordinator, attempt_at}
 use Rattle.rc_model.specs.Headline.{In}
 use Rattle.rc_model.proofs.Members.{In-left}
@@ -379,3 +379,8 @@ new-good = record {
   where
     none : (number : ℕ) (attempt : Attempt) → IsNumbered [] number attempt → ⊥
     none number attempt numbered = let at : slice_get [] numbered.place ≡ Some attempt = numbered.attempt_is in cc
+
+-- what isn't decided has no decision
+pub undecided-none : (decided : Option Decision) → is_undecided decided ≡ true → decided ≡ None
+undecided-none None e = refl
+undecided-none (Some decision) e = cc

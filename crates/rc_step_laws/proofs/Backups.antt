@@ -435,7 +435,7 @@ at-own-index sent masters i host good m =
 -- The step
 
 -- the server of a host, by the index that the host stands at
-server-is : (sent : List Message) (masters : ServerId → Master) (i : ℕ) (host : HostNode) →
+pub server-is : (sent : List Message) (masters : ServerId → Master) (i : ℕ) (host : HostNode) →
     GoodHost sent masters i host → server_of host ≡ record { index = i; generation = host.generation }
 server-is sent masters i host good = ap (λ n. record { index = n; generation = host.generation }) good.index
 

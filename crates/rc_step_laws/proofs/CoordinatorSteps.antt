@@ -44,7 +44,7 @@ use Rattle.rc_step_laws.specs.Facts.{IsPlan, GoodAttempt, GoodCoordinator}
 use Rattle.rc_step_laws.specs.Moves.{CoordinatorMoved, CoordinatorMayHear, coordinator_body_said}
 use Rattle.rc_step_laws.proofs.Servers.{crashed-not-up, crashed-stays-crashed, crashed-stays-enlisted}
 use Rattle.rc_step_laws.proofs.Servers.{apart-crashed, apart-enlisted}
-use Rattle.rc_step_laws.proofs.Attempting.{below-refl, numbered-at, Kept, Says}
+use Rattle.rc_step_laws.proofs.Attempting.{below-refl, numbered-at, Kept, Says, undecided-none}
 use Rattle.rc_step_laws.proofs.Attempting.{says-none, says-one, says-each, moved-kept, moved-added, of-added}
 use Rattle.rc_step_laws.proofs.Attempting.{moved-changed, numbered-set}
 use Rattle.rc_model.proofs.Tables.{put_id-same, put_id_each}
@@ -231,10 +231,6 @@ module _ (sent : List Message) (c : Coordinator) (good : GoodCoordinator sent c)
           (CommitOk pair.seg pair.epoch) mine)
 
   -- Answers
-
-  undecided-none : (decided : Option Decision) → is_undecided decided ≡ true → decided ≡ None
-  undecided-none None e = refl
-  undecided-none (Some decision) e = cc
 
   moved-keeps_answer_in : (from : ServerId) (number : ℕ) (rows : List Row) →
       In (to_coordinator from (Replicas number rows)) sent → (found : Option Attempt) →

@@ -77,7 +77,7 @@ apart-filter test (id ∷ ids) p =
       apart-filter test ids p.1,
     )) (λ _. apart-filter test ids p.1)
 
-insert-In : (y id : ServerId) (ids : List ServerId) → In y (insert_id id ids) → (y ≡ id) ⊎ In y ids
+pub insert-In : (y id : ServerId) (ids : List ServerId) → In y (insert_id id ids) → (y ≡ id) ⊎ In y ids
 insert-In y id [] at = at
 insert-In y id (other ∷ ids) at =
     either (λ l. In y l → (y ≡ id) ⊎ ((y ≡ other) ⊎ In y ids)) (id_before id other) (id ∷ other ∷ ids) (other ∷ insert_id id ids)
@@ -101,7 +101,7 @@ apart-insert id (other ∷ ids) free p =
     by y (inl e) same = free.0 (sym (same ∙ ap (λ (x : ServerId). x.index) e))
     by y (inr at) same = apart-not other y ids at p.0 same
 
-order-In : (y : ServerId) (ids : List ServerId) → In y (ids_in_order ids) → In y ids
+pub order-In : (y : ServerId) (ids : List ServerId) → In y (ids_in_order ids) → In y ids
 order-In y [] at = at
 order-In y (id ∷ ids) at = by (order-In y ids) (insert-In y id (ids_in_order ids) at)
   where

@@ -23,11 +23,10 @@ use Rattle.rc_model.specs.World.{replay}
 use Rattle.rc_model.specs.Headline.{In}
 use Rattle.rc_model.proofs.Members.{In-left, In-append, place_of}
 use Rattle.rc_step_laws.specs.Words.{log_in}
-use Rattle.rc_step_laws.proofs.Places.{IsOf, places_to-are, place-logged}
+use Rattle.rc_step_laws.proofs.Places.{IsOf, places_to-are, place-logged, places_to-same}
 use Rattle.rc_write_laws.specs.AckClaims.{is_ack_of, counted_places, WasAsked, IsAsked, AcknowledgedWasAsked}
-use Rattle.rc_write_laws.proofs.Quiet.{places-same}
 use Rattle.rc_write_laws.proofs.Walk.{IsKept, takes-kept, tick-kept}
-use Rattle.rc_write_laws.proofs.Frame.{IsKeptByAll, kept-replay}
+use Rattle.rc_log_laws.proofs.EachMaster.{IsKeptByAll, kept-replay}
 use Rattle.rc_write_laws.proofs.Counting.{added, places-appended, filter-in, counted-is-acknowledged}
 use Rattle.rc_write_laws.proofs.Settling.{ok_of}
 use Rattle.rc_model.proofs.Ids.{same_id-refl}
@@ -73,7 +72,7 @@ module _ (Asked : Entry → Type 0) where
   asks-commits : (master : Master) (seg : ℕ) → Asks master (commits master seg)
   asks-commits master seg =
       asks-same master (commits master seg).0 (commits master seg).1
-      (places-same master.log.segments (commits master seg).0.log.segments master.log.head
+      (places_to-same master.log.segments (commits master seg).0.log.segments master.log.head
       (λ s upto. either (λ (one : Segment). one.entries ≡ (master.log.segments s).entries) (nat_eq seg s)
       (record (master.log.segments seg) { commit_sent = true }) (master.log.segments s)
       (λ e. ap (λ k. (master.log.segments k).entries) (eqb-true seg s e)) (λ _. refl)))

@@ -24,18 +24,15 @@ use Rattle.rc_model.specs.MasterStep.{master_takes, master_ticks}
 use Rattle.rc_model.specs.MasterTick.{commits_again, awaits_commit}
 use Rattle.rc_model.specs.Headline.{In}
 use Rattle.rc_step_laws.specs.Facts.{GoodMaster}
-use Rattle.rc_step_laws.proofs.Places.{durable-within}
+use Rattle.rc_step_laws.proofs.Places.{durable-within, places_to-same}
 use Rattle.rc_write_laws.specs.AckClaims.{is_write_ok, is_ack_of, acks_in, counted_places, CountedIsAcknowledged}
-use Rattle.rc_write_laws.proofs.Quiet.{is_loud, AllSoft, soft-ids, QuietLog, places-same, put-beside}
+use Rattle.rc_write_laws.proofs.Quiet.{is_loud, AllSoft, soft-ids, QuietLog, put-beside, others-soft}
 use Rattle.rc_write_laws.proofs.Walk.{IsKept, takes-kept, tick-kept}
-use Rattle.rc_write_laws.proofs.Frame.{OthersSay, IsKeptByAll, kept-replay}
+use Rattle.rc_log_laws.proofs.EachMaster.{OthersSay, IsKeptByAll, kept-replay}
 use Rattle.rc_model.proofs.Tables.{put-same}
 use Rattle.rc_model.proofs.Ids.{same_id-true, same_id-refl}
 use Rattle.rc_model.proofs.Tests.{true_false, either}
-
-server-is : (m : ServerId) (from : Addr) → is_server m from ≡ true → from ≡ Server m
-server-is m (Server other) e = ap Server (sym (same_id-true m other e))
-server-is m _ e = true_false (sym e)
+use Rattle.rc_model.proofs.Said.{is_server-true}
 
 -- Lists
 
@@ -145,7 +142,7 @@ places-appended segments zero one = refl
 places-appended segments (suc n) one =
     ap (λ l. l ++ places_in (suc n) 0 (cond (nat_eq (suc n) (suc n)) (with_entry one.0 one.1 (segments (suc n)))
     (segments (suc n))).entries)
-    (places-same segments (λ s. cond (nat_eq (suc n) s) (with_entry one.0 one.1 (segments (suc n))) (segments s)) n
+    (places_to-same segments (λ s. cond (nat_eq (suc n) s) (with_entry one.0 one.1 (segments (suc n))) (segments s)) n
     (λ s upto. ap (λ (segment : Segment). segment.entries)
     (put-beside segments (suc n) (with_entry one.0 one.1 (segments (suc n))) s
     (λ e. absurd (omega (arith, e, upto))))))
@@ -243,7 +240,7 @@ commit-no_ack own s e = and-false (is_server own (Server own)) false refl
 acks-commits : (master : Master) (seg : ℕ) → Acks master (commits master seg)
 acks-commits master seg =
     acks-same master (commits master seg).0 (commits master seg).1 refl refl refl
-    (places-same master.log.segments (commits master seg).0.log.segments master.log.head
+    (places_to-same master.log.segments (commits master seg).0.log.segments master.log.head
     (λ s upto. either (λ (one : Segment). one.entries ≡ (master.log.segments s).entries) (nat_eq seg s)
     (record (master.log.segments seg) { commit_sent = true }) (master.log.segments s)
     (λ e. ap (λ k. (master.log.segments k).entries) (eqb-true seg s e)) (λ _. refl)))
@@ -299,7 +296,7 @@ acked-others sent messages m master p others =
         by (is_server m message.from) refl
       where
         by : (b : Bool) → is_server m message.from ≡ b → (b && is_write_ok message.body) ≡ false
-        by true e = soft-body message.body (others message at (server-is m message.from e))
+        by true e = soft-body message.body (others-soft message.body (others message at (is_server-true m message.from e)))
         by false e = refl
 
 acked-after : (sent : List Message) (m : ServerId) (master : Master) (after : Master × List Message) →

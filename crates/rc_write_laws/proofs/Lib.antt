@@ -1,6 +1,5 @@
 pub mod Quiet
 pub mod Walk
-pub mod Frame
 pub mod Counting
 pub mod Settling
 pub mod Asking

@@ -38,7 +38,7 @@ use Rattle.rc_log_laws.proofs.Replays.{GoodWorld, good-world}
 use Rattle.rc_write_laws.specs.MomentClaims.{CountedWhenStored}
 use Rattle.rc_write_laws.proofs.Quiet.{put-beside}
 use Rattle.rc_write_laws.proofs.Walk.{IsKeptByInputs, first-kept_by, ticks-kept_by}
-use Rattle.rc_write_laws.proofs.Frame.{IsLed, led-by, kept-replay}
+use Rattle.rc_log_laws.proofs.EachMaster.{IsLed, led-by, kept-replay}
 use Rattle.rc_write_laws.proofs.Settling.{IsSettled, settled-kept}
 use Rattle.rc_model.proofs.Tests.{either}
 use Rattle.rc_model.proofs.Tables.{put_each}

@@ -2,7 +2,7 @@
 use Rattle.std.proofs.Common.{◌≡◌, ◌⊎◌, ℕ, zero, suc, ◌<◌, ◌≤◌, Bool, true, false, cond, not, List, [], ◌∷◌, ◌++◌}
 use Rattle.std.proofs.Common.{length, filter, find, Some, refl, sym, ap, ◌∙◌, subst, inl, inr, arith}
 use Rattle.std.specs.List.{All}
-use Rattle.std.proofs.lemmas.Bool.{and_parts}
+use Rattle.std.proofs.lemmas.Bool.{and_parts, not-false}
 use Rattle.std.proofs.lemmas.List.Elements.{All-nil, All-cons}
 use Rattle.rc_types.specs.declared.ids.ServerId.{ServerId}
 use Rattle.rc_types.specs.declared.entries.Entry.{Entry}
@@ -25,7 +25,8 @@ use Rattle.rc_step_laws.proofs.Places.{In-numbers}
 use Rattle.rc_write_laws.specs.CommitClaims.{CommitsAreAskedInOrder}
 use Rattle.rc_write_laws.proofs.Quiet.{is_loud, AllSoft, soft-ids, QuietLog}
 use Rattle.rc_write_laws.proofs.Walk.{IsKept, takes-kept, tick-kept}
-use Rattle.rc_write_laws.proofs.Frame.{All-In, OthersSay, IsKeptByAll, kept-replay}
+use Rattle.rc_write_laws.proofs.Quiet.{All-In}
+use Rattle.rc_log_laws.proofs.EachMaster.{OthersSay, IsKeptByAll, kept-replay}
 use Rattle.rc_write_laws.proofs.Settling.{ok_of}
 use Rattle.rc_model.proofs.Tests.{true_false, either}
 use Rattle.rc_model.proofs.Tables.{put_each}
@@ -172,10 +173,6 @@ first-next : (segments : ℕ → Segment) (n s : ℕ) → find (λ seg. not (seg
 first-next segments zero s e = cc
 first-next segments (suc n) s e = by (first-next segments n s) (find-in (λ seg. not (segments seg).shut) (numbers_to n) (suc n ∷ []) s e)
   where
-    not-false : (b : Bool) → not b ≡ false → b ≡ true
-    not-false true e = refl
-    not-false false e = true_false e
-
     last : find (λ seg. not (segments seg).shut) (suc n ∷ []) ≡ Some s → s ≡ suc n
     last found = one (find-one (λ seg. not (segments seg).shut) (suc n ∷ []) s found).0
       where
@@ -285,7 +282,7 @@ order-others sent messages m master p others = record {
   where
     by : (s e : ℕ) → In (to_coordinator m (Commit s e)) sent ⊎ In (to_coordinator m (Commit s e)) messages → IsNext master.log s
     by s e (inl at) = p.said s e at
-    by s e (inr at) = true_false (others (to_coordinator m (Commit s e)) at refl)
+    by s e (inr at) = true_false (sym (others (to_coordinator m (Commit s e)) at refl))
 
 order-kept : (setup : Setup) → IsKeptByAll setup InOrder
 order-kept setup = record {

@@ -27,6 +27,11 @@ use Rattle.rc_write_laws.specs.LimitClaims.{IsWithinLimits}
 use Rattle.rc_model.proofs.Tests.{true_false, either}
 use Rattle.rc_model.proofs.Tables.{put_each}
 use Rattle.rc_model.proofs.Sending.{Each, each-all}
+use Rattle.rc_log_laws.proofs.EachMaster.{is_others}
+use Rattle.rc_model.specs.Headline.{In}
+use Rattle.std.proofs.Common.{inl, inr}
+use Rattle.std.proofs.lemmas.List.Elements.{All-head, All-tail}
+use Rattle.rc_step_laws.proofs.Places.{places_to-same}
 
 -- Messages
 
@@ -53,6 +58,17 @@ soft-all messages each = each-all is_soft messages each
 
 pub soft-ids : (own : ServerId) (ids : List ServerId) (body : Body) → is_loud body ≡ false → AllSoft (to_ids own ids body)
 soft-ids own ids body p = All-map is_soft (λ (id : ServerId). between own id body) ids (λ k d less. p)
+
+-- what others say in a master's name is soft
+pub others-soft : (body : Body) → is_others body ≡ true → is_loud body ≡ false
+others-soft (WriteOk seg offset term table key version) e = true_false (sym e)
+others-soft (Commit seg epoch) e = true_false (sym e)
+others-soft _ e = refl
+
+pub All-In : {X : Type 0} (P : X → Type 0) (xs : List X) (x : X) → All P xs → In x xs → P x
+All-In P [] x all at = absurd at
+All-In P (y ∷ xs) x all (inl e) = subst P (sym e) (All-head P y xs all)
+All-In P (y ∷ xs) x all (inr rest) = All-In P xs x (All-tail P y xs all) rest
 
 -- Logs
 
@@ -108,14 +124,6 @@ quiet-phase log phase = record {
   asked = λ s e. e;
 }
 
--- the same entries give the same places
-pub places-same : (old new : ℕ → Segment) (n : ℕ) → ((s : ℕ) → s ≤ n → (new s).entries ≡ (old s).entries) →
-    places_to new n ≡ places_to old n
-places-same old new zero same = refl
-places-same old new (suc n) same =
-    ap (λ l. l ++ places_in (suc n) 0 (new (suc n)).entries) (places-same old new n (λ s upto. same s (omega arith)))
-    ∙ ap (λ l. places_to old n ++ places_in (suc n) 0 l) (same (suc n) (omega arith))
-
 -- a segment within its limits is put in
 pub limits-put : (log : Log) (seg : ℕ) (segment : Segment) → IsWithinLimits log → segment.config.epoch ≤ LAST_EPOCH →
     length segment.entries ≤ log.size → IsWithinLimits (with_segment seg segment log)
@@ -139,7 +147,7 @@ quiet-put log seg segment entries shut asked epoch = record {
   limits = λ h. limits-put log seg segment h (epoch (h.epochs seg))
       (let same : length segment.entries ≡ length (log.segments seg).entries = ap length entries in
       let old = h.entries seg in omega arith);
-  places = places-same log.segments (with_segment seg segment log).segments log.head
+  places = places_to-same log.segments (with_segment seg segment log).segments log.head
       (λ s upto. put_each (λ k (one : Segment). one.entries ≡ (log.segments k).entries) log.segments seg segment entries (λ k. refl) s);
   head = omega arith;
   shut = λ s upto. put_each (λ k (one : Segment). (log.segments k).shut ≡ true → one.shut ≡ true) log.segments seg
@@ -158,7 +166,7 @@ places-opened : (segments : ℕ → Segment) (segment : Segment) (n : ℕ) → s
     places_to (λ s. cond (nat_eq (suc n) s) segment (segments s)) (suc n) ≡ places_to segments n
 places-opened segments segment n none =
     ap (λ l. l ++ places_in (suc n) 0 (cond (nat_eq (suc n) (suc n)) segment (segments (suc n))).entries)
-    (places-same segments (λ s. cond (nat_eq (suc n) s) segment (segments s)) n
+    (places_to-same segments (λ s. cond (nat_eq (suc n) s) segment (segments s)) n
     (λ s upto. ap (λ (one : Segment). one.entries) (put-beside segments (suc n) segment s (λ e. absurd (omega (arith, e, upto))))))
     ∙ (ap (λ l. places_to segments n ++ places_in (suc n) 0 l)
     (ap (λ b. (cond b segment (segments (suc n))).entries) (eq-eqb (suc n) (suc n) refl) ∙ none)

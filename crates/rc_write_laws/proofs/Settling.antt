@@ -32,10 +32,11 @@ use Rattle.rc_step_laws.proofs.Lists.{get-left, get-within}
 use Rattle.rc_write_laws.specs.AckClaims.{is_ack_of, counted_places, StoredIsAcknowledged}
 use Rattle.rc_model.proofs.Walk.{same-deposed}
 use Rattle.rc_write_laws.proofs.Walk.{first-kept_by, ticks-kept_by}
-use Rattle.rc_write_laws.proofs.Frame.{IsKeptByAll, kept-replay}
+use Rattle.rc_log_laws.proofs.EachMaster.{IsKeptByAll, kept-replay}
 use Rattle.rc_write_laws.proofs.Counting.{Acks, acks-kept, acks-takes, acks-ticks, counted-is-acknowledged}
 use Rattle.rc_model.proofs.Tests.{true_false, either}
 use Rattle.rc_model.proofs.Members.{In-filter}
+use Rattle.rc_model.proofs.LogParts.{length-places_in}
 
 -- Where a place stands
 
@@ -55,11 +56,6 @@ places_in-get seg offset (first ∷ entries) zero one e =
     ap (λ (p : Entry × Bool). Some (place_at seg offset p)) same ∙ ap (λ n. Some (place_at seg n one)) (omega arith)
 places_in-get seg offset (first ∷ entries) (suc k) one e =
     places_in-get seg (offset + 1) entries k one e ∙ ap (λ n. Some (place_at seg n one)) (omega arith)
-
-length-places_in : (seg offset : ℕ) (entries : List (Entry × Bool)) → length (places_in seg offset entries) ≡ length entries
-length-places_in seg offset [] = refl
-length-places_in seg offset (one ∷ entries) = let rest : length (places_in seg (offset + 1) entries) ≡ length entries =
-    length-places_in seg (offset + 1) entries in omega (arith, rest)
 
 -- a log's places go on after those of its first segments
 places-go_on : (segments : ℕ → Segment) (n d : ℕ) → (rest : List LogPlace) × (places_to segments (d + n) ≡ places_to segments n ++ rest)

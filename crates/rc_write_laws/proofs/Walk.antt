@@ -96,8 +96,8 @@ module _ (Asked : Entry → Type 0) (R : Master → Master × List Message → T
     commits = λ seg epoch is. kept.quiet master (with_log master (commit_noted seg epoch master.log)) []
         (quiet-commit_noted seg epoch master.log) soft-none;
     deposes = same master _ refl;
-    begins = λ one task new. kept.quiet one _ _ (quiet-refl one.log)
-        (soft-all _ (each-map is_soft _ task.rows (λ row _. refl)));
+    begins = λ one attempt crashed head rows parts part is at new. kept.quiet one _ _ (quiet-refl one.log)
+        (soft-all _ (each-map is_soft _ rows (λ row _. refl)));
     comes = λ holder attempt seg term entries is says. same master _ refl;
     owns = λ table lo hi term previous attempt is. same master _ refl;
   }

@@ -38,7 +38,7 @@ use Rattle.rc_step_laws.proofs.Places.{IsOf, places_to-are, places-later, IsCove
 use Rattle.rc_step_laws.proofs.Tests.{all-each, In-take}
 use Rattle.rc_log_laws.proofs.Replays.{GoodWorld, led-step, good-world}
 use Rattle.rc_write_laws.specs.AckClaims.{is_write_ok, is_ack_of, counted_places}
-use Rattle.rc_write_laws.proofs.Frame.{IsLed, led-by}
+use Rattle.rc_log_laws.proofs.EachMaster.{IsLed, led-by}
 use Rattle.rc_write_laws.proofs.Counting.{counted-is-acknowledged}
 use Rattle.rc_write_laws.proofs.Moments.{Counts, counts-on}
 use Rattle.rc_write_laws.specs.DurableClaims.{StoredIsDurable, CountedIsDurable, AcknowledgedIsDurable}
@@ -47,6 +47,7 @@ use Rattle.rc_write_laws.proofs.DurableSteps.{TellsWhole, StepOk, step-same, tak
 use Rattle.rc_model.proofs.Ids.{same_id-refl}
 use Rattle.rc_model.proofs.Tests.{true_false, either}
 use Rattle.rc_model.proofs.Members.{filter-In}
+use Rattle.rc_log_laws.proofs.Stored.{all_shut-each}
 
 -- One event
 
@@ -125,17 +126,6 @@ all-shut segments zero each = refl
 all-shut segments (suc n) each =
     ap (λ b. b && all_shut_to segments n) (each (suc n) (omega arith) (omega arith)) ∙
     all-shut segments n (λ t above upto. each t above (omega (arith, upto)))
-
-shut-each : (segments : ℕ → Segment) (n t : ℕ) → all_shut_to segments n ≡ true → 0 < t → t ≤ n → (segments t).shut ≡ true
-shut-each segments zero t e above upto = absurd (omega (arith, above, upto))
-shut-each segments (suc n) t e above upto =
-    by (cases_order t (suc n))
-    (λ less. shut-each segments n t (and_parts (segments (suc n)).shut (all_shut_to segments n) e).1 above less)
-  where
-    by : (t ≡ suc n) ⊎ ((t < suc n) ⊎ (suc n < t)) → (t ≤ n → (segments t).shut ≡ true) → (segments t).shut ≡ true
-    by (inl same) rec = subst (λ k. (segments k).shut ≡ true) (sym same) (and_parts (segments (suc n)).shut (all_shut_to segments n) e).0
-    by (inr (inl less)) rec = rec (omega (arith, less))
-    by (inr (inr more)) rec = absurd (omega (arith, upto, more))
 
 -- a place below the durable length of a segment of the log, where each earlier one is shut
 stored-now : (log : Log) (s o : ℕ) → 0 < s → s ≤ log.head → o < durable_len (log.segments s).config →
@@ -358,7 +348,7 @@ once-durable setup events m s o some was = record { moment = was.moment; happene
     past = take was.moment events
 
     shut : (t : ℕ) → 0 < t → t < s → (((replay setup (take was.moment events)).masters m).log.segments t).shut ≡ true
-    shut t above below = shut-each ((replay setup (take was.moment events)).masters m).log.segments (s - 1) t
+    shut t above below = all_shut-each ((replay setup (take was.moment events)).masters m).log.segments (s - 1) t
         (and_parts (nat_lt o (durable_len (((replay setup (take was.moment events)).masters m).log.segments s).config))
         (all_shut_to ((replay setup (take was.moment events)).masters m).log.segments (s - 1))
         (and_parts (has_segment ((replay setup (take was.moment events)).masters m).log s)

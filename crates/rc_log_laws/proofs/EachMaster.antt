@@ -1,5 +1,5 @@
--- What the steps of masters keep of each master, with what was sent, holds of every world.
-use Rattle.std.proofs.Common.{◌≡◌, ℕ, ◌+◌, false, List, [], ◌∷◌, ◌++◌, Option, Some, None, refl, sym, ap, ◌∙◌, subst, inl, inr, arith}
+-- A walk over the events of a world: what the own steps of masters keep of each of them holds in every world.
+use Rattle.std.proofs.Common.{◌≡◌, ℕ, ◌+◌, Bool, true, false, List, [], ◌∷◌, ◌++◌, Option, Some, None, refl, sym, ap, ◌∙◌, subst, inl, inr, arith}
 use Rattle.std.specs.List.{All}
 use Rattle.std.proofs.lemmas.List.Elements.{All-nil, All-cons, All-head, All-tail}
 use Rattle.rc_types.specs.declared.ids.ServerId.{ServerId}
@@ -10,7 +10,8 @@ use Rattle.rc_types.specs.declared.events.Setup.{Setup}
 use Rattle.rc_types.specs.declared.events.Event.{Event}
 use Rattle.rc_types.specs.declared.messages.Message.{Message}
 use Rattle.rc_types.specs.declared.messages.Body.{Body}
-use Rattle.rc_types.specs.declared.messages.Body.TheVariants.{Place, Append, Close, Free, Gather, Fetch, Data, Replicas, Enlist}
+use Rattle.rc_types.specs.declared.messages.Body.TheVariants.{Place, Append, Close, Free, Gather, Fetch, Data, Stored, Replicas}
+use Rattle.rc_types.specs.declared.messages.Body.TheVariants.{Enlist}
 use Rattle.rc_model.specs.Ids.{same_id, is_server}
 use Rattle.rc_model.specs.Tables.{put_id}
 use Rattle.rc_model.specs.Messages.{between, to_coordinator}
@@ -32,13 +33,24 @@ use Rattle.rc_step_laws.proofs.MasterSteps.{master_takes_keeps, master_ticks_kee
 use Rattle.rc_step_laws.proofs.CoordinatorSteps as coordinator
 use Rattle.rc_log_laws.proofs.Replays.{GoodWorld, IsGiven, is-good, is-fine, hears, is_server-true, work_of-given}
 use Rattle.rc_log_laws.proofs.Replays.{may-hear, to-coordinator-is, good-step, good-opening}
-use Rattle.rc_write_laws.proofs.Quiet.{is_loud, AllSoft, soft-none, soft-one}
-use Rattle.rc_model.proofs.Ids.{same_id-true, same_id-refl}
+use Rattle.rc_model.proofs.Sending.{Each, each-none, each-one, each-if}
+use Rattle.rc_model.proofs.Ids.{same_id-true, same_id-refl, server-same}
 use Rattle.rc_model.proofs.Tests.{true_false, either}
 
--- others than this master say nothing loud in its name
+-- a backup says this, or a host that starts, in the name of its server
+abbrev pub is_others : Body → Bool
+is_others (Stored seg epoch len closed) = true
+is_others (Replicas attempt rows) = true
+is_others (Data attempt seg term entries) = true
+is_others Enlist = true
+is_others _ = false
+
+-- others than this master say nothing else in its name
 abbrev pub OthersSay : ServerId → List Message → Type 0
-OthersSay m messages = (message : Message) → In message messages → message.from ≡ Server m → is_loud message.body ≡ false
+OthersSay m messages = (message : Message) → In message messages → message.from ≡ Server m → is_others message.body ≡ true
+
+abbrev BySelf : Message → Type 0
+BySelf message = is_others message.body ≡ true
 
 -- what leads from what holds of each master before an event to what holds of it afterwards: what others say, and its own steps
 pub record IsLed (P Q : List Message → ServerId → Master → Type 0) : Type 0 where
@@ -59,56 +71,59 @@ pub record IsKeptByAll (setup : Setup) (P : List Message → ServerId → Master
 
 -- Backups
 
-pub All-In : {X : Type 0} (P : X → Type 0) (xs : List X) (x : X) → All P xs → In x xs → P x
-All-In P [] x all at = absurd at
-All-In P (y ∷ xs) x all (inl e) = subst P (sym e) (All-head P y xs all)
-All-In P (y ∷ xs) x all (inr rest) = All-In P xs x (All-tail P y xs all) rest
+others-keeps : (backup : Backup) (master : ServerId) (seg : ℕ) (found : Option Replica) → Each BySelf (keeps backup master seg found).1
+others-keeps backup master seg None = each-none BySelf
+others-keeps backup master seg (Some replica) = each-one BySelf (between backup.own master (stored_of seg replica)) refl
 
-soft-keeps : (backup : Backup) (master : ServerId) (seg : ℕ) (found : Option Replica) → AllSoft (keeps backup master seg found).1
-soft-keeps backup master seg None = soft-none
-soft-keeps backup master seg (Some replica) = soft-one (between backup.own master (stored_of seg replica)) refl
-
-soft-stores : (backup : Backup) (master : ServerId) (seg : ℕ) (body : Body) → AllSoft (stores backup master seg body).1
-soft-stores backup master seg body =
-    either (λ (after : Backup × List Message). AllSoft after.1) (is_refused seg (backup.held master)) (backup, [])
+others-stores : (backup : Backup) (master : ServerId) (seg : ℕ) (body : Body) → Each BySelf (stores backup master seg body).1
+others-stores backup master seg body =
+    either (λ (after : Backup × List Message). Each BySelf after.1) (is_refused seg (backup.held master)) (backup, [])
     (keeps backup master seg (replica_after (replica_of seg (backup.held master).replicas) body))
-    (λ e. soft-none) (λ e. soft-keeps backup master seg (replica_after (replica_of seg (backup.held master).replicas) body))
+    (λ e. each-none BySelf) (λ e. others-keeps backup master seg (replica_after (replica_of seg (backup.held master).replicas) body))
 
-abbrev SoftBodies : List Body → Type 0
-SoftBodies bodies = All (λ (body : Body). is_loud body ≡ false) bodies
+others-data : (attempt seg len : ℕ) (part : Part) (found : Option Replica) → (body : Body) →
+    In body (data_of attempt seg len part found) → is_others body ≡ true
+others-data attempt seg len part None = λ body at. absurd at
+others-data attempt seg len part (Some replica) =
+    either (λ bodies. (body : Body) → In body bodies → is_others body ≡ true) _ (Data attempt seg part.term _ ∷ []) []
+    (λ e. each-one (λ (body : Body). is_others body ≡ true) (Data attempt seg part.term _) refl) (λ e body at. absurd at)
 
-soft-data : (attempt seg len : ℕ) (part : Part) (found : Option Replica) → SoftBodies (data_of attempt seg len part found)
-soft-data attempt seg len part None = All-nil (λ (body : Body). is_loud body ≡ false)
-soft-data attempt seg len part (Some replica) =
-    either SoftBodies _ (Data attempt seg part.term _ ∷ []) []
-    (λ e. All-cons (λ (body : Body). is_loud body ≡ false) (Data attempt seg part.term _) [] refl
-    (All-nil (λ (body : Body). is_loud body ≡ false)))
-    (λ e. All-nil (λ (body : Body). is_loud body ≡ false))
+others-answers : (backup : Backup) (asker master : ServerId) (bodies : List Body) →
+    ((body : Body) → In body bodies → is_others body ≡ true) → Each BySelf (answers_fetch backup asker master bodies)
+others-answers backup asker master [] all = each-none BySelf
+others-answers backup asker master (body ∷ bodies) all =
+    each-if BySelf (backup.held master).fenced (between backup.own asker body ∷ [])
+    (λ e. each-one BySelf (between backup.own asker body) (all body (inl refl)))
 
-soft-answers : (backup : Backup) (asker master : ServerId) (bodies : List Body) → SoftBodies bodies →
-    AllSoft (answers_fetch backup asker master bodies)
-soft-answers backup asker master [] all = soft-none
-soft-answers backup asker master (body ∷ bodies) all =
-    either AllSoft (backup.held master).fenced (between backup.own asker body ∷ []) []
-    (λ e. soft-one (between backup.own asker body) (All-head (λ (one : Body). is_loud one ≡ false) body bodies all)) (λ e. soft-none)
-
-soft-backup : (backup : Backup) (from : Addr) (body : Body) → AllSoft (backup_takes backup from body).1
-soft-backup backup (Server master) (Place seg epoch digest entries closed) =
-    soft-stores backup master seg (Place seg epoch digest entries closed)
-soft-backup backup (Server master) (Append seg offset entries) = soft-stores backup master seg (Append seg offset entries)
-soft-backup backup (Server master) (Close seg len) = soft-stores backup master seg (Close seg len)
-soft-backup backup (Server master) (Free seg) = soft-none
-soft-backup backup (Server asker) (Fetch attempt master seg len part) =
-    soft-answers backup asker master (data_of attempt seg len part (replica_of seg (backup.held master).replicas))
-    (soft-data attempt seg len part (replica_of seg (backup.held master).replicas))
-soft-backup backup from (Gather attempt master) =
-    soft-one (to_coordinator backup.own (Replicas attempt (rows_of_replicas (backup.held master).replicas))) refl
-soft-backup backup from body = soft-none
-
-soft-others : (m : ServerId) (messages : List Message) → AllSoft messages → OthersSay m messages
-soft-others m messages all message at from = All-In (λ (one : Message). is_loud one.body ≡ false) messages message all at
+others-backup : (backup : Backup) (from : Addr) (body : Body) → Each BySelf (backup_takes backup from body).1
+others-backup backup (Server master) (Place seg epoch digest entries closed) =
+    others-stores backup master seg (Place seg epoch digest entries closed)
+others-backup backup (Server master) (Append seg offset entries) = others-stores backup master seg (Append seg offset entries)
+others-backup backup (Server master) (Close seg len) = others-stores backup master seg (Close seg len)
+others-backup backup (Server master) (Free seg) = each-none BySelf
+others-backup backup (Server asker) (Fetch attempt master seg len part) =
+    others-answers backup asker master (data_of attempt seg len part (replica_of seg (backup.held master).replicas))
+    (others-data attempt seg len part (replica_of seg (backup.held master).replicas))
+others-backup backup from (Gather attempt master) =
+    each-one BySelf (to_coordinator backup.own (Replicas attempt (rows_of_replicas (backup.held master).replicas))) refl
+others-backup backup from body = each-none BySelf
 
 -- A world
+
+pub coordinator-from : (world : World) (work : Work) → GoodWorld world → IsGiven world.sent TheCoordinator work →
+    (message : Message) → In message (coordinator_step world.coordinator work).1 → message.from ≡ AtCoordinator
+coordinator-from world (Take taken) good given =
+    (coordinator.moved-takes world.sent world.coordinator good.coordinator taken.from taken.body
+    (may-hear world.sent world.masters world.hosts world.coordinator good taken.from taken.body
+    (subst (λ (to : Addr). In (record { from = taken.from; to = to; body = taken.body }) world.sent)
+    (to-coordinator-is taken.to given.1) given.0))).from
+coordinator-from world (Tick addr) good given = (coordinator.moved-ticks world.sent world.coordinator good.coordinator).from
+coordinator-from world (Suspect id) good given = (coordinator.moved-suspects world.sent world.coordinator good.coordinator id).from
+coordinator-from world (Decide id) good given = (coordinator.moved-decides world.sent world.coordinator good.coordinator id).from
+coordinator-from world (Create table owner) good given =
+    (coordinator.moved-creates world.sent world.coordinator good.coordinator table owner).from
+coordinator-from world (Split table at) good given = (coordinator.moved-splits world.sent world.coordinator good.coordinator table at).from
+coordinator-from world _ good given = λ message at. absurd at
 
 abbrev pub OfAll : (List Message → ServerId → Master → Type 0) → List Message → (ServerId → Master) → Type 0
 OfAll P sent masters = (m : ServerId) → P sent m (masters m)
@@ -129,29 +144,10 @@ module _ (P Q : List Message → ServerId → Master → Type 0) (led : IsLed P 
   not-server_too : {Q : Type 0} (m : ServerId) → Outside ≡ Server m → Q
   not-server_too m e = cc
 
-  one-server : (a b : ServerId) → Server a ≡ Server b → a ≡ b
-  one-server a b e = cc
-
   outside-others : (work : Work) (m : ServerId) → OthersSay m (outside_sends work)
   outside-others (Ask to body) m message (inl same) from = not-server_too m (sym (ap (λ (one : Message). one.from) same) ∙ from)
   outside-others (Ask to body) m message (inr never) from = absurd never
   outside-others _ m message at from = absurd at
-
-  coordinator-from : (world : World) (work : Work) → GoodWorld world → IsGiven world.sent TheCoordinator work →
-      (message : Message) → In message (coordinator_step world.coordinator work).1 → message.from ≡ AtCoordinator
-  coordinator-from world (Take taken) good given =
-      (coordinator.moved-takes world.sent world.coordinator good.coordinator taken.from taken.body
-      (may-hear world.sent world.masters world.hosts world.coordinator good taken.from taken.body
-      (subst (λ (to : Addr). In (record { from = taken.from; to = to; body = taken.body }) world.sent)
-      (to-coordinator-is taken.to given.1) given.0))).from
-  coordinator-from world (Tick addr) good given = (coordinator.moved-ticks world.sent world.coordinator good.coordinator).from
-  coordinator-from world (Suspect id) good given = (coordinator.moved-suspects world.sent world.coordinator good.coordinator id).from
-  coordinator-from world (Decide id) good given = (coordinator.moved-decides world.sent world.coordinator good.coordinator id).from
-  coordinator-from world (Create table owner) good given =
-      (coordinator.moved-creates world.sent world.coordinator good.coordinator table owner).from
-  coordinator-from world (Split table at) good given =
-      (coordinator.moved-splits world.sent world.coordinator good.coordinator table at).from
-  coordinator-from world _ good given = λ message at. absurd at
 
   module _ (world : World) (one : Event) (i : ℕ) (good : GoodWorld world) (p : OfAll P world.sent world.masters) where
     abbrev Done : HostNode × List Message → Type 0
@@ -169,12 +165,12 @@ module _ (P Q : List Message → ServerId → Master → Type 0) (led : IsLed P 
         (λ _. refl)
 
     -- the master stays, and nothing loud is said
-    done-quiet : (host : HostNode) (messages : List Message) → host.master ≡ (world.hosts i).master → AllSoft messages →
+    done-quiet : (host : HostNode) (messages : List Message) → host.master ≡ (world.hosts i).master → Each BySelf messages →
         Done (host, messages)
     done-quiet host messages same soft =
         same-view (world.sent ++ messages) world.masters (with_last_view world.masters host.master)
         (λ m. ap (λ (found : Option Master). with_last_view world.masters found m) same ∙ view-same (world.hosts i).master refl m)
-        (quiet-all world.sent messages world.masters p (λ m. soft-others m messages soft))
+        (quiet-all world.sent messages world.masters p (λ m message at from. soft message at))
 
     -- the master moves
     done-moved : (master : Master) → (world.hosts i).master ≡ Some master → (after : Master × List Message) →
@@ -188,7 +184,7 @@ module _ (P Q : List Message → ServerId → Master → Type 0) (led : IsLed P 
       where
         never : Server (server_of (world.hosts i)) ≡ Server m → same_id now.log.own m ≡ false → ⊥
         never same isn't =
-            true_false (sym (ap (λ (k : ServerId). same_id k m) (moved.good.own ∙ one-server (server_of (world.hosts i))
+            true_false (sym (ap (λ (k : ServerId). same_id k m) (moved.good.own ∙ server-same (server_of (world.hosts i))
             m same) ∙ same_id-refl m) ∙ isn't)
 
     -- what holds of the master that runs
@@ -203,7 +199,7 @@ module _ (P Q : List Message → ServerId → Master → Type 0) (led : IsLed P 
         (with_backup (world.hosts i) (backup_takes (world.hosts i).backup message.from message.body))
         (with_master (world.hosts i) (master_takes master message.from message.body))
         (λ _. as_backup (backup_takes (world.hosts i).backup message.from message.body)
-        (soft-backup (world.hosts i).backup message.from message.body))
+        (others-backup (world.hosts i).backup message.from message.body))
         (λ _. done-moved master e (master_takes master message.from message.body)
         (master_takes_keeps world.sent (server_of (world.hosts i)) master message.from message.body
         (is-good world one i good master e) (is-fine world one i good master e)
@@ -211,21 +207,21 @@ module _ (P Q : List Message → ServerId → Master → Type 0) (led : IsLed P 
         (led.takes world.sent (server_of (world.hosts i)) master message.from message.body
         (is-good world one i good master e) (mine master e) at))
       where
-        as_backup : (after : Backup × List Message) → AllSoft after.1 → Done (with_backup (world.hosts i) after)
+        as_backup : (after : Backup × List Message) → Each BySelf after.1 → Done (with_backup (world.hosts i) after)
         as_backup (backup, messages) soft = done-quiet (record (world.hosts i) { backup = backup }) messages refl soft
 
     done-takes : (found : Option Master) → (world.hosts i).master ≡ found → (message : Message) →
         In message world.sent → Done (takes_if_running (world.hosts i) found message)
-    done-takes None e message at = done-quiet (world.hosts i) [] refl soft-none
+    done-takes None e message at = done-quiet (world.hosts i) [] refl (each-none BySelf)
     done-takes (Some master) e message at =
         either Done (is_server (server_of (world.hosts i)) message.to) (server_takes (world.hosts i) master message) (world.hosts i, [])
         (λ is. done-server master e message
         (subst (λ (to : Addr). In (record { from = message.from; to = to; body = message.body }) world.sent)
         (is_server-true world one i good (server_of (world.hosts i)) message.to is) at))
-        (λ _. done-quiet (world.hosts i) [] refl soft-none)
+        (λ _. done-quiet (world.hosts i) [] refl (each-none BySelf))
 
     done-ticks : (found : Option Master) → (world.hosts i).master ≡ found → Done (ticks_if_running (world.hosts i) found)
-    done-ticks None e = done-quiet (world.hosts i) [] refl soft-none
+    done-ticks None e = done-quiet (world.hosts i) [] refl (each-none BySelf)
     done-ticks (Some master) e =
         done-moved master e (master_ticks master) (master_ticks_keeps world.sent (server_of (world.hosts i)) master
         (is-good world one i good master e) (is-fine world one i good master e))
@@ -239,8 +235,7 @@ module _ (P Q : List Message → ServerId → Master → Type 0) (led : IsLed P 
         (new_master (next_server (world.hosts i)) (world.hosts i).setup) (world.masters m)
         (λ is. sym started ∙ ap world.masters (same_id-true (next_server (world.hosts i)) m is)) (λ _. refl))
         (quiet-all world.sent (to_coordinator (next_server (world.hosts i)) Enlist ∷ []) world.masters p
-        (λ m. soft-others m (to_coordinator (next_server (world.hosts i)) Enlist ∷ [])
-        (soft-one (to_coordinator (next_server (world.hosts i)) Enlist) refl)))
+        (λ m message at from. each-one BySelf (to_coordinator (next_server (world.hosts i)) Enlist) refl message at))
       where
         was : GoodHost world.sent world.masters i (world.hosts i)
         was = good.hosts_are i
@@ -254,9 +249,9 @@ module _ (P Q : List Message → ServerId → Master → Type 0) (led : IsLed P 
     done-host : (work : Work) → IsGiven world.sent (TheHost i) work → Done (host_step (world.hosts i) work)
     done-host (Take message) given = done-takes (world.hosts i).master refl message given.0
     done-host (Tick addr) given = done-ticks (world.hosts i).master refl
-    done-host (Stop id) given = quiet-all world.sent [] world.masters p (λ m. soft-others m [] soft-none)
+    done-host (Stop id) given = quiet-all world.sent [] world.masters p (λ m message at. absurd at)
     done-host (Start list) given = done-starts list
-    done-host _ given = done-quiet (world.hosts i) [] refl soft-none
+    done-host _ given = done-quiet (world.hosts i) [] refl (each-none BySelf)
 
   abbrev Before : World → Type 0
   Before world = OfAll P world.sent world.masters
