@@ -1,6 +1,6 @@
 -- No run, no drawing and no story is told as a breach: a trace alone that was given can have one.
 use Rattle.std.proofs.Common.{◌≡◌, ◌≢◌, inl, inr, ℕ, Bool, true, false, true≢false, List, Option, Some, None, Result, Ok}
-use Rattle.std.proofs.Common.{Err, IfOk, refl, sym, ap, ◌∙◌, string_bytes}
+use Rattle.std.proofs.Common.{Err, IfOk, refl, sym, ap, ◌∙◌}
 use Rattle.rc_types.specs.declared.faults.Code.{Code}
 use Rattle.rc_types.specs.declared.faults.Code.TheVariants.{BadEvent, OutOfMemory}
 use Rattle.rc_types.specs.declared.limits.TheConstants.{MAX_EVENTS}
@@ -16,7 +16,7 @@ use Rattle.rc_sim.specs.declared.verdicts.SimFault.{SimFault}
 use Rattle.rc_sim.specs.declared.verdicts.Output.{Output}
 use Rattle.rc_sim.specs.declared.verdicts.Output.TheVariants.{Report, Trace}
 use Rattle.rc_sim.specs.declared.answers.Answer.{Answer}
-use Rattle.rc_sim.specs.Verdicts.{audited, verdict_of, unless_stopped, ended_verdict, Comes, Storied, Explored, ShrunkOf, Threaded}
+use Rattle.rc_sim.specs.Verdicts.{audited, verdict_of, unless_stopped, Comes, Storied, Explored, ShrunkOf, Threaded}
 
 is_breach : Verdict → Bool
 is_breach Breach = true
