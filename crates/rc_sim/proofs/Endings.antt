@@ -1,6 +1,6 @@
 -- What comes of a scenario's run, as it ended or stopped.
-use Rattle.std.proofs.Common.{◌≡◌, ◌≢◌, ◌⊎◌, inl, inr, ◌≤◌, ℕ, Bool, true, false, true≢false, List, [], ◌++◌, length}
-use Rattle.std.proofs.Common.{Option, Some, None, Result, Ok, Err, IfOk, refl, sym, ap, subst, ◌∙◌, ◌<◌, take}
+use Rattle.std.proofs.Common.{◌≡◌, ◌⊎◌, inl, inr, ◌≤◌, ℕ, Bool, List, [], ◌++◌, length}
+use Rattle.std.proofs.Common.{Option, Some, None, Result, Ok, Err, IfOk, sym, ap, subst, ◌∙◌, ◌<◌, take}
 use Rattle.std.proofs.Common.{string_bytes}
 use Rattle.std.specs.Option.{IfSome}
 use Rattle.std.specs.Io.KnownBytes.{Appends}
@@ -11,27 +11,23 @@ use Rattle.rc_types.specs.declared.faults.Fault.TheVariants as fault
 use Rattle.rc_types.specs.declared.faults.Code.{Code}
 use Rattle.rc_types.specs.declared.faults.Code.TheVariants.{BadEvent, OutOfMemory}
 use Rattle.rc_types.specs.declared.limits.TheConstants.{MAX_EVENTS}
-use Rattle.rc_model.specs.Breach.{breach}
-use Rattle.rc_owner_laws.proofs.VersionReplays.{there-is-no-breach}
 use Rattle.rc_reading.specs.declared.scenarios.Scenario.{Scenario}
 use Rattle.rc_reading.specs.declared.scenarios.ScenarioEvent.{ScenarioEvent}
 use Rattle.rc_reading.specs.Scenario.{of_value, value_in}
 use Rattle.rc_traces.specs.Trace as trace
 use Rattle.rc_report.specs.Judged.{finding_of, text_of}
 use Rattle.rc_scenes.specs.Runs.{scenario_run, run_within}
-use Rattle.rc_scenes.proofs.Runs.{scenario_is_run}
 use Rattle.rc_world.specs.Happened.{Happened, replayed, sent_in}
 use Rattle.rc_draw.specs.Draw.{drawn_world}
 use Rattle.rc_sim.specs.declared.verdicts.Verdict.{Verdict}
-use Rattle.rc_sim.specs.declared.verdicts.Verdict.TheVariants.{Clean, Breach, Bad, Stopped}
+use Rattle.rc_sim.specs.declared.verdicts.Verdict.TheVariants.{Stopped}
 use Rattle.rc_sim.specs.declared.verdicts.SimFault.{SimFault}
-use Rattle.rc_sim.specs.declared.verdicts.SimFault.TheVariants as sim_fault
 use Rattle.rc_sim.specs.declared.verdicts.Output.{Output}
 use Rattle.rc_sim.specs.declared.verdicts.Output.TheVariants.{Report}
 use Rattle.rc_sim.specs.declared.answers.Answer.{Answer}
 use Rattle.rc_runs.specs.Steps.{RunsThrough, StopsAt}
 use Rattle.rc_sim.specs.Written.{IsWritten, IsBegun}
-use Rattle.rc_sim.specs.Verdicts.{verdict_of, printed_of, last_line, unless_stopped, ended_verdict, ended_output}
+use Rattle.rc_sim.specs.Verdicts.{verdict_of, printed_of, last_line, ended_verdict, ended_output}
 use Rattle.rc_sim.specs.Verdicts.{found_verdict, Comes, Played, Storied, Narrated, Judged, Drawn, ShrunkOf, Shrunk}
 
 -- nothing has happened yet
@@ -100,48 +96,6 @@ stopped_answer output (Ok a) scenario events start new world place why code same
     (printed ∙ ap (λ w. printed_of output (sent_in w) ++ last_line output code place) seen ∙
     ap (λ k. printed_of output (sent_in new) ++ last_line output k place) coded)
 stopped_answer output (Err e) scenario events start new world place why code same begun seen coded stops which taken few judged printed = tt
-
--- no run ends with a breach
-
-is_breach : Verdict → Bool
-is_breach Breach = true
-is_breach _ = false
-
-not_told : (code : Code) (stopped : Option ℕ) → is_breach (unless_stopped code stopped Clean) ≡ false
-unfolding is_breach
-not_told code None = refl
-not_told code (Some place) = refl
-
-run_not_breach : (most : ℕ) (code : Code) (scenario : Scenario) → is_breach (ended_verdict Report code (run_within most scenario)) ≡ false
-run_not_breach most code scenario =
-    let world = (run_within most scenario).world in
-    let none : breach world.sent ≡ None = ap (λ w. breach w.sent) (scenario_is_run most scenario).replayed ∙
-    there-is-no-breach scenario.setup world.events in
-    rw none (not_told code (run_within most scenario).stopped)
-
-breach_is_none : (read : Result Scenario ℕ) (verdict : Verdict) (text : List ℕ) → Comes Report read verdict text → is_breach verdict ≡ false
-unfolding is_breach
-breach_is_none (Err place) verdict text comes = rw comes.0 (bad_is_none place)
-  where
-    bad_is_none : (place : ℕ) → is_breach (Bad place) ≡ false
-    bad_is_none place = refl
-breach_is_none (Ok scenario) verdict text (inl whole) = ap is_breach whole.answered ∙ run_not_breach MAX_EVENTS BadEvent scenario
-breach_is_none (Ok scenario) verdict text (inr cut) = ap is_breach cut.answered ∙ stopped_is_none cut.place
-  where
-    stopped_is_none : (place : ℕ) → is_breach (Stopped place OutOfMemory) ≡ false
-    stopped_is_none place = refl
-
-pub never_breach : (read : Result Scenario ℕ) (verdict : Verdict) (text : List ℕ) → Comes Report read verdict text → verdict ≢ Breach
-unfolding is_breach
-never_breach read verdict text comes same = true≢false (sym (ap is_breach same ∙ told) ∙ breach_is_none read verdict text comes)
-  where
-    told : is_breach Breach ≡ true
-    told = refl
-
--- or the fault
-abbrev pub told_fault : {T : Type 0} → Result T SimFault → SimFault
-told_fault (Ok x) = sim_fault.Memory
-told_fault (Err e) = e
 
 -- What is written
 

@@ -1,4 +1,5 @@
 mod Limits
 mod Written
 mod Endings
+mod NoBreaches
 mod Closings

@@ -1,8 +1,10 @@
 -- What a writer has taken, write by write.
 use Rattle.std.proofs.Common.{◌≡◌, ◌≤◌, ◌<◌, ℕ, ◌+◌, ◌-◌, zero, suc, List, [], ◌∷◌, ◌++◌, length, take, drop, Option}
-use Rattle.std.proofs.Common.{Some, None, Result, Ok, refl, ap, append_assoc, arith}
+use Rattle.std.proofs.Common.{Some, None, Result, Ok, Err, refl, ap, append_assoc, arith}
 use Rattle.std.proofs.lemmas.List.{length-drop}
 use Rattle.std.specs.Io.KnownBytes.{Appends}
+use Rattle.rc_sim.specs.declared.verdicts.SimFault.{SimFault}
+use Rattle.rc_sim.specs.declared.verdicts.SimFault.TheVariants as sim_fault
 use Rattle.rc_sim.specs.Failures.{after_write}
 
 take_none : (n : ℕ) → take {A = ℕ} n [] ≡ []
@@ -45,3 +47,8 @@ take_whole (suc k) (y ∷ ys) le = ap (λ zs. y ∷ zs) (take_whole k ys (omega 
 -- the rest of a text, as a slice of it
 pub rest_of : (n : ℕ) (xs : List ℕ) → take (length xs - n) (drop n xs) ≡ drop n xs
 rest_of n xs = take_whole (length xs - n) (drop n xs) (omega (arith, length-drop n xs))
+
+-- the fault, where there is one
+abbrev pub told_fault : {T : Type 0} → Result T SimFault → SimFault
+told_fault (Ok x) = sim_fault.Memory
+told_fault (Err e) = e

@@ -1,5 +1,5 @@
 -- How a count of failures goes on.
-use Rattle.std.specs.Prelude.{ℕ, ◌+◌, ◌%◌, ◌^◌, zero, suc, Result, Ok, Err}
+use Rattle.std.specs.Prelude.{◌≡◌, ◌⊎◌, ℕ, ◌+◌, ◌%◌, ◌^◌, zero, suc, Result, Ok, Err}
 use Rattle.rc_sim.specs.declared.verdicts.SimFault.{SimFault}
 use Rattle.rc_sim.specs.declared.verdicts.SimFault.TheVariants.{Read, Write}
 
@@ -26,3 +26,8 @@ failed_reads _ failures = failures
 abbrev pub failed_writes : {T : Type 0} → Result T SimFault → ℕ → ℕ
 failed_writes (Err (Write count)) failures = once_more failures
 failed_writes _ failures = failures
+
+-- just one of the two failed, the reader or the writer: how often each had failed before, and how often then
+abbrev pub OneFailed : ℕ → ℕ → ℕ → ℕ → Type 0
+OneFailed reads reads' writes writes' =
+    ((reads' ≡ once_more reads) × (writes' ≡ writes)) ⊎ ((reads' ≡ reads) × (writes' ≡ once_more writes))

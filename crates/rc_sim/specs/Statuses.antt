@@ -7,10 +7,10 @@ use Rattle.rc_commands.specs.declared.asking.Asked.{Asked}
 use Rattle.rc_commands.specs.declared.asking.Asked.TheVariants as asked
 use Rattle.rc_sim.specs.declared.verdicts.Output.TheVariants.{Report, Trace}
 use Rattle.rc_sim.specs.declared.verdicts.Verdict.{Verdict}
-use Rattle.rc_sim.specs.declared.verdicts.Verdict.TheVariants.{Clean, Breach, Bad, Stopped, NoLine}
+use Rattle.rc_sim.specs.declared.verdicts.Verdict.TheVariants.{Clean, Breach, Bad, Stopped, NoLine, Wrong}
 use Rattle.rc_sim.specs.declared.verdicts.SimFault.{SimFault}
 use Rattle.rc_sim.specs.declared.verdicts.SimFault.TheVariants.{Memory, Read, Write}
-use Rattle.rc_sim.specs.Verdicts.{Played, Narrated, Judged, Drawn, PowerCut, Threaded, Explored, Surveyed, Shrunk}
+use Rattle.rc_sim.specs.Verdicts.{Played, Narrated, Judged, Drawn, PowerCut, Threaded, Explored, Surveyed, Shrunk, Told}
 use Rattle.rc_sim.specs.Written.{IsWritten, IsBegun}
 
 abbrev pub verdict_status : Verdict → ℕ
@@ -20,6 +20,7 @@ verdict_status (Bad place) = 2
 verdict_status (Stopped place OutOfMemory) = 3
 verdict_status (Stopped place code) = 2
 verdict_status NoLine = 2
+verdict_status Wrong = 2
 
 abbrev pub fault_status : SimFault → ℕ
 fault_status Memory = 3
@@ -44,19 +45,24 @@ abbrev pub EndsBy : (List ℕ → Verdict → List ℕ → Type 0) → ℕ → O
 EndsBy Comes status input old new =
     (outcome : Result Verdict SimFault) × (status ≡ outcome_status outcome) × Answered Comes outcome input old new
 
+-- what comes of a command, where the reader has these bytes; nothing is claimed of a wrong command line
+abbrev pub ComesOf : Asked → List ℕ → Verdict → List ℕ → Type 0
+ComesOf (asked.Run heap) bytes verdict text = Played Report bytes verdict text
+ComesOf asked.Trace bytes verdict text = Played Trace bytes verdict text
+ComesOf asked.Audit bytes verdict text = Judged bytes verdict text
+ComesOf (asked.Fuzz seed steps free) bytes verdict text = Drawn seed steps free verdict text
+ComesOf (asked.Stops seed steps) bytes verdict text = PowerCut seed steps verdict text
+ComesOf (asked.Threads hosts writes) bytes verdict text = Threaded verdict text
+ComesOf (asked.Explore seed steps hosts factor segment free save progress) bytes verdict text =
+    Explored save verdict text
+ComesOf (asked.Survey first last steps hosts factor segment free progress) bytes verdict text = Surveyed verdict text
+ComesOf (asked.Shrink keep) bytes verdict text = Shrunk bytes verdict text
+ComesOf (asked.Log json) bytes verdict text = Narrated bytes verdict text
+ComesOf (asked.Picture mermaid) bytes verdict text = Narrated bytes verdict text
+ComesOf (asked.Explain code) bytes verdict text = Told verdict text
+ComesOf (asked.Tell told) bytes verdict text = Told verdict text
+ComesOf (asked.Wrong told) bytes verdict text = ⊤
+
 -- the program ended by this status, after it has done this command
 abbrev pub Does : Asked → ℕ → Option (List ℕ) → Option (List ℕ) → Option (List ℕ) → Type 0
-Does (asked.Run heap) status input old new = EndsBy (Played Report) status input old new
-Does asked.Trace status input old new = EndsBy (Played Trace) status input old new
-Does asked.Audit status input old new = EndsBy Judged status input old new
-Does (asked.Fuzz seed steps free) status input old new = EndsBy (λ _. Drawn seed steps free) status input old new
-Does (asked.Stops seed steps) status input old new = EndsBy (λ _. PowerCut seed steps) status input old new
-Does (asked.Threads hosts writes) status input old new = EndsBy (λ _. Threaded) status input old new
-Does (asked.Explore seed steps hosts factor segment free save progress) status input old new =
-    EndsBy (λ _. Explored save) status input old new
-Does (asked.Survey first last steps hosts factor segment free progress) status input old new =
-    EndsBy (λ _. Surveyed) status input old new
-Does (asked.Shrink keep) status input old new = EndsBy Shrunk status input old new
-Does (asked.Log json) status input old new = EndsBy Narrated status input old new
-Does (asked.Picture mermaid) status input old new = EndsBy Narrated status input old new
-Does _ status input old new = ⊤
+Does asked status input old new = EndsBy (ComesOf asked) status input old new

@@ -1,5 +1,5 @@
 -- What comes of a scenario, a trace, drawn events, or nodes on threads: what is printed, and what is answered.
-use Rattle.std.specs.Prelude.{◌≡◌, ◌⊎◌, ◌≤◌, ◌*◌, ⊤, ℕ, Bool, true, false, List, [], ◌++◌, length, codes}
+use Rattle.std.specs.Prelude.{◌≡◌, ◌≢◌, ◌⊎◌, ◌≤◌, ◌*◌, ℕ, Bool, true, false, List, [], ◌++◌, length, codes}
 use Rattle.std.specs.Prelude.{Option, Some, None, Result, Ok, Err}
 use Rattle.rc_types.specs.declared.faults.Code.{Code}
 use Rattle.rc_types.specs.declared.faults.Code.TheVariants.{OutOfMemory, BadEvent}
@@ -83,9 +83,9 @@ Comes output (Err place) verdict text = (verdict ≡ Bad place) × (text ≡ err
 abbrev pub Played : Output → List ℕ → Verdict → List ℕ → Type 0
 Played output bytes verdict text = Comes output (reading bytes) verdict text
 
--- what can be told of what was read as a scenario: nothing is claimed of a story
+-- what can be told of what was read as a scenario: nothing is claimed of a story but that it tells no breach
 abbrev pub Storied : Result Scenario ℕ → Verdict → List ℕ → Type 0
-Storied (Ok scenario) verdict text = ⊤
+Storied (Ok scenario) verdict text = verdict ≢ Breach
 Storied (Err place) verdict text = (verdict ≡ Bad place) × (text ≡ error_line place)
 
 -- of these bytes as a scenario
@@ -157,3 +157,7 @@ cuts_text cuts breaches = count_line (codes "cuts ") cuts ++ count_line (codes "
 -- of power failures after the events that are drawn from this seed, three for each: there is never a breach
 abbrev pub PowerCut : ℕ → ℕ → Verdict → List ℕ → Type 0
 PowerCut seed steps verdict text = (verdict ≡ Clean) × (text ≡ cuts_text (3 * length (drawn seed steps false)) 0)
+
+-- help, the version, or what codes mean: nothing is claimed of the text
+abbrev pub Told : Verdict → List ℕ → Type 0
+Told verdict text = verdict ≡ Clean

@@ -1,11 +1,17 @@
 //! The whole program, on the words of its command line.
 
-ghost use Rattle.std.specs.Prelude.{◌≡◌, ◌≤◌, Some, None, map, string_bytes};
+ghost use Rattle.std.specs.Prelude.{◌≡◌, ◌≢◌, ◌≤◌, ℕ, Some, None, Ok, Err, IfOk, map, string_bytes};
+ghost use Rattle.std.specs.Io.KnownBytes.{Keeps};
 ghost use Rattle.rc_commands.specs.declared.asking.Asked.{Asked as AskedModel};
-ghost use Rattle.rc_commands.specs.Asking.{asked_in};
+ghost use Rattle.rc_commands.specs.declared.asking.Asked.TheVariants.{Audit};
+ghost use Rattle.rc_commands.specs.Asking.{IsInRange, as_command, asked_in};
 ghost use Rattle.rc_sim.specs.declared.verdicts.Output.TheVariants.{Report};
-ghost use Rattle.rc_sim.specs.Statuses.{fault_status, outcome_status, EndsBy, Does};
-ghost use Rattle.rc_sim.specs.Verdicts.{Played, Narrated, Judged, Shrunk};
+ghost use Rattle.rc_sim.specs.declared.verdicts.SimFault.TheVariants.{Memory, Read as ReadFailed, Write as WriteFailed};
+ghost use Rattle.rc_sim.specs.declared.verdicts.Verdict.TheVariants.{Breach, Wrong};
+ghost use Rattle.rc_sim.specs.Failures.{OneFailed, failed_reads, failed_writes};
+ghost use Rattle.rc_sim.specs.Statuses.{fault_status, outcome_status, Answered, ComesOf, Does};
+ghost use Rattle.rc_sim.specs.Verdicts.{Played, Narrated, Judged, Shrunk, Told};
+ghost use Rattle.rc_sim.specs.Written.{IsWritten, IsBegun};
 
 use crate::counted::Counted;
 use crate::drawing::{fuzz, stops};
@@ -49,33 +55,61 @@ pub fn command<H: thread::Threads + Wait + Sync, R: Read, W: Write, E: Write>(
         → Does asked result (R.remaining reader.old.inner) (W.contents writer.old.inner) (W.contents writer.new.inner) }
     ensures unread { asked_in (map string_bytes words.now) ≡ None → reader.new ≡ reader.old }
     ensures known { result ≤ 4 }
+
+    // status 4 tells that the reader or the writer failed in this very call, and each other status that neither did
+    ensures failed { result ≡ 4
+        → OneFailed reader.old.failures reader.new.failures writer.old.failures writer.new.failures }
+    ensures unfailed { result ≢ 4
+        → (reader.new.failures ≡ reader.old.failures) × (writer.new.failures ≡ writer.old.failures) }
+
+    // a breach is told of a trace alone that `audit` was given: no run has one, no drawing, and no nodes on threads
+    ensures no_breach { asked_in (map string_bytes words.now) ≢ Some Audit → result ≢ 1 }
 {
     match asked_for(alloc, words) {
-        Ok(Asked::Run { heap }) => run(alloc, heap, reader, writer, errors),
-        Ok(Asked::Trace) => played(alloc, alloc, Output::Trace, reader, writer, errors),
-        Ok(Asked::Audit) => audited(alloc, reader, writer, errors),
-        Ok(Asked::Fuzz { seed, steps, free }) => {
-            let outcome = fuzz(alloc, seed, steps as usize, free, writer, errors);
+        Ok(asked) => {
+            let outcome = done(rt, alloc, asked, reader, writer, errors);
             ended(outcome, errors)
         }
-        Ok(Asked::Stops { seed, steps }) => {
-            ended(stops(alloc, seed, steps as usize, writer), errors)
+        Err(_) => failed(&SimFault::Memory, errors),
+    }
+}
+
+/// Does what was asked for: what came of it.
+fn done<H: thread::Threads + Wait + Sync, R: Read, W: Write, E: Write>(
+    rt: &H,
+    alloc: Global,
+    asked: Asked,
+    reader: &mut Counted<R>,
+    writer: &mut Counted<W>,
+    errors: &mut Counted<E>,
+) -> Result<Verdict, SimFault>
+    requires { IsInRange asked }
+    ensures answered { Answered (ComesOf asked) result (R.remaining reader.old.inner) (W.contents writer.old.inner)
+        (W.contents writer.new.inner) }
+    ensures unread { as_command asked ≡ None → reader.new ≡ reader.old }
+    ensures reads { reader.new.failures ≡ failed_reads result reader.old.failures }
+    ensures writes { writer.new.failures ≡ failed_writes result writer.old.failures }
+    ensures no_breach { asked ≢ Audit → result ≢ Ok Breach }
+{
+    match asked {
+        Asked::Run { heap } => run(alloc, heap, reader, writer, errors),
+        Asked::Trace => played(alloc, alloc, Output::Trace, reader, writer, errors),
+        Asked::Audit => audited(alloc, reader, writer, errors),
+        Asked::Fuzz { seed, steps, free } => {
+            fuzz(alloc, seed, steps as usize, free, writer, errors)
         }
-        Ok(Asked::Threads { hosts, writes }) => {
-            ended(threads(rt, alloc, hosts, writes, writer), errors)
-        }
-        Ok(
-            Asked::Explore {
-                seed,
-                steps,
-                hosts,
-                factor,
-                segment,
-                free,
-                save,
-                progress,
-            },
-        ) => {
+        Asked::Stops { seed, steps } => stops(alloc, seed, steps as usize, writer),
+        Asked::Threads { hosts, writes } => threads(rt, alloc, hosts, writes, writer),
+        Asked::Explore {
+            seed,
+            steps,
+            hosts,
+            factor,
+            segment,
+            free,
+            save,
+            progress,
+        } => {
             let options = Options {
                 seed,
                 steps: steps as usize,
@@ -84,21 +118,18 @@ pub fn command<H: thread::Threads + Wait + Sync, R: Read, W: Write, E: Write>(
                 segment,
                 free,
             };
-            let outcome = explore(alloc, &options, save, progress, writer, errors);
-            ended(outcome, errors)
+            explore(alloc, &options, save, progress, writer, errors)
         }
-        Ok(
-            Asked::Survey {
-                first,
-                last,
-                steps,
-                hosts,
-                factor,
-                segment,
-                free,
-                progress,
-            },
-        ) => {
+        Asked::Survey {
+            first,
+            last,
+            steps,
+            hosts,
+            factor,
+            segment,
+            free,
+            progress,
+        } => {
             let options = Options {
                 seed: first,
                 steps: steps as usize,
@@ -107,18 +138,16 @@ pub fn command<H: thread::Threads + Wait + Sync, R: Read, W: Write, E: Write>(
                 segment,
                 free,
             };
-            let outcome = survey(alloc, &options, last, progress, writer, errors);
-            ended(outcome, errors)
+            survey(alloc, &options, last, progress, writer, errors)
         }
-        Ok(Asked::Shrink { keep }) => shrunk(alloc, keep.as_slice(), reader, writer, errors),
-        Ok(Asked::Log { json }) => narrated(alloc, Telling::of_log(json), reader, writer, errors),
-        Ok(Asked::Picture { mermaid }) => {
+        Asked::Shrink { keep } => shrunk(alloc, keep.as_slice(), reader, writer, errors),
+        Asked::Log { json } => narrated(alloc, Telling::of_log(json), reader, writer, errors),
+        Asked::Picture { mermaid } => {
             narrated(alloc, Telling::of_picture(mermaid), reader, writer, errors)
         }
-        Ok(Asked::Explain { code }) => explained(alloc, code, writer, errors),
-        Ok(Asked::Tell(text)) => tell(text.as_str(), writer, errors),
-        Ok(Asked::Wrong(text)) => refused(text.as_str(), errors),
-        Err(_) => failed(&SimFault::Memory, errors),
+        Asked::Explain { code } => explained(alloc, code, writer),
+        Asked::Tell(text) => tell(text.as_str(), writer),
+        Asked::Wrong(text) => Ok(refused(text.as_str(), errors)),
     }
 }
 
@@ -130,17 +159,19 @@ fn run<R: Read, W: Write, E: Write>(
     reader: &mut Counted<R>,
     writer: &mut Counted<W>,
     errors: &mut Counted<E>,
-) -> u8
-    ensures done { EndsBy (Played Report) result (R.remaining reader.old.inner) (W.contents writer.old.inner)
+) -> Result<Verdict, SimFault>
+    ensures answered { Answered (Played Report) result (R.remaining reader.old.inner) (W.contents writer.old.inner)
         (W.contents writer.new.inner) }
-    ensures known { result ≤ 4 }
+    ensures reads { reader.new.failures ≡ failed_reads result reader.old.failures }
+    ensures writes { writer.new.failures ≡ failed_writes result writer.old.failures }
+    ensures no_breach { result ≢ Ok Breach }
 {
     let Some(bytes) = heap else {
         return played(alloc, alloc, Output::Report, reader, writer, errors);
     };
     match LocalHeap::new(alloc, bytes) {
         Ok(heap) => played(alloc, &heap, Output::Report, reader, writer, errors),
-        Err(_) => failed(&SimFault::Memory, errors),
+        Err(_) => Err(SimFault::Memory),
     }
 }
 
@@ -152,15 +183,17 @@ fn played<R: Read, W: Write, E: Write, A: Allocator + Clone>(
     reader: &mut Counted<R>,
     writer: &mut Counted<W>,
     errors: &mut Counted<E>,
-) -> u8
-    ensures done { EndsBy (Played output) result (R.remaining reader.old.inner) (W.contents writer.old.inner)
+) -> Result<Verdict, SimFault>
+    ensures answered { Answered (Played output) result (R.remaining reader.old.inner) (W.contents writer.old.inner)
         (W.contents writer.new.inner) }
-    ensures known { result ≤ 4 }
+    ensures reads { reader.new.failures ≡ failed_reads result reader.old.failures }
+    ensures writes { writer.new.failures ≡ failed_writes result writer.old.failures }
+    ensures no_breach { result ≢ Ok Breach }
 {
     let mut kept = Kept::new(alloc);
     let outcome = play(alloc, reader, writer, tablets, output, &mut kept);
     tell_why(alloc, Dialect::Scenario, &outcome, &kept, errors);
-    ended(outcome, errors)
+    outcome
 }
 
 /// Judges the trace that the reader gives, and tells what is wrong with it.
@@ -169,15 +202,16 @@ fn audited<R: Read, W: Write, E: Write>(
     reader: &mut Counted<R>,
     writer: &mut Counted<W>,
     errors: &mut Counted<E>,
-) -> u8
-    ensures done { EndsBy Judged result (R.remaining reader.old.inner) (W.contents writer.old.inner)
+) -> Result<Verdict, SimFault>
+    ensures answered { Answered Judged result (R.remaining reader.old.inner) (W.contents writer.old.inner)
         (W.contents writer.new.inner) }
-    ensures known { result ≤ 4 }
+    ensures reads { reader.new.failures ≡ failed_reads result reader.old.failures }
+    ensures writes { writer.new.failures ≡ failed_writes result writer.old.failures }
 {
     let mut kept = Kept::new(alloc);
     let outcome = weigh(alloc, reader, writer, &mut kept);
     tell_why(alloc, Dialect::Trace, &outcome, &kept, errors);
-    ended(outcome, errors)
+    outcome
 }
 
 /// Tells the story of the scenario that the reader gives, and what is wrong with it.
@@ -187,15 +221,17 @@ fn narrated<R: Read, W: Write, E: Write>(
     reader: &mut Counted<R>,
     writer: &mut Counted<W>,
     errors: &mut Counted<E>,
-) -> u8
-    ensures done { EndsBy Narrated result (R.remaining reader.old.inner) (W.contents writer.old.inner)
+) -> Result<Verdict, SimFault>
+    ensures answered { Answered Narrated result (R.remaining reader.old.inner) (W.contents writer.old.inner)
         (W.contents writer.new.inner) }
-    ensures known { result ≤ 4 }
+    ensures reads { reader.new.failures ≡ failed_reads result reader.old.failures }
+    ensures writes { writer.new.failures ≡ failed_writes result writer.old.failures }
+    ensures no_breach { result ≢ Ok Breach }
 {
     let mut kept = Kept::new(alloc);
     let outcome = narrate(alloc, reader, writer, telling, &mut kept);
     tell_why(alloc, Dialect::Scenario, &outcome, &kept, errors);
-    ended(outcome, errors)
+    outcome
 }
 
 /// Shrinks the scenario that the reader gives, and tells what is wrong with it.
@@ -205,57 +241,70 @@ fn shrunk<R: Read, W: Write, E: Write>(
     reader: &mut Counted<R>,
     writer: &mut Counted<W>,
     errors: &mut Counted<E>,
-) -> u8
-    ensures done { EndsBy Shrunk result (R.remaining reader.old.inner) (W.contents writer.old.inner)
+) -> Result<Verdict, SimFault>
+    ensures answered { Answered Shrunk result (R.remaining reader.old.inner) (W.contents writer.old.inner)
         (W.contents writer.new.inner) }
-    ensures known { result ≤ 4 }
+    ensures reads { reader.new.failures ≡ failed_reads result reader.old.failures }
+    ensures writes { writer.new.failures ≡ failed_writes result writer.old.failures }
+    ensures no_breach { result ≢ Ok Breach }
 {
     let mut kept = Kept::new(alloc);
     let keep = str::from_utf8(keep).unwrap_or("");
     let outcome = shrink(alloc, reader, writer, keep, &mut kept);
     tell_why(alloc, Dialect::Scenario, &outcome, &kept, errors);
-    ended(outcome, errors)
+    outcome
 }
 
-/// The status of what came of a command; a fault is told.
+/// Writes what a code means, or what all codes mean.
+fn explained<W: Write>(
+    alloc: Global,
+    code: Option<u8>,
+    writer: &mut Counted<W>,
+) -> Result<Verdict, SimFault>
+    ensures ok { IfOk result (λ verdict.
+        IsWritten Told verdict (W.contents writer.old.inner) (W.contents writer.new.inner)) }
+    ensures cut_short { (count : ℕ) → result ≡ Err (WriteFailed count) →
+        IsBegun Told count (W.contents writer.old.inner) (W.contents writer.new.inner) }
+    ensures nothing_without_memory { result ≡ Err Memory →
+        Keeps (W.contents writer.old.inner) (W.contents writer.new.inner) }
+    ensures writes { writer.new.failures ≡ failed_writes result writer.old.failures }
+    ensures unread { result ≢ Err ReadFailed }
+    ensures no_breach { result ≢ Ok Breach }
+{
+    let text = explain(alloc, code)?;
+    tell(text.as_str(), writer)
+}
+
+/// Writes a text: help, the version, or what codes mean.
+fn tell<W: Write>(text: &str, writer: &mut Counted<W>) -> Result<Verdict, SimFault>
+    ensures ok { IfOk result (λ verdict.
+        IsWritten Told verdict (W.contents writer.old.inner) (W.contents writer.new.inner)) }
+    ensures cut_short { (count : ℕ) → result ≡ Err (WriteFailed count) →
+        IsBegun Told count (W.contents writer.old.inner) (W.contents writer.new.inner) }
+    ensures writes { writer.new.failures ≡ failed_writes result writer.old.failures }
+    ensures fault { (result ≢ Err Memory) × (result ≢ Err ReadFailed) }
+    ensures no_breach { result ≢ Ok Breach }
+{
+    match write_all(writer, text.as_bytes()) {
+        Ok(()) => Ok(Verdict::Clean),
+        Err(fault) => Err(fault),
+    }
+}
+
+/// Writes what is wrong with the command line.
+fn refused<E: Write>(text: &str, errors: &mut Counted<E>) -> Verdict
+    ensures { result ≡ Wrong }
+{
+    let _ = write_all(errors, text.as_bytes());
+    Verdict::Wrong
+}
+
+/// The status of what came of the words; a fault is told.
 fn ended<E: Write>(outcome: Result<Verdict, SimFault>, errors: &mut Counted<E>) -> u8
     ensures { result ≡ outcome_status outcome }
 {
     match outcome {
         Ok(verdict) => verdict.status(),
-        Err(fault) => failed(&fault, errors),
-    }
-}
-
-/// Writes what a code means, or what all codes mean.
-fn explained<W: Write, E: Write>(
-    alloc: Global,
-    code: Option<u8>,
-    writer: &mut Counted<W>,
-    errors: &mut Counted<E>,
-) -> u8
-    ensures { result ≤ 4 }
-{
-    match explain(alloc, code) {
-        Ok(text) => tell(text.as_str(), writer, errors),
-        Err(_) => failed(&SimFault::Memory, errors),
-    }
-}
-
-/// Writes what is wrong with the command line.
-fn refused<E: Write>(text: &str, errors: &mut Counted<E>) -> u8
-    ensures { result ≡ 2 }
-{
-    let _ = write_all(errors, text.as_bytes());
-    2
-}
-
-/// Writes help or the version.
-fn tell<W: Write, E: Write>(text: &str, writer: &mut Counted<W>, errors: &mut Counted<E>) -> u8
-    ensures { result ≤ 4 }
-{
-    match write_all(writer, text.as_bytes()) {
-        Ok(()) => 0,
         Err(fault) => failed(&fault, errors),
     }
 }

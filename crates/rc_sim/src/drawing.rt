@@ -1,8 +1,9 @@
 //! From a seed to bytes: drawn events are run and reported, or the power is cut after each of them.
 
-ghost use Rattle.std.specs.Prelude.{◌≡◌, ◌≢◌, ℕ, string_bytes, IfOk, IfErr, Err};
+ghost use Rattle.std.specs.Prelude.{◌≡◌, ◌≢◌, ℕ, string_bytes, IfOk, IfErr, Ok, Err};
 ghost use Rattle.std.specs.Io.KnownBytes.{Keeps};
 ghost use Rattle.rc_sim.specs.declared.verdicts.SimFault.TheVariants.{Memory, Read as ReadFailed, Write as WriteFailed};
+ghost use Rattle.rc_sim.specs.declared.verdicts.Verdict.TheVariants.{Breach};
 ghost use Rattle.rc_sim.specs.Failures.{failed_writes};
 ghost use Rattle.rc_sim.specs.Verdicts.{Drawn, PowerCut, cuts_text};
 ghost use Rattle.rc_sim.specs.Written.{IsWritten, IsBegun};
@@ -37,6 +38,7 @@ pub fn fuzz<W: Write, E: Write>(
         Keeps (W.contents writer.old.inner) (W.contents writer.new.inner) }
     ensures writes { writer.new.failures ≡ failed_writes result writer.old.failures }
     ensures unread { result ≢ Err ReadFailed }
+    ensures no_breach { result ≢ Ok Breach }
 {
     let answer = drawn_answer(alloc, seed, steps, free)?;
     hint_at(answer.text.as_str(), errors);
@@ -56,6 +58,7 @@ fn hint_at<E: Write>(report: &str, errors: &mut Counted<E>) {
 /// The report of a drawing.
 fn drawn_answer(alloc: Global, seed: u64, steps: usize, free: bool) -> Result<Answer, SimFault>
     ensures ok { IfOk result (λ answer. Drawn seed steps free answer.verdict (string_bytes answer.text)) }
+    ensures no_breach { IfOk result (λ answer. answer.verdict ≢ Breach) }
     ensures fault { IfErr result (λ fault. fault ≡ Memory) }
 {
     match drawn_run(alloc, seed, steps, free) {
@@ -82,6 +85,7 @@ pub fn stops<W: Write>(
         Keeps (W.contents writer.old.inner) (W.contents writer.new.inner) }
     ensures writes { writer.new.failures ≡ failed_writes result writer.old.failures }
     ensures unread { result ≢ Err ReadFailed }
+    ensures no_breach { result ≢ Ok Breach }
 {
     let answer = stops_answer(alloc, seed, steps)?;
     write_answer(writer, &answer)

@@ -1,8 +1,9 @@
 //! From a seed to bytes: a run that is drawn to reach much, and what it has reached; or that run as a scenario.
 
-ghost use Rattle.std.specs.Prelude.{◌≡◌, ◌≢◌, ℕ, true, false, string_bytes, IfOk, IfErr, Err};
+ghost use Rattle.std.specs.Prelude.{◌≡◌, ◌≢◌, ℕ, true, false, string_bytes, IfOk, IfErr, Ok, Err};
 ghost use Rattle.std.specs.Io.KnownBytes.{Keeps};
 ghost use Rattle.rc_sim.specs.declared.verdicts.SimFault.TheVariants.{Memory, Read as ReadFailed, Write as WriteFailed};
+ghost use Rattle.rc_sim.specs.declared.verdicts.Verdict.TheVariants.{Breach};
 ghost use Rattle.rc_sim.specs.Failures.{failed_writes};
 ghost use Rattle.rc_sim.specs.Verdicts.{Explored};
 ghost use Rattle.rc_sim.specs.Written.{IsWritten, IsBegun};
@@ -39,6 +40,7 @@ pub fn explore<W: Write, E: Write>(
         Keeps (W.contents writer.old.inner) (W.contents writer.new.inner) }
     ensures writes { writer.new.failures ≡ failed_writes result writer.old.failures }
     ensures unread { result ≢ Err ReadFailed }
+    ensures no_breach { result ≢ Ok Breach }
 {
     let run = explored(alloc, options, progress, errors)?;
     let answer = explored_answer(alloc, options, save, &run)?;

@@ -1,10 +1,11 @@
 //! From the bytes of a scenario to the story of its run.
 
-ghost use Rattle.std.specs.Prelude.{◌≡◌, ℕ, string_bytes, IfOk, IfErr, IfSome, Err};
+ghost use Rattle.std.specs.Prelude.{◌≡◌, ◌≢◌, ℕ, string_bytes, IfOk, IfErr, IfSome, Ok, Err};
 ghost use Rattle.std.specs.Io.KnownBytes.{Keeps};
 ghost use Rattle.rc_reading.specs.Scenario.{reading};
 ghost use Rattle.rc_world.specs.HostView.{IsWithinLimits};
 ghost use Rattle.rc_sim.specs.declared.verdicts.SimFault.TheVariants.{Memory, Read as ReadFailed, Write as WriteFailed};
+ghost use Rattle.rc_sim.specs.declared.verdicts.Verdict.TheVariants.{Breach};
 ghost use Rattle.rc_sim.specs.Failures.{failed_reads, failed_writes};
 ghost use Rattle.rc_sim.specs.Verdicts.{Narrated, Storied};
 ghost use Rattle.rc_sim.specs.Written.{IsWritten, IsBegun};
@@ -72,6 +73,7 @@ pub(crate) fn narrate<R: Read, W: Write>(
         Keeps (W.contents writer.old.inner) (W.contents writer.new.inner) }
     ensures reads { reader.new.failures ≡ failed_reads result reader.old.failures }
     ensures writes { writer.new.failures ≡ failed_writes result writer.old.failures }
+    ensures no_breach { result ≢ Ok Breach }
 {
     let bytes = read_all(alloc, reader)?;
     let answer = story_of(alloc, bytes.as_slice(), telling, kept)?;
@@ -104,6 +106,7 @@ fn told(
     kept: &mut Kept,
 ) -> Result<Answer, SimFault>
     requires { IsWithinLimits scenario.now.setup }
+    ensures no_breach { IfOk result (λ answer. answer.verdict ≢ Breach) }
     ensures fault { IfErr result (λ fault. fault ≡ Memory) }
 {
     match Played::of(alloc, &scenario.setup, scenario.events.as_slice()) {
@@ -118,6 +121,7 @@ fn told(
 
 /// What is told of a run.
 fn answer_of(alloc: Global, played: &Played, telling: Telling) -> Result<Answer, SimFault>
+    ensures no_breach { IfOk result (λ answer. answer.verdict ≢ Breach) }
     ensures fault { IfErr result (λ fault. fault ≡ Memory) }
 {
     match text_of(alloc, &played.story(), telling) {
@@ -131,7 +135,9 @@ fn answer_of(alloc: Global, played: &Played, telling: Telling) -> Result<Answer,
 }
 
 /// The verdict on a run that stopped here, or went through.
-fn verdict_of(stopped: Option<(usize, Code)>) -> Verdict {
+fn verdict_of(stopped: Option<(usize, Code)>) -> Verdict
+    ensures { result ≢ Breach }
+{
     match stopped {
         Some((place, code)) => Verdict::Stopped(place, code),
         None => Verdict::Clean,

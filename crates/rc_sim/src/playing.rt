@@ -2,7 +2,6 @@
 
 ghost use Rattle.std.specs.Prelude.{◌≡◌, ◌≢◌, ℕ, IfOk, IfSome, Ok, Err};
 ghost use Rattle.std.specs.Io.KnownBytes.{Keeps};
-ghost use Rattle.rc_sim.specs.declared.verdicts.Output.TheVariants.{Report};
 ghost use Rattle.rc_sim.specs.declared.verdicts.SimFault.TheVariants.{Memory, Read as ReadFailed, Write as WriteFailed};
 ghost use Rattle.rc_sim.specs.declared.verdicts.Verdict.TheVariants.{Breach};
 ghost use Rattle.rc_sim.specs.Failures.{failed_reads, failed_writes};
@@ -92,7 +91,7 @@ pub(crate) fn play<R: Read, W: Write, A: Allocator + Clone>(
         Keeps (W.contents writer.old.inner) (W.contents writer.new.inner) }
     ensures reads { reader.new.failures ≡ failed_reads result reader.old.failures }
     ensures writes { writer.new.failures ≡ failed_writes result writer.old.failures }
-    ensures no_breach { output ≡ Report → result ≢ Ok Breach }
+    ensures no_breach { result ≢ Ok Breach }
 {
     let bytes = read_all(alloc, reader)?;
     let answer = answer_to(alloc, bytes.as_slice(), tablets, output, kept)?;

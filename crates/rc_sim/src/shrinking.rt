@@ -1,9 +1,10 @@
 //! From the bytes of a scenario to those of a smallest one whose report still has a line.
 
-ghost use Rattle.std.specs.Prelude.{◌≡◌, ℕ, string_bytes, IfOk, IfErr, IfSome, Err};
+ghost use Rattle.std.specs.Prelude.{◌≡◌, ◌≢◌, ℕ, string_bytes, IfOk, IfErr, IfSome, Ok, Err};
 ghost use Rattle.std.specs.Io.KnownBytes.{Keeps};
 ghost use Rattle.rc_world.specs.HostView.{IsWithinLimits};
 ghost use Rattle.rc_sim.specs.declared.verdicts.SimFault.TheVariants.{Memory, Read as ReadFailed, Write as WriteFailed};
+ghost use Rattle.rc_sim.specs.declared.verdicts.Verdict.TheVariants.{Breach};
 ghost use Rattle.rc_sim.specs.Failures.{failed_reads, failed_writes};
 ghost use Rattle.rc_sim.specs.Verdicts.{IsShrunk, Shrunk};
 ghost use Rattle.rc_sim.specs.Written.{IsWritten, IsBegun};
@@ -40,6 +41,7 @@ pub(crate) fn shrink<R: Read, W: Write>(
         Keeps (W.contents writer.old.inner) (W.contents writer.new.inner) }
     ensures reads { reader.new.failures ≡ failed_reads result reader.old.failures }
     ensures writes { writer.new.failures ≡ failed_writes result writer.old.failures }
+    ensures no_breach { result ≢ Ok Breach }
 {
     let bytes = read_all(alloc, reader)?;
     let answer = shrunk_of(alloc, bytes.as_slice(), keep)?;

@@ -72,6 +72,7 @@ pub fn trace<R: Read, W: Write>(
         Keeps (W.contents writer.old.inner) (W.contents writer.new.inner) }
     ensures reads { reader.new.failures ≡ failed_reads result reader.old.failures }
     ensures writes { writer.new.failures ≡ failed_writes result writer.old.failures }
+    ensures no_breach { result ≢ Ok Breach }
 {
     let mut kept = Kept::new(alloc);
     play(alloc, reader, writer, alloc, Output::Trace, &mut kept)

@@ -1,8 +1,9 @@
 //! From several seeds to bytes: runs that are drawn to reach much, and what they have reached together.
 
-ghost use Rattle.std.specs.Prelude.{◌≡◌, ◌≢◌, ℕ, false, string_bytes, IfOk, IfErr, Err};
+ghost use Rattle.std.specs.Prelude.{◌≡◌, ◌≢◌, ℕ, false, string_bytes, IfOk, IfErr, Ok, Err};
 ghost use Rattle.std.specs.Io.KnownBytes.{Keeps};
 ghost use Rattle.rc_sim.specs.declared.verdicts.SimFault.TheVariants.{Memory, Read as ReadFailed, Write as WriteFailed};
+ghost use Rattle.rc_sim.specs.declared.verdicts.Verdict.TheVariants.{Breach};
 ghost use Rattle.rc_sim.specs.Failures.{failed_writes};
 ghost use Rattle.rc_sim.specs.Verdicts.{Surveyed, told_of};
 ghost use Rattle.rc_sim.specs.Written.{IsWritten, IsBegun};
@@ -40,6 +41,7 @@ pub fn survey<W: Write, E: Write>(
         Keeps (W.contents writer.old.inner) (W.contents writer.new.inner) }
     ensures writes { writer.new.failures ≡ failed_writes result writer.old.failures }
     ensures unread { result ≢ Err ReadFailed }
+    ensures no_breach { result ≢ Ok Breach }
 {
     let answer = surveyed(alloc, options, last, progress, errors)?;
     write_answer(writer, &answer)

@@ -1,10 +1,11 @@
 //! From nodes on threads to bytes: what they did together is reported.
 
-ghost use Rattle.std.specs.Prelude.{◌≡◌, ◌≢◌, ◌≤◌, ℕ, string_bytes, IfOk, IfErr, Err};
+ghost use Rattle.std.specs.Prelude.{◌≡◌, ◌≢◌, ◌≤◌, ℕ, string_bytes, IfOk, IfErr, Ok, Err};
 ghost use Rattle.std.specs.Io.KnownBytes.{Keeps};
 ghost use Rattle.rc_types.specs.declared.limits.TheConstants.{MAX_HOSTS};
 ghost use Rattle.rc_threads.specs.Workload.{threads_setup};
 ghost use Rattle.rc_sim.specs.declared.verdicts.SimFault.TheVariants.{Memory, Read as ReadFailed, Write as WriteFailed};
+ghost use Rattle.rc_sim.specs.declared.verdicts.Verdict.TheVariants.{Breach};
 ghost use Rattle.rc_sim.specs.Failures.{failed_writes};
 ghost use Rattle.rc_sim.specs.Verdicts.{Reported, Threaded, Unable};
 ghost use Rattle.rc_sim.specs.Written.{IsWritten, IsBegun};
@@ -42,6 +43,7 @@ pub fn threads<R: thread::Threads + Wait + Sync, W: Write>(
         Keeps (W.contents writer.old.inner) (W.contents writer.new.inner) }
     ensures writes { writer.new.failures ≡ failed_writes result writer.old.failures }
     ensures unread { result ≢ Err ReadFailed }
+    ensures no_breach { result ≢ Ok Breach }
 {
     let answer = threaded_answer(rt, alloc, hosts, writes)?;
     write_answer(writer, &answer)

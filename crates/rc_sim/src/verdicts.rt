@@ -15,7 +15,7 @@ pub enum Output {
     Trace,
 }
 
-/// What came of a scenario, of a trace, of drawn events, or of nodes on threads.
+/// What came of a scenario, of a trace, of drawn events, of nodes on threads, or of a command line.
 #[derive(Clone, Copy)]
 pub enum Verdict {
     /// Every event happened, and the audit found no breach; or the trace of what was sent was written.
@@ -29,13 +29,15 @@ pub enum Verdict {
     Stopped(usize, Code),
     /// No line of the report begins with the text that is to be kept.
     NoLine,
+    /// The command line is wrong.
+    Wrong,
 }
 
 impl Verdict {
     ghost use Rattle.rc_sim.specs.Statuses.{verdict_status};
 
-    /// The exit status that tells it: 0 clean, 1 a breach, 2 a wrong scenario, an event that was not possible, or no
-    /// line to be kept, 3 no memory.
+    /// The exit status that tells it: 0 clean, 1 a breach, 2 a wrong scenario or command line, an event that was not
+    /// possible, or no line to be kept, 3 no memory.
     pub fn status(self) -> u8
         ensures { result ≡ verdict_status self }
     {
@@ -43,7 +45,7 @@ impl Verdict {
             Verdict::Clean => 0,
             Verdict::Breach => 1,
             Verdict::Stopped(_, Code::OutOfMemory) => 3,
-            Verdict::Bad(_) | Verdict::Stopped(..) | Verdict::NoLine => 2,
+            Verdict::Bad(_) | Verdict::Stopped(..) | Verdict::NoLine | Verdict::Wrong => 2,
         }
     }
 }

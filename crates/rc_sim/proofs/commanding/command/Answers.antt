@@ -1,7 +1,7 @@
-use Rattle.rc_sim.proofs.Closings.{not_begun}
+use Rattle.std.proofs.Common.{Err}
+use Rattle.rc_sim.specs.declared.verdicts.SimFault.TheVariants.{Memory}
+use Rattle.rc_sim.proofs.Closings.{keeps_same}
 use Rattle.rc_sim.proofs.commanding.command.Goals as goal
 
 pub returns-in-Err-clause-does : goal.returns-in-Err-clause-does
-returns-in-Err-clause-does g c command same =
-    not_begun command c.failed.result (g.R.Read.remaining c.args.reader.now.inner)
-    (g.W.Write.contents c.args.writer.now.inner) c.failed.ensures
+returns-in-Err-clause-does g c command same = (Err Memory, c.failed.ensures, keeps_same (g.W.Write.contents c.args.writer.now.inner))

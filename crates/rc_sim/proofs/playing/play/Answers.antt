@@ -1,7 +1,8 @@
-use Rattle.std.proofs.Common.{string_bytes, subst, sym}
+use Rattle.std.proofs.Common.{string_bytes}
 use Rattle.rc_reading.specs.Scenario.{reading}
-use Rattle.rc_sim.specs.Verdicts.{Comes, Played}
-use Rattle.rc_sim.proofs.Endings.{written_of, begun_of, played_so, never_breach}
+use Rattle.rc_sim.specs.Verdicts.{Played}
+use Rattle.rc_sim.proofs.Endings.{written_of, begun_of, played_so}
+use Rattle.rc_sim.proofs.NoBreaches.{no_breach_of, played_is_none}
 use Rattle.rc_sim.proofs.playing.play.Goals as goal
 
 pub returns-clause-ok : goal.returns-clause-ok
@@ -22,9 +23,7 @@ returns-clause-cut_short g c count same =
     c.in_ok-answer.ensures.ok (c.write_answer.ensures.cut_short count same)
 
 pub returns-clause-no_breach : goal.returns-clause-no_breach
-returns-clause-no_breach g c is_report same =
-    let told = rw same at c.write_answer.ensures.verdict in
+returns-clause-no_breach g c =
     let answer = c.in_ok-answer.answer in
-    let came = subst (λ output. Comes output (reading c.as_slice.result.now) answer.verdict (string_bytes answer.text)) is_report
-    c.in_ok-answer.ensures.ok in
-    never_breach (reading c.as_slice.result.now) answer.verdict _ came (sym told)
+    no_breach_of c.write_answer.result answer.verdict c.write_answer.ensures.verdict
+    (played_is_none c.args.output (reading c.as_slice.result.now) answer.verdict (string_bytes answer.text) c.in_ok-answer.ensures.ok)

@@ -1,6 +1,8 @@
 use Rattle.std.proofs.Common.{string_bytes}
+use Rattle.rc_reading.specs.Scenario.{reading}
 use Rattle.rc_sim.specs.Verdicts.{Shrunk}
 use Rattle.rc_sim.proofs.Endings.{written_of, begun_of, shrunk_so}
+use Rattle.rc_sim.proofs.NoBreaches.{no_breach_of, shrunk_is_none}
 use Rattle.rc_sim.proofs.shrinking.shrink.Goals as goal
 
 pub returns-clause-ok : goal.returns-clause-ok
@@ -18,3 +20,9 @@ returns-clause-cut_short g c count same =
     (string_bytes answer.text) count _ _ c.in_ok-bytes.ensures.ok c.as_slice.ensures.value
     (shrunk_so answer.verdict (string_bytes answer.text))
     c.in_ok-answer.ensures.ok (c.write_answer.ensures.cut_short count same)
+
+pub returns-clause-no_breach : goal.returns-clause-no_breach
+returns-clause-no_breach g c =
+    let answer = c.in_ok-answer.answer in
+    no_breach_of c.write_answer.result answer.verdict c.write_answer.ensures.verdict
+    (shrunk_is_none (reading c.as_slice.result.now) answer.verdict (string_bytes answer.text) c.in_ok-answer.ensures.ok)

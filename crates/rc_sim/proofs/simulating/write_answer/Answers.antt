@@ -1,7 +1,7 @@
 use Rattle.std.proofs.Common.{◌≡◌, ◌∙◌, ◌<◌, ℕ, List, length, take, Err, ap, subst}
 use Rattle.std.specs.Io.KnownBytes.{Appends}
 use Rattle.rc_sim.specs.declared.verdicts.SimFault.TheVariants.{Write}
-use Rattle.rc_sim.proofs.Endings.{told_fault}
+use Rattle.rc_sim.proofs.Written.{told_fault}
 use Rattle.rc_sim.proofs.simulating.write_answer.Goals as goal
 
 pub returns-in-Err-clause-cut_short : goal.returns-in-Err-clause-cut_short
