@@ -1,6 +1,7 @@
 //! All nodes of a world but the outside, which has no state.
 
 ghost use Rattle.std.specs.Prelude.{◌≡◌, ◌++◌, ◌<◌, [], true, is_some, nat_eq, length, OnOk, OnErr, IfOk, IfErr};
+ghost use Rattle.std.specs.Option.{option_copied};
 ghost use Rattle.indexmap.specs.IndexMap.{get};
 ghost use Rattle.rc_types.specs.declared.faults.Fault.TheVariants.{OutOfMemory};
 ghost use Rattle.rc_types.specs.declared.ids.Addr.TheVariants.{Server};
@@ -68,7 +69,9 @@ impl<A: Allocator + Clone> Nodes<A> {
     }
 
     /// The host of this index, if it was ever started.
-    pub(crate) fn host(&self, index: u8) -> Option<&Host> {
+    pub(crate) fn host(&self, index: u8) -> Option<&Host>
+        ensures { option_copied result ≡ get nat_eq self.now.hosts index }
+    {
         self.hosts.get(&index)
     }
 
