@@ -1,6 +1,8 @@
 //! What is shown of a master to whoever runs it. Nothing here takes memory or changes anything.
 
-ghost use Rattle.std.specs.Prelude.{◌≡◌, length, slice_get, option_map};
+ghost use Rattle.std.specs.Prelude.{◌≡◌, true, Some, length, slice_get, option_map};
+ghost use Rattle.rc_model.specs.Log.{has_segment};
+ghost use Rattle.rc_model.specs.FollowUps.{first_open};
 ghost use Rattle.rc_model.specs.Master.{durable_entries, not_lost};
 ghost use Rattle.rc_headroll.specs.LogData.{log_of};
 ghost use Rattle.rc_ownership.specs.Grants.{grants_in};
@@ -49,7 +51,7 @@ impl Master {
 
     /// Of its open segments, how many members that are not lost the one has which has the fewest; none where no
     /// segment is open, so before the first head. At most the newest two segments are open, and these alone are
-    /// looked at. What is not yet durable stands on no more replicas than this.
+    /// looked at.
     pub fn fewest_members(&self) -> Option<usize>
         ensures { result ≡ fewest_members (master_of self.now).log }
     {
@@ -61,14 +63,34 @@ impl Master {
 fn fewest_members(log: &LogHead) -> Option<usize>
     ensures { result ≡ fewest_members (log_of log.now) }
 {
-    let first = log.first_open()?;
+    match log.first_open() {
+        Some(first) => fewest_from(log, first),
+        None => None,
+    }
+}
+
+/// The same, where this is the first open segment.
+fn fewest_from(log: &LogHead, first: u16) -> Option<usize>
+    requires first { first_open (log_of log.now) ≡ Some first }
+    requires known { has_segment (log_of log.now) first ≡ true }
+    ensures { result ≡ fewest_members (log_of log.now) }
+{
     let mut fewest = None;
     for before in first - 1..log.head() {
-        if let Some(segment) = log.segment(before + 1) {
-            fewest = fewest_with(fewest, segment);
-        }
+        fewest = fewest_at(fewest, log, before + 1);
     }
     fewest
+}
+
+/// How few with the segment of this number too.
+fn fewest_at(fewest: Option<usize>, log: &LogHead, seg: u16) -> Option<usize>
+    requires { has_segment (log_of log.now) seg ≡ true }
+    ensures { result ≡ fewest_with fewest ((log_of log.now).segments seg) }
+{
+    match log.segment(seg) {
+        Some(segment) => fewest_with(fewest, segment),
+        None => fewest,
+    }
 }
 
 /// How few with this segment too: its members that are not lost, where it is open.

@@ -127,10 +127,7 @@ impl<A: Allocator + Clone> World<A> {
     pub fn master(&self, host: u8) -> Option<&Master>
         ensures { option_map (λ master. master_of master.now) result ≡ ((replayed self.now).hosts host).master }
     {
-        match self.nodes.host(host) {
-            Some(host) => host.master(),
-            None => None,
-        }
+        self.nodes.master(host)
     }
 
     /// What the host keeps as a backup, to be looked at; none where it was never started. It takes no memory.
@@ -138,10 +135,7 @@ impl<A: Allocator + Clone> World<A> {
         ensures { option_map (λ backup. backup_of backup.now) result ≡
             backup_once_started ((replayed self.now).hosts host) }
     {
-        match self.nodes.host(host) {
-            Some(host) if host.generation() > 0 => Some(host.backup()),
-            _ => None,
-        }
+        self.nodes.backup(host)
     }
 
     /// The names of the host's open replicas, master and segment, in order of master and then of
