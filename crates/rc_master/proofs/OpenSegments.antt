@@ -25,10 +25,10 @@ none-open segments (suc m) none =
     one-more segments m (find (is_open segments) (numbers_to m)) (segments (suc m)).shut refl
     (sym (find-append (is_open segments) (numbers_to m) (suc m ∷ [])) ∙ none) (none-open segments m)
 
-or-this : (segments : ℕ → Segment) (m s : ℕ) (r : Option ℕ) (open : Bool) →
-    option_or r (cond open (Some (suc m)) None) ≡ Some s → (r ≡ None → fewest_to segments m ≡ None) →
+or-this : (segments : ℕ → Segment) (m s : ℕ) (r : Option ℕ) (unshut : Bool) →
+    option_or r (cond unshut (Some (suc m)) None) ≡ Some s → (r ≡ None → fewest_to segments m ≡ None) →
     (r ≡ Some s → fewest_to segments (s - 1) ≡ None) → fewest_to segments (s - 1) ≡ None
-or-this segments m s (Some t) open is none some = some is
+or-this segments m s (Some t) unshut is none some = some is
 or-this segments m s None true is none some =
     let e : suc m ≡ s = cc in
     let k : s - 1 ≡ m = omega (arith, e) in

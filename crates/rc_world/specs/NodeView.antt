@@ -5,7 +5,8 @@ use Rattle.rc_types.specs.declared.ids.Addr.{Addr}
 use Rattle.rc_types.specs.declared.ids.Addr.TheVariants.{Server, Coordinator as AtCoordinator, Outside}
 use Rattle.rc_types.specs.declared.messages.Message.{Message}
 use Rattle.rc_model.specs.Coordinator.{Coordinator}
-use Rattle.rc_model.specs.Nodes.{HostNode, Work, coordinator_can, coordinator_step, host_can, host_step, server_of, runs}
+use Rattle.rc_model.specs.Nodes.{HostNode, Work, coordinator_can, coordinator_step, host_can, host_step}
+use Rattle.rc_model.specs.Nodes.{server_of, runs}
 use Rattle.rc_model.specs.Nodes as model
 use Rattle.rc_history.specs.Nodes.{Node, TheOutside, TheCoordinator, TheHost, node_can, node_step}
 use Rattle.rc_coordinator.specs.Book.{Book, coordinator_of}
