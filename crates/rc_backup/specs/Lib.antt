@@ -1,2 +1,3 @@
 pub mod BackupView
 pub mod HeldAfter
+pub mod Sizes

@@ -6,6 +6,7 @@
 mod backup;
 mod held;
 mod replicas;
+mod sizes;
 
 pub use backup::Backup;
 pub use held::Held;

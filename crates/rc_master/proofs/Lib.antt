@@ -6,3 +6,4 @@ pub mod Answering
 pub mod Quiet
 pub mod Repeating
 pub mod Outer
+pub mod OpenSegments

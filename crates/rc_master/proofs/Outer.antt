@@ -1,16 +1,18 @@
 -- What a step's contract says of the fields, said of what callers see.
-use Rattle.std.proofs.Common.{◌≡◌, ◌++◌, false, cond, List, [], Result, OnOk, sym, ap, ◌∙◌, subst}
+use Rattle.std.proofs.Common.{◌≡◌, ◌++◌, false, cond, List, [], take, Result, OnOk, sym, ap, ◌∙◌, subst}
 use Rattle.rc_types.specs.declared.ids.Addr.{Addr}
 use Rattle.rc_types.specs.declared.messages.Message.{Message}
 use Rattle.rc_types.specs.declared.messages.Body.{Body}
-use Rattle.rc_model.specs.Master.{Master}
+use Rattle.rc_model.specs.Master.{Master, durable_entries}
 use Rattle.rc_model.specs.MasterStep.{master_takes, master_ticks}
 use Rattle.rc_model.specs.ListRules.{then_does}
 use Rattle.rc_model.specs.FollowUps.{goes_on}
 use Rattle.rc_model.specs.MasterTick.{ticks}
 use Rattle.rc_master.specs.declared.state.State.{State}
 use Rattle.rc_master.specs.Data.{MasterData, master_of}
-use Rattle.rc_master.specs.View.{state_view, data_of}
+use Rattle.rc_headroll.specs.LogData.{log_of}
+use Rattle.rc_ownership.specs.Owner.{durable_of}
+use Rattle.rc_master.specs.View.{state_view, data_of, IsNoted}
 
 pub viewed : (s : State) (seen : MasterData) → data_of s ≡ seen → state_view s ≡ master_of seen
 viewed s seen e = ap master_of e
@@ -31,6 +33,11 @@ ticked-state r inside seen after e = subst (λ (m : Master). OnOk r (after ≡ (
 pub ticked-sends : {T E : Type 0} (r : Result T E) (inside seen : Master) (before after : List Message) → inside ≡ seen →
     OnOk r (after ≡ before ++ (master_ticks inside).1) → OnOk r (after ≡ before ++ (master_ticks seen).1)
 ticked-sends r inside seen before after e = subst (λ (m : Master). OnOk r (after ≡ before ++ (master_ticks m).1)) e
+
+-- the durable notes are the entries at durable places
+pub durable-noted : (s : State) → IsNoted s → durable_of s.ownership ≡ durable_entries (state_view s)
+durable-noted s noted =
+    ap (λ count. take count s.ownership.noted) noted.durable_are ∙ ap (take (log_of s.log).durable) noted.entries
 
 -- the timer of a master that isn't deposed
 pub ticks-up : (begun old : Master) → begun ≡ old → old.deposed ≡ false → then_does (ticks begun) goes_on ≡ master_ticks old

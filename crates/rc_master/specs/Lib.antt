@@ -5,3 +5,4 @@ pub mod Numbers
 pub mod Steps
 pub mod Rules
 pub mod Quiet
+pub mod Looks

@@ -6,6 +6,7 @@
 
 mod following;
 mod listing;
+mod looks;
 mod master;
 mod recovering;
 mod replaying;

@@ -20,7 +20,7 @@ use std::marker::Model;
 /// reads of the ranges that it was granted, and recovers parts of crashed masters' logs. Contracts
 /// see its log as the list of its segments.
 pub struct Master {
-    state: State,
+    pub(crate) state: State,
 }
 
 impl Drop for Master {
@@ -78,7 +78,9 @@ impl Master {
     }
 
     /// Its log: the phase, and each segment with its members and what these have told. It takes no memory.
-    pub fn log(&self) -> &LogHead {
+    pub fn log(&self) -> &LogHead
+        ensures { result.now ≡ self.now.log }
+    {
         &self.state.log
     }
 

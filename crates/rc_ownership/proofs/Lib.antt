@@ -11,3 +11,4 @@ pub mod Saying
 pub mod Under
 pub mod Undone
 pub mod Waiting
+pub mod ShownParts

@@ -8,3 +8,4 @@ pub mod Replay
 pub mod Slots
 pub mod Tops
 pub mod Notes
+pub mod Looks

@@ -2,7 +2,7 @@
 
 ghost use Rattle.std.specs.Prelude.{◌≡◌, [], nat_eq, length, OnOk, OnErr};
 ghost use Rattle.rc_model.specs.Ownership.{grant, owns_term, term_of};
-ghost use Rattle.rc_ownership.specs.Grants.{owner_of};
+ghost use Rattle.rc_ownership.specs.Grants.{owner_of, grants_in};
 
 use crate::bounds;
 use indexmap::IndexMap;
@@ -43,6 +43,13 @@ impl Grants {
             ranges: IndexMap::new(alloc),
             bounds: BTreeMap::new(alloc),
         }
+    }
+
+    /// The ranges by term, in the order of granting.
+    pub(crate) fn ranges(&self) -> &IndexMap<u32, KeyRange>
+        ensures { grants_in result.now.entries ≡ self.now }
+    {
+        &self.ranges
     }
 
     /// Whether nothing is granted.

@@ -7,6 +7,7 @@ mod bounds;
 mod counts;
 mod grants;
 mod highs;
+mod looks;
 mod notes;
 mod ownership;
 mod part;
@@ -17,4 +18,5 @@ mod shared;
 mod tops;
 mod touched;
 
+pub use looks::PartProgress;
 pub use ownership::Ownership;

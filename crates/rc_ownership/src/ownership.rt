@@ -1,19 +1,23 @@
 //! What a master owns, in one value.
 
 ghost use Rattle.std.specs.Prelude.{◌≡◌, ◌<◌, ◌≤◌, ◌+◌, ◌^◌, ◌++◌, ◌∷◌, [], length, not, nat_eq, nat_lt, slice_get};
-ghost use Rattle.std.specs.Prelude.{OnOk, OnErr, IfOk, IfErr, true, ◌↔◌};
+ghost use Rattle.std.specs.Prelude.{OnOk, OnErr, IfOk, IfErr, true, ◌↔◌, option_map};
 ghost use Rattle.rc_types.specs.declared.faults.Fault.TheVariants.{OutOfMemory};
 ghost use Rattle.rc_model.specs.Ownership.{owns_nothing};
 ghost use Rattle.rc_model.specs.Ownership as owning;
 ghost use Rattle.rc_model.specs.Versions as versions;
+ghost use Rattle.rc_ownership.specs.Grants.{grants_in};
 ghost use Rattle.rc_ownership.specs.Highs.{highs_of};
+ghost use Rattle.rc_ownership.specs.Looks.{progress_of, within_64_bits};
 ghost use Rattle.rc_ownership.specs.Owner.{durable_of, kept_now, kept_nothing};
 ghost use Rattle.rc_ownership.specs.Parts.{awaiting_grant};
 ghost use Rattle.rc_ownership.specs.Tops.{LeaveRoom};
 
 use crate::grants::Grants;
+use crate::looks::PartProgress;
 use crate::notes::Notes;
 use crate::parts::Parts;
+use indexmap::IndexMap;
 use rc_types::{Entry, Fault, KeyRange, Part, Seq, ServerId};
 use std::alloc::Global;
 use std::marker::Model;
@@ -128,6 +132,13 @@ impl Ownership {
         ensures { result ≡ nat_lt 0 (length self.now.own.grants) }
     {
         !self.grants.is_empty()
+    }
+
+    /// The granted ranges by term, in the order of granting. It takes no memory.
+    pub fn grants(&self) -> &IndexMap<u32, KeyRange>
+        ensures { grants_in result.now.entries ≡ self.now.own.grants }
+    {
+        self.grants.ranges()
     }
 
     /// Notes an entry that was appended to the log, after those noted before.
@@ -283,6 +294,29 @@ impl Ownership {
         }
         self.parts.put_data(alloc, term, seg, from, entries)?;
         Ok(true)
+    }
+
+    /// How many parts were ever begun, also those that have long been granted.
+    pub fn count_parts(&self) -> usize
+        ensures { result ≡ length self.now.own.parts }
+    {
+        self.parts.count()
+    }
+
+    /// How far the part of this number has come; parts are numbered from 0 in the order in which they were begun.
+    /// It takes no memory, and its cost does not grow with the part.
+    pub fn part(&self, number: usize) -> Option<PartProgress>
+        ensures { result ≡ option_map (progress_of (durable_of self.now)) (slice_get self.now.own.parts number) }
+    {
+        self.parts.progress(number, &self.notes)
+    }
+
+    /// How many entries wait to be appended, or the greatest number where more do. It goes over the rows of which
+    /// any wait, and takes no memory.
+    pub fn count_replay(&self) -> usize
+        ensures { result ≡ within_64_bits (length self.now.own.replay) }
+    {
+        self.parts.count_replay()
     }
 
     /// Whether an entry waits to be appended.

@@ -19,11 +19,11 @@ use std::marker::Model;
 /// entries those that have come hold, and whether its end was told.
 #[derive(Drop)]
 pub(crate) struct FetchedPart {
-    part: Part,
+    pub(crate) part: Part,
     rows: VecDeque<FetchedRow>,
-    missing: usize,
-    count: usize,
-    answered: bool,
+    pub(crate) missing: usize,
+    pub(crate) count: usize,
+    pub(crate) answered: bool,
 }
 
 impl Model for FetchedPart {

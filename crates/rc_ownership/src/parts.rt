@@ -21,10 +21,10 @@ use std::marker::Model;
 /// was called, those that changed since as they were before, and the entries that wait.
 #[derive(Drop)]
 pub(crate) struct Parts {
-    begun: IndexMap<u32, FetchedPart>,
+    pub(crate) begun: IndexMap<u32, FetchedPart>,
     kept: usize,
     touched: Vec<(u32, FetchedPart)>,
-    replay: Replay,
+    pub(crate) replay: Replay,
 }
 
 impl Model for Parts {

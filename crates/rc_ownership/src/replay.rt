@@ -33,7 +33,7 @@ impl Model for JoinedRow {
 
 impl JoinedRow {
     /// How many entries it has.
-    fn len(&self) -> usize
+    pub(crate) fn len(&self) -> usize
         ensures { result ≡ length self.now }
     {
         self.entries.len()
@@ -57,11 +57,11 @@ impl JoinedRow {
 /// of them from which on they waited then, and the row and its place from which on they wait now.
 #[derive(Drop)]
 pub(crate) struct Replay {
-    rows: VecDeque<JoinedRow>,
+    pub(crate) rows: VecDeque<JoinedRow>,
     kept: usize,
     first: usize,
-    row: usize,
-    place: usize,
+    pub(crate) row: usize,
+    pub(crate) place: usize,
 }
 
 impl Model for Replay {

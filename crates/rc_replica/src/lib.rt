@@ -5,5 +5,6 @@
 mod copies;
 mod kept;
 pub mod laws;
+mod sizes;
 
 pub use kept::Replica;

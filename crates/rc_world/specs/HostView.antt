@@ -1,9 +1,11 @@
 -- What a contract sees of a host: plain data, since a function cannot be the value of a type.
-use Rattle.std.specs.Prelude.{◌≡◌, ℕ, ◌-◌, ◌^◌, ◌<◌, ◌≤◌, List, Option, Some, option_map, All}
+use Rattle.std.specs.Prelude.{◌≡◌, ℕ, ◌-◌, ◌^◌, ◌<◌, ◌≤◌, nat_lt, if◌then◌else◌, List, Option, Some, None, option_map}
+use Rattle.std.specs.Prelude.{All}
 use Rattle.rc_types.specs.declared.ids.Addr.TheVariants.{Server}
 use Rattle.rc_types.specs.declared.events.Setup.{Setup}
 use Rattle.rc_types.specs.declared.messages.Message.{Message}
 use Rattle.rc_types.specs.declared.limits.TheConstants.{MAX_FACTOR, MAX_SEGMENT}
+use Rattle.rc_model.specs.Backup.{Backup}
 use Rattle.rc_model.specs.Master.{Master, MasterSetup}
 use Rattle.rc_model.specs.Nodes.{HostNode, Tick, host_step, server_of}
 use Rattle.rc_backup.specs.BackupView.{Holdings, backup_of}
@@ -26,6 +28,10 @@ host_of host = record {
   backup = backup_of host.backup;
   master = option_map master_of host.master;
 }
+
+-- what a host keeps as a backup, once it was started
+abbrev pub backup_once_started : HostNode → Option Backup
+backup_once_started host = if nat_lt 0 host.generation then Some host.backup else None
 
 -- masters can be made with these numbers
 pub record IsMasterSetup (setup : MasterSetup) : Type 0 where

@@ -1,15 +1,18 @@
 -- A node, and what it can be given, as the definitions see them.
-use Rattle.std.specs.Prelude.{Bool, List, Option, Some, None}
+use Rattle.std.specs.Prelude.{Bool, false, List, Option, Some, None}
 use Rattle.rc_types.specs.declared.ids.ServerId.{ServerId}
 use Rattle.rc_types.specs.declared.ids.Addr.{Addr}
 use Rattle.rc_types.specs.declared.ids.Addr.TheVariants.{Server, Coordinator as AtCoordinator, Outside}
 use Rattle.rc_types.specs.declared.messages.Message.{Message}
 use Rattle.rc_model.specs.Coordinator.{Coordinator}
-use Rattle.rc_model.specs.Nodes.{HostNode, Work, coordinator_can, coordinator_step, host_can, host_step, server_of}
+use Rattle.rc_model.specs.Nodes.{HostNode, Work, coordinator_can, coordinator_step, host_can, host_step}
+use Rattle.rc_model.specs.Nodes.{server_of, runs}
 use Rattle.rc_model.specs.Nodes as model
 use Rattle.rc_history.specs.Nodes.{Node, TheOutside, TheCoordinator, TheHost, node_can, node_step}
 use Rattle.rc_coordinator.specs.Book.{Book, coordinator_of}
 use Rattle.rc_coordinator.specs.Steps.{HasNumbers}
+use Rattle.rc_backup.specs.BackupView.{Holdings}
+use Rattle.rc_master.specs.Data.{MasterData}
 use Rattle.rc_world.specs.HostView.{HostData, HostHasRoom, host_of}
 use Rattle.rc_world.specs.declared.work.NodeWork.{NodeWork}
 use Rattle.rc_world.specs.declared.work.NodeWork.TheVariants as work
@@ -30,6 +33,20 @@ node_of (HostNodeData host) = TheHost (host_of host)
 abbrev pub book_in : NodeData → Option Book
 book_in (CoordinatorData book) = Some book
 book_in _ = None
+
+-- the master and the backup of a node that is a host
+abbrev pub master_in : NodeData → Option MasterData
+master_in (HostNodeData host) = host.master
+master_in _ = None
+
+abbrev pub backup_in : NodeData → Option Holdings
+backup_in (HostNodeData host) = Some host.backup
+backup_in _ = None
+
+-- a server runs on the node
+abbrev pub node_runs : Node → Bool
+node_runs (TheHost host) = runs host
+node_runs _ = false
 
 -- the node's own server; the outside and the coordinator have none
 abbrev pub own_server : Node → ServerId

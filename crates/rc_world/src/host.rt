@@ -1,6 +1,7 @@
 //! A host: its backup, and its master where it runs.
 
 ghost use Rattle.std.specs.Prelude.{◌≡◌, ◌↔◌, ◌++◌, [], true, None, option_map, OnOk, OnErr, IfOk, IfErr};
+ghost use Rattle.std.specs.Option.{option_copied};
 ghost use Rattle.rc_types.specs.declared.faults.Fault.TheVariants.{OutOfMemory};
 ghost use Rattle.rc_types.specs.declared.messages.Body.TheVariants.{Enlist};
 ghost use Rattle.rc_model.specs.Messages.{to_coordinator};
@@ -158,7 +159,9 @@ impl Host {
     }
 
     /// The master that runs on the host, if one does.
-    pub(crate) fn master(&self) -> Option<&Master> {
+    pub(crate) fn master(&self) -> Option<&Master>
+        ensures { option_copied result ≡ self.now.master }
+    {
         self.master.as_ref()
     }
 

@@ -12,6 +12,7 @@ ghost use Rattle.rc_world.specs.HostView.{host_of, HostHasRoom, IsMasterSetup, I
 ghost use Rattle.rc_world.specs.HostParts.{setup_of, parts_of, host_from};
 ghost use Rattle.rc_history.specs.Nodes.{TheOutside, TheCoordinator, TheHost};
 ghost use Rattle.rc_world.specs.NodeView.{CoordinatorData, node_of, book_in, own_server, work_at, NodeHasRoom};
+ghost use Rattle.rc_world.specs.NodeView.{node_runs, master_in, backup_in};
 ghost use Rattle.rc_world.specs.NodeView.{may_take, after_work, coordinator_may, coordinator_after};
 ghost use Rattle.rc_world.specs.NodeView.{host_may, host_after};
 ghost use Rattle.rc_world.specs.declared.work.NodeWork.TheVariants.{Deliver};
@@ -161,6 +162,16 @@ impl<A: Allocator + Clone> NodeState<A> {
         }
     }
 
+    /// Whether a server runs on the node; so it is of no node that is no host. It takes no memory.
+    pub fn runs(&self) -> bool
+        ensures { result ≡ node_runs (node_of self.now) }
+    {
+        match &self.node {
+            Node::Outside | Node::Coordinator(_) => false,
+            Node::Host(host) => host.runs(),
+        }
+    }
+
     /// Whether the node's numbers suffice for one more step, which the steps ask for: of a host its generation, and the
     /// versions in its log; of the coordinator the numbers of its lists, attempts and terms. It takes no memory, and
     /// its cost does not grow with what has happened.
@@ -176,7 +187,9 @@ impl<A: Allocator + Clone> NodeState<A> {
 
     /// The master that runs on the host, to be looked at; none where no server runs there, or the node is no host.
     /// It takes no memory.
-    pub fn master(&self) -> Option<&Master> {
+    pub fn master(&self) -> Option<&Master>
+        ensures { option_copied result ≡ master_in self.now }
+    {
         match &self.node {
             Node::Outside | Node::Coordinator(_) => None,
             Node::Host(host) => host.master(),
@@ -184,7 +197,9 @@ impl<A: Allocator + Clone> NodeState<A> {
     }
 
     /// What the host keeps as a backup, to be looked at; none where the node is no host. It takes no memory.
-    pub fn backup(&self) -> Option<&Backup> {
+    pub fn backup(&self) -> Option<&Backup>
+        ensures { option_copied result ≡ backup_in self.now }
+    {
         match &self.node {
             Node::Outside | Node::Coordinator(_) => None,
             Node::Host(host) => Some(host.backup()),

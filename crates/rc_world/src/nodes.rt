@@ -1,6 +1,7 @@
 //! All nodes of a world but the outside, which has no state.
 
-ghost use Rattle.std.specs.Prelude.{◌≡◌, ◌++◌, ◌<◌, [], true, is_some, nat_eq, length, OnOk, OnErr, IfOk, IfErr};
+ghost use Rattle.std.specs.Prelude.{◌≡◌, ◌++◌, ◌<◌, [], true, is_some, nat_eq, length, option_map};
+ghost use Rattle.std.specs.Prelude.{OnOk, OnErr, IfOk, IfErr};
 ghost use Rattle.indexmap.specs.IndexMap.{get};
 ghost use Rattle.rc_types.specs.declared.faults.Fault.TheVariants.{OutOfMemory};
 ghost use Rattle.rc_types.specs.declared.ids.Addr.TheVariants.{Server};
@@ -10,7 +11,9 @@ ghost use Rattle.rc_model.specs.Backup.{open_names};
 ghost use Rattle.rc_model.specs.Nodes.{Take, Tick, Stop, Start, host_can, is_running_at};
 ghost use Rattle.rc_model.specs.World.{opening, is_possible};
 ghost use Rattle.rc_coordinator.specs.Steps.{steps, HasNumbers};
-ghost use Rattle.rc_world.specs.HostView.{HostHasRoom, IsWithinLimits};
+ghost use Rattle.rc_backup.specs.BackupView.{backup_of};
+ghost use Rattle.rc_master.specs.Data.{master_of};
+ghost use Rattle.rc_world.specs.HostView.{HostHasRoom, IsWithinLimits, backup_once_started};
 ghost use Rattle.rc_world.specs.Lending.{message_at};
 ghost use Rattle.rc_world.specs.WorldView.{hosts_in, coordinator_in, world_of, WorldHasRoom};
 ghost use Rattle.rc_world.specs.WorldView.{host_does, coordinator_given, after_event};
@@ -19,7 +22,9 @@ use crate::host::Host;
 use crate::lending::{address, lend, put_back, put_input_back};
 use crate::outside::{ask, can_ask};
 use indexmap::IndexMap;
+use rc_backup::Backup;
 use rc_coordinator::Coordinator;
+use rc_master::Master;
 use rc_types::limits::MAX_HOSTS;
 use rc_types::{Addr, Event, Fault, Input, Message, ServerId, Setup};
 use std::alloc::{AllocError, Allocator, Global};
@@ -67,9 +72,24 @@ impl<A: Allocator + Clone> Nodes<A> {
         }
     }
 
-    /// The host of this index, if it was ever started.
-    pub(crate) fn host(&self, index: u8) -> Option<&Host> {
-        self.hosts.get(&index)
+    /// The master that runs on the host, if one does.
+    pub(crate) fn master(&self, host: u8) -> Option<&Master>
+        ensures { option_map (λ master. master_of master.now) result ≡ (hosts_in self.now host).master }
+    {
+        match self.hosts.get(&host) {
+            Some(host) => host.master(),
+            None => None,
+        }
+    }
+
+    /// What the host keeps as a backup, if it was ever started.
+    pub(crate) fn backup(&self, host: u8) -> Option<&Backup>
+        ensures { option_map (λ backup. backup_of backup.now) result ≡ backup_once_started (hosts_in self.now host) }
+    {
+        match self.hosts.get(&host) {
+            Some(host) if host.generation() > 0 => Some(host.backup()),
+            _ => None,
+        }
     }
 
     /// The names of the host's open replicas, in order of master and then of segment.

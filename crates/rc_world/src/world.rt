@@ -1,7 +1,7 @@
 //! A world.
 
 ghost use Rattle.std.specs.Prelude.{◌≡◌, ◌⊎◌, ◌↔◌, ◌∷◌, ◌≤◌, [], true, false, None, length};
-ghost use Rattle.std.specs.Prelude.{IfOk, IfErr, OnOk, OnErr};
+ghost use Rattle.std.specs.Prelude.{IfOk, IfErr, OnOk, OnErr, option_map};
 ghost use Rattle.rc_types.specs.declared.faults.Fault.TheVariants.{OutOfMemory, BadEvent};
 ghost use Rattle.rc_types.specs.declared.ids.Addr.TheVariants.{Server};
 ghost use Rattle.rc_types.specs.declared.limits.TheConstants.{MAX_EVENTS};
@@ -9,7 +9,9 @@ ghost use Rattle.rc_model.specs.Backup.{open_names};
 ghost use Rattle.rc_model.specs.Nodes.{is_running_at};
 ghost use Rattle.rc_model.specs.Breach.{breach};
 ghost use Rattle.rc_model.specs.Headline.{NothingIsDropped};
-ghost use Rattle.rc_world.specs.HostView.{IsWithinLimits};
+ghost use Rattle.rc_backup.specs.BackupView.{backup_of};
+ghost use Rattle.rc_master.specs.Data.{master_of};
+ghost use Rattle.rc_world.specs.HostView.{IsWithinLimits, backup_once_started};
 ghost use Rattle.rc_world.specs.Served.{IsServed};
 ghost use Rattle.rc_world.specs.Happened.{opened, replayed, with_events, sent_in, can_happen, AllHappen};
 
@@ -122,19 +124,18 @@ impl<A: Allocator + Clone> World<A> {
     }
 
     /// The master that runs on the host, to be looked at; none where no server runs there. It takes no memory.
-    pub fn master(&self, host: u8) -> Option<&Master> {
-        match self.nodes.host(host) {
-            Some(host) => host.master(),
-            None => None,
-        }
+    pub fn master(&self, host: u8) -> Option<&Master>
+        ensures { option_map (λ master. master_of master.now) result ≡ ((replayed self.now).hosts host).master }
+    {
+        self.nodes.master(host)
     }
 
     /// What the host keeps as a backup, to be looked at; none where it was never started. It takes no memory.
-    pub fn backup(&self, host: u8) -> Option<&Backup> {
-        match self.nodes.host(host) {
-            Some(host) => Some(host.backup()),
-            None => None,
-        }
+    pub fn backup(&self, host: u8) -> Option<&Backup>
+        ensures { option_map (λ backup. backup_of backup.now) result ≡
+            backup_once_started ((replayed self.now).hosts host) }
+    {
+        self.nodes.backup(host)
     }
 
     /// The names of the host's open replicas, master and segment, in order of master and then of

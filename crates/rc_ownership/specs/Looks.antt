@@ -1,0 +1,25 @@
+-- What is shown of the parts of a recovery.
+use Rattle.std.specs.Prelude.{ℕ, ◌-◌, ◌^◌, min, List, [], ◌∷◌, length}
+use Rattle.rc_types.specs.declared.entries.Entry.{Entry}
+use Rattle.rc_model.specs.Ownership.{PartRow, PartState, entries_that_came, count_under}
+use Rattle.rc_ownership.specs.Parts.{count_missing}
+use Rattle.rc_ownership.specs.declared.looks.PartProgress.{PartProgress}
+
+-- as much of a number as 64 bits hold
+abbrev pub within_64_bits : ℕ → ℕ
+within_64_bits n = min n (2 ^ 64 - 1)
+
+-- how many entries have come of the rows that a part waits for; of one that waits for none, how many it has
+abbrev pub count_came : List PartRow → ℕ → ℕ
+count_came [] size = size
+count_came (row ∷ rows) size = length (entries_that_came (row ∷ rows))
+
+-- how far a part has come, where these entries are durable
+abbrev pub progress_of : List Entry → PartState → PartProgress
+progress_of durable state = record {
+  part = state.part;
+  missing = count_missing state.rows;
+  entries = count_came state.rows state.size;
+  durable = count_under state.part.term durable;
+  answered = state.answered;
+}
