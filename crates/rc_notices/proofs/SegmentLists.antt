@@ -113,8 +113,8 @@ commit-none log seg nothing =
     let committed : (log.segments seg).config.committed ≡ true = (wants-parts (log.segments seg) nothing).1 in
     by (log.segments seg).commit_sent (log.segments seg).config.committed (all_placed (log.segments seg).config) committed
   where
-    by : {X : Type 0} (sent committed placed : Bool) {xs ys : List X} → committed ≡ true →
-        cond (sent && (not committed && placed)) xs ys ≡ ys
+    by : (sent committed placed : Bool) → committed ≡ true →
+        cond (sent && (not committed && placed)) (to_coordinator log.own (Commit seg (log.segments seg).config.epoch) ∷ []) [] ≡ []
     by true true placed e = refl
     by true false placed e = absurd (false≢true e)
     by false committed placed e = refl

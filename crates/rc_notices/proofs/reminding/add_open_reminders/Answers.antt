@@ -22,10 +22,10 @@ loop-seg-preserved c =
       begun = grind (arith, common_steps);
     }
 
-pub returns-in_default-clause-ok : goal.returns-in_default-clause-ok
-returns-in_default-clause-ok c =
+pub returns-clause-ok : goal.returns-clause-ok
+returns-clause-ok c =
     let log : Log = log_of c.args.log.now in
     let before : Log = before_of c.args.log.now in
     c.loop-seg.invariant.so_far ∙ ap (λ messages. c.args.sent.now.items ++ messages)
     (sym (skips (λ n. reminds_open before log (numbers_to n)) (reminds_if_open before log) (open-more before log) c.loop-seg.done log.head c.loop-seg.invariant.known
-    (λ o above within. open-none before log o (c.in_default.ensures.others o above within ?))))
+    (λ o above within. open-none before log o (c.in_default.ensures.others o above within tt))))
