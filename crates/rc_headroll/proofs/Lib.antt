@@ -12,3 +12,4 @@ pub mod StillBefore
 pub mod Stood
 pub mod ConcernedLemmas
 pub mod ListRuleLemmas
+pub mod WatchLemmas

@@ -12,6 +12,7 @@ use Rattle.rc_types.specs.declared.ids.ServerId.{ServerId}
 use Rattle.rc_types.specs.declared.kept.Phase.TheVariants.{Opening}
 use Rattle.rc_model.specs.Log.{Log, new_log, with_segment, has_segment}
 use Rattle.rc_headroll.specs.Before.{first_mark}
+use Rattle.rc_headroll.specs.Watching.{Watched}
 use Rattle.rc_headroll.specs.LogData.{LogData, segment_at, log_of}
 
 -- Tables
@@ -126,7 +127,7 @@ pub segment_at-read : (segments : List Segment) (seg place : ℕ) (x : Segment) 
 segment_at-read segments seg place x e inside read = read ∙ sym (segment_at-within segments seg place x e inside)
 
 -- a log with no segment is a new one
-pub log_of-nil : (own : ServerId) (factor size : ℕ) →
+pub log_of-nil : (own : ServerId) (factor size : ℕ) (watch : Watched) →
     log_of (record {
       own = own;
       factor = factor;
@@ -135,8 +136,9 @@ pub log_of-nil : (own : ServerId) (factor size : ℕ) →
       phase = Opening;
       durable = 0;
       mark = first_mark;
+      watch = watch;
     }) ≡ new_log own factor size
-log_of-nil own factor size = rw segment_at-nil refl
+log_of-nil own factor size watch = rw segment_at-nil refl
 
 -- what is behind a model, at a segment
 pub data-segments : (a b : LogData) → a ≡ b → a.segments ≡ b.segments

@@ -12,6 +12,7 @@ use Rattle.rc_model.specs.Segment.{Segment, no_segment}
 use Rattle.rc_model.specs.Log.{new_log}
 use Rattle.rc_headroll.specs.LogData.{LogData, segment_at, log_of, before_of}
 use Rattle.rc_headroll.specs.Soundness.{IsSound, IsSoundLog}
+use Rattle.rc_headroll.specs.Watching.{Watched}
 use Rattle.rc_headroll.specs.Before.{Mark, first_mark, mark_of, as_it_was, kept_of, was_there, segments_before}
 use Rattle.rc_headroll.proofs.SegmentTables.{segment_at-within, segment_at-nil, log_of-nil}
 use Rattle.rc_headroll.proofs.SoundLogs.{sound-new}
@@ -36,7 +37,7 @@ sound-begin kept passed entries new sound is =
 
 -- A log with no segment
 
-pub before_of-nil : (own : ServerId) (factor size : ℕ) →
+pub before_of-nil : (own : ServerId) (factor size : ℕ) (watch : Watched) →
     before_of (record {
       own = own;
       factor = factor;
@@ -45,15 +46,25 @@ pub before_of-nil : (own : ServerId) (factor size : ℕ) →
       phase = Opening;
       durable = 0;
       mark = first_mark;
+      watch = watch;
     }) ≡ new_log own factor size
-before_of-nil own factor size =
+before_of-nil own factor size watch =
     ap (λ (t : ℕ → Segment). record (new_log own factor size) { segments = t }) (begin-before [] Opening 0 0 0 ∙ segment_at-nil)
 
-pub sound_log-new : (own : ServerId) (factor size : ℕ) → factor ≤ MAX_FACTOR → size ≤ MAX_SEGMENT →
-    IsSoundLog (record { own = own; factor = factor; size = size; segments = []; phase = Opening; durable = 0; mark = first_mark }) 0 0
-sound_log-new own factor size few small = record {
-  now = rw (log_of-nil own factor size) (sound-new own factor size few small);
-  before = rw (before_of-nil own factor size) (sound-new own factor size few small);
+pub sound_log-new : (own : ServerId) (factor size : ℕ) (watch : Watched) → factor ≤ MAX_FACTOR → size ≤ MAX_SEGMENT →
+    IsSoundLog (record {
+      own = own;
+      factor = factor;
+      size = size;
+      segments = [];
+      phase = Opening;
+      durable = 0;
+      mark = first_mark;
+      watch = watch;
+    }) 0 0
+sound_log-new own factor size watch few small = record {
+  now = rw (log_of-nil own factor size watch) (sound-new own factor size few small);
+  before = rw (before_of-nil own factor size watch) (sound-new own factor size few small);
   back = begin-back [] Opening 0 0 0;
 }
 

@@ -5,3 +5,4 @@ pub mod Freeing
 pub mod Places
 pub mod Before
 pub mod Concerned
+pub mod Watching

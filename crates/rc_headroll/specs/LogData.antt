@@ -5,6 +5,7 @@ use Rattle.rc_types.specs.declared.kept.Phase.{Phase}
 use Rattle.rc_model.specs.Segment.{Segment, no_segment}
 use Rattle.rc_model.specs.Log.{Log}
 use Rattle.rc_headroll.specs.Before.{Mark, segments_before}
+use Rattle.rc_headroll.specs.Watching.{Watched}
 
 pub record LogData : Type 0 where
   pub own : ServerId
@@ -15,6 +16,8 @@ pub record LogData : Type 0 where
   pub durable : ℕ
   -- where the log goes back to
   pub mark : Mark
+  -- which segments the timer goes over
+  pub watch : Watched
 
 -- the segment of this number; one that was never opened has none
 unfoldable pub segment_at : List Segment → ℕ → Segment

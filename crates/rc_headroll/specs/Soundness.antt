@@ -6,6 +6,7 @@ use Rattle.rc_model.specs.Segment.{Segment}
 use Rattle.rc_model.specs.Log.{Log, head_of, is_writing}
 use Rattle.rc_headroll.specs.Before.{CanGoBack}
 use Rattle.rc_headroll.specs.LogData.{LogData, segment_at, log_of, before_of}
+use Rattle.rc_headroll.specs.Watching.{AreWatched}
 
 -- the number is that of a segment
 abbrev pub IsKnown : ℕ → ℕ → Type 0
@@ -45,3 +46,8 @@ pub record IsSoundLog (kept : LogData) (passed entries : ℕ) : Type 0 where
   pub now : IsSound (log_of kept) passed entries
   pub before : IsSound (before_of kept) kept.mark.passed kept.mark.passed_entries
   pub back : CanGoBack kept.mark (length kept.segments) (segment_at kept.segments)
+
+-- the timer goes over each segment that may want something, and over each that did when the log goes back
+pub record IsWatchedLog (kept : LogData) : Type 0 where
+  pub now : AreWatched kept.watch (log_of kept).head (log_of kept).segments
+  pub before : AreWatched kept.watch (before_of kept).head (before_of kept).segments

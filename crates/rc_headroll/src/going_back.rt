@@ -20,6 +20,16 @@ impl LogHead {
         ensures log { log_of self.new ≡ log_of self.old }
         ensures before { before_of self.new ≡ log_of self.old }
     {
+        let head = self.before.head();
+        self.go_back_to_now();
+        self.rest_after(head.saturating_sub(2) as u16);
+    }
+
+    /// From here on `restore` goes back to now.
+    fn go_back_to_now(&mut self)
+        ensures log { log_of self.new ≡ log_of self.old }
+        ensures before { before_of self.new ≡ log_of self.old }
+    {
         self.before.begin(
             self.segments.as_slice(),
             self.phase,
@@ -71,6 +81,7 @@ impl LogHead {
         ensures before { before_of self.new ≡ before_of self.old }
         ensures kept { OnOk result (IsKept self.new.mark seg) }
         ensures others { (other : ℕ) → IsKept self.old.mark other → IsKept self.new.mark other }
+        ensures watch { self.new.watch ≡ self.old.watch }
     {
         self.before.keep(seg, &self.segments[usize::from(seg) - 1])
     }

@@ -13,6 +13,8 @@ mod opening;
 mod segment;
 mod state;
 mod telling;
+mod watch;
+mod watching;
 
 pub use durable::Place;
 pub use log::LogHead;

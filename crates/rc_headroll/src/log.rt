@@ -6,6 +6,7 @@ ghost use Rattle.std.specs.Option.{option_copied};
 
 use crate::before::Before;
 use crate::segment::Segment;
+use crate::watch::Watch;
 use rc_types::{Phase, ServerId};
 use std::alloc::Global;
 use std::marker::Model;
@@ -26,6 +27,8 @@ pub struct LogHead {
     pub(crate) passed_entries: usize,
     /// Where the log goes back to.
     pub(crate) before: Before,
+    /// Which segments the timer goes over.
+    pub(crate) watch: Watch,
 }
 
 impl Drop for LogHead {
@@ -40,6 +43,7 @@ impl Drop for LogHead {
             passed: _,
             passed_entries: _,
             before: _,
+            watch: _,
         } = self;
     }
 }
@@ -49,7 +53,7 @@ impl Model for LogHead {
 
     ghost Value = { LogData };
 
-    ghost use Rattle.rc_headroll.specs.Soundness.{IsSoundLog};
+    ghost use Rattle.rc_headroll.specs.Soundness.{IsSoundLog, IsWatchedLog};
 
     ghost view = { λ l. record {
       own = l.own;
@@ -59,6 +63,7 @@ impl Model for LogHead {
       phase = l.phase;
       durable = l.durable;
       mark = l.before;
+      watch = l.watch;
     } };
 
     ghost invariant = { λ l. IsSoundLog (record {
@@ -69,7 +74,17 @@ impl Model for LogHead {
       phase = l.phase;
       durable = l.durable;
       mark = l.before;
-    }) l.passed l.passed_entries };
+      watch = l.watch;
+    }) l.passed l.passed_entries × IsWatchedLog (record {
+      own = l.own;
+      factor = l.factor;
+      size = l.size;
+      segments = l.segments.items;
+      phase = l.phase;
+      durable = l.durable;
+      mark = l.before;
+      watch = l.watch;
+    }) };
 }
 
 impl LogHead {
@@ -98,6 +113,7 @@ impl LogHead {
             passed: 0,
             passed_entries: 0,
             before: Before::new(alloc),
+            watch: Watch::new(alloc),
         }
     }
 

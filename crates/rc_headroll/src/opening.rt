@@ -181,8 +181,11 @@ impl LogHead {
         ensures unchanged { OnErr result (self.new ≡ self.old) }
         ensures before { before_of self.new ≡ before_of self.old }
     {
-        let head = Segment::new(alloc, self.head() + 1, digest, ids);
-        self.segments.push(head)?;
+        let seg = self.head() + 1;
+        let head = Segment::new(alloc, seg, digest, ids);
+        self.segments.reserve(1)?;
+        self.watch.wake(seg)?;
+        self.segments.push(head).unwrap();
         self.phase = Phase::Opening;
         Ok(())
     }

@@ -58,6 +58,7 @@ impl Segment {
     ghost use Rattle.rc_model.specs.Segment.{is_ready, is_all_closed, durable_in};
     ghost use Rattle.rc_model.specs.FollowUps.{wants_commit};
     ghost use Rattle.rc_model.specs.MasterTick.{awaits_commit};
+    ghost use Rattle.rc_headroll.specs.Watching.{wants_nothing};
     ghost use Rattle.rc_headroll.specs.Losing.{segment_loses};
     ghost use Rattle.rc_headroll.specs.Before.{state_of, with_state};
     ghost use Rattle.rc_headroll.specs.Concerned.{is_concerned};
@@ -178,6 +179,14 @@ impl Segment {
         ensures { result ≡ awaits_commit self.now }
     {
         self.commit_sent && (!self.config.is_committed() && self.config.all_placed())
+    }
+
+    /// Whether the timer says nothing of it: it is shut under a committed epoch, and was freed or is placed
+    /// on all its members.
+    pub fn wants_nothing(&self) -> bool
+        ensures { result ≡ wants_nothing self.now }
+    {
+        self.shut && (self.config.is_committed() && (self.freed || self.config.all_placed()))
     }
 
     /// Whether a member is lost, or the list shows one crashed.

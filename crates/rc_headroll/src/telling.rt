@@ -7,6 +7,7 @@ ghost use Rattle.rc_model.specs.Heads.{stored, notes_stored, commit_noted, loses
 ghost use Rattle.rc_headroll.specs.Before.{IsKept};
 ghost use Rattle.rc_headroll.specs.Concerned.{is_concerned, concerned};
 ghost use Rattle.rc_headroll.specs.LogData.{log_of, before_of};
+ghost use Rattle.rc_headroll.specs.Watching.{is_awake};
 
 use crate::log::LogHead;
 use rc_serverlist::ServerList;
@@ -118,11 +119,12 @@ impl LogHead {
             ⊎ (loses servers.now seg (log_of self.old) ≡ (log_of self.new, Err fault))) }
         ensures before { before_of self.new ≡ before_of self.old }
     {
+        self.wake(seg)?;
         self.keep(seg)?;
         self.lose_members(alloc, seg, servers)
     }
 
-    /// Replaces lost members of a segment that is kept, as `lose` does.
+    /// Replaces lost members of a segment that is kept, and that the timer goes over, as `lose` does.
     fn lose_members(
         &mut self,
         alloc: Global,
@@ -131,6 +133,7 @@ impl LogHead {
     ) -> Result<Vec<ServerId>, Fault>
         requires has { has_segment (log_of self.old) seg ≡ true }
         requires kept { IsKept self.old.mark seg }
+        requires awake { is_awake self.old.watch seg ≡ true }
         ensures ok { IfOk result (λ ids. loses servers.now seg (log_of self.old) ≡ (log_of self.new, Ok ids.items)) }
         ensures err { IfErr result (λ fault. ((fault ≡ OutOfMemory) × (log_of self.new ≡ log_of self.old))
             ⊎ (loses servers.now seg (log_of self.old) ≡ (log_of self.new, Err fault))) }

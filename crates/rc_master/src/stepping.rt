@@ -247,6 +247,7 @@ impl State {
             sent.push(enlist(self.log.own()))?;
             return Ok(());
         }
+        self.log.rest();
         self.obey_list(sent)?;
         self.remind(sent)
     }

@@ -1,12 +1,19 @@
 -- Lists of messages that go through the segments.
-use Rattle.std.proofs.Common.{◌≡◌, ℕ, ◌+◌, suc, List, [], ◌∷◌, ◌++◌, map, filter, Bool, cond, true, false, ap, sym}
-use Rattle.std.proofs.Common.{◌∙◌, add-one, append_assoc, refl}
+use Rattle.std.proofs.Common.{◌≡◌, ⊎_elim, ℕ, ◌+◌, ◌<◌, ◌≤◌, zero, suc, List, [], ◌∷◌, ◌++◌, map, filter, Bool, cond}
+use Rattle.std.proofs.Common.{true, false, not, ◌&&◌, ◌||◌, is_some, ap, sym, ◌∙◌, add-one, append_assoc, refl, subst, arith}
+use Rattle.std.specs.List.{list_all}
+use Rattle.std.proofs.lemmas.Bool.{cases_eq, and_parts, cond_both, cond-false, false≢true}
 use Rattle.std.proofs.lemmas.List.{append-nil}
+use Rattle.rc_types.specs.declared.kept.Member.{Member}
 use Rattle.rc_types.specs.declared.messages.Message.{Message}
 use Rattle.rc_types.specs.declared.messages.Body.TheVariants.{Commit}
-use Rattle.rc_model.specs.Messages.{to_coordinator}
+use Rattle.rc_model.specs.Messages.{between, to_coordinator}
+use Rattle.rc_model.specs.Config.{is_placed, all_placed}
+use Rattle.rc_model.specs.Segment.{Segment}
 use Rattle.rc_model.specs.Log.{Log, numbers_to}
-use Rattle.rc_model.specs.MasterTick.{reminds_open, reminds_shut, awaits_commit}
+use Rattle.rc_model.specs.Master.{place_of}
+use Rattle.rc_model.specs.MasterTick.{stood, standing, reminds_shut_members, reminds_open, reminds_shut, awaits_commit}
+use Rattle.rc_headroll.specs.Watching.{wants_nothing}
 use Rattle.rc_notices.specs.Reminders.{reminds_if_open, reminds_if_shut, commit_again}
 
 -- what is added after what was added before
@@ -65,3 +72,75 @@ pub commits-more : (log : Log) (n : ℕ) → commits_to log (n + 1) ≡ commits_
 commits-more log n = rw (add-one n)
     (chosen-append (λ seg. to_coordinator log.own (Commit seg (log.segments seg).config.epoch))
     (λ seg. awaits_commit (log.segments seg)) (numbers_to n) (suc n))
+
+-- Segments that want nothing are passed over
+
+-- one of which nothing is said
+pub skips : {X : Type 0} (walk one : ℕ → List X) → ((n : ℕ) → walk (n + 1) ≡ walk n ++ one (n + 1)) → (done n : ℕ) → done ≤ n →
+    ((o : ℕ) → done < o → o ≤ n → one o ≡ []) → walk n ≡ walk done
+skips walk one more done zero below none = let same : done ≡ 0 = omega arith in rw same refl
+skips walk one more done (suc n) below none = ⊎_elim {C = walk (suc n) ≡ walk done}
+    (λ (here : done ≡ suc n). ap walk (sym here))
+    (λ (apart : done ≡ suc n → ⊥).
+    let within : done ≤ n = omega (arith, apart) in
+    let next : n + 1 ≡ suc n = omega arith in
+    ap walk (sym next) ∙ more n ∙ ap (λ l. walk n ++ l) (none (n + 1) (omega arith) (omega arith)) ∙ append-nil (walk n)
+    ∙ skips walk one more done n within (λ o above below. none o above (omega arith)))
+    (cases_eq done (suc n))
+
+-- up to the next one
+pub skips-to : {X : Type 0} (walk one : ℕ → List X) → ((n : ℕ) → walk (n + 1) ≡ walk n ++ one (n + 1)) → (done seg : ℕ) → done < seg →
+    ((o : ℕ) → done < o → o < seg → one o ≡ []) → walk seg ≡ walk done ++ one seg
+skips-to walk one more done zero above none = absurd (omega arith)
+skips-to walk one more done (suc n) above none =
+    let next : n + 1 ≡ suc n = omega arith in
+    let last : walk (n + 1) ≡ walk done ++ one (n + 1) =
+    more n ∙ ap (λ l. l ++ one (n + 1)) (skips walk one more done n (omega arith) (λ o later below. none o later (omega arith))) in
+    subst (λ (m : ℕ). walk m ≡ walk done ++ one m) next last
+
+wants-parts : (s : Segment) → wants_nothing s ≡ true →
+    (s.shut ≡ true) × (s.config.committed ≡ true) × ((s.freed || all_placed s.config) ≡ true)
+wants-parts s e =
+    let first = and_parts s.shut (s.config.committed && (s.freed || all_placed s.config)) e in
+    let second = and_parts s.config.committed (s.freed || all_placed s.config) first.1 in
+    (first.0, second.0, second.1)
+
+pub open-none : (before log : Log) (seg : ℕ) → wants_nothing (log.segments seg) ≡ true → reminds_if_open before log seg ≡ []
+open-none before log seg nothing = rw (wants-parts (log.segments seg) nothing).0 refl
+
+pub commit-none : (log : Log) (seg : ℕ) → wants_nothing (log.segments seg) ≡ true → commit_again log seg ≡ []
+commit-none log seg nothing =
+    let committed : (log.segments seg).config.committed ≡ true = (wants-parts (log.segments seg) nothing).1 in
+    by (log.segments seg).commit_sent (log.segments seg).config.committed (all_placed (log.segments seg).config) committed
+  where
+    by : (sent committed placed : Bool) → committed ≡ true →
+        cond (sent && (not committed && placed)) (to_coordinator log.own (Commit seg (log.segments seg).config.epoch) ∷ []) [] ≡ []
+    by true true placed e = refl
+    by true false placed e = absurd (false≢true e)
+    by false committed placed e = refl
+
+-- where all are placed, there is none that has told nothing
+all-told : (p : Member → Bool) (members : List Member) → list_all is_placed members ≡ true →
+    filter (λ member. not (is_some member.told)) (filter p members) ≡ []
+all-told p [] placed = refl
+all-told p (member ∷ members) placed =
+    let parts = and_parts (is_placed member) (list_all is_placed members) placed in
+    let told = (and_parts (not member.lost) (is_some member.told) parts.0).1 in
+    cond_both (p member) (member ∷ filter p members) (filter p members)
+    (λ (ms : List Member). filter (λ other. not (is_some other.told)) ms ≡ [])
+    (λ chosen. cond-false (not (is_some member.told)) (member ∷ filter (λ other. not (is_some other.told)) (filter p members))
+    (filter (λ other. not (is_some other.told)) (filter p members)) (ap not told) ∙ all-told p members parts.1)
+    (λ passed. all-told p members parts.1)
+
+pub shut-none : (before log : Log) (seg : ℕ) → wants_nothing (log.segments seg) ≡ true → reminds_if_shut before log seg ≡ []
+shut-none before log seg nothing =
+    by (log.segments seg).shut (log.segments seg).freed (all_placed (log.segments seg).config) (wants-parts (log.segments seg) nothing).2
+    (λ placed. ap (map (λ member. between log.own member.id (place_of log seg true)))
+    (all-told (λ member. stood before log seg member.id) (log.segments seg).config.members placed))
+  where
+    by : (shut freed placed : Bool) → (freed || placed) ≡ true →
+        (placed ≡ true → reminds_shut_members log seg (standing before log seg) ≡ []) →
+        cond (shut && not freed) (reminds_shut_members log seg (standing before log seg)) [] ≡ []
+    by true true placed either none = refl
+    by true false placed either none = none either
+    by false freed placed either none = refl

@@ -38,8 +38,10 @@ pub fn add_commits_again(log: &LogHead, sent: &mut Vec<Message>) -> Result<(), A
     ensures ok { OnOk result (sent.new.items ≡ sent.old.items ++ commits_again (log_of log.now)) }
     ensures begun { OnErr result (IsBeginning sent.old.items sent.new.items) }
 {
-    for place in 0..log.head() {
-        add_commit_again(log, place + 1, sent)?;
+    let mut done = 0;
+    while let Some(seg) = log.next_awake(done) {
+        add_commit_again(log, seg, sent)?;
+        done = seg;
     }
     Ok(())
 }

@@ -75,8 +75,10 @@ pub fn add_open_reminders(
         reminds_open (before_of log.now) (log_of log.now) (numbers_to (log_of log.now).head)) }
     ensures begun { OnErr result (IsBeginning sent.old.items sent.new.items) }
 {
-    for place in 0..log.head() {
-        add_if_open(alloc, log, place + 1, sent)?;
+    let mut done = 0;
+    while let Some(seg) = log.next_awake(done) {
+        add_if_open(alloc, log, seg, sent)?;
+        done = seg;
     }
     Ok(())
 }
@@ -136,8 +138,10 @@ pub fn add_shut_reminders(
         reminds_shut (before_of log.now) (log_of log.now) (numbers_to (log_of log.now).head)) }
     ensures begun { OnErr result (IsBeginning sent.old.items sent.new.items) }
 {
-    for place in 0..log.head() {
-        add_if_shut(alloc, log, place + 1, sent)?;
+    let mut done = 0;
+    while let Some(seg) = log.next_awake(done) {
+        add_if_shut(alloc, log, seg, sent)?;
+        done = seg;
     }
     Ok(())
 }

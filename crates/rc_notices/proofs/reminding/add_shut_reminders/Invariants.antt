@@ -1,4 +1,4 @@
-use Rattle.std.proofs.Common.{◌≡◌, ◌++◌}
+use Rattle.std.proofs.Common.{◌≡◌, ◌≤◌, ◌-◌, ◌++◌}
 use Rattle.rc_model.specs.Log.{numbers_to}
 use Rattle.rc_model.specs.MasterTick.{reminds_shut}
 use Rattle.rc_headroll.specs.LogData.{log_of, before_of}
@@ -6,8 +6,13 @@ use Rattle.rc_notices.specs.Beginnings.{IsBeginning}
 use Rattle.rc_notices.proofs.reminding.add_shut_reminders.Given as goal
 
 -- the reminders of the segments so far
-abbrev pub invariant-loop-place : goal.invariant-loop-place
-invariant-loop-place l = record {
-  so_far : l.sent.items ≡ l.initial.sent.items ++ reminds_shut (before_of l.log) (log_of l.log) (numbers_to l.place);
+abbrev pub invariant-loop-seg : goal.invariant-loop-seg
+invariant-loop-seg l = record {
+  known : l.done ≤ (log_of l.log).head;
+  so_far : l.sent.items ≡ l.initial.sent.items ++ reminds_shut (before_of l.log) (log_of l.log) (numbers_to l.done);
   begun : IsBeginning l.initial.sent.items l.sent.items;
 }
+
+-- the segments that are left
+abbrev pub decreases-loop-seg : goal.decreases-loop-seg
+decreases-loop-seg l = (log_of l.log).head - l.done

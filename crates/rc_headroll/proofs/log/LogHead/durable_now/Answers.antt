@@ -17,9 +17,9 @@ overflow_add-result c =
     omega (arith, known', c.if-front-len.false, c.len.ensures, c.self.inside.segments.ok.0) in
     let fits : length c.index.result.now.entries ≤ c.self.inside.size =
     (sound_segment-read (the_view c.self.inside) c.self.inside.passed c.self.inside.passed_entries p c.index.result.now
-    c.self.invariant.now below c.index.ensures).fits in
+    c.self.invariant.0.now below c.index.ensures).fits in
     let few : c.shut_front-front.result.entries ≤ MAX_SEGMENT * p = c.shut_front-front.ensures.few in
-    omega (arith, few, fits, c.durable_len.ensures, c.self.invariant.now.size, c.self.invariant.now.few, below)
+    omega (arith, few, fits, c.durable_len.ensures, c.self.invariant.0.now.size, c.self.invariant.0.now.few, below)
 
 pub returns : goal.returns
 returns c =

@@ -6,11 +6,12 @@ use Rattle.rc_model.specs.Segment.{Segment}
 use Rattle.rc_model.specs.Heads.{left_out, may_write, writes_on}
 use Rattle.rc_headroll.specs.Before.{IsKept}
 use Rattle.rc_headroll.specs.LogData.{log_of, before_of, segment_at}
-use Rattle.rc_headroll.specs.Soundness.{IsKnown, IsSoundLog}
+use Rattle.rc_headroll.specs.Soundness.{IsKnown, IsSoundLog, IsWatchedLog}
 use Rattle.rc_headroll.specs.Freeing.{freed_in}
 use Rattle.rc_headroll.specs.contracts.log.LogHead.{the_view}
 use Rattle.rc_headroll.proofs.LogSteps.{known-left_out, sound-writes_marked, writes-marked}
 use Rattle.rc_headroll.proofs.StillBefore.{writes-sound, writes-before}
+use Rattle.rc_headroll.proofs.WatchLemmas.{watched-frees}
 use Rattle.rc_headroll.proofs.log.LogHead.free_and_write.Goals as goal
 
 pub mark_freed-requires : goal.mark_freed-requires
@@ -19,7 +20,7 @@ mark_freed-requires c =
     let left : c.args.freed.now ≡ left_out (log_of c.args.self.now) = c.requires.left in
     let known : All (IsKnown (length c.self.inside.segments.items)) (left_out (log_of (the_view c.self.inside))) =
     known-left_out (log_of (the_view c.self.inside)) c.self.inside.passed c.self.inside.passed_entries
-    c.self.invariant.now (rw (← c.self.view_is) at may) in
+    c.self.invariant.0.now (rw (← c.self.view_is) at may) in
     rw (c.as_mut_slice.ensures.value, left, ← c.self.view_is) known
 
 pub invariant_of-self : goal.invariant_of-self
@@ -32,13 +33,19 @@ invariant_of-self c =
     let table : segment_at c.mark_freed.new.segments ≡ freed_in c.args.freed.now (segment_at c.self.inside.segments.items) =
     c.mark_freed.ensures ∙ ap (λ (segs : List Segment). freed_in c.args.freed.now (segment_at segs)) c.as_mut_slice.ensures.value in
     let same = with_items_is c.self.inside.segments c.mark_freed.new.segments (len ∙ sym c.self.inside.segments.ok.0) in
-    subst (λ (segs : List Segment). IsSoundLog (record (the_view c.self.inside) { segments = segs; phase = Writing })
-    c.self.inside.passed c.self.inside.passed_entries) (sym same)
-    (writes-sound (the_view c.self.inside) c.self.inside.passed c.self.inside.passed_entries c.args.freed.now
-    c.mark_freed.new.segments c.self.invariant len table (rw (← c.self.view_is) at kept)
-    (sound-writes_marked (the_view c.self.inside) c.self.inside.passed c.self.inside.passed_entries c.args.freed.now
-    c.mark_freed.new.segments c.self.invariant.now
-    (rw (← c.self.view_is) at may) len table (rw (← c.self.view_is) at left)))
+    (
+      subst (λ (segs : List Segment). IsSoundLog (record (the_view c.self.inside) { segments = segs; phase = Writing })
+          c.self.inside.passed c.self.inside.passed_entries) (sym same)
+          (writes-sound (the_view c.self.inside) c.self.inside.passed c.self.inside.passed_entries c.args.freed.now
+          c.mark_freed.new.segments c.self.invariant.0 len table (rw (← c.self.view_is) at kept)
+          (sound-writes_marked (the_view c.self.inside) c.self.inside.passed c.self.inside.passed_entries c.args.freed.now
+          c.mark_freed.new.segments c.self.invariant.0.now
+          (rw (← c.self.view_is) at may) len table (rw (← c.self.view_is) at left))),
+      subst (λ (segs : List Segment). IsWatchedLog (record (the_view c.self.inside) { segments = segs; phase = Writing })) (sym same)
+          (watched-frees (the_view c.self.inside) c.args.freed.now c.mark_freed.new.segments Writing c.self.invariant.1 len table
+          (writes-before (the_view c.self.inside) c.self.inside.passed c.self.inside.passed_entries c.args.freed.now
+          c.mark_freed.new.segments c.self.invariant.0 len table (rw (← c.self.view_is) at kept))),
+    )
 
 pub returns-clause-written : goal.returns-clause-written
 returns-clause-written c =
@@ -65,4 +72,4 @@ returns-clause-before c =
     (subst (λ (segs : List Segment). before_of (record (the_view c.self.inside) { segments = segs; phase = Writing }) ≡
     before_of (the_view c.self.inside)) (sym same)
     (writes-before (the_view c.self.inside) c.self.inside.passed c.self.inside.passed_entries c.args.freed.now
-    c.mark_freed.new.segments c.self.invariant len table (rw (← c.self.view_is) at kept)))
+    c.mark_freed.new.segments c.self.invariant.0 len table (rw (← c.self.view_is) at kept)))

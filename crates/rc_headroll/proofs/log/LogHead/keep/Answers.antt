@@ -5,6 +5,7 @@ use Rattle.rc_headroll.specs.contracts.log.LogHead.{the_view}
 use Rattle.rc_headroll.proofs.SegmentTables.{segment_at-read, has-parts}
 use Rattle.rc_headroll.proofs.LogChanges.{seg_place}
 use Rattle.rc_headroll.proofs.KeptSegments.{keep-keeps, keep-kept, before_of-kept, sound-kept}
+use Rattle.rc_headroll.proofs.WatchLemmas.{watched-kept}
 use Rattle.rc_headroll.proofs.log.LogHead.keep.Goals as goal
 
 pub invariant_of-self : goal.invariant_of-self
@@ -12,10 +13,17 @@ invariant_of-self c =
     let has : true ≡ has_segment (log_of c.args.self.now) c.args.seg = sym c.requires in
     let at = seg_place (the_view c.self.inside) c.args.seg c.from.result (rw (← c.self.view_is) at has) c.from.ensures in
     let read = segment_at-read c.self.inside.segments.items c.args.seg _ c.index.result.now at.0 at.1 c.index.ensures in
-    sound-kept (the_view c.self.inside) c.self.inside.passed c.self.inside.passed_entries c.keep.new.self c.self.invariant
-    (keep-keeps c.self.inside.before c.keep.new.self (length c.self.inside.segments.items)
-    (segment_at c.self.inside.segments.items) c.args.seg c.index.result.now
-    c.self.invariant.back read c.keep.result c.keep.ensures.ok c.keep.ensures.err)
+    (
+      sound-kept (the_view c.self.inside) c.self.inside.passed c.self.inside.passed_entries c.keep.new.self c.self.invariant.0
+          (keep-keeps c.self.inside.before c.keep.new.self (length c.self.inside.segments.items)
+          (segment_at c.self.inside.segments.items) c.args.seg c.index.result.now
+          c.self.invariant.0.back read c.keep.result c.keep.ensures.ok c.keep.ensures.err),
+      watched-kept (the_view c.self.inside) c.keep.new.self c.self.invariant.1
+          (before_of-kept (the_view c.self.inside) c.keep.new.self
+          (keep-keeps c.self.inside.before c.keep.new.self (length c.self.inside.segments.items)
+          (segment_at c.self.inside.segments.items) c.args.seg c.index.result.now
+          c.self.invariant.0.back read c.keep.result c.keep.ensures.ok c.keep.ensures.err)),
+    )
 
 pub returns-clause-before : goal.returns-clause-before
 returns-clause-before c =
@@ -26,7 +34,7 @@ returns-clause-before c =
     (before_of-kept (the_view c.self.inside) c.keep.new.self
     (keep-keeps c.self.inside.before c.keep.new.self (length c.self.inside.segments.items)
     (segment_at c.self.inside.segments.items) c.args.seg c.index.result.now
-    c.self.invariant.back read c.keep.result c.keep.ensures.ok c.keep.ensures.err))
+    c.self.invariant.0.back read c.keep.result c.keep.ensures.ok c.keep.ensures.err))
 
 pub returns-clause-kept : goal.returns-clause-kept
 returns-clause-kept c =
@@ -37,7 +45,7 @@ returns-clause-kept c =
     let parts = has-parts (log_of (the_view c.self.inside)) c.args.seg (sym has') in
     keep-kept c.self.inside.before c.keep.new.self (length c.self.inside.segments.items)
     (segment_at c.self.inside.segments.items) c.args.seg c.index.result.now
-    c.self.invariant.back read c.keep.result parts.0 c.keep.ensures.ok
+    c.self.invariant.0.back read c.keep.result parts.0 c.keep.ensures.ok
 
 pub returns-clause-others : goal.returns-clause-others
 returns-clause-others c =
@@ -46,5 +54,5 @@ returns-clause-others c =
     let read = segment_at-read c.self.inside.segments.items c.args.seg _ c.index.result.now at.0 at.1 c.index.ensures in
     let keeps = keep-keeps c.self.inside.before c.keep.new.self (length c.self.inside.segments.items)
     (segment_at c.self.inside.segments.items) c.args.seg c.index.result.now
-    c.self.invariant.back read c.keep.result c.keep.ensures.ok c.keep.ensures.err in
+    c.self.invariant.0.back read c.keep.result c.keep.ensures.ok c.keep.ensures.err in
     rw (← c.self.view_is) keeps.others

@@ -6,6 +6,7 @@ use Rattle.rc_headroll.specs.contracts.log.LogHead.{the_view}
 use Rattle.rc_headroll.proofs.SoundLogs.{sound-durable}
 use Rattle.rc_headroll.proofs.StillBefore.{sound_log-same}
 use Rattle.rc_headroll.proofs.DurableLogs.{durable_now-least}
+use Rattle.rc_headroll.proofs.WatchLemmas.{watched-durable}
 use Rattle.rc_headroll.proofs.log.LogHead.keep_durable.Goals as goal
 
 pub invariant_of-self : goal.invariant_of-self
@@ -25,9 +26,12 @@ invariant_of-self c =
     let now' : c.durable_now-self-inside.result ≡ durable_now (log_of kept) = rw (← c.self.view_is) at now in
     let least : entries_to (segment_at c.self.inside.segments.items) c.shut_front-front.result.segments ≤ durable_now
     (log_of kept) = durable_now-least (log_of kept) c.shut_front-front.result.segments known' shut' in
-    sound_log-same kept c.self.inside.phase c.durable_now-self-inside.result c.self.inside.passed
-    c.self.inside.passed_entries c.shut_front-front.result.segments c.shut_front-front.result.entries
-    c.self.invariant
-    (sound-durable (log_of kept) c.self.inside.passed c.self.inside.passed_entries c.durable_now-self-inside.result
-    c.shut_front-front.result.segments c.shut_front-front.result.entries
-    c.self.invariant.now known' shut' is' (rw (is', now') least))
+    (
+      sound_log-same kept c.self.inside.phase c.durable_now-self-inside.result c.self.inside.passed
+          c.self.inside.passed_entries c.shut_front-front.result.segments c.shut_front-front.result.entries
+          c.self.invariant.0
+          (sound-durable (log_of kept) c.self.inside.passed c.self.inside.passed_entries c.durable_now-self-inside.result
+          c.shut_front-front.result.segments c.shut_front-front.result.entries
+          c.self.invariant.0.now known' shut' is' (rw (is', now') least)),
+      watched-durable kept c.self.inside.phase c.durable_now-self-inside.result c.self.invariant.1,
+    )

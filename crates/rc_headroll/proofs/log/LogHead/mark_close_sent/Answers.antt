@@ -5,6 +5,7 @@ use Rattle.rc_headroll.specs.contracts.log.LogHead.{the_view}
 use Rattle.rc_headroll.proofs.LogChanges.{sound-set, keeps_from}
 use Rattle.rc_headroll.proofs.LogSteps.{close-marked, close_is_due-parts}
 use Rattle.rc_headroll.proofs.StillBefore.{old_head-sound, old_head-before}
+use Rattle.rc_headroll.proofs.WatchLemmas.{watched-still, wants-same}
 use Rattle.rc_headroll.proofs.log.LogHead.mark_close_sent.Goals as goal
 
 pub invariant_of-self : goal.invariant_of-self
@@ -16,12 +17,20 @@ invariant_of-self c =
     ap (λ (n : ℕ). n - 2) (c.len-old.ensures ∙ c.self.inside.segments.ok.0) in
     let was = c.index_mut.result.now in
     let keeps = keeps_from c.mark_close_sent.new.self was _ c.mark_close_sent.ensures refl refl refl in
-    old_head-sound (the_view c.self.inside) (c.len-old.result - 2) c.self.inside.passed c.self.inside.passed_entries
-    c.mark_close_sent.new.self was c.self.invariant more is
-    c.index_mut.ensures.value keeps.entries keeps.digest
-    (sound-set (the_view c.self.inside) (c.len-old.result - 2) (length c.self.inside.segments.items - 1)
-    c.self.inside.passed c.self.inside.passed_entries c.mark_close_sent.new.self was c.self.invariant.now
-    (omega (arith, more, is)) (omega (arith, more, is)) c.index_mut.ensures.value keeps)
+    (
+      old_head-sound (the_view c.self.inside) (c.len-old.result - 2) c.self.inside.passed c.self.inside.passed_entries
+          c.mark_close_sent.new.self was c.self.invariant.0 more is
+          c.index_mut.ensures.value keeps.entries keeps.digest
+          (sound-set (the_view c.self.inside) (c.len-old.result - 2) (length c.self.inside.segments.items - 1)
+          c.self.inside.passed c.self.inside.passed_entries c.mark_close_sent.new.self was c.self.invariant.0.now
+          (omega (arith, more, is)) (omega (arith, more, is)) c.index_mut.ensures.value keeps),
+      watched-still (the_view c.self.inside) (c.len-old.result - 2) (length c.self.inside.segments.items - 1)
+          c.mark_close_sent.new.self was c.self.invariant.1 (omega (arith, more, is)) (omega (arith, more, is))
+          c.index_mut.ensures.value
+          (old_head-before (the_view c.self.inside) (c.len-old.result - 2) c.self.inside.passed c.self.inside.passed_entries
+          c.mark_close_sent.new.self was c.self.invariant.0 more is c.index_mut.ensures.value keeps.entries keeps.digest)
+          (wants-same was c.mark_close_sent.new.self _ c.mark_close_sent.ensures refl refl refl),
+    )
 
 pub returns-clause-state : goal.returns-clause-state
 returns-clause-state c =
@@ -45,5 +54,5 @@ returns-clause-before c =
     let keeps = keeps_from c.mark_close_sent.new.self was _ c.mark_close_sent.ensures refl refl refl in
     rw (← c.self.view_is)
     (old_head-before (the_view c.self.inside) (c.len-old.result - 2) c.self.inside.passed c.self.inside.passed_entries
-    c.mark_close_sent.new.self was c.self.invariant more is
+    c.mark_close_sent.new.self was c.self.invariant.0 more is
     c.index_mut.ensures.value keeps.entries keeps.digest)

@@ -6,6 +6,7 @@ use Rattle.rc_headroll.specs.contracts.log.LogHead.{the_view}
 use Rattle.rc_headroll.proofs.LogChanges.{keeps_from}
 use Rattle.rc_headroll.proofs.LogSteps.{commit-marked}
 use Rattle.rc_headroll.proofs.StillBefore.{written-sound, written-before}
+use Rattle.rc_headroll.proofs.WatchLemmas.{watched-written, wants-same}
 use Rattle.rc_headroll.proofs.log.LogHead.mark_commit.Goals as goal
 
 pub invariant_of-self : goal.invariant_of-self
@@ -13,11 +14,21 @@ invariant_of-self c =
     let has : true ≡ has_segment (log_of c.args.self.now) c.args.seg = sym c.requires.has in
     let kept : IsKept c.args.self.now.mark c.args.seg = c.requires.kept in
     let was = c.index_mut.result.now in
-    written-sound (the_view c.self.inside) c.args.seg c.from.result c.self.inside.passed c.self.inside.passed_entries
-    c.mark_commit_sent.new.self was c.self.invariant
-    (rw (← c.self.view_is) at has) c.from.ensures c.index_mut.ensures.value
-    (keeps_from c.mark_commit_sent.new.self was _ c.mark_commit_sent.ensures refl refl refl)
-    (rw (← c.self.view_is) at kept)
+    (
+      written-sound (the_view c.self.inside) c.args.seg c.from.result c.self.inside.passed c.self.inside.passed_entries
+          c.mark_commit_sent.new.self was c.self.invariant.0
+          (rw (← c.self.view_is) at has) c.from.ensures c.index_mut.ensures.value
+          (keeps_from c.mark_commit_sent.new.self was _ c.mark_commit_sent.ensures refl refl refl)
+          (rw (← c.self.view_is) at kept),
+      watched-written (the_view c.self.inside) c.args.seg c.from.result c.mark_commit_sent.new.self was c.self.invariant.1
+          (rw (← c.self.view_is) at has) c.from.ensures c.index_mut.ensures.value
+          (written-before (the_view c.self.inside) c.args.seg c.from.result c.self.inside.passed c.self.inside.passed_entries
+          c.mark_commit_sent.new.self was c.self.invariant.0
+          (rw (← c.self.view_is) at has) c.from.ensures c.index_mut.ensures.value
+          (keeps_from c.mark_commit_sent.new.self was _ c.mark_commit_sent.ensures refl refl refl)
+          (rw (← c.self.view_is) at kept))
+          (wants-same was c.mark_commit_sent.new.self _ c.mark_commit_sent.ensures refl refl refl),
+    )
 
 pub returns-clause-before : goal.returns-clause-before
 returns-clause-before c =
@@ -26,7 +37,7 @@ returns-clause-before c =
     let was = c.index_mut.result.now in
     rw (← c.self.view_is)
     (written-before (the_view c.self.inside) c.args.seg c.from.result c.self.inside.passed c.self.inside.passed_entries
-    c.mark_commit_sent.new.self was c.self.invariant
+    c.mark_commit_sent.new.self was c.self.invariant.0
     (rw (← c.self.view_is) at has) c.from.ensures c.index_mut.ensures.value
     (keeps_from c.mark_commit_sent.new.self was _ c.mark_commit_sent.ensures refl refl refl)
     (rw (← c.self.view_is) at kept))

@@ -1,10 +1,11 @@
-use Rattle.std.proofs.Common.{◌≡◌, ◌-◌, ℕ, true, length, sym, ap, ◌∙◌}
+use Rattle.std.proofs.Common.{◌≡◌, ◌-◌, ◌<◌, ℕ, true, length, sym, ap, ◌∙◌, arith}
 use Rattle.rc_model.specs.Segment.{Segment}
 use Rattle.rc_model.specs.Heads.{shuts}
 use Rattle.rc_headroll.specs.LogData.{log_of}
 use Rattle.rc_headroll.specs.contracts.log.LogHead.{the_view}
 use Rattle.rc_headroll.proofs.LogSteps.{sound-shut_marked, shut-marked, shuts-parts}
 use Rattle.rc_headroll.proofs.StillBefore.{old_head-sound, old_head-before}
+use Rattle.rc_headroll.proofs.WatchLemmas.{watched-still, wants-shut}
 use Rattle.rc_headroll.proofs.log.LogHead.mark_shut.Goals as goal
 
 pub invariant_of-self : goal.invariant_of-self
@@ -13,13 +14,22 @@ invariant_of-self c =
     let may' = rw (← c.self.view_is) at may in
     let is : c.len-old.result - 2 ≡ length c.self.inside.segments.items - 2 =
     ap (λ (n : ℕ). n - 2) (c.len-old.ensures ∙ c.self.inside.segments.ok.0) in
-    old_head-sound (the_view c.self.inside) (c.len-old.result - 2) c.self.inside.passed c.self.inside.passed_entries
-    c.mark_shut.new.self c.index_mut.result.now c.self.invariant
-    (shuts-parts (log_of (the_view c.self.inside)) (sym may')) is c.index_mut.ensures.value
-    (ap (λ (s : Segment). s.entries) c.mark_shut.ensures) (ap (λ (s : Segment). s.digest) c.mark_shut.ensures)
-    (sound-shut_marked (the_view c.self.inside) (c.len-old.result - 2) c.self.inside.passed c.self.inside.passed_entries
-    c.mark_shut.new.self c.index_mut.result.now c.self.invariant.now
-    may' is c.index_mut.ensures.value c.mark_shut.ensures)
+    let more : 1 < length c.self.inside.segments.items = shuts-parts (log_of (the_view c.self.inside)) (sym may') in
+    (
+      old_head-sound (the_view c.self.inside) (c.len-old.result - 2) c.self.inside.passed c.self.inside.passed_entries
+          c.mark_shut.new.self c.index_mut.result.now c.self.invariant.0
+          (shuts-parts (log_of (the_view c.self.inside)) (sym may')) is c.index_mut.ensures.value
+          (ap (λ (s : Segment). s.entries) c.mark_shut.ensures) (ap (λ (s : Segment). s.digest) c.mark_shut.ensures)
+          (sound-shut_marked (the_view c.self.inside) (c.len-old.result - 2) c.self.inside.passed c.self.inside.passed_entries
+          c.mark_shut.new.self c.index_mut.result.now c.self.invariant.0.now
+          may' is c.index_mut.ensures.value c.mark_shut.ensures),
+      watched-still (the_view c.self.inside) (c.len-old.result - 2) (length c.self.inside.segments.items - 1) c.mark_shut.new.self
+          c.index_mut.result.now c.self.invariant.1 (omega (arith, more, is)) (omega (arith, more, is)) c.index_mut.ensures.value
+          (old_head-before (the_view c.self.inside) (c.len-old.result - 2) c.self.inside.passed c.self.inside.passed_entries
+          c.mark_shut.new.self c.index_mut.result.now c.self.invariant.0 more is c.index_mut.ensures.value
+          (ap (λ (s : Segment). s.entries) c.mark_shut.ensures) (ap (λ (s : Segment). s.digest) c.mark_shut.ensures))
+          (wants-shut c.index_mut.result.now c.mark_shut.new.self c.mark_shut.ensures),
+    )
 
 pub returns-then-shuts-clause-state : goal.returns-then-shuts-clause-state
 returns-then-shuts-clause-state c =
@@ -38,6 +48,6 @@ returns-then-shuts-clause-before c =
     ap (λ (n : ℕ). n - 2) (c.len-old.ensures ∙ c.self.inside.segments.ok.0) in
     rw (← c.self.view_is)
     (old_head-before (the_view c.self.inside) (c.len-old.result - 2) c.self.inside.passed c.self.inside.passed_entries
-    c.mark_shut.new.self c.index_mut.result.now c.self.invariant
+    c.mark_shut.new.self c.index_mut.result.now c.self.invariant.0
     (shuts-parts (log_of (the_view c.self.inside)) (sym may')) is c.index_mut.ensures.value
     (ap (λ (s : Segment). s.entries) c.mark_shut.ensures) (ap (λ (s : Segment). s.digest) c.mark_shut.ensures))

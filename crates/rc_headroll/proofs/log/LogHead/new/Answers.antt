@@ -1,13 +1,20 @@
+use Rattle.std.proofs.Common.{length, ap}
+use Rattle.rc_headroll.specs.Before.{Mark}
 use Rattle.rc_headroll.proofs.SegmentTables.{log_of-nil}
 use Rattle.rc_headroll.proofs.SoundBefore.{before_of-nil, sound_log-new}
+use Rattle.rc_headroll.proofs.WatchLemmas.{watched-none}
 use Rattle.rc_headroll.proofs.log.LogHead.new.Goals as goal
 
 pub invariant_of-result : goal.invariant_of-result
 invariant_of-result c =
-    rw (c.new-2.ensures, c.new.ensures.items) (sound_log-new c.args.own c.args.factor c.args.size c.requires.factor c.requires.size)
+    (
+      rw (c.new-2.ensures, c.new.ensures.items)
+          (sound_log-new c.args.own c.args.factor c.args.size c.new-3.result c.requires.factor c.requires.size),
+      watched-none _ (ap length c.new.ensures.items) (ap (λ (m : Mark). m.head) c.new-2.ensures),
+    )
 
 pub returns-clause-log : goal.returns-clause-log
-returns-clause-log c = rw c.new.ensures.items (log_of-nil c.args.own c.args.factor c.args.size)
+returns-clause-log c = rw c.new.ensures.items (log_of-nil c.args.own c.args.factor c.args.size c.new-3.result)
 
 pub returns-clause-before : goal.returns-clause-before
-returns-clause-before c = rw (c.new-2.ensures, c.new.ensures.items) (before_of-nil c.args.own c.args.factor c.args.size)
+returns-clause-before c = rw (c.new-2.ensures, c.new.ensures.items) (before_of-nil c.args.own c.args.factor c.args.size c.new-3.result)

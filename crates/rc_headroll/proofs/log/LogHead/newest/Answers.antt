@@ -20,4 +20,4 @@ returns-clause-known c =
     let some : 0 < length c.self.inside.segments.items = rw (← c.self.view_is) at c.requires in
     rw (← c.self.view_is)
     (subst (λ (s : Segment). All (IsKnown (length c.self.inside.segments.items)) s.digest) (sym (is_head c))
-    (c.self.invariant.now.each (length c.self.inside.segments.items) some (omega arith)).known)
+    (c.self.invariant.0.now.each (length c.self.inside.segments.items) some (omega arith)).known)

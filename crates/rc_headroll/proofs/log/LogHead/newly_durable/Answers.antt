@@ -15,9 +15,9 @@ use Rattle.rc_headroll.proofs.log.LogHead.newly_durable.Goals as goal
 pub loop-place-init : goal.loop-place-init
 loop-place-init c =
     let kept : entries_to (segment_at c.self.inside.segments.items) c.self.inside.passed ≤ c.self.inside.durable =
-    omega (arith, c.self.invariant.now.passed_entries, c.self.invariant.now.passed_durable) in
+    omega (arith, c.self.invariant.0.now.passed_entries, c.self.invariant.0.now.passed_durable) in
     rw (← c.self.view_is) (record {
-      before = c.self.invariant.now.passed_entries;
+      before = c.self.invariant.0.now.passed_entries;
       added = ap (map log_place) c.new-places.ensures.items
           ∙ sym (window-none (segment_at c.self.inside.segments.items) c.self.inside.durable c.durable_now-now.result
           c.self.inside.passed kept);
@@ -32,12 +32,12 @@ overflow_add-before c =
     let is' : c.loop-place.before ≡ entries_to (segment_at c.self.inside.segments.items) place = rw (← c.self.view_is) at is in
     let small : entries_to (segment_at c.self.inside.segments.items) place ≤ MAX_SEGMENT * place =
     entries_to-small (log_of (the_view c.self.inside)) c.self.inside.passed c.self.inside.passed_entries place
-    c.self.invariant.now (omega arith) in
+    c.self.invariant.0.now (omega arith) in
     let fits : length c.index.result.now.entries ≤ c.self.inside.size =
     (sound_segment-read (the_view c.self.inside) c.self.inside.passed c.self.inside.passed_entries place
-    c.index.result.now c.self.invariant.now below c.index.ensures).fits in
+    c.index.result.now c.self.invariant.0.now below c.index.ensures).fits in
     let len : length c.entries-entries.result.now ≡ length c.index.result.now.entries = ap length c.entries-entries.ensures in
-    omega (arith, is', small, fits, len, c.self.invariant.now.size, c.self.invariant.now.few, below)
+    omega (arith, is', small, fits, len, c.self.invariant.0.now.size, c.self.invariant.0.now.few, below)
 
 pub loop-place-preserved : goal.loop-place-preserved
 loop-place-preserved c =

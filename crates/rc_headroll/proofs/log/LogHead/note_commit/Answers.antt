@@ -5,6 +5,7 @@ use Rattle.rc_headroll.specs.LogData.{log_of}
 use Rattle.rc_headroll.specs.contracts.log.LogHead.{the_view}
 use Rattle.rc_headroll.proofs.LogChanges.{commit_noted-written, keeps_from}
 use Rattle.rc_headroll.proofs.StillBefore.{written-sound, written-before}
+use Rattle.rc_headroll.proofs.WatchLemmas.{watched-written, wants-committed}
 use Rattle.rc_headroll.proofs.log.LogHead.note_commit.Goals as goal
 
 pub invariant_of-self : goal.invariant_of-self
@@ -12,11 +13,21 @@ invariant_of-self c =
     let has : true ≡ has_segment (log_of c.args.self.now) c.args.seg = sym c.requires.has in
     let kept : IsKept c.args.self.now.mark c.args.seg = c.requires.kept in
     let was = c.index_mut.result.now in
-    written-sound (the_view c.self.inside) c.args.seg c.from.result c.self.inside.passed c.self.inside.passed_entries
-    c.committed_at.new.self was c.self.invariant
-    (rw (← c.self.view_is) at has) c.from.ensures c.index_mut.ensures.value
-    (keeps_from c.committed_at.new.self was _ c.committed_at.ensures refl refl refl)
-    (rw (← c.self.view_is) at kept)
+    (
+      written-sound (the_view c.self.inside) c.args.seg c.from.result c.self.inside.passed c.self.inside.passed_entries
+          c.committed_at.new.self was c.self.invariant.0
+          (rw (← c.self.view_is) at has) c.from.ensures c.index_mut.ensures.value
+          (keeps_from c.committed_at.new.self was _ c.committed_at.ensures refl refl refl)
+          (rw (← c.self.view_is) at kept),
+      watched-written (the_view c.self.inside) c.args.seg c.from.result c.committed_at.new.self was c.self.invariant.1
+          (rw (← c.self.view_is) at has) c.from.ensures c.index_mut.ensures.value
+          (written-before (the_view c.self.inside) c.args.seg c.from.result c.self.inside.passed c.self.inside.passed_entries
+          c.committed_at.new.self was c.self.invariant.0
+          (rw (← c.self.view_is) at has) c.from.ensures c.index_mut.ensures.value
+          (keeps_from c.committed_at.new.self was _ c.committed_at.ensures refl refl refl)
+          (rw (← c.self.view_is) at kept))
+          (wants-committed c.args.epoch was c.committed_at.new.self c.committed_at.ensures),
+    )
 
 pub returns-clause-noted : goal.returns-clause-noted
 returns-clause-noted c =
@@ -32,7 +43,7 @@ returns-clause-before c =
     let was = c.index_mut.result.now in
     rw (← c.self.view_is)
     (written-before (the_view c.self.inside) c.args.seg c.from.result c.self.inside.passed c.self.inside.passed_entries
-    c.committed_at.new.self was c.self.invariant
+    c.committed_at.new.self was c.self.invariant.0
     (rw (← c.self.view_is) at has) c.from.ensures c.index_mut.ensures.value
     (keeps_from c.committed_at.new.self was _ c.committed_at.ensures refl refl refl)
     (rw (← c.self.view_is) at kept))

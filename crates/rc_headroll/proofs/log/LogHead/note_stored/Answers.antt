@@ -5,6 +5,7 @@ use Rattle.rc_headroll.specs.LogData.{log_of}
 use Rattle.rc_headroll.specs.contracts.log.LogHead.{the_view}
 use Rattle.rc_headroll.proofs.LogChanges.{stored-written, notes-written, keeps_from}
 use Rattle.rc_headroll.proofs.StillBefore.{written-sound, written-before}
+use Rattle.rc_headroll.proofs.WatchLemmas.{watched-written, wants-noted}
 use Rattle.rc_headroll.proofs.log.LogHead.note_stored.Goals as goal
 
 pub invariant_of-self : goal.invariant_of-self
@@ -12,11 +13,21 @@ invariant_of-self c =
     let has : true ≡ has_segment (log_of c.args.self.now) c.args.seg = sym c.requires.has in
     let kept : IsKept c.args.self.now.mark c.args.seg = c.requires.kept in
     let was = c.index_mut.result.now in
-    written-sound (the_view c.self.inside) c.args.seg c.from.result c.self.inside.passed c.self.inside.passed_entries
-    c.stored.new.self was c.self.invariant
-    (rw (← c.self.view_is) at has) c.from.ensures c.index_mut.ensures.value
-    (keeps_from c.stored.new.self was _ c.stored.ensures.noted refl refl refl)
-    (rw (← c.self.view_is) at kept)
+    (
+      written-sound (the_view c.self.inside) c.args.seg c.from.result c.self.inside.passed c.self.inside.passed_entries
+          c.stored.new.self was c.self.invariant.0
+          (rw (← c.self.view_is) at has) c.from.ensures c.index_mut.ensures.value
+          (keeps_from c.stored.new.self was _ c.stored.ensures.noted refl refl refl)
+          (rw (← c.self.view_is) at kept),
+      watched-written (the_view c.self.inside) c.args.seg c.from.result c.stored.new.self was c.self.invariant.1
+          (rw (← c.self.view_is) at has) c.from.ensures c.index_mut.ensures.value
+          (written-before (the_view c.self.inside) c.args.seg c.from.result c.self.inside.passed c.self.inside.passed_entries
+          c.stored.new.self was c.self.invariant.0
+          (rw (← c.self.view_is) at has) c.from.ensures c.index_mut.ensures.value
+          (keeps_from c.stored.new.self was _ c.stored.ensures.noted refl refl refl)
+          (rw (← c.self.view_is) at kept))
+          (wants-noted c.args.from c.args.epoch c.args.len c.args.closed was c.stored.new.self c.stored.ensures.noted),
+    )
 
 pub returns-clause-before : goal.returns-clause-before
 returns-clause-before c =
@@ -25,7 +36,7 @@ returns-clause-before c =
     let was = c.index_mut.result.now in
     rw (← c.self.view_is)
     (written-before (the_view c.self.inside) c.args.seg c.from.result c.self.inside.passed c.self.inside.passed_entries
-    c.stored.new.self was c.self.invariant
+    c.stored.new.self was c.self.invariant.0
     (rw (← c.self.view_is) at has) c.from.ensures c.index_mut.ensures.value
     (keeps_from c.stored.new.self was _ c.stored.ensures.noted refl refl refl)
     (rw (← c.self.view_is) at kept))

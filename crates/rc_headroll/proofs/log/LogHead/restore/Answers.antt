@@ -1,10 +1,11 @@
-use Rattle.std.proofs.Common.{◌≡◌, ℕ, length, take, List, ap, ◌∙◌, sym}
+use Rattle.std.proofs.Common.{◌≡◌, ℕ, length, take, List, refl, ap, ◌∙◌, sym}
 use Rattle.std.proofs.lemmas.List.{with_items_is}
 use Rattle.rc_model.specs.Segment.{Segment}
 use Rattle.rc_headroll.specs.LogData.{segment_at}
 use Rattle.rc_headroll.specs.Before.{mark_of, segments_before}
 use Rattle.rc_headroll.specs.contracts.log.LogHead.{the_view}
 use Rattle.rc_headroll.proofs.SoundBefore.{restored-log, restored-before, restored-sound}
+use Rattle.rc_headroll.proofs.WatchLemmas.{watched-restored}
 use Rattle.rc_headroll.proofs.log.LogHead.restore.Goals as goal
 
 pub invariant_of-self : goal.invariant_of-self
@@ -15,14 +16,28 @@ invariant_of-self c =
     let table = c.put_back.ensures ∙ ap (λ (ss : List Segment). segments_before c.self.inside.before (segment_at ss))
     c.as_mut_slice.ensures.value in
     let all = with_items_is c.truncate.new.self c.put_back.new.segments (len ∙ sym c.truncate.new.self.ok.0) in
-    restored-sound (the_view c.self.inside) c.truncate.new.self.items c.put_back.new.segments _
-    c.phase-self-inside.result c.durable-self-inside.result
-    c.passed-self-inside.result c.passed_entries-self-inside.result c.begin.new.self c.self.invariant.back.known cut len table all
-    c.phase-self-inside.ensures c.durable-self-inside.ensures c.passed-self-inside.ensures c.passed_entries-self-inside.ensures
-    c.self.inside.passed c.self.inside.passed_entries c.self.invariant
-    (c.begin.ensures ∙ ap (λ (ss : List Segment). mark_of ss c.phase-self-inside.result c.durable-self-inside.result
-    c.passed-self-inside.result c.passed_entries-self-inside.result)
-    c.as_slice.ensures.value)
+    (
+      restored-sound (the_view c.self.inside) c.truncate.new.self.items c.put_back.new.segments _
+          c.phase-self-inside.result c.durable-self-inside.result
+          c.passed-self-inside.result c.passed_entries-self-inside.result c.begin.new.self c.self.invariant.0.back.known cut len table all
+          c.phase-self-inside.ensures c.durable-self-inside.ensures c.passed-self-inside.ensures c.passed_entries-self-inside.ensures
+          c.self.inside.passed c.self.inside.passed_entries c.self.invariant.0
+          (c.begin.ensures ∙ ap (λ (ss : List Segment). mark_of ss c.phase-self-inside.result c.durable-self-inside.result
+          c.passed-self-inside.result c.passed_entries-self-inside.result)
+          c.as_slice.ensures.value),
+      watched-restored (the_view c.self.inside) _ c.self.invariant.1 refl
+          (restored-log (the_view c.self.inside) c.truncate.new.self.items c.put_back.new.segments _
+          c.phase-self-inside.result c.durable-self-inside.result
+          c.passed-self-inside.result c.passed_entries-self-inside.result c.begin.new.self c.self.invariant.0.back.known cut len table all
+          c.phase-self-inside.ensures c.durable-self-inside.ensures c.passed-self-inside.ensures c.passed_entries-self-inside.ensures)
+          (restored-before (the_view c.self.inside) c.truncate.new.self.items c.put_back.new.segments _
+          c.phase-self-inside.result c.durable-self-inside.result
+          c.passed-self-inside.result c.passed_entries-self-inside.result c.begin.new.self c.self.invariant.0.back.known cut len table all
+          c.phase-self-inside.ensures c.durable-self-inside.ensures c.passed-self-inside.ensures c.passed_entries-self-inside.ensures
+          (c.begin.ensures ∙ ap (λ (ss : List Segment). mark_of ss c.phase-self-inside.result c.durable-self-inside.result
+          c.passed-self-inside.result c.passed_entries-self-inside.result)
+          c.as_slice.ensures.value)),
+    )
 
 pub returns-clause-log : goal.returns-clause-log
 returns-clause-log c =
@@ -35,7 +50,7 @@ returns-clause-log c =
     rw (← c.self.view_is)
     (restored-log (the_view c.self.inside) c.truncate.new.self.items c.put_back.new.segments _
     c.phase-self-inside.result c.durable-self-inside.result
-    c.passed-self-inside.result c.passed_entries-self-inside.result c.begin.new.self c.self.invariant.back.known cut len table all
+    c.passed-self-inside.result c.passed_entries-self-inside.result c.begin.new.self c.self.invariant.0.back.known cut len table all
     c.phase-self-inside.ensures c.durable-self-inside.ensures c.passed-self-inside.ensures c.passed_entries-self-inside.ensures)
 
 pub returns-clause-before : goal.returns-clause-before
@@ -49,7 +64,7 @@ returns-clause-before c =
     rw (← c.self.view_is)
     (restored-before (the_view c.self.inside) c.truncate.new.self.items c.put_back.new.segments _
     c.phase-self-inside.result c.durable-self-inside.result
-    c.passed-self-inside.result c.passed_entries-self-inside.result c.begin.new.self c.self.invariant.back.known cut len table all
+    c.passed-self-inside.result c.passed_entries-self-inside.result c.begin.new.self c.self.invariant.0.back.known cut len table all
     c.phase-self-inside.ensures c.durable-self-inside.ensures c.passed-self-inside.ensures c.passed_entries-self-inside.ensures
     (c.begin.ensures ∙ ap (λ (ss : List Segment). mark_of ss c.phase-self-inside.result c.durable-self-inside.result
     c.passed-self-inside.result c.passed_entries-self-inside.result)

@@ -29,7 +29,7 @@ returns-then-not-is_shut-clause-few c =
       arith,
       is',
       entries_to-small (log_of (the_view c.self.inside)) c.self.inside.passed
-          c.self.inside.passed_entries place c.self.invariant.now (omega arith),
+          c.self.inside.passed_entries place c.self.invariant.0.now (omega arith),
     )
 
 pub overflow_add-entries : goal.overflow_add-entries
@@ -41,11 +41,11 @@ overflow_add-entries c =
     let is' : c.loop-place.entries ≡ entries_to (segment_at c.self.inside.segments.items) place = rw (← c.self.view_is) at is in
     let small : entries_to (segment_at c.self.inside.segments.items) place ≤ MAX_SEGMENT * place =
     entries_to-small (log_of (the_view c.self.inside)) c.self.inside.passed c.self.inside.passed_entries place
-    c.self.invariant.now (omega arith) in
+    c.self.invariant.0.now (omega arith) in
     let fits : length c.index-segment.result.now.entries ≤ c.self.inside.size =
     (sound_segment-read (the_view c.self.inside) c.self.inside.passed c.self.inside.passed_entries place
-    c.index-segment.result.now c.self.invariant.now below c.index-segment.ensures).fits in
-    omega (arith, is', small, fits, c.len-entries.ensures, c.self.invariant.now.size, c.self.invariant.now.few, below)
+    c.index-segment.result.now c.self.invariant.0.now below c.index-segment.ensures).fits in
+    omega (arith, is', small, fits, c.len-entries.ensures, c.self.invariant.0.now.size, c.self.invariant.0.now.few, below)
 
 pub loop-place-preserved : goal.loop-place-preserved
 loop-place-preserved c =

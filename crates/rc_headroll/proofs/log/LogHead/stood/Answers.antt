@@ -13,7 +13,7 @@ returns-in-None c =
     let above : 0 < c.args.seg = omega (arith, c.if-seg-eq0.false) in
     let within : c.args.seg ≤ c.self.inside.before.head = omega (arith, c.if-head-from.false, c.head.ensures, c.from.ensures) in
     let inside : c.from-2.result - 1 < length c.self.inside.segments.items =
-    omega (arith, above, within, c.self.invariant.back.known, c.from-2.ensures) in
+    omega (arith, above, within, c.self.invariant.0.back.known, c.from-2.ensures) in
     let is = segment_at-read c.self.inside.segments.items c.args.seg (c.from-2.result - 1) c.index.result.now
     (omega (arith, above, c.from-2.ensures)) inside c.index.ensures in
     rw (← c.self.view_is)
@@ -25,7 +25,7 @@ returns-then-epoch c =
     let above : 0 < c.args.seg = omega (arith, c.if-seg-eq0.false) in
     let within : c.args.seg ≤ c.self.inside.before.head = omega (arith, c.if-head-from.false, c.head.ensures, c.from.ensures) in
     let inside : c.from-2.result - 1 < length c.self.inside.segments.items =
-    omega (arith, above, within, c.self.invariant.back.known, c.from-2.ensures) in
+    omega (arith, above, within, c.self.invariant.0.back.known, c.from-2.ensures) in
     let is = segment_at-read c.self.inside.segments.items c.args.seg (c.from-2.result - 1) c.index.result.now
     (omega (arith, above, c.from-2.ensures)) inside c.index.ensures in
     let epoch : c.in-Some.state.now.config.epoch ≡ c.index.result.now.config.epoch =
@@ -42,7 +42,7 @@ returns-else-epoch c =
     let above : 0 < c.args.seg = omega (arith, c.if-seg-eq0.false) in
     let within : c.args.seg ≤ c.self.inside.before.head = omega (arith, c.if-head-from.false, c.head.ensures, c.from.ensures) in
     let inside : c.from-2.result - 1 < length c.self.inside.segments.items =
-    omega (arith, above, within, c.self.invariant.back.known, c.from-2.ensures) in
+    omega (arith, above, within, c.self.invariant.0.back.known, c.from-2.ensures) in
     let is = segment_at-read c.self.inside.segments.items c.args.seg (c.from-2.result - 1) c.index.result.now
     (omega (arith, above, c.from-2.ensures)) inside c.index.ensures in
     let apart = ne_eqb c.epoch.result c.epoch-in-Some.result c.if-epoch.false in

@@ -13,5 +13,5 @@ keep_all-requires c =
     let left : c.args.freed.now ≡ left_out (log_of c.args.self.now) = c.requires.left in
     let known : All (IsKnown (length c.self.inside.segments.items)) (left_out (log_of (the_view c.self.inside))) =
     known-left_out (log_of (the_view c.self.inside)) c.self.inside.passed c.self.inside.passed_entries
-    c.self.invariant.now (rw (← c.self.view_is) at may) in
+    c.self.invariant.0.now (rw (← c.self.view_is) at may) in
     rw (left, ← c.self.view_is) known

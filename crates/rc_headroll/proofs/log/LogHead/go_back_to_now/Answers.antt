@@ -3,14 +3,19 @@ use Rattle.rc_model.specs.Segment.{Segment}
 use Rattle.rc_headroll.specs.Before.{mark_of}
 use Rattle.rc_headroll.specs.contracts.log.LogHead.{the_view}
 use Rattle.rc_headroll.proofs.SoundBefore.{before_of-begin, sound-begin}
-use Rattle.rc_headroll.proofs.log.LogHead.begin.Goals as goal
+use Rattle.rc_headroll.proofs.WatchLemmas.{watched-begins}
+use Rattle.rc_headroll.proofs.log.LogHead.go_back_to_now.Goals as goal
 
 pub invariant_of-self : goal.invariant_of-self
 invariant_of-self c =
     let is = c.begin.ensures ∙
     ap (λ (segments : List Segment). mark_of segments c.self.inside.phase c.self.inside.durable c.self.inside.passed
     c.self.inside.passed_entries) c.as_slice.ensures.value in
-    sound-begin (the_view c.self.inside) c.self.inside.passed c.self.inside.passed_entries c.begin.new.self c.self.invariant.now is
+    (
+      sound-begin (the_view c.self.inside) c.self.inside.passed c.self.inside.passed_entries c.begin.new.self c.self.invariant.0.now is,
+      watched-begins (the_view c.self.inside) c.begin.new.self c.self.invariant.1
+          (before_of-begin (the_view c.self.inside) c.self.inside.passed c.self.inside.passed_entries c.begin.new.self is),
+    )
 
 pub returns-clause-before : goal.returns-clause-before
 returns-clause-before c =

@@ -1,0 +1,291 @@
+-- The timer goes over each segment that may want something, whatever is done with the log.
+use Rattle.std.proofs.Common.{◌≡◌, ⊎_elim, ℕ, ◌+◌, ◌-◌, ◌<◌, ◌≤◌, Bool, true, false, cond, not, ◌&&◌, ◌||◌, eqb, List, []}
+use Rattle.std.proofs.Common.{◌∷◌, ◌++◌, length, get_or, set, map, Some, is_some, Result, Ok, Err, is_ok, IsOk, refl, ap, sym, ◌∙◌, subst, arith}
+use Rattle.std.specs.List.{list_all}
+use Rattle.std.proofs.lemmas.Bool.{and_parts, and_from, cases_eq, cond_both, cond-false, ne_eqb, false≢true}
+use Rattle.std.proofs.lemmas.List.{length-set, length_push}
+use Rattle.rc_types.specs.declared.ids.ServerId.{ServerId}
+use Rattle.rc_types.specs.declared.kept.Member.{Member}
+use Rattle.rc_types.specs.declared.kept.Phase.{Phase}
+use Rattle.rc_model.specs.Tables.{put}
+use Rattle.rc_model.specs.Config.{Config, is_placed, all_placed, is_heard, told_with, told_if_heard, noted, committed_at}
+use Rattle.rc_model.specs.Segment.{Segment}
+use Rattle.rc_model.specs.Log.{Log, has_segment}
+use Rattle.rc_headroll.specs.LogData.{LogData, segment_at, log_of, before_of}
+use Rattle.rc_headroll.specs.Watching.{Watched, is_awake, wants_nothing, is_watched, AreWatched}
+use Rattle.rc_headroll.specs.Soundness.{IsSoundLog, IsWatchedLog}
+use Rattle.rc_headroll.specs.Freeing.{freed_in}
+use Rattle.rc_headroll.specs.Before.{Mark}
+use Rattle.rc_headroll.proofs.SegmentTables.{put_each, put-other, segment_at-set, segment_at-read, segment_at-push}
+use Rattle.rc_headroll.proofs.LogChanges.{seg_place}
+
+or-from : (a b b' : Bool) → (b ≡ true → b' ≡ true) → (a || b) ≡ true → (a || b') ≡ true
+or-from true b b' more e = refl
+or-from false b b' more e = more e
+
+or-first : (a b : Bool) → a ≡ true → (a || b) ≡ true
+or-first a b e = ap (λ (x : Bool). x || b) e
+
+or-second : (a b : Bool) → b ≡ true → (a || b) ≡ true
+or-second true b e = refl
+or-second false b e = e
+
+-- What a segment that wants nothing goes on wanting
+
+-- a segment that was changed in nothing that it could want
+pub record StillWants (was x : Segment) : Type 0 where
+  pub nothing : wants_nothing was ≡ true → wants_nothing x ≡ true
+
+-- One segment is written
+
+pub watched-put : (watch : Watched) (head : ℕ) (t : ℕ → Segment) (seg : ℕ) (x : Segment) → AreWatched watch head t →
+    (is_watched watch seg (t seg) ≡ true → is_watched watch seg x ≡ true) → AreWatched watch head (put t seg x)
+watched-put watch head t seg x watched still =
+    put_each (λ o s. 0 < o → o ≤ head → is_watched watch o s ≡ true) t seg x
+    (λ above within. still (watched seg above within)) watched
+
+pub still-watched : (watch : Watched) (seg : ℕ) (was x : Segment) → StillWants was x →
+    is_watched watch seg was ≡ true → is_watched watch seg x ≡ true
+still-watched watch seg was x still = or-from (is_awake watch seg) (wants_nothing was) (wants_nothing x) still.nothing
+
+-- where the log goes back to the same
+pub watched-from : (old new : LogData) → IsWatchedLog old → new.watch ≡ old.watch → before_of new ≡ before_of old →
+    AreWatched old.watch (log_of new).head (log_of new).segments → IsWatchedLog new
+watched-from old new watched same before now = record {
+  now = subst (λ (w : Watched). AreWatched w (log_of new).head (log_of new).segments) (sym same) now;
+  before = subst (λ (w : Watched). AreWatched w (before_of new).head (before_of new).segments) (sym same)
+      (subst (λ (log : Log). AreWatched old.watch log.head log.segments) (sym before) watched.before);
+}
+
+module _ (kept : LogData) (place seg : ℕ) (x was : Segment) (watched : IsWatchedLog kept) (e : seg ≡ place + 1)
+    (inside : place < length kept.segments) (read : was ≡ get_or kept.segments place was)
+    (before : before_of (record kept { segments = set kept.segments place x }) ≡ before_of kept) where
+  pub watched-set : (is_watched kept.watch seg was ≡ true → is_watched kept.watch seg x ≡ true) →
+      IsWatchedLog (record kept { segments = set kept.segments place x })
+  watched-set still =
+      let at : was ≡ segment_at kept.segments seg = segment_at-read kept.segments seg place was e inside read in
+      watched-from kept (record kept { segments = set kept.segments place x }) watched refl before
+      (rw (length-set kept.segments place x, segment_at-set kept.segments place x seg e inside)
+      (watched-put kept.watch (length kept.segments) (segment_at kept.segments) seg x watched.now
+      (λ was_so. still (subst (λ (s : Segment). is_watched kept.watch seg s ≡ true) (sym at) was_so))))
+
+  pub watched-still : StillWants was x → IsWatchedLog (record kept { segments = set kept.segments place x })
+  watched-still still = watched-set (still-watched kept.watch seg was x still)
+
+module _ (kept : LogData) (seg from : ℕ) (x was : Segment) (watched : IsWatchedLog kept)
+    (has : true ≡ has_segment (log_of kept) seg) (is : from ≡ seg)
+    (read : was ≡ get_or kept.segments (from - 1) was)
+    (before : before_of (record kept { segments = set kept.segments (from - 1) x }) ≡ before_of kept) where
+  pub watched-written : StillWants was x → IsWatchedLog (record kept { segments = set kept.segments (from - 1) x })
+  watched-written still =
+      let at = seg_place kept seg from has is in
+      watched-still kept (from - 1) seg x was watched at.0 at.1 read before still
+
+  -- one that is gone over may be changed in all
+  pub watched-awake : is_awake kept.watch seg ≡ true → IsWatchedLog (record kept { segments = set kept.segments (from - 1) x })
+  watched-awake awake =
+      let at = seg_place kept seg from has is in
+      watched-set kept (from - 1) seg x was watched at.0 at.1 read before
+      (λ was_so. or-first (is_awake kept.watch seg) (wants_nothing x) awake)
+
+-- What the code changes
+
+wants-parts : (s : Segment) → wants_nothing s ≡ true →
+    (s.shut ≡ true) × (s.config.committed ≡ true) × ((s.freed || all_placed s.config) ≡ true)
+wants-parts s e =
+    let first = and_parts s.shut (s.config.committed && (s.freed || all_placed s.config)) e in
+    let second = and_parts s.config.committed (s.freed || all_placed s.config) first.1 in
+    (first.0, second.0, second.1)
+
+wants-from : (s : Segment) → s.shut ≡ true → s.config.committed ≡ true → (s.freed || all_placed s.config) ≡ true → wants_nothing s ≡ true
+wants-from s shut committed placed =
+    and_from s.shut (s.config.committed && (s.freed || all_placed s.config)) shut
+    (and_from s.config.committed (s.freed || all_placed s.config) committed placed)
+
+-- in nothing at all
+pub wants-same : (was x y : Segment) → x ≡ y → y.shut ≡ was.shut → y.config ≡ was.config → y.freed ≡ was.freed → StillWants was x
+wants-same was x y e shut config freed = record {
+  nothing = λ nothing. rw (e, shut, config, freed) nothing;
+}
+
+placed-told : (from : ServerId) (len : ℕ) (closed : Bool) (member : Member) → is_placed member ≡ true →
+    is_placed (told_if_heard from len closed member) ≡ true
+placed-told from len closed member placed =
+    cond_both (is_heard from member) (record member { told = Some (told_with member.told len closed) }) member
+    (λ (m : Member). is_placed m ≡ true)
+    (λ heard. and_from (not member.lost) true (and_parts (not member.lost) (is_some member.told) placed).0 refl)
+    (λ other. placed)
+
+all_placed-told : (from : ServerId) (len : ℕ) (closed : Bool) (members : List Member) → list_all is_placed members ≡ true →
+    list_all is_placed (map (told_if_heard from len closed) members) ≡ true
+all_placed-told from len closed [] placed = refl
+all_placed-told from len closed (member ∷ members) placed =
+    let parts = and_parts (is_placed member) (list_all is_placed members) placed in
+    and_from (is_placed (told_if_heard from len closed member)) (list_all is_placed (map (told_if_heard from len closed) members))
+    (placed-told from len closed member parts.0) (all_placed-told from len closed members parts.1)
+
+-- a member tells something
+pub wants-noted : (from : ServerId) (epoch len : ℕ) (closed : Bool) (was x : Segment) →
+    x ≡ record was { config = noted from epoch len closed was.config } → StillWants was x
+wants-noted from epoch len closed was x e = record {
+  nothing = λ nothing.
+      let parts = wants-parts was nothing in
+      let told : Config = record was.config { members = map (told_if_heard from len closed) was.config.members } in
+      subst (λ (s : Segment). wants_nothing s ≡ true) (sym e)
+      (cond_both (eqb epoch was.config.epoch) told was.config
+      (λ (c : Config). wants_nothing (record was { config = c }) ≡ true)
+      (λ same. wants-from (record was { config = told }) parts.0 parts.1
+      (or-from was.freed (all_placed was.config) (all_placed told) (all_placed-told from len closed was.config.members) parts.2))
+      (λ other. nothing));
+}
+
+-- an epoch is committed
+pub wants-committed : (epoch : ℕ) (was x : Segment) → x ≡ record was { config = committed_at epoch was.config } → StillWants was x
+wants-committed epoch was x e = record {
+  nothing = λ nothing.
+      let parts = wants-parts was nothing in
+      let committed : Config = record was.config { committed = true } in
+      subst (λ (s : Segment). wants_nothing s ≡ true) (sym e)
+      (cond_both (eqb epoch was.config.epoch) committed was.config
+      (λ (c : Config). wants_nothing (record was { config = c }) ≡ true)
+      (λ same. wants-from (record was { config = committed }) parts.0 refl parts.2)
+      (λ other. nothing));
+}
+
+-- the segment is shut
+pub wants-shut : (was x : Segment) → x ≡ record was { shut = true } → StillWants was x
+wants-shut was x e = record {
+  nothing = λ nothing.
+      let parts = wants-parts was nothing in
+      subst (λ (s : Segment). wants_nothing s ≡ true) (sym e)
+      (wants-from (record was { shut = true }) refl parts.1 parts.2);
+}
+
+-- it is freed
+wants-freed : (was : Segment) → wants_nothing was ≡ true → wants_nothing (record was { freed = true }) ≡ true
+wants-freed was nothing =
+    let parts = wants-parts was nothing in
+    wants-from (record was { freed = true }) parts.0 parts.1 refl
+
+watched-freed : (watch : Watched) (head : ℕ) (segs : List ℕ) (t : ℕ → Segment) → AreWatched watch head t →
+    AreWatched watch head (freed_in segs t)
+watched-freed watch head [] t watched = watched
+watched-freed watch head (seg ∷ segs) t watched =
+    watched-freed watch head segs (put t seg (record (t seg) { freed = true }))
+    (watched-put watch head t seg (record (t seg) { freed = true }) watched
+    (or-from (is_awake watch seg) (wants_nothing (t seg)) (wants_nothing (record (t seg) { freed = true })) (wants-freed (t seg))))
+
+pub watched-frees : (kept : LogData) (segs : List ℕ) (segments : List Segment) (phase : Phase) → IsWatchedLog kept →
+    length segments ≡ length kept.segments → segment_at segments ≡ freed_in segs (segment_at kept.segments) →
+    before_of (record kept { segments = segments; phase = phase }) ≡ before_of kept →
+    IsWatchedLog (record kept { segments = segments; phase = phase })
+watched-frees kept segs segments phase watched len table before =
+    watched-from kept (record kept { segments = segments; phase = phase }) watched refl before
+    (rw (len, table) (watched-freed kept.watch (length kept.segments) segs (segment_at kept.segments) watched.now))
+
+-- More is gone over
+
+-- soundness doesn't speak of it
+pub sound-watch : (kept : LogData) (passed entries : ℕ) (watch : Watched) → IsSoundLog kept passed entries →
+    IsSoundLog (record kept { watch = watch }) passed entries
+sound-watch kept passed entries watch sound = record { now = sound.now; before = sound.before; back = sound.back }
+
+watched-more : (old new : Watched) (head : ℕ) (t : ℕ → Segment) →
+    ((seg : ℕ) → is_awake old seg ≡ true → is_awake new seg ≡ true) → AreWatched old head t → AreWatched new head t
+watched-more old new head t more watched = λ seg above within.
+    either (is_awake old seg) (wants_nothing (t seg)) (is_awake new seg) (more seg) (watched seg above within)
+  where
+    either : (a b c : Bool) → (a ≡ true → c ≡ true) → (a || b) ≡ true → (c || b) ≡ true
+    either true b c more e = or-first c b (more refl)
+    either false b c more e = or-second c b e
+
+pub watched-woken : (kept : LogData) (new : Watched) → IsWatchedLog kept →
+    ((seg : ℕ) → is_awake kept.watch seg ≡ true → is_awake new seg ≡ true) → IsWatchedLog (record kept { watch = new })
+watched-woken kept new watched more = record {
+  now = watched-more kept.watch new (log_of kept).head (log_of kept).segments more watched.now;
+  before = watched-more kept.watch new (before_of kept).head (before_of kept).segments more watched.before;
+}
+
+-- A head is opened, and gone over
+
+-- what is pushed where there is room
+pub pushed-within : {T E : Type 0} (r : Result T E) (new room old : List Segment) (x : Segment) → IsOk r →
+    new ≡ cond (is_ok r) (room ++ x ∷ []) room → room ≡ old → new ≡ old ++ x ∷ []
+pushed-within (Ok value) new room old x ok is same = is ∙ ap (λ (segments : List Segment). segments ++ x ∷ []) same
+pushed-within (Err fault) new room old x ok is same = absurd (false≢true ok)
+
+pub watched-opened : (kept : LogData) (x : Segment) (segments : List Segment) (phase : Phase) (seg : ℕ) (new : Watched) →
+    IsWatchedLog kept → ((other : ℕ) → is_awake kept.watch other ≡ true → is_awake new other ≡ true) →
+    seg ≡ length kept.segments + 1 → is_awake new seg ≡ true → segments ≡ kept.segments ++ x ∷ [] →
+    before_of (record kept { segments = segments; phase = phase }) ≡ before_of kept →
+    IsWatchedLog (record kept { segments = segments; phase = phase; watch = new })
+watched-opened kept x segments phase seg new watched more at awake is before = record {
+  now =
+      let head : length segments ≡ length kept.segments + 1 = ap length is ∙ length_push kept.segments x in
+      let table : segment_at segments ≡ put (segment_at kept.segments) seg x =
+      ap segment_at is ∙ segment_at-push kept.segments x seg at in
+      let old = watched-more kept.watch new (length kept.segments) (segment_at kept.segments) more watched.now in
+      rw (head, table)
+      (λ o above within. ⊎_elim {C = is_watched new o (put (segment_at kept.segments) seg x o) ≡ true}
+      (λ (here : o ≡ seg). or-first (is_awake new o) (wants_nothing (put (segment_at kept.segments) seg x o))
+      (subst (λ (n : ℕ). is_awake new n ≡ true) (sym here) awake))
+      (λ (apart : o ≡ seg → ⊥). subst (λ (s : Segment). is_watched new o s ≡ true)
+      (sym (put-other (segment_at kept.segments) seg x o (λ (same : seg ≡ o). apart (sym same))))
+      (old o above (omega (arith, apart, at))))
+      (cases_eq o seg));
+  before = subst (λ (log : Log). AreWatched new log.head log.segments) (sym before)
+      (watched-more kept.watch new (before_of kept).head (before_of kept).segments more watched.before);
+}
+
+-- A segment that wants nothing is let go
+
+watched-less : (old new : Watched) (head : ℕ) (t : ℕ → Segment) (seg : ℕ) → wants_nothing (t seg) ≡ true →
+    ((other : ℕ) → is_awake new other ≡ cond (eqb seg other) false (is_awake old other)) → AreWatched old head t → AreWatched new head t
+watched-less old new head t seg nothing less watched = λ o above within.
+    ⊎_elim {C = is_watched new o (t o) ≡ true}
+    (λ (here : o ≡ seg). or-second (is_awake new o) (wants_nothing (t o))
+    (subst (λ (n : ℕ). wants_nothing (t n) ≡ true) (sym here) nothing))
+    (λ (apart : o ≡ seg → ⊥). subst (λ (b : Bool). (b || wants_nothing (t o)) ≡ true)
+    (sym (less o ∙ cond-false (eqb seg o) false (is_awake old o) (ne_eqb seg o (λ (same : seg ≡ o). apart (sym same)))))
+    (watched o above within))
+    (cases_eq o seg)
+
+pub watched-let_go : (kept : LogData) (new : Watched) (seg : ℕ) → IsWatchedLog kept → before_of kept ≡ log_of kept →
+    wants_nothing ((log_of kept).segments seg) ≡ true →
+    ((other : ℕ) → is_awake new other ≡ cond (eqb seg other) false (is_awake kept.watch other)) →
+    IsWatchedLog (record kept { watch = new })
+watched-let_go kept new seg watched same nothing less =
+    let now = watched-less kept.watch new (log_of kept).head (log_of kept).segments seg nothing less watched.now in
+    record { now = now; before = subst (λ (log : Log). AreWatched new log.head log.segments) (sym same) now }
+
+-- The log goes back, or goes back to now
+
+pub watched-begins : (kept : LogData) (new : Mark) → IsWatchedLog kept → before_of (record kept { mark = new }) ≡ log_of kept →
+    IsWatchedLog (record kept { mark = new })
+watched-begins kept new watched before = record {
+  now = watched.now;
+  before = subst (λ (log : Log). AreWatched kept.watch log.head log.segments) (sym before) watched.now;
+}
+
+pub watched-kept : (kept : LogData) (new : Mark) → IsWatchedLog kept → before_of (record kept { mark = new }) ≡ before_of kept →
+    IsWatchedLog (record kept { mark = new })
+watched-kept kept new watched before = watched-from kept (record kept { mark = new }) watched refl before watched.now
+
+-- where both logs are the one that it went back to
+pub watched-restored : (old new : LogData) → IsWatchedLog old → new.watch ≡ old.watch → log_of new ≡ before_of old →
+    before_of new ≡ before_of old → IsWatchedLog new
+watched-restored old new watched same now before =
+    watched-from old new watched same before
+    (subst (λ (log : Log). AreWatched old.watch log.head log.segments) (sym now) watched.before)
+
+-- a log with no segment
+pub watched-none : (kept : LogData) → (log_of kept).head ≡ 0 → (before_of kept).head ≡ 0 → IsWatchedLog kept
+watched-none kept now before = record {
+  now = λ seg above within. absurd (omega (arith, now));
+  before = λ seg above within. absurd (omega (arith, before));
+}
+
+-- more of it is durable, or its phase goes on
+pub watched-durable : (kept : LogData) (phase : Phase) (durable : ℕ) → IsWatchedLog kept →
+    IsWatchedLog (record kept { phase = phase; durable = durable })
+watched-durable kept phase durable watched = record { now = watched.now; before = watched.before }

@@ -1,0 +1,71 @@
+//! Which segments the timer goes over.
+
+ghost use Rattle.std.specs.Prelude.{◌≡◌, ◌<◌, ◌≤◌, ℕ, true, false, OnOk, OnErr, IfSome};
+ghost use Rattle.rc_model.specs.Log.{has_segment};
+ghost use Rattle.rc_headroll.specs.LogData.{log_of, before_of};
+ghost use Rattle.rc_headroll.specs.Watching.{is_awake, wants_nothing};
+
+use crate::log::LogHead;
+use std::alloc::AllocError;
+
+impl LogHead {
+    /// The next segment after this one that may want something of the timer: that is open, or under an
+    /// epoch that isn't committed, or that was not freed and has a member which is lost or has told nothing.
+    /// Each one that is passed over wants nothing.
+    pub fn next_awake(&self, done: u16) -> Option<u16>
+        ensures later { IfSome result (λ seg. done < seg) }
+        ensures known { IfSome result (λ seg. has_segment (log_of self.now) seg ≡ true) }
+        ensures others { (other : ℕ) → done < other → other ≤ (log_of self.now).head →
+            IfSome result (λ seg. other < seg) → wants_nothing ((log_of self.now).segments other) ≡ true }
+    {
+        let seg = self.watch.next(done)?;
+        if !self.has(seg) {
+            return None;
+        }
+        Some(seg)
+    }
+
+    /// From here on the timer goes over the segment.
+    pub(crate) fn wake(&mut self, seg: u16) -> Result<(), AllocError>
+        ensures log { log_of self.new ≡ log_of self.old }
+        ensures before { before_of self.new ≡ before_of self.old }
+        ensures awake { OnOk result (is_awake self.new.watch seg ≡ true) }
+    {
+        self.watch.wake(seg)
+    }
+
+    /// Lets each segment go that wants nothing, of those that the timer goes over. A step comes to it only at
+    /// its beginning. It takes no memory.
+    pub fn rest(&mut self)
+        requires { before_of self.old ≡ log_of self.old }
+        ensures log { log_of self.new ≡ log_of self.old }
+        ensures before { before_of self.new ≡ before_of self.old }
+    {
+        self.rest_after(0);
+    }
+
+    /// Lets those go that want nothing, of the segments after this one.
+    pub(crate) fn rest_after(&mut self, seg: u16)
+        requires { before_of self.old ≡ log_of self.old }
+        ensures log { log_of self.new ≡ log_of self.old }
+        ensures before { before_of self.new ≡ before_of self.old }
+    {
+        let mut done = seg;
+        while let Some(seg) = self.next_awake(done) {
+            self.let_go(seg);
+            done = seg;
+        }
+    }
+
+    /// Lets a segment go, if it wants nothing.
+    fn let_go(&mut self, seg: u16)
+        requires known { has_segment (log_of self.old) seg ≡ true }
+        requires same { before_of self.old ≡ log_of self.old }
+        ensures log { log_of self.new ≡ log_of self.old }
+        ensures before { before_of self.new ≡ before_of self.old }
+    {
+        if self.segments[usize::from(seg) - 1].wants_nothing() {
+            self.watch.let_go(seg);
+        }
+    }
+}
