@@ -16,5 +16,6 @@ mod rows;
 mod shared;
 mod tops;
 mod touched;
+mod unanswered;
 
 pub use ownership::Ownership;
