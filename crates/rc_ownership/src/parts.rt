@@ -169,8 +169,8 @@ impl Parts {
         self.replay.next(alloc)
     }
 
-    /// The term of the first complete part whose end wasn't told. It looks at no part that was answered
-    /// before the last step.
+    /// The term of the first complete part whose end wasn't told. It looks at those parts alone that
+    /// were not answered when `begin` was called, or were begun since.
     fn to_answer(&self, notes: &Notes) -> Option<u32>
         ensures { result ≡ owning.to_answer (take notes.now.durable notes.now.noted) (who_fetched self.now) }
     {
