@@ -95,7 +95,7 @@ impl State {
         ensures before { before_step self.new ≡ before_step self.old }
         ensures no_memory { IfErr result (λ fault. fault ≡ OutOfMemory) }
     {
-        let Some(term) = self.ownership.complete(self.alloc)? else {
+        let Some(term) = self.ownership.complete()? else {
             return Ok(false);
         };
         sent.push(recovered(self.log.own(), self.tasks.as_slice(), term))?;

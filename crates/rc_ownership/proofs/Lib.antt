@@ -4,9 +4,11 @@ pub mod HighTables
 pub mod NoteTables
 pub mod PartRows
 pub mod PartTables
+pub mod Places
 pub mod Reading
 pub mod RecordHighs
 pub mod RowOrder
+pub mod RowsAgain
 pub mod Saying
 pub mod Under
 pub mod Undone

@@ -1,7 +1,7 @@
 -- The rows of a part once one more has come, and what is counted of them.
 use Rattle.std.proofs.Common.{◌≡◌, ℕ, ◌+◌, ◌-◌, ◌<◌, Bool, true, false, cond, not, ◌||◌, ◌&&◌, nat_eq, nat_lt, is_some}
 use Rattle.std.proofs.Common.{Option, Some, None, position, map, List, [], ◌∷◌, ◌++◌, length, length-append, filter}
-use Rattle.std.proofs.Common.{suc, sym, ap, subst, ◌∙◌, refl, arith, true≢false}
+use Rattle.std.proofs.Common.{zero, suc, sym, ap, subst, ◌∙◌, refl, arith, true≢false}
 use Rattle.std.proofs.lemmas.Bool.Decides.{nat_tests}
 use Rattle.std.specs.Prelude.{slice_index_or, slice_set}
 use Rattle.std.specs.List.{list_any, position_or_len}
@@ -10,7 +10,8 @@ use Rattle.rc_types.specs.declared.rows.Part.{Part}
 use Rattle.rc_types.specs.declared.entries.Entry.{Entry}
 use Rattle.rc_model.specs.Ownership.{PartRow, PartState, part_with_row, is_awaited, awaited_row, with_row, insert_row}
 use Rattle.rc_model.specs.Ownership.{rows_in_order, all_came, came_entries, entries_that_came}
-use Rattle.rc_ownership.specs.Parts.{count_missing, size_of, AreCounted}
+use Rattle.rc_ownership.specs.Rows.{count_missing, size_of, AreInOrder, AreCounted}
+use Rattle.rc_ownership.proofs.RowOrder.{ordered}
 
 -- Places
 
@@ -74,17 +75,6 @@ with_row-at seg from entries (first ∷ rows) row some is =
         ap (λ place. slice_set (first ∷ rows) place (record row { came = Some entries })) e
         ∙ ap (λ tail. first ∷ tail) (later some (is ∙ ap (λ place. slice_index_or (first ∷ rows) place row) e))
 
-pub with_row-none : (seg : ℕ) (from : ServerId) (entries : List Entry) (rows : List PartRow) →
-    list_any (is_awaited seg from) rows ≡ false → with_row seg from entries rows ≡ rows
-with_row-none seg from entries [] none = refl
-with_row-none seg from entries (row ∷ rows) none = by (is_awaited seg from row) none (with_row-none seg from entries rows)
-  where
-    by : (b : Bool) → (b || list_any (is_awaited seg from) rows) ≡ false →
-        (list_any (is_awaited seg from) rows ≡ false → with_row seg from entries rows ≡ rows) →
-        cond b (record row { came = Some entries } ∷ rows) (row ∷ with_row seg from entries rows) ≡ row ∷ rows
-    by true none later = absurd (true≢false none)
-    by false none later = ap (λ tail. row ∷ tail) (later none)
-
 pub length-with_row : (seg : ℕ) (from : ServerId) (entries : List Entry) (rows : List PartRow) →
     length (with_row seg from entries rows) ≡ length rows
 length-with_row seg from entries [] = refl
@@ -105,7 +95,7 @@ not_some None h = refl
 not_some (Some entries) h = absurd (true≢false (sym h))
 
 -- an awaited row has not come
-awaited-none : (seg : ℕ) (from : ServerId) (row : PartRow) → is_awaited seg from row ≡ true → row.came ≡ None
+pub awaited-none : (seg : ℕ) (from : ServerId) (row : PartRow) → is_awaited seg from row ≡ true → row.came ≡ None
 awaited-none seg from row h = not_some row.came (and_last (nat_eq row.seg seg) _ (not (is_some row.came)) h)
 
 -- one row fewer is missing
@@ -165,11 +155,36 @@ entries-with_row seg from entries (row ∷ rows) some =
           length-append (came_entries row.came) (entries_that_came (with_row seg from entries rows)),
         )
 
+seg-with_row : (seg : ℕ) (from : ServerId) (entries : List Entry) (rows : List PartRow) (at : ℕ) (other : PartRow) →
+    (slice_index_or (with_row seg from entries rows) at other).seg ≡ (slice_index_or rows at other).seg
+seg-with_row seg from entries [] at other = refl
+seg-with_row seg from entries (row ∷ rows) at other = by at (is_awaited seg from row) (λ n. seg-with_row seg from entries rows n other)
+  where
+    by : (n : ℕ) (b : Bool) →
+        ((m : ℕ) → (slice_index_or (with_row seg from entries rows) m other).seg ≡ (slice_index_or rows m other).seg) →
+        (slice_index_or (cond b (record row { came = Some entries } ∷ rows) (row ∷ with_row seg from entries rows)) n other).seg
+        ≡ (slice_index_or (row ∷ rows) n other).seg
+    by zero true later = refl
+    by zero false later = refl
+    by (suc n) true later = refl
+    by (suc n) false later = later n
+
+ordered-with_row : (seg : ℕ) (from : ServerId) (entries : List Entry) (rows : List PartRow) → AreInOrder rows →
+    AreInOrder (with_row seg from entries rows)
+ordered-with_row seg from entries rows order low high other below within =
+    omega (
+      arith,
+      order low high other below (omega (arith, within, length-with_row seg from entries rows)),
+      seg-with_row seg from entries rows low other,
+      seg-with_row seg from entries rows high other,
+    )
+
 -- the counts beside the rows, with one more row
 pub counted-with_row : (seg : ℕ) (from : ServerId) (entries : List Entry) (rows : List PartRow) (missing count : ℕ) →
     list_any (is_awaited seg from) rows ≡ true →
     AreCounted rows missing count → AreCounted (with_row seg from entries rows) (missing - 1) (count + length entries)
 counted-with_row seg from entries rows missing count some counts = record {
+  in_order = ordered-with_row seg from entries rows counts.in_order;
   missing_are = omega (arith, counts.missing_are, missing-with_row seg from entries rows some);
   entries_are = λ more. omega (
     arith,
@@ -232,7 +247,11 @@ pub counted-new : (rows : List PartRow) (given : List (ℕ × ServerId)) → row
     AreCounted rows (length rows) 0
 counted-new rows given is =
     let none : NoneCame rows = subst NoneCame (sym is) (order-none given) in
-    record { missing_are = none-missing rows none; entries_are = λ more. none-entries rows none }
+    record {
+      in_order = subst AreInOrder (sym is) (ordered (map awaited_row given));
+      missing_are = none-missing rows none;
+      entries_are = λ more. none-entries rows none;
+    }
 
 -- what a row holds once it was filled at the place that was found
 pub put_at : (seg : ℕ) (from : ServerId) (entries came : List Entry) (rows : List PartRow) (found : Option ℕ)
@@ -265,8 +284,3 @@ part_put seg from entries part rows after count more answered now is put some =
     } in state)
     (size_of-some (with_row seg from entries rows) more still ∙ sym (size_of-some rows count there))
     ∙ ap (part_with_row seg from entries) is
-
-pub part_not_put : (seg : ℕ) (from : ServerId) (entries : List Entry) (now : PartState) →
-    list_any (is_awaited seg from) now.rows ≡ false → now ≡ part_with_row seg from entries now
-part_not_put seg from entries now none = ap (λ rows. let state : PartState = record now { rows = rows } in state)
-    (sym (with_row-none seg from entries now.rows none))

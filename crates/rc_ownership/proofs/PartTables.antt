@@ -1,5 +1,5 @@
 -- The table of parts by term: what a look-up finds, and what a write changes.
-use Rattle.std.proofs.Common.{◌≡◌, ℕ, Bool, true, false, cond, ◌&&◌, ◌||◌, nat_eq, is_some, find, option_map, Option}
+use Rattle.std.proofs.Common.{◌≡◌, ℕ, Bool, true, false, cond, not, length, ◌&&◌, ◌||◌, nat_eq, is_some, find, option_map, Option}
 use Rattle.std.proofs.Common.{Some, None, List, [], ◌∷◌, ◌++◌, sym, ap, subst, ◌∙◌, refl, arith, true≢false}
 use Rattle.std.proofs.lemmas.Bool.Decides.{nat_tests}
 use Rattle.std.proofs.lemmas.List.{append-nil}
@@ -11,7 +11,8 @@ use Rattle.indexmap.proofs.CallerLemmas.{insert_entry-new}
 use Rattle.rc_types.specs.declared.ids.ServerId.{ServerId}
 use Rattle.rc_types.specs.declared.entries.Entry.{Entry}
 use Rattle.rc_model.specs.Ownership.{Ownership, PartState, put_data, is_awaited, awaits, awaits_data, joined, joining}
-use Rattle.rc_model.specs.Ownership.{part_with_row, data_in, replay_in, is_to_answer, answered_in}
+use Rattle.rc_model.specs.Ownership.{part_with_row, data_in, replay_in, is_complete, is_to_answer, answered_in, all_came}
+use Rattle.rc_model.specs.Ownership.{entries_that_came}
 use Rattle.rc_ownership.specs.Parts.{HasNone, AreUnderTheirTerms, parts_in}
 
 flip : (one other : ℕ) → nat_eq one other ≡ nat_eq other one
@@ -319,3 +320,55 @@ not_told durable entries term h asked none =
     let m = mapped (find (is_to_answer durable) (parts_in entries)) term asked in
     let there : lookup (nat_eq term) entries ≡ Some m.0 = answer-lookup durable entries term m.0 h m.1 m.2 in
     cc
+
+find-due : (durable : List Entry) (parts : List PartState) (state : PartState) → find (is_to_answer durable) parts ≡ Some state →
+    is_to_answer durable state ≡ true
+find-due durable [] state found = absurd (cc)
+find-due durable (first ∷ parts) state found = by (is_to_answer durable first) refl found (find-due durable parts state)
+  where
+    by : (b : Bool) → is_to_answer durable first ≡ b → cond b (Some first) (find (is_to_answer durable) parts) ≡ Some state →
+        (find (is_to_answer durable) parts ≡ Some state → is_to_answer durable state ≡ true) → is_to_answer durable state ≡ true
+    by true due is later =
+        let it : first ≡ state = cc in
+        ap (is_to_answer durable) (sym it) ∙ due
+    by false due is later = later is
+
+-- its end wasn't told before
+pub told-first : (durable : List Entry) (entries : List (ℕ × PartState)) (term : ℕ) (part : PartState) → AreUnderTheirTerms entries →
+    option_map (λ state. state.part.term) (find (is_to_answer durable) (parts_in entries)) ≡ Some term →
+    lookup (nat_eq term) entries ≡ Some part → part.answered ≡ false
+told-first durable entries term part h asked found =
+    let m = mapped (find (is_to_answer durable) (parts_in entries)) term asked in
+    let there : lookup (nat_eq term) entries ≡ Some m.0 = answer-lookup durable entries term m.0 h m.1 m.2 in
+    let it : m.0 ≡ part = cc in
+    not_yet (is_complete durable part) part.answered
+    (ap (is_to_answer durable) (sym it) ∙ find-due durable (parts_in entries) m.0 m.1)
+  where
+    not_yet : (b answered : Bool) → (b && not answered) ≡ true → answered ≡ false
+    not_yet b false due = refl
+    not_yet true true due = absurd (true≢false (sym due))
+    not_yet false true due = absurd (true≢false (sym due))
+
+-- A row that came
+
+pub joined-named : (state : PartState) → (joined state).part.term ≡ state.part.term
+joined-named state = by (all_came state.rows)
+  where
+    by : (b : Bool) → (cond b (record state { rows = []; size = length (entries_that_came state.rows) }) state).part.term ≡ state.part.term
+    by true = refl
+    by false = refl
+
+pub joined-told : (state : PartState) → (joined state).answered ≡ state.answered
+joined-told state = by (all_came state.rows)
+  where
+    by : (b : Bool) → (cond b (record state { rows = []; size = length (entries_that_came state.rows) }) state).answered ≡ state.answered
+    by true = refl
+    by false = refl
+
+pub data-changed : (entries changed : List (ℕ × PartState)) (term seg : ℕ) (from : ServerId) (came : List Entry)
+    (state next : PartState) → AreUnderTheirTerms entries →
+    lookup (nat_eq term) entries ≡ Some state → list_any (is_awaited seg from) state.rows ≡ true →
+    next ≡ joined (part_with_row seg from came state) → changed ≡ set_value (nat_eq term) entries next →
+    parts_in changed ≡ data_in term seg from came (parts_in entries)
+data-changed entries changed term seg from came state next h found some is written =
+    ap parts_in (written ∙ ap (set_value (nat_eq term) entries) is) ∙ data_in-set entries term seg from came state h found some

@@ -5,7 +5,9 @@ pub mod Highs
 pub mod Owner
 pub mod Parts
 pub mod Replay
+pub mod Rows
 pub mod Slots
 pub mod Tops
+pub mod Unanswered
 pub mod Notes
 pub mod Looks

@@ -1,23 +1,12 @@
--- The parts as they are kept: what is counted beside their rows, and the queue of those whose rows have all come.
-use Rattle.std.specs.Prelude.{◌≡◌, ℕ, ◌<◌, ◌≤◌, nat_eq, false, not, ◌&&◌, List, [], ◌∷◌, length, map, filter, is_some}
-use Rattle.std.specs.Map.{set_value}
+-- The table of parts as it is kept, and how changes of it are undone.
+use Rattle.std.specs.Prelude.{◌≡◌, ℕ, ◌≤◌, nat_eq, false, not, ◌&&◌, if◌then◌else◌, List, [], ◌∷◌, length, map, filter}
+use Rattle.std.specs.Prelude.{take}
 use Rattle.rc_types.specs.declared.entries.Entry.{Entry}
-use Rattle.rc_model.specs.Ownership.{Ownership, owns_nothing, PartRow, PartState, entries_that_came, is_complete}
-use Rattle.rc_model.specs.Ownership.{owns_term}
-
--- how many rows have not come
-abbrev pub count_missing : List PartRow → ℕ
-count_missing rows = length (filter (λ row. not (is_some row.came)) rows)
-
--- how many entries a part has, once it waits for no row
-abbrev pub size_of : List PartRow → ℕ → ℕ
-size_of [] count = count
-size_of (row ∷ rows) count = 0
-
--- what is counted beside the rows: those that haven't come, and the entries of those that have
-pub record AreCounted (rows : List PartRow) (missing count : ℕ) : Type 0 where
-  pub missing_are : missing ≡ count_missing rows
-  pub entries_are : 0 < length rows → count ≡ length (entries_that_came rows)
+use Rattle.rc_model.specs.Ownership.{Ownership, owns_nothing, PartState, is_complete, owns_term}
+use Rattle.rc_ownership.specs.declared.part.Before.{Before}
+use Rattle.rc_ownership.specs.declared.part.Before.TheVariants.{Awaited, Whole, Unanswered}
+use Rattle.rc_ownership.specs.Rows.{awaited_again}
+use Rattle.rc_ownership.specs.Unanswered.{HoldUnanswered}
 
 -- no entry of a table has this key
 abbrev pub HasNone : ℕ → List (ℕ × PartState) → Type 0
@@ -34,15 +23,33 @@ AreUnderTheirTerms (entry ∷ entries) =
 abbrev pub parts_in : List (ℕ × PartState) → List PartState
 parts_in entries = map (λ entry. entry.1) entries
 
--- each part that was kept is under its own term
-abbrev pub AreOfTheirTerms : List (ℕ × PartState) → Type 0
-AreOfTheirTerms [] = Unit {0}
-AreOfTheirTerms (entry ∷ entries) = (entry.0 ≡ entry.1.part.term) × AreOfTheirTerms entries
+-- what a part was before a change
+abbrev pub part_before : Before → PartState → PartState
+part_before (Awaited place) state = record state { rows = awaited_again place state.rows }
+part_before (Whole part) state = part
+part_before Unanswered state = record state { answered = false }
 
--- a table's entries with the parts that were kept in their places again, the last one first
-abbrev pub undone : List (ℕ × PartState) → List (ℕ × PartState) → List (ℕ × PartState)
+-- the part under the term of a change is what it was before
+abbrev pub undo_in : ℕ × Before → List (ℕ × PartState) → List (ℕ × PartState)
+undo_in change [] = []
+undo_in change (entry ∷ entries) =
+    if nat_eq change.0 entry.0 then (entry.0, part_before change.1 entry.1) ∷ entries
+    else entry ∷ undo_in change entries
+
+-- and so before each of several changes, the last one first
+abbrev pub undone : List (ℕ × Before) → List (ℕ × PartState) → List (ℕ × PartState)
 undone [] entries = entries
-undone (entry ∷ touched) entries = set_value (nat_eq entry.0) (undone touched entries) entry.1
+undone (change ∷ changes) entries = undo_in change (undone changes entries)
+
+-- a part that comes back is of this term
+abbrev pub IsOfTerm : ℕ → Before → Type 0
+IsOfTerm term (Awaited place) = Unit {0}
+IsOfTerm term (Whole part) = term ≡ part.part.term
+IsOfTerm term Unanswered = Unit {0}
+
+abbrev pub AreOfTheirTerms : List (ℕ × Before) → Type 0
+AreOfTheirTerms [] = Unit {0}
+AreOfTheirTerms (change ∷ changes) = IsOfTerm change.0 change.1 × AreOfTheirTerms changes
 
 -- the parts that were begun, and the entries that wait to be appended; and both as `restore` lets them be again
 pub record Fetched : Type 0 where
@@ -55,11 +62,16 @@ pub record Fetched : Type 0 where
 abbrev pub who_fetched : Fetched → Ownership
 who_fetched fetched = record owns_nothing { parts = fetched.parts; replay = fetched.replay }
 
--- a table of parts, those that changed as they were before, and how many parts there were
-pub record IsPartTable (entries touched : List (ℕ × PartState)) (kept : ℕ) : Type 0 where
+-- a table of parts, their changes, and how many parts there were before; and of the parts that may be unanswered the
+-- places, and how many of these there were
+pub record IsPartTable (entries : List (ℕ × PartState)) (changes : List (ℕ × Before)) (kept : ℕ) (places : List ℕ)
+    (kept_places : ℕ) : Type 0 where
   pub under_terms : AreUnderTheirTerms entries
-  pub of_terms : AreOfTheirTerms touched
+  pub of_terms : AreOfTheirTerms changes
   pub within : kept ≤ length entries
+  pub places_now : HoldUnanswered 0 places entries
+  pub places_before : HoldUnanswered 0 (take kept_places places) (undone changes (take kept entries))
+  pub places_within : kept_places ≤ length places
 
 -- the terms of the complete parts that aren't granted yet
 abbrev pub awaiting_grant : List Entry → Ownership → List PartState → List ℕ

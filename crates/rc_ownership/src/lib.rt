@@ -17,6 +17,7 @@ mod rows;
 mod shared;
 mod tops;
 mod touched;
+mod unanswered;
 
 pub use looks::PartProgress;
 pub use ownership::Ownership;

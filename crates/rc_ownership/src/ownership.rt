@@ -347,14 +347,14 @@ impl Ownership {
     /// # Errors
     ///
     /// - `OutOfMemory` (F1): memory was refused; nothing has changed.
-    pub fn complete(&mut self, alloc: Global) -> Result<Option<u32>, Fault>
+    pub fn complete(&mut self) -> Result<Option<u32>, Fault>
         ensures term { IfOk result (λ term. term ≡ owning.to_answer (durable_of self.old) self.old.own) }
         ensures answered { OnOk result
             (self.new ≡ record self.old { own = owning.after_answer (durable_of self.old) self.old.own }) }
         ensures err { OnErr result (self.new ≡ self.old) }
         ensures no_memory { IfErr result (λ fault. fault ≡ OutOfMemory) }
     {
-        let term = self.parts.complete(alloc, &self.notes)?;
+        let term = self.parts.complete(&self.notes)?;
         Ok(term)
     }
 

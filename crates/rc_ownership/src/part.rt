@@ -1,11 +1,12 @@
-//! One part of a crashed master's log, from its begin to its end.
+//! One part of a crashed master's log, from its begin to its end, and how a change of it is undone.
 
-ghost use Rattle.std.specs.Prelude.{◌≡◌, ◌<◌, ◌≤◌, ◌+◌, ◌^◌, true, position, length, take, Some, List, [], IfOk};
-ghost use Rattle.std.specs.Prelude.{IfErr, OnOk, OnErr};
+ghost use Rattle.std.specs.Prelude.{◌≡◌, ◌<◌, true, length, take, [], IfOk, IfErr, OnOk, OnErr};
 ghost use Rattle.std.specs.List.{list_any};
 ghost use Rattle.rc_types.specs.declared.faults.Fault.TheVariants.{OutOfMemory};
-ghost use Rattle.rc_model.specs.Ownership.{new_part, is_awaited, with_row, part_with_row, all_came, joined};
+ghost use Rattle.rc_model.specs.Ownership.{new_part, is_awaited, part_with_row, all_came};
 ghost use Rattle.rc_model.specs.Ownership.{entries_that_came, is_complete, is_to_answer};
+ghost use Rattle.rc_ownership.specs.Parts.{part_before};
+ghost use Rattle.rc_ownership.specs.declared.part.Before.TheVariants.{Awaited};
 
 use crate::notes::Notes;
 use crate::rows::{self, FetchedRow};
@@ -14,6 +15,18 @@ use rc_types::{Entry, Fault, Part, ServerId};
 use std::alloc::{AllocError, Global};
 use std::collections::VecDeque;
 use std::marker::Model;
+use std::mem;
+
+/// What a part was before it changed.
+#[derive(Drop)]
+pub(crate) enum Before {
+    /// Its row at this place had not come.
+    Awaited(usize),
+    /// It was this part, whose rows were all kept.
+    Whole(FetchedPart),
+    /// Its end wasn't told.
+    Unanswered,
+}
 
 /// A part: its rows in order of segment until all have come, how many of them have not, how many
 /// entries those that have come hold, and whether its end was told.
@@ -28,7 +41,7 @@ pub(crate) struct FetchedPart {
 
 impl Model for FetchedPart {
     ghost use Rattle.rc_model.specs.Ownership.{PartState};
-    ghost use Rattle.rc_ownership.specs.Parts.{size_of, AreCounted};
+    ghost use Rattle.rc_ownership.specs.Rows.{size_of, AreCounted};
 
     ghost Value = { PartState };
 
@@ -61,19 +74,6 @@ impl FetchedPart {
         })
     }
 
-    /// The same part; what came of its rows is shared.
-    pub(crate) fn share(&self, alloc: Global) -> Result<FetchedPart, AllocError>
-        ensures { IfOk result (λ shared. shared ≡ self.now) }
-    {
-        Ok(FetchedPart {
-            part: self.part,
-            rows: rows::share_rows(alloc, &self.rows)?,
-            missing: self.missing,
-            count: self.count,
-            answered: self.answered,
-        })
-    }
-
     /// Its term.
     pub(crate) fn term(&self) -> u32
         ensures { result ≡ self.now.part.term }
@@ -88,20 +88,23 @@ impl FetchedPart {
         rows::awaited_place(&self.rows, seg, from).is_some()
     }
 
-    /// Takes the entries of the first such row. Only memory can be refused (F1).
+    /// Takes the entries of the first such row, which is awaited: the answer is the row's place. Only
+    /// memory can be refused (F1).
     pub(crate) fn put_row(
         &mut self,
         alloc: Global,
         seg: u16,
         from: ServerId,
         entries: &[Entry],
-    ) -> Result<(), Fault>
+    ) -> Result<usize, Fault>
+        requires { list_any (is_awaited seg from) self.old.rows ≡ true }
         ensures ok { OnOk result (self.new ≡ part_with_row seg from entries.now self.old) }
+        ensures before { IfOk result (λ place. part_before (Awaited place) self.new ≡ self.old) }
         ensures err { OnErr result (self.new ≡ self.old) }
         ensures no_memory { IfErr result (λ fault. fault ≡ OutOfMemory) }
     {
         let Some(place) = rows::awaited_place(&self.rows, seg, from) else {
-            return Ok(());
+            unreachable!();
         };
         let came = SharedEntries::copy_of(alloc, entries)?;
         let Some(count) = self.count.checked_add(entries.len()) else {
@@ -110,7 +113,20 @@ impl FetchedPart {
         self.rows[place].fill(came);
         self.missing -= 1;
         self.count = count;
-        Ok(())
+        Ok(place)
+    }
+
+    /// The row at a place has not come, whatever came of it.
+    pub(crate) fn await_again(&mut self, place: usize)
+        ensures { self.new ≡ part_before (Awaited place) self.old }
+    {
+        if place >= self.rows.len() {
+            return;
+        }
+        if let Some(came) = self.rows[place].empty() {
+            self.missing += 1;
+            self.count -= came.len();
+        }
     }
 
     /// Whether all its rows have come.
@@ -127,13 +143,24 @@ impl FetchedPart {
         &self.rows
     }
 
-    /// Waits for no row any more.
-    pub(crate) fn join(&mut self, alloc: Global)
+    /// Waits for no row any more. The answer is the part as it was before the row at this place came:
+    /// its rows are moved there.
+    pub(crate) fn join(&mut self, alloc: Global, place: usize) -> FetchedPart
         requires { 0 < length self.old.rows }
-        ensures { self.new ≡ record self.old { rows = []; size = length (entries_that_came self.old.rows) } }
+        ensures joined { self.new ≡ record self.old
+            { rows = []; size = length (entries_that_came self.old.rows) } }
+        ensures before { result ≡ part_before (Awaited place) self.old }
     {
-        self.missing = 0;
-        self.rows = VecDeque::new(alloc);
+        let joined = FetchedPart {
+            part: self.part,
+            rows: VecDeque::new(alloc),
+            missing: 0,
+            count: self.count,
+            answered: self.answered,
+        };
+        let mut before = mem::replace(self, joined);
+        before.await_again(place);
+        before
     }
 
     /// Whether it is complete: it waits for no row, and as many entries under its term are durable as
@@ -156,5 +183,23 @@ impl FetchedPart {
         ensures { self.new ≡ record self.old { answered = true } }
     {
         self.answered = true;
+    }
+
+    /// Whether its end was told.
+    pub(crate) fn is_answered(&self) -> bool
+        ensures { result ≡ self.now.answered }
+    {
+        self.answered
+    }
+
+    /// It is what it was before a change.
+    pub(crate) fn go_back(&mut self, before: Before)
+        ensures { self.new ≡ part_before before self.old }
+    {
+        match before {
+            Before::Awaited(place) => self.await_again(place),
+            Before::Whole(part) => *self = part,
+            Before::Unanswered => self.answered = false,
+        }
     }
 }

@@ -9,21 +9,24 @@ ghost use Rattle.rc_ownership.specs.Grants.{owner_of};
 
 use crate::grants::Grants;
 use crate::notes::Notes;
-use crate::part::FetchedPart;
+use crate::part::{Before, FetchedPart};
 use crate::replay::{self, Replay};
-use crate::touched;
+use crate::{touched, unanswered};
 use indexmap::IndexMap;
 use rc_types::{Entry, Fault, Part, ServerId};
 use std::alloc::{AllocError, Global};
 use std::marker::Model;
 
-/// The parts by term, in the order in which they were begun, how many of them there were when `begin`
-/// was called, those that changed since as they were before, and the entries that wait.
+/// The parts by term, in the order in which they were begun, and the entries that wait; what changed
+/// since `begin` was called, and how many parts there were then. Beside them the places of those parts
+/// whose end may not have been told, and how many of these places there were.
 #[derive(Drop)]
 pub(crate) struct Parts {
     pub(crate) begun: IndexMap<u32, FetchedPart>,
     kept: usize,
-    touched: Vec<(u32, FetchedPart)>,
+    touched: Vec<(u32, Before)>,
+    unanswered: Vec<usize>,
+    kept_unanswered: usize,
     pub(crate) replay: Replay,
 }
 
@@ -41,7 +44,8 @@ impl Model for Parts {
           s.replay.before;
     } };
 
-    ghost invariant = { λ s. IsPartTable s.begun.entries s.touched.items s.kept };
+    ghost invariant = { λ s. IsPartTable s.begun.entries s.touched.items s.kept s.unanswered.items
+        s.kept_unanswered };
 }
 
 impl Parts {
@@ -53,6 +57,8 @@ impl Parts {
             begun: IndexMap::new(alloc),
             kept: 0,
             touched: Vec::new(alloc),
+            unanswered: Vec::new(alloc),
+            kept_unanswered: 0,
             replay: Replay::new(alloc),
         }
     }
@@ -61,8 +67,12 @@ impl Parts {
     pub(crate) fn begin(&mut self)
         ensures { self.new ≡ record self.old { parts_before = self.old.parts; replay_before = self.old.replay } }
     {
-        self.touched.clear();
+        if !self.touched.is_empty() {
+            unanswered::keep_unanswered(&self.begun, &mut self.unanswered);
+            self.touched.clear();
+        }
         self.kept = self.begun.len();
+        self.kept_unanswered = self.unanswered.len();
         self.replay.begin();
     }
 
@@ -72,6 +82,7 @@ impl Parts {
     {
         touched::undo(&mut self.begun, &mut self.touched);
         self.begun.truncate(self.kept);
+        self.unanswered.truncate(self.kept_unanswered);
         self.replay.restore();
     }
 
@@ -97,7 +108,10 @@ impl Parts {
         ensures err { OnErr result (self.new ≡ self.old) }
     {
         let begun = FetchedPart::new(alloc, part, rows)?;
+        self.unanswered.reserve(1)?;
+        let place = self.begun.len();
         self.begun.insert(part.term, begun)?;
+        self.unanswered.push(place).unwrap();
         Ok(())
     }
 
@@ -129,14 +143,12 @@ impl Parts {
         ensures err { OnErr result (self.new ≡ self.old) }
         ensures no_memory { IfErr result (λ fault. fault ≡ OutOfMemory) }
     {
-        let Some(part) = self.begun.get(&term) else {
-            return Ok(());
-        };
-        let mut changed = part.share(alloc)?;
-        changed.put_row(alloc, seg, from, entries)?;
         self.touched.reserve(1)?;
-        replay::join_whole(alloc, &mut changed, &mut self.replay)?;
-        touched::change(&mut self.begun, &mut self.touched, changed);
+        let Some(part) = self.begun.get_mut(&term) else {
+            unreachable!();
+        };
+        let before = replay::take_row(alloc, part, &mut self.replay, seg, from, entries)?;
+        self.touched.push((term, before)).unwrap();
         Ok(())
     }
 
@@ -157,22 +169,23 @@ impl Parts {
         self.replay.next(alloc)
     }
 
-    /// The term of the first complete part whose end wasn't told.
+    /// The term of the first complete part whose end wasn't told. It looks at those parts alone that
+    /// were not answered when `begin` was called, or were begun since.
     fn to_answer(&self, notes: &Notes) -> Option<u32>
         ensures { result ≡ owning.to_answer (take notes.now.durable notes.now.noted) (who_fetched self.now) }
     {
-        self.begun
-            .values()
-            .find(|part| part.is_to_answer(notes))
-            .map(|part| part.term())
+        let places = self.unanswered.as_slice();
+        let Some(place) = unanswered::first_due(&self.begun, notes, places) else {
+            return None;
+        };
+        match self.begun.get_index(place) {
+            Some((_, part)) => Some(part.term()),
+            None => None,
+        }
     }
 
     /// The same term; the part's end counts as told from now on.
-    pub(crate) fn complete(
-        &mut self,
-        alloc: Global,
-        notes: &Notes,
-    ) -> Result<Option<u32>, AllocError>
+    pub(crate) fn complete(&mut self, notes: &Notes) -> Result<Option<u32>, AllocError>
         ensures term { IfOk result (λ term. term ≡ owning.to_answer (take notes.now.durable notes.now.noted)
             (who_fetched self.old)) }
         ensures answered { OnOk result
@@ -185,13 +198,12 @@ impl Parts {
         let Some(term) = self.to_answer(notes) else {
             return Ok(None);
         };
-        let Some(part) = self.begun.get(&term) else {
-            return Ok(None);
-        };
-        let mut answered = part.share(alloc)?;
         self.touched.reserve(1)?;
-        answered.answer();
-        touched::change(&mut self.begun, &mut self.touched, answered);
+        let Some(part) = self.begun.get_mut(&term) else {
+            unreachable!();
+        };
+        part.answer();
+        self.touched.push((term, Before::Unanswered)).unwrap();
         Ok(Some(term))
     }
 

@@ -1,15 +1,17 @@
 //! The entries that wait to be appended: those of the parts whose rows have all come.
 
-ghost use Rattle.std.specs.Prelude.{◌≡◌, ◌<◌, ◌++◌, [], length, map, nat_lt, slice_get, OnOk, OnErr, IfOk, IfErr};
-ghost use Rattle.std.specs.Option.{option_copied};
+ghost use Rattle.std.specs.Prelude.{◌≡◌, ◌++◌, [], true, length, map, nat_lt, slice_get, OnOk, OnErr, IfOk, IfErr};
+ghost use Rattle.std.specs.List.{list_any};
 ghost use Rattle.rc_types.specs.declared.faults.Fault.TheVariants.{OutOfMemory};
 ghost use Rattle.rc_model.specs.Ownership.{under_term, came_entries, entries_that_came, joined, joining, without_first};
+ghost use Rattle.rc_model.specs.Ownership.{is_awaited, part_with_row};
+ghost use Rattle.rc_ownership.specs.Parts.{part_before};
 ghost use Rattle.rc_ownership.specs.Replay.{Waiting, all_waiting, NoneIsEmpty};
 
-use crate::part::FetchedPart;
+use crate::part::{Before, FetchedPart};
 use crate::rows::FetchedRow;
 use crate::shared::SharedEntries;
-use rc_types::{Entry, Fault, TryClone};
+use rc_types::{Entry, Fault, ServerId, TryClone};
 use std::alloc::{AllocError, Global};
 use std::collections::VecDeque;
 use std::marker::Model;
@@ -162,23 +164,36 @@ impl Replay {
     }
 }
 
-/// The entries of a part whose rows have all come wait, and it waits for no row any more.
-pub(crate) fn join_whole(
+/// A part takes the entries of an awaited row. Once all its rows have come, their entries wait, and it
+/// waits for no row any more. The answer is what it was before. Only memory can be refused (F1).
+pub(crate) fn take_row(
     alloc: Global,
     part: &mut FetchedPart,
     replay: &mut Replay,
-) -> Result<(), AllocError>
-    requires { 0 < length part.old.rows }
-    ensures part { OnOk result (part.new ≡ joined part.old) }
-    ensures replay { OnOk result (replay.new ≡ record replay.old { entries = replay.old.entries ++ joining part.old }) }
-    ensures err { OnErr result (replay.new ≡ replay.old) }
+    seg: u16,
+    from: ServerId,
+    entries: &[Entry],
+) -> Result<Before, Fault>
+    requires { list_any (is_awaited seg from) part.old.rows ≡ true }
+    ensures part { OnOk result (part.new ≡ joined (part_with_row seg from entries.now part.old)) }
+    ensures replay { OnOk result (replay.new ≡ record replay.old {
+      entries = replay.old.entries ++
+          joining (part_with_row seg from entries.now part.old);
+    }) }
+    ensures before { IfOk result (λ before. part_before before part.new ≡ part.old) }
+    ensures same_part { OnErr result (part.new ≡ part.old) }
+    ensures same_replay { OnErr result (replay.new ≡ replay.old) }
+    ensures no_memory { IfErr result (λ fault. fault ≡ OutOfMemory) }
 {
+    let place = part.put_row(alloc, seg, from, entries)?;
     if !part.has_all() {
-        return Ok(());
+        return Ok(Before::Awaited(place));
     }
-    replay.join(alloc, part.term(), part.rows())?;
-    part.join(alloc);
-    Ok(())
+    if replay.join(alloc, part.term(), part.rows()).is_err() {
+        part.await_again(place);
+        return Err(Fault::OutOfMemory);
+    }
+    Ok(Before::Whole(part.join(alloc, place)))
 }
 
 /// What came of these rows, shared and under a term; rows without an entry are left out.

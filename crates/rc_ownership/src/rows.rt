@@ -1,7 +1,9 @@
 //! The rows that a part waits for: of a segment, from a backup, its entries.
 
-ghost use Rattle.std.specs.Prelude.{◌≡◌, nat_lt, not, position, map, Some, option_map, IfOk, OnOk};
+ghost use Rattle.std.specs.Prelude.{◌≡◌, nat_lt, not, position, map, Some, None, IfOk, OnOk};
+ghost use Rattle.std.specs.List.{position_or_len};
 ghost use Rattle.rc_model.specs.Ownership.{PartRow, awaited_row, is_awaited, insert_row, rows_in_order};
+ghost use Rattle.rc_ownership.specs.Rows.{AreInOrder};
 
 use crate::shared::SharedEntries;
 use rc_types::ServerId;
@@ -68,45 +70,29 @@ impl FetchedRow {
         }
     }
 
-    /// The same row; what came of it is shared.
-    fn share(&self) -> Result<FetchedRow, AllocError>
-        ensures { IfOk result (λ row. row ≡ self.now) }
+    /// It has not come; the answer is what came of it, if it had.
+    pub(crate) fn empty(&mut self) -> Option<SharedEntries>
+        ensures row { self.new ≡ record self.old { came = None } }
+        ensures came { result ≡ self.old.came }
     {
-        let came = self.share_came()?;
-        Ok(FetchedRow {
-            seg: self.seg,
-            holder: self.holder,
-            came,
-        })
+        self.came.take()
     }
 }
 
-/// The same rows; what came of them is shared.
-pub(crate) fn share_rows(
-    alloc: Global,
-    rows: &VecDeque<FetchedRow>,
-) -> Result<VecDeque<FetchedRow>, AllocError>
-    ensures { IfOk result (λ shared. shared.items ≡ rows.now.items) }
+/// How many rows, which are in order of segment, come before this segment: by a binary search.
+fn count_before(rows: &VecDeque<FetchedRow>, seg: u16) -> usize
+    requires { AreInOrder rows.now.items }
+    ensures { result ≡ position_or_len (λ row. not (nat_lt row.seg seg)) rows.now.items }
 {
-    let mut shared = VecDeque::with_capacity(alloc, rows.len())?;
-    for row in rows {
-        shared.push_back(row.share()?)?;
-    }
-    Ok(shared)
-}
-
-/// The place of the first row whose segment doesn't come before this one.
-fn place_of(rows: &VecDeque<FetchedRow>, seg: u16) -> Option<usize>
-    ensures { result ≡ position (λ row. not (nat_lt row.seg seg)) rows.now.items }
-{
-    rows.iter().position(|row| !row.is_before(seg))
+    rows.partition_point(|row| row.is_before(seg))
 }
 
 /// Puts a row before the first whose segment doesn't come before its own.
 fn insert_row(rows: &mut VecDeque<FetchedRow>, seg: u16, holder: ServerId) -> Result<(), AllocError>
+    requires { AreInOrder rows.old.items }
     ensures { OnOk result (rows.new.items ≡ insert_row (awaited_row (seg, holder)) rows.old.items) }
 {
-    let place = place_of(rows, seg).unwrap_or(rows.len());
+    let place = count_before(rows, seg);
     rows.insert(place, FetchedRow::new(seg, holder))?;
     Ok(())
 }
@@ -127,9 +113,21 @@ pub(crate) fn rows_in_order(
     Ok(ordered)
 }
 
-/// The place of the first row of this segment that is awaited from this backup.
+/// The place of the first row of this segment that is awaited from this backup, of rows in order of
+/// segment. Past the binary search it looks at the rows of this segment alone.
 pub(crate) fn awaited_place(rows: &VecDeque<FetchedRow>, seg: u16, from: ServerId) -> Option<usize>
+    requires { AreInOrder rows.now.items }
     ensures { result ≡ position (is_awaited seg from) rows.now.items }
 {
-    rows.iter().position(|row| row.is_awaited(seg, from))
+    let mut place = count_before(rows, seg);
+    while let Some(row) = rows.get(place) {
+        if row.seg != seg {
+            return None;
+        }
+        if row.is_awaited(seg, from) {
+            return Some(place);
+        }
+        place += 1;
+    }
+    None
 }

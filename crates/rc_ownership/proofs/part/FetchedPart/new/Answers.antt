@@ -1,6 +1,6 @@
 use Rattle.std.proofs.Common.{subst, arith}
 use Rattle.std.proofs.lemmas.Grind.{common_steps}
-use Rattle.rc_ownership.specs.Parts.{AreCounted}
+use Rattle.rc_ownership.specs.Rows.{AreCounted}
 use Rattle.rc_ownership.proofs.PartRows.{counted-new}
 use Rattle.rc_ownership.proofs.part.FetchedPart.new.Goals as goal
 

@@ -1,14 +1,15 @@
-use Rattle.std.proofs.Common.{◌-◌, sym, ap, subst, ◌∙◌, arith}
+use Rattle.std.proofs.Common.{◌-◌, true≢false, sym, ap, subst, ◌∙◌, arith}
 use Rattle.std.specs.List.{list_any}
 use Rattle.rc_model.specs.Ownership.{is_awaited}
-use Rattle.rc_ownership.specs.Parts.{AreCounted}
-use Rattle.rc_ownership.proofs.PartRows.{any-place, any-none, counted-with_row, missing-with_row, put_at, part_put, part_not_put}
+use Rattle.rc_ownership.specs.Rows.{AreCounted}
+use Rattle.rc_ownership.proofs.PartRows.{any-none, any-place, place-first, counted-with_row, missing-with_row, put_at, part_put}
+use Rattle.rc_ownership.proofs.RowsAgain.{part_unput}
 use Rattle.rc_ownership.proofs.part.FetchedPart.put_row.Goals as goal
 
-pub returns-in_default-clause-ok : goal.returns-in_default-clause-ok
-returns-in_default-clause-ok c =
-    part_not_put c.args.seg c.args.from c.args.entries.now c.args.self.now
-    (ap (λ part. list_any (is_awaited c.args.seg c.args.from) part.rows) (sym c.self.view_is)
+pub unreachable-requires : goal.unreachable-requires
+unreachable-requires c =
+    true≢false (sym c.requires
+    ∙ ap (λ part. list_any (is_awaited c.args.seg c.args.from) part.rows) (sym c.self.view_is)
     ∙ any-none (is_awaited c.args.seg c.args.from) c.self.inside.rows.items c.awaited_place.result c.awaited_place.ensures c.in_default.is)
 
 pub overflow_sub-self : goal.overflow_sub-self
@@ -40,3 +41,16 @@ returns-clause-ok c =
     part_put c.args.seg c.args.from c.args.entries.now c.self.inside.part rows _ c.self.inside.count
     c.in-Some-checked_add.count c.self.inside.answered c.args.self.now
     c.self.view_is put some
+
+pub returns-clause-before : goal.returns-clause-before
+returns-clause-before c =
+    let rows = c.self.inside.rows.items in
+    let some = any-place (is_awaited c.args.seg c.args.from) rows c.awaited_place.result c.in-Some.place
+    c.awaited_place.ensures c.in-Some.is in
+    let put = put_at c.args.seg c.args.from c.args.entries.now c.in_ok-came.came rows c.awaited_place.result
+    c.in-Some.place c.index_mut.result.now c.fill.new.self
+    c.awaited_place.ensures c.in-Some.is c.index_mut.ensures.value c.fill.ensures c.in_ok-came.ensures.ok in
+    part_unput c.args.seg c.args.from c.args.entries.now c.self.inside.part rows _ c.self.inside.count
+    c.in-Some-checked_add.count c.in-Some.place c.self.inside.answered c.args.self.now
+    c.self.view_is put some
+    (place-first (is_awaited c.args.seg c.args.from) rows c.awaited_place.result c.in-Some.place c.awaited_place.ensures c.in-Some.is)

@@ -1,8 +1,11 @@
-use Rattle.std.proofs.Common.{true, subst, take, find, option_map, ap, sym, ◌∙◌}
+use Rattle.std.proofs.Common.{◌≡◌, ◌++◌, ◌∷◌, [], nat_eq, take, find, option_map, ap, sym, ◌∙◌, arith}
+use Rattle.std.proofs.lemmas.Grind.{common_steps}
+use Rattle.std.specs.Map.{set_value}
 use Rattle.rc_model.specs.Ownership.{PartState, is_to_answer, answered_in}
-use Rattle.rc_ownership.specs.Parts.{Fetched, AreOfTheirTerms, parts_in, undone}
-use Rattle.rc_ownership.proofs.PartTables.{answered_in-none, not_told, unmapped}
-use Rattle.rc_ownership.proofs.Undone.{same_fetched, table-change, found-named, is-there, answer-changed}
+use Rattle.rc_ownership.specs.declared.part.Before.TheVariants.{Unanswered}
+use Rattle.rc_ownership.specs.Parts.{Fetched, parts_in, undone}
+use Rattle.rc_ownership.proofs.PartTables.{answered_in-none, not_told, told, told-first, unmapped}
+use Rattle.rc_ownership.proofs.Undone.{same_fetched, IsChange, answered-back, table-change, undone-noted}
 use Rattle.rc_ownership.proofs.parts.Parts.complete.Goals as goal
 
 pub returns-in_default-clause-answered : goal.returns-in_default-clause-answered
@@ -12,54 +15,65 @@ returns-in_default-clause-answered c =
     (unmapped (find (is_to_answer (take c.args.notes.now.durable c.args.notes.now.noted)) c.args.self.now.parts)
     (sym c.to_answer.ensures ∙ c.in_default.is))))
 
-pub returns-in_default-get-clause-term : goal.returns-in_default-get-clause-term
-returns-in_default-get-clause-term c =
+pub unreachable-requires : goal.unreachable-requires
+unreachable-requires c =
     let durable = take c.args.notes.now.durable c.args.notes.now.noted in
-    absurd (not_told durable c.self.inside.begun.entries c.in-Some.term c.self.invariant.under_terms
+    not_told durable c.self.inside.begun.entries c.in-Some.term c.self.invariant.under_terms
     (ap (λ fetched. option_map (λ state. state.part.term) (find (is_to_answer durable) fetched.parts)) c.self.view_is ∙
     sym c.to_answer.ensures ∙ c.in-Some.is)
-    (sym c.in_default-get.ensures.value))
-
-pub returns-in_default-get-clause-answered : goal.returns-in_default-get-clause-answered
-returns-in_default-get-clause-answered c =
-    let durable = take c.args.notes.now.durable c.args.notes.now.noted in
-    absurd (not_told durable c.self.inside.begun.entries c.in-Some.term c.self.invariant.under_terms
-    (ap (λ fetched. option_map (λ state. state.part.term) (find (is_to_answer durable) fetched.parts)) c.self.view_is ∙
-    sym c.to_answer.ensures ∙ c.in-Some.is)
-    (sym c.in_default-get.ensures.value))
-
-pub change-requires-clause-there : goal.change-requires-clause-there
-change-requires-clause-there c =
-    let named = ap (λ state. state.part.term)
-    (c.answer.ensures ∙ ap (λ state. let told : PartState = record state { answered = true } in told)
-    c.in_ok-answered.ensures) in
-    is-there c.self.inside.begun c.in-Some.term c.answer.new.self.part.term c.in-Some-get.part.now (sym c.in-Some-get.ensures.value)
-    (found-named c.in-Some.term c.self.inside.begun.entries c.in-Some-get.part.now c.answer.new.self
-    c.self.invariant.under_terms (sym c.in-Some-get.ensures.value) named)
+    (sym c.in_default-get_mut.ensures.value)
 
 pub invariant_of-self-2 : goal.invariant_of-self-2
 invariant_of-self-2 c =
-    table-change c.self.inside.begun.entries c.change.new.begun.entries c.self.inside.touched.items
-    c.change.new.touched.items c.self.inside.kept c.answer.new.self
-    c.self.invariant c.change.ensures.changed
-    (λ under of. c.change.ensures.terms under (subst AreOfTheirTerms (sym c.reserve.ensures.items) of))
+    let durable = take c.args.notes.now.durable c.args.notes.now.noted in
+    let entries = c.self.inside.begun.entries in
+    let changed = (c.get_mut.follows.lender c.answer.new.self).entries in
+    let part = c.in-Some-get_mut.part.now in
+    let asked = ap (λ fetched. option_map (λ state. state.part.term) (find (is_to_answer durable) fetched.parts)) c.self.view_is ∙
+    sym c.to_answer.ensures ∙ c.in-Some.is in
+    let found = sym c.in-Some-get_mut.ensures.value in
+    let pushed : c.push.new.self.items ≡ c.self.inside.touched.items ++ (c.in-Some.term, Unanswered) ∷ [] =
+    grind (arith, common_steps) in
+    let it : IsChange entries changed c.self.inside.touched.items c.push.new.self.items c.in-Some.term Unanswered part
+    c.answer.new.self = record {
+      found = found;
+      written = (c.get_mut.follows.holds c.answer.new.self).0;
+      noted = pushed;
+      back = answered-back part c.answer.new.self c.answer.ensures
+          (told-first durable entries c.in-Some.term part c.self.invariant.under_terms asked found);
+      told = λ before. ap (λ state. state.answered) c.answer.ensures;
+      named = ap (λ state. state.part.term) c.answer.ensures;
+    } in
+    table-change entries changed c.self.inside.touched.items c.push.new.self.items c.in-Some.term Unanswered part
+    c.answer.new.self c.self.inside.kept c.self.inside.unanswered.items c.self.inside.kept_unanswered c.self.invariant it
 
 pub returns-clause-answered : goal.returns-clause-answered
 returns-clause-answered c =
     let durable = take c.args.notes.now.durable c.args.notes.now.noted in
     let entries = c.self.inside.begun.entries in
-    let part = c.in-Some-get.part.now in
-    let found = sym c.in-Some-get.ensures.value in
-    let is = c.answer.ensures ∙ ap (λ state. let told : PartState = record state { answered = true } in told) c.in_ok-answered.ensures in
+    let changed = (c.get_mut.follows.lender c.answer.new.self).entries in
+    let part = c.in-Some-get_mut.part.now in
+    let asked = ap (λ fetched. option_map (λ state. state.part.term) (find (is_to_answer durable) fetched.parts)) c.self.view_is ∙
+    sym c.to_answer.ensures ∙ c.in-Some.is in
+    let found = sym c.in-Some-get_mut.ensures.value in
+    let pushed : c.push.new.self.items ≡ c.self.inside.touched.items ++ (c.in-Some.term, Unanswered) ∷ [] =
+    grind (arith, common_steps) in
+    let it : IsChange entries changed c.self.inside.touched.items c.push.new.self.items c.in-Some.term Unanswered part
+    c.answer.new.self = record {
+      found = found;
+      written = (c.get_mut.follows.holds c.answer.new.self).0;
+      noted = pushed;
+      back = answered-back part c.answer.new.self c.answer.ensures
+          (told-first durable entries c.in-Some.term part c.self.invariant.under_terms asked found);
+      told = λ before. ap (λ state. state.answered) c.answer.ensures;
+      named = ap (λ state. state.part.term) c.answer.ensures;
+    } in
     same_fetched _ _
-    (answer-changed durable entries c.change.new.begun.entries c.in-Some.term part c.answer.new.self c.self.invariant.under_terms
-    (ap (λ fetched. option_map (λ state. state.part.term) (find (is_to_answer durable) fetched.parts)) c.self.view_is ∙
-    sym c.to_answer.ensures ∙ c.in-Some.is)
-    found is (found-named c.in-Some.term entries part c.answer.new.self c.self.invariant.under_terms found
-    (ap (λ state. state.part.term) is)) c.change.ensures.changed
+    (ap parts_in (it.written ∙ ap (set_value (nat_eq c.in-Some.term) entries) c.answer.ensures)
+    ∙ told durable entries c.in-Some.term part c.self.invariant.under_terms asked found
     ∙ ap (λ fetched. answered_in durable fetched.parts) c.self.view_is)
     (ap (λ fetched. fetched.replay) c.self.view_is)
-    (ap parts_in (c.change.ensures.undone c.self.inside.kept ∙
-    ap (λ touched. undone touched (take c.self.inside.kept entries)) c.reserve.ensures.items)
+    (ap parts_in (undone-noted entries changed c.self.inside.touched.items c.push.new.self.items c.in-Some.term Unanswered part
+    c.answer.new.self c.self.inside.kept it)
     ∙ ap (λ fetched. fetched.parts_before) c.self.view_is)
     (ap (λ fetched. fetched.replay_before) c.self.view_is)

@@ -1,4 +1,5 @@
-use Rattle.std.proofs.Common.{◌≡◌, take, ap, ◌∙◌}
+use Rattle.std.proofs.Common.{◌≡◌, take, ap, ◌∙◌, arith}
+use Rattle.std.proofs.lemmas.Grind.{common_steps}
 use Rattle.rc_ownership.specs.Parts.{parts_in, undone}
 use Rattle.rc_ownership.proofs.Undone.{same_fetched, table-restored, undone-restored, undone-take}
 use Rattle.rc_ownership.proofs.parts.Parts.restore.Goals as goal
@@ -6,8 +7,10 @@ use Rattle.rc_ownership.proofs.parts.Parts.restore.Goals as goal
 pub invariant_of-self : goal.invariant_of-self
 invariant_of-self c =
     table-restored c.self.inside.begun.entries c.self.inside.touched.items c.truncate.new.self.entries
-    c.undo.new.touched.items c.self.inside.kept c.self.invariant
+    c.undo.new.touched.items c.self.inside.kept c.self.inside.unanswered.items c.truncate-2.new.self.items
+    c.self.inside.kept_unanswered c.self.invariant
     (c.truncate.ensures.entries ∙ ap (take c.self.inside.kept) c.undo.ensures.entries) c.undo.ensures.none
+    (grind (arith, common_steps))
 
 pub returns : goal.returns
 returns c =
