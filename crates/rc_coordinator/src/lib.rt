@@ -4,9 +4,9 @@
 //! `CoordinatorStep`.
 //!
 //! To be read in this order: `coordinator`, the calls; `state`, which input is taken how; the rules by topic:
-//! `enlisting`, who is up; `deciding`, which log is chosen; `granting`, who owns what; `asking`, what the timer asks for
-//! again; `recoveries` with `attempts`, what is remembered of recoveries; `plans`, which tablet goes to whom; `grants`;
-//! `least`; `notices`, all other messages; `lists` and `making`, a coordinator of a save.
+//! `enlisting`, who is up; `deciding`, which log is chosen; `granting`, who owns what; `asking`, what the timer asks
+//! for again; `recoveries` with `attempts`, what is remembered of recoveries; `plans`, which tablet goes to whom;
+//! `grants`; `least`; `notices`, all other messages; `lists` and `making`, a coordinator of a save.
 #![tactic(auto)]
 
 mod asking;
