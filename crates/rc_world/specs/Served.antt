@@ -13,6 +13,8 @@ use Rattle.rc_world.specs.Happened.{Happened}
 pub record IsServed (world : Happened) (sent : List Message) : Type 0 where
   -- each acknowledged version of a key is one write
   pub once : (m : ServerId) (ack : Ack) → HasAcknowledged sent m ack → IsOneWrite sent m ack
+  -- its master has sent it for its place
+  pub written : (m : ServerId) (ack : Ack) → HasAcknowledged sent m ack → (entry : Entry) × IsWritten sent m ack entry
   -- what was first asked for after a write was acknowledged, within the first events, has a greater version
   pub ordered : (earlier more : List Event) (m x : ServerId) (first later : Ack) (entry : Entry) →
       world.events ≡ earlier ++ more → HasAcknowledged (sent_after world.setup earlier) m first →

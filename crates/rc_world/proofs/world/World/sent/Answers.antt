@@ -16,7 +16,8 @@ returns-clause-served g c =
     c.as_slice.ensures.value ∙ c.self.invariant.same.sent in
     let opened : Happened = record { setup = c.self.inside.nodes.setup; events = c.self.inside.events.items } in
     let inside : IsServed opened c.as_slice.result.now =
-    subst (λ (sent : List Message). IsServed opened sent) (sym same) (is-served c.self.inside.nodes.setup c.self.inside.events.items) in
+    subst (λ (sent : List Message). IsServed opened sent) (sym same)
+    (is-served c.self.inside.nodes.setup c.self.inside.events.items c.self.invariant.limits) in
     rw c.self.view_is at inside
 
 pub returns-clause-headline : goal.returns-clause-headline
