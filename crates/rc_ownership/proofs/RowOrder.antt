@@ -1,6 +1,6 @@
 -- Rows in order of segment, and the search for one that is awaited.
 use Rattle.std.proofs.Common.{◌≡◌, ℕ, ◌+◌, ◌<◌, ◌≤◌, ◌⊎◌, inl, inr, Bool, true, false, cond, not, nat_lt, nat_eq, ◌&&◌, is_some}
-use Rattle.std.proofs.Common.{Option, Some, None, position, List, [], ◌∷◌, length, suc, sym, refl, ap, subst, ◌∙◌, arith}
+use Rattle.std.proofs.Common.{Some, None, position, List, [], ◌∷◌, length, suc, sym, refl, ap, subst, ◌∙◌, arith}
 use Rattle.std.proofs.lemmas.Bool.{cases_lt}
 use Rattle.std.proofs.lemmas.Bool.Decides.{nat_tests}
 use Rattle.std.proofs.lemmas.List.{get_or_default}

@@ -1,7 +1,6 @@
 -- The rows of a part, where one that came has not come.
 use Rattle.std.proofs.Common.{◌≡◌, ℕ, ◌+◌, ◌-◌, ◌<◌, ◌≤◌, Bool, true, false, cond, not, ◌||◌, is_some, Some, None}
 use Rattle.std.proofs.Common.{Option, List, [], ◌∷◌, ◌++◌, length, length-append, filter, zero, suc, sym, ap, ◌∙◌, refl, arith}
-use Rattle.std.proofs.Common.{true≢false}
 use Rattle.std.specs.Prelude.{slice_index_or, slice_set}
 use Rattle.std.specs.List.{list_any, position_or_len}
 use Rattle.rc_types.specs.declared.ids.ServerId.{ServerId}

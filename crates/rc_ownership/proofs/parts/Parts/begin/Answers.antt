@@ -1,4 +1,4 @@
-use Rattle.std.proofs.Common.{◌≡◌, [], length, sym, subst, arith}
+use Rattle.std.proofs.Common.{◌≡◌, [], sym, subst, arith}
 use Rattle.std.proofs.lemmas.Grind.{common_steps}
 use Rattle.rc_ownership.specs.Parts.{AreUnderTheirTerms}
 use Rattle.rc_ownership.specs.Unanswered.{HoldUnanswered}

@@ -1,9 +1,9 @@
 use Rattle.std.proofs.Common.{◌≡◌, ◌++◌, ◌∷◌, [], nat_eq, take, find, option_map, ap, sym, ◌∙◌, arith}
 use Rattle.std.proofs.lemmas.Grind.{common_steps}
 use Rattle.std.specs.Map.{set_value}
-use Rattle.rc_model.specs.Ownership.{PartState, is_to_answer, answered_in}
+use Rattle.rc_model.specs.Ownership.{is_to_answer, answered_in}
 use Rattle.rc_ownership.specs.declared.part.Before.TheVariants.{Unanswered}
-use Rattle.rc_ownership.specs.Parts.{Fetched, parts_in, undone}
+use Rattle.rc_ownership.specs.Parts.{Fetched, parts_in}
 use Rattle.rc_ownership.proofs.PartTables.{answered_in-none, not_told, told, told-first, unmapped}
 use Rattle.rc_ownership.proofs.Undone.{same_fetched, IsChange, answered-back, table-change, undone-noted}
 use Rattle.rc_ownership.proofs.parts.Parts.complete.Goals as goal
