@@ -1,6 +1,7 @@
 -- The timer goes over each segment that may want something, whatever is done with the log.
 use Rattle.std.proofs.Common.{◌≡◌, ⊎_elim, ℕ, ◌+◌, ◌-◌, ◌<◌, ◌≤◌, Bool, true, false, cond, not, ◌&&◌, ◌||◌, eqb, List, []}
-use Rattle.std.proofs.Common.{◌∷◌, ◌++◌, length, get_or, set, map, Some, is_some, Result, Ok, Err, is_ok, IsOk, refl, ap, sym, ◌∙◌, subst, arith}
+use Rattle.std.proofs.Common.{◌∷◌, ◌++◌, length, get_or, set, map, Some, is_some, Result, Ok, Err, is_ok, IsOk, refl}
+use Rattle.std.proofs.Common.{ap, sym, ◌∙◌, subst, arith}
 use Rattle.std.specs.List.{list_all}
 use Rattle.std.proofs.lemmas.Bool.{and_parts, and_from, cases_eq, cond_both, cond-false, ne_eqb, false≢true}
 use Rattle.std.proofs.lemmas.List.{length-set, length_push}

@@ -44,7 +44,8 @@ impl Watch {
 
     /// From here on the segment is not gone over.
     pub(crate) fn let_go(&mut self, seg: u16)
-        ensures { (other : ℕ) → is_awake self.new other ≡ (if nat_eq seg other then false else is_awake self.old other) }
+        ensures { (other : ℕ) →
+            is_awake self.new other ≡ (if nat_eq seg other then false else is_awake self.old other) }
     {
         self.awake.remove(&seg);
     }
@@ -53,7 +54,8 @@ impl Watch {
     pub(crate) fn next(&self, done: u16) -> Option<u16>
         ensures later { IfSome result (λ seg. done < seg) }
         ensures awake { IfSome result (λ seg. is_awake self.now seg ≡ true) }
-        ensures others { (other : ℕ) → done < other → IfSome result (λ seg. other < seg) → is_awake self.now other ≡ false }
+        ensures others { (other : ℕ) → done < other → IfSome result (λ seg. other < seg) →
+            is_awake self.now other ≡ false }
     {
         match self
             .awake

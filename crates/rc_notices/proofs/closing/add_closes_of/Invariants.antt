@@ -1,4 +1,4 @@
-use Rattle.std.proofs.Common.{◌≡◌, ◌++◌, drop, filter, length}
+use Rattle.std.proofs.Common.{◌≡◌, ◌++◌, drop, filter}
 use Rattle.rc_types.specs.declared.messages.Body.TheVariants.{Close}
 use Rattle.rc_model.specs.Master.{to_ids, ids_of}
 use Rattle.rc_model.specs.Segment.{is_unclosed}

@@ -1,4 +1,4 @@
-use Rattle.std.proofs.Common.{◌≡◌, ◌≤◌, ◌++◌, ℕ, sym, ap, ◌∙◌, arith}
+use Rattle.std.proofs.Common.{◌≤◌, ◌++◌, sym, ap, ◌∙◌, arith}
 use Rattle.std.proofs.lemmas.Grind.{common_steps}
 use Rattle.rc_model.specs.Log.{Log, numbers_to}
 use Rattle.rc_model.specs.MasterTick.{reminds_open}
@@ -17,7 +17,8 @@ loop-seg-preserved c =
       known = within;
       so_far =
           adds-more _ _ _ _ _ _ c.loop-seg.invariant.so_far c.in_ok-add_if_open.ensures.ok
-          (skips-to (λ n. reminds_open before log (numbers_to n)) (reminds_if_open before log) (open-more before log) c.loop-seg.done c.in-Some.seg c.in-Some.ensures.later
+          (skips-to (λ n. reminds_open before log (numbers_to n)) (reminds_if_open before log)
+          (open-more before log) c.loop-seg.done c.in-Some.seg c.in-Some.ensures.later
           (λ o above below. open-none before log o (c.in-Some.ensures.others o above (omega (arith, below, within)) below)));
       begun = grind (arith, common_steps);
     }
@@ -27,5 +28,6 @@ returns-clause-ok c =
     let log : Log = log_of c.args.log.now in
     let before : Log = before_of c.args.log.now in
     c.loop-seg.invariant.so_far ∙ ap (λ messages. c.args.sent.now.items ++ messages)
-    (sym (skips (λ n. reminds_open before log (numbers_to n)) (reminds_if_open before log) (open-more before log) c.loop-seg.done log.head c.loop-seg.invariant.known
+    (sym (skips (λ n. reminds_open before log (numbers_to n)) (reminds_if_open before log) (open-more before log) c.loop-seg.done
+    log.head c.loop-seg.invariant.known
     (λ o above within. open-none before log o (c.in_default.ensures.others o above within tt))))

@@ -32,8 +32,7 @@ invariant_of-self c =
     c.mark_freed.auto.segments ∙ ap length c.as_mut_slice.ensures.value in
     let table : segment_at c.mark_freed.new.segments ≡ freed_in c.args.freed.now (segment_at c.self.inside.segments.items) =
     c.mark_freed.ensures ∙ ap (λ (segs : List Segment). freed_in c.args.freed.now (segment_at segs)) c.as_mut_slice.ensures.value in
-    let same = with_items_is c.self.inside.segments c.mark_freed.new.segments (len ∙ sym c.self.inside.segments.ok.0) in
-    (
+    let same = with_items_is c.self.inside.segments c.mark_freed.new.segments (len ∙ sym c.self.inside.segments.ok.0) in (
       subst (λ (segs : List Segment). IsSoundLog (record (the_view c.self.inside) { segments = segs; phase = Writing })
           c.self.inside.passed c.self.inside.passed_entries) (sym same)
           (writes-sound (the_view c.self.inside) c.self.inside.passed c.self.inside.passed_entries c.args.freed.now

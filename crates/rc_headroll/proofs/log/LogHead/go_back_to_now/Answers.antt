@@ -10,8 +10,7 @@ pub invariant_of-self : goal.invariant_of-self
 invariant_of-self c =
     let is = c.begin.ensures ∙
     ap (λ (segments : List Segment). mark_of segments c.self.inside.phase c.self.inside.durable c.self.inside.passed
-    c.self.inside.passed_entries) c.as_slice.ensures.value in
-    (
+    c.self.inside.passed_entries) c.as_slice.ensures.value in (
       sound-begin (the_view c.self.inside) c.self.inside.passed c.self.inside.passed_entries c.begin.new.self c.self.invariant.0.now is,
       watched-begins (the_view c.self.inside) c.begin.new.self c.self.invariant.1
           (before_of-begin (the_view c.self.inside) c.self.inside.passed c.self.inside.passed_entries c.begin.new.self is),

@@ -12,8 +12,7 @@ pub invariant_of-self : goal.invariant_of-self
 invariant_of-self c =
     let has : true ≡ has_segment (log_of c.args.self.now) c.args.seg = sym c.requires in
     let at = seg_place (the_view c.self.inside) c.args.seg c.from.result (rw (← c.self.view_is) at has) c.from.ensures in
-    let read = segment_at-read c.self.inside.segments.items c.args.seg _ c.index.result.now at.0 at.1 c.index.ensures in
-    (
+    let read = segment_at-read c.self.inside.segments.items c.args.seg _ c.index.result.now at.0 at.1 c.index.ensures in (
       sound-kept (the_view c.self.inside) c.self.inside.passed c.self.inside.passed_entries c.keep.new.self c.self.invariant.0
           (keep-keeps c.self.inside.before c.keep.new.self (length c.self.inside.segments.items)
           (segment_at c.self.inside.segments.items) c.args.seg c.index.result.now

@@ -25,8 +25,7 @@ invariant_of-self c =
     c.shut_front-front.result.segments = rw (← c.self.view_is) at is in
     let now' : c.durable_now-self-inside.result ≡ durable_now (log_of kept) = rw (← c.self.view_is) at now in
     let least : entries_to (segment_at c.self.inside.segments.items) c.shut_front-front.result.segments ≤ durable_now
-    (log_of kept) = durable_now-least (log_of kept) c.shut_front-front.result.segments known' shut' in
-    (
+    (log_of kept) = durable_now-least (log_of kept) c.shut_front-front.result.segments known' shut' in (
       sound_log-same kept c.self.inside.phase c.durable_now-self-inside.result c.self.inside.passed
           c.self.inside.passed_entries c.shut_front-front.result.segments c.shut_front-front.result.entries
           c.self.invariant.0

@@ -16,8 +16,7 @@ invariant_of-self c =
     let is : c.len-old.result - 2 ≡ length c.self.inside.segments.items - 2 =
     ap (λ (n : ℕ). n - 2) (c.len-old.ensures ∙ c.self.inside.segments.ok.0) in
     let was = c.index_mut.result.now in
-    let keeps = keeps_from c.mark_close_sent.new.self was _ c.mark_close_sent.ensures refl refl refl in
-    (
+    let keeps = keeps_from c.mark_close_sent.new.self was _ c.mark_close_sent.ensures refl refl refl in (
       old_head-sound (the_view c.self.inside) (c.len-old.result - 2) c.self.inside.passed c.self.inside.passed_entries
           c.mark_close_sent.new.self was c.self.invariant.0 more is
           c.index_mut.ensures.value keeps.entries keeps.digest

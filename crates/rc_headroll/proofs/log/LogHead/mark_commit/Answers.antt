@@ -13,8 +13,7 @@ pub invariant_of-self : goal.invariant_of-self
 invariant_of-self c =
     let has : true ≡ has_segment (log_of c.args.self.now) c.args.seg = sym c.requires.has in
     let kept : IsKept c.args.self.now.mark c.args.seg = c.requires.kept in
-    let was = c.index_mut.result.now in
-    (
+    let was = c.index_mut.result.now in (
       written-sound (the_view c.self.inside) c.args.seg c.from.result c.self.inside.passed c.self.inside.passed_entries
           c.mark_commit_sent.new.self was c.self.invariant.0
           (rw (← c.self.view_is) at has) c.from.ensures c.index_mut.ensures.value

@@ -14,8 +14,7 @@ invariant_of-self c =
     let may' = rw (← c.self.view_is) at may in
     let is : c.len-old.result - 2 ≡ length c.self.inside.segments.items - 2 =
     ap (λ (n : ℕ). n - 2) (c.len-old.ensures ∙ c.self.inside.segments.ok.0) in
-    let more : 1 < length c.self.inside.segments.items = shuts-parts (log_of (the_view c.self.inside)) (sym may') in
-    (
+    let more : 1 < length c.self.inside.segments.items = shuts-parts (log_of (the_view c.self.inside)) (sym may') in (
       old_head-sound (the_view c.self.inside) (c.len-old.result - 2) c.self.inside.passed c.self.inside.passed_entries
           c.mark_shut.new.self c.index_mut.result.now c.self.invariant.0
           (shuts-parts (log_of (the_view c.self.inside)) (sym may')) is c.index_mut.ensures.value

@@ -6,12 +6,11 @@ use Rattle.rc_headroll.proofs.WatchLemmas.{watched-none}
 use Rattle.rc_headroll.proofs.log.LogHead.new.Goals as goal
 
 pub invariant_of-result : goal.invariant_of-result
-invariant_of-result c =
-    (
-      rw (c.new-2.ensures, c.new.ensures.items)
-          (sound_log-new c.args.own c.args.factor c.args.size c.new-3.result c.requires.factor c.requires.size),
-      watched-none _ (ap length c.new.ensures.items) (ap (λ (m : Mark). m.head) c.new-2.ensures),
-    )
+invariant_of-result c = (
+  rw (c.new-2.ensures, c.new.ensures.items)
+      (sound_log-new c.args.own c.args.factor c.args.size c.new-3.result c.requires.factor c.requires.size),
+  watched-none _ (ap length c.new.ensures.items) (ap (λ (m : Mark). m.head) c.new-2.ensures),
+)
 
 pub returns-clause-log : goal.returns-clause-log
 returns-clause-log c = rw c.new.ensures.items (log_of-nil c.args.own c.args.factor c.args.size c.new-3.result)

@@ -1,8 +1,7 @@
-use Rattle.std.proofs.Common.{◌≡◌, ◌+◌, ◌∷◌, ◌++◌, [], ◌<◌, ℕ, true, List, length, ap, ◌∙◌, arith}
+use Rattle.std.proofs.Common.{◌≡◌, ◌+◌, ◌∷◌, ◌++◌, [], ◌<◌, ℕ, true, length, ap, arith}
 use Rattle.std.specs.List.{All}
 use Rattle.rc_types.specs.declared.kept.Phase.TheVariants.{Opening}
 use Rattle.rc_types.specs.declared.limits.TheConstants.{LAST_SEGMENT}
-use Rattle.rc_model.specs.Segment.{Segment}
 use Rattle.rc_headroll.specs.LogData.{segment_at}
 use Rattle.rc_headroll.specs.Soundness.{IsKnown}
 use Rattle.rc_headroll.specs.contracts.log.LogHead.{the_view}
@@ -21,8 +20,7 @@ invariant_of-self-2 c =
     (segment_at c.args.self.now.segments seg).shut ≡ true = c.requires.shut in
     let pushed : c.push.new.self.items ≡ c.self.inside.segments.items ++ c.new-head.result ∷ [] =
     pushed-within c.push.result c.push.new.self.items c.reserve.new.self.items c.self.inside.segments.items c.new-head.result
-    (c.push.ensures.succeeds (omega (arith, c.in_ok-reserve.ensures.ok))) c.push.ensures.items c.reserve.ensures.items in
-    (
+    (c.push.ensures.succeeds (omega (arith, c.in_ok-reserve.ensures.ok))) c.push.ensures.items c.reserve.ensures.items in (
       sound-watch (record (the_view c.self.inside) { segments = c.push.new.self.items; phase = Opening }) c.self.inside.passed
           c.self.inside.passed_entries c.wake.new.self
           (sound_log-from (the_view c.self.inside) c.push.new.self.items Opening c.self.inside.durable c.self.inside.passed

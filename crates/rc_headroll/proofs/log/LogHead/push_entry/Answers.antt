@@ -14,8 +14,7 @@ invariant_of-self-2 c =
     ap (λ (n : ℕ). n - 1) (c.len-last.ensures ∙ c.self.inside.segments.ok.0) in
     let some : 0 < length c.self.inside.segments.items =
     (append-possible (log_of (the_view c.self.inside)) c.self.inside.passed c.self.inside.passed_entries
-    c.self.invariant.0.now (rw (← c.self.view_is) at possible)).0 in
-    (
+    c.self.invariant.0.now (rw (← c.self.view_is) at possible)).0 in (
       pushed-sound (the_view c.self.inside) (c.len-last.result - 1) c.self.inside.passed c.self.inside.passed_entries
           c.args.entry c.args.client c.push.new.self c.index_mut.result.now
           c.self.invariant.0 (rw (← c.self.view_is) at possible) last c.index_mut.ensures.value c.in_ok-push.ensures.ok,

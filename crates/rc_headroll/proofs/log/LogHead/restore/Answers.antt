@@ -15,8 +15,7 @@ invariant_of-self c =
     c.put_back.auto.segments ∙ ap length c.as_mut_slice.ensures.value in
     let table = c.put_back.ensures ∙ ap (λ (ss : List Segment). segments_before c.self.inside.before (segment_at ss))
     c.as_mut_slice.ensures.value in
-    let all = with_items_is c.truncate.new.self c.put_back.new.segments (len ∙ sym c.truncate.new.self.ok.0) in
-    (
+    let all = with_items_is c.truncate.new.self c.put_back.new.segments (len ∙ sym c.truncate.new.self.ok.0) in (
       restored-sound (the_view c.self.inside) c.truncate.new.self.items c.put_back.new.segments _
           c.phase-self-inside.result c.durable-self-inside.result
           c.passed-self-inside.result c.passed_entries-self-inside.result c.begin.new.self c.self.invariant.0.back.known cut len table all
