@@ -1,6 +1,5 @@
 -- What holds of each master's parts holds of every world that a list of events leads to.
-use Rattle.std.proofs.Common.{◌≡◌, ◌⊎◌, ℕ, ◌+◌, List, [], ◌∷◌, ◌++◌, Option, Some, None, refl, sym, ap, ◌∙◌, subst, inl, inr, arith}
-use Rattle.std.proofs.Math.Path.{fun_ext}
+use Rattle.std.proofs.Common.{◌≡◌, ◌⊎◌, ℕ, ◌+◌, List, [], ◌∷◌, ◌++◌, refl, sym, ap, ◌∙◌, subst, inl, inr}
 use Rattle.rc_types.specs.declared.ids.ServerId.{ServerId}
 use Rattle.rc_types.specs.declared.ids.Addr.{Addr}
 use Rattle.rc_types.specs.declared.ids.Addr.TheVariants.{Server, Coordinator as AtCoordinator, Outside}
@@ -11,35 +10,23 @@ use Rattle.rc_types.specs.declared.events.Event.{Event}
 use Rattle.rc_types.specs.declared.messages.Message.{Message}
 use Rattle.rc_types.specs.declared.messages.Body.{Body}
 use Rattle.rc_types.specs.declared.messages.Body.TheVariants as body
-use Rattle.rc_model.specs.Ids.{same_id, is_server}
-use Rattle.rc_model.specs.Tables.{put, put_id}
 use Rattle.rc_model.specs.Messages.{to_coordinator}
-use Rattle.rc_model.specs.Backup.{Backup, backup_takes}
 use Rattle.rc_model.specs.Ownership.{PartState}
-use Rattle.rc_model.specs.Master.{Master, new_master}
+use Rattle.rc_model.specs.Master.{Master}
 use Rattle.rc_model.specs.MasterStep.{master_takes, master_ticks}
-use Rattle.rc_model.specs.Coordinator.{Coordinator}
 use Rattle.rc_model.specs.Deciding.{own_body}
-use Rattle.rc_model.specs.Nodes.{Work, Ask, Take, Tick, Stop, Start, Suspect, Decide, Create, Split, HostNode}
-use Rattle.rc_model.specs.Nodes.{master_setup, outside_sends, coordinator_step, server_of, host_step, is_for_backup}
-use Rattle.rc_model.specs.Nodes.{with_backup, with_master, server_takes, takes_if_running, ticks_if_running}
-use Rattle.rc_model.specs.Nodes.{next_server, starts_host}
-use Rattle.rc_model.specs.World.{World, opening, NodeName, TheOutside, TheCoordinator, TheHost, Job, work_of}
-use Rattle.rc_model.specs.World.{is_possible, with_last_view, node_done, job_done, step, replay_from, replay}
+use Rattle.rc_model.specs.Nodes.{master_setup}
+use Rattle.rc_model.specs.World.{World, opening}
+use Rattle.rc_model.specs.World.{step, replay_from, replay}
 use Rattle.rc_model.specs.Headline.{In}
-use Rattle.rc_model.proofs.Members.{In-left, In-append}
+use Rattle.rc_model.proofs.Members.{In-append}
 use Rattle.rc_step_laws.specs.Facts.{GoodMaster}
-use Rattle.rc_step_laws.specs.Moves.{MasterMoved, BackupMoved, backup_body_said}
-use Rattle.rc_step_laws.proofs.Copies.{More}
 use Rattle.rc_step_laws.proofs.Rolling.{writing-is}
-use Rattle.rc_step_laws.proofs.MasterSteps.{master_takes_keeps, master_ticks_keeps}
-use Rattle.rc_step_laws.proofs.Backups.{moved-backup}
 use Rattle.rc_step_laws.proofs.CoordinatorSteps as coordinator
-use Rattle.rc_log_laws.proofs.Replays.{GoodWorld, IsGiven, is-good, is-fine, hears, is_server-true, work_of-given, put_id-found}
-use Rattle.rc_log_laws.proofs.Replays.{may-hear, to-coordinator-is, good-world}
-use Rattle.rc_log_laws.proofs.MasterWorlds.{put_id-cases}
+use Rattle.rc_log_laws.proofs.Replays.{GoodWorld}
+use Rattle.rc_log_laws.proofs.Replays.{good-world}
 use Rattle.rc_log_laws.proofs.Since.{replay_from-append}
-use Rattle.rc_owner_laws.specs.Grants.{IsOwn, IsPlanOf, GrantsKept}
+use Rattle.rc_owner_laws.specs.Grants.{IsOwn, IsPlanOf}
 use Rattle.rc_owner_laws.proofs.OwnerReplays.{OfWorld, grants-world}
 use Rattle.rc_owner_laws.specs.Terms.{IsGivenBy, GoodTerms}
 use Rattle.rc_owner_laws.specs.Parts.{PartView, part_view, IsPart, WasPlanned, GoodParts}
@@ -47,9 +34,7 @@ use Rattle.rc_owner_laws.specs.PartMoves.{HasHead, IsComplete, HasEnded, part_sa
 use Rattle.rc_owner_laws.proofs.PartViews.{good-more, said-later}
 use Rattle.rc_owner_laws.proofs.PartSteps.{takes-keep-parts, ticks-keep-parts, new-has-good-parts}
 use Rattle.rc_owner_laws.specs.Worlds.{parts_fine, PartsHold}
-use Rattle.rc_model.proofs.Tables.{put-same, put_id-same}
-use Rattle.rc_model.proofs.Ids.{same_id-true}
-use Rattle.rc_model.proofs.Tests.{either, true_false}
+use Rattle.rc_model.proofs.Tests.{true_false}
 use Rattle.rc_step_laws.proofs.LogMoves.{more-left}
 use Rattle.rc_log_laws.proofs.EachMaster.{is_others, IsLed, led-by}
 use Rattle.rc_owner_laws.specs.PartMoves.{PartsLater}

@@ -1,6 +1,6 @@
 -- The rules that follow up an input, one by one, and then until none applies.
-use Rattle.std.proofs.Common.{◌≡◌, ◌⊎◌, ℕ, zero, suc, ◌+◌, ◌-◌, ◌<◌, Bool, true, false, not, nat_eq, nat_lt, ◌&&◌}
-use Rattle.std.proofs.Common.{List, [], ◌∷◌, ◌++◌, length, take, map, filter, slice_get, Option, Some, None, refl, sym}
+use Rattle.std.proofs.Common.{◌≡◌, ◌⊎◌, ℕ, ◌+◌, ◌-◌, ◌<◌, Bool, true, false, not, nat_eq, ◌&&◌}
+use Rattle.std.proofs.Common.{List, [], ◌∷◌, ◌++◌, length, take, map, filter, slice_get, Some, refl, sym}
 use Rattle.std.proofs.Common.{ap, ◌∙◌, subst, inl, inr, arith}
 use Rattle.std.proofs.lemmas.Bool.{and_parts, eqb-true, ltb-true}
 use Rattle.std.specs.List.{list_any}
@@ -13,23 +13,23 @@ use Rattle.rc_types.specs.declared.kept.Phase.{Phase}
 use Rattle.rc_types.specs.declared.kept.Phase.TheVariants.{Opening, Closing, Writing}
 use Rattle.rc_types.specs.declared.messages.Message.{Message}
 use Rattle.rc_types.specs.declared.messages.Body.{Body}
-use Rattle.rc_types.specs.declared.messages.Body.TheVariants.{Place, WriteOk, Close, Commit, Free, Ready, Recovered}
-use Rattle.rc_model.specs.Messages.{between, to_coordinator, to_outside}
+use Rattle.rc_types.specs.declared.messages.Body.TheVariants.{Place, WriteOk, Close, Commit, Ready, Recovered}
+use Rattle.rc_model.specs.Messages.{between, to_coordinator}
 use Rattle.rc_model.specs.Config.{told_closed, is_closed, all_placed, all_closed}
 use Rattle.rc_model.specs.Segment.{Segment, is_ready, is_all_closed, is_unclosed, has_unclosed, with_closes_sent}
 use Rattle.rc_model.specs.Log.{Log, LogPlace, places_of, head_of, old_head_of, has_old_head, with_segment, numbers_to}
-use Rattle.rc_model.specs.Log.{is_opening, is_closing, is_writing, durable_now}
-use Rattle.rc_model.specs.Heads.{is_full, begin_roll, shuts, may_start, may_close, may_write, left_out, with_freed}
+use Rattle.rc_model.specs.Log.{is_opening, is_closing, durable_now}
+use Rattle.rc_model.specs.Heads.{shuts, may_start, may_close, may_write, left_out, with_freed}
 use Rattle.rc_model.specs.Heads.{starts, closes_old, writes_on}
-use Rattle.rc_model.specs.Ownership.{after_replay, to_answer, after_answer}
-use Rattle.rc_model.specs.Master.{Master, with_log, durable_entries, to_ids, ids_of, not_lost, to_unlost, appends_entry, dead_segments}
-use Rattle.rc_model.specs.FollowUps.{when, follows_start, follows_placed, close_is_due, close_marked, follows_closing}
-use Rattle.rc_model.specs.FollowUps.{frees_segments, follows_shut, first_open, wants_commit, commits, commits_open}
-use Rattle.rc_model.specs.FollowUps.{follows_change, write_oks, new_durable, follows_stored, rolls_for_replay, replays}
-use Rattle.rc_model.specs.FollowUps.{follows_data, attempt_of, answers_part, or_rule, follow_up, marks_shut, further}
-use Rattle.rc_model.specs.FollowUps.{followed, measure, goes_on}
+use Rattle.rc_model.specs.Ownership.{after_replay, after_answer}
+use Rattle.rc_model.specs.Master.{Master, with_log, durable_entries, to_ids, ids_of, appends_entry}
+use Rattle.rc_model.specs.FollowUps.{close_is_due, close_marked}
+use Rattle.rc_model.specs.FollowUps.{frees_segments, first_open, commits}
+use Rattle.rc_model.specs.FollowUps.{write_oks, new_durable, replays}
+use Rattle.rc_model.specs.FollowUps.{attempt_of}
+use Rattle.rc_model.specs.FollowUps.{goes_on}
 use Rattle.rc_model.specs.Headline.{In}
-use Rattle.rc_model.proofs.Members.{In-append, In-get, In-map, In-filter}
+use Rattle.rc_model.proofs.Members.{In-append, In-map, In-filter}
 use Rattle.rc_step_laws.specs.Words.{log_in, IsOpened, HasToldClosed}
 use Rattle.rc_step_laws.specs.Facts.{IsSafe}
 use Rattle.rc_step_laws.specs.Later.{LogLater}
@@ -41,8 +41,8 @@ use Rattle.rc_step_laws.proofs.LogMoves.{GoodSegment, GoodLog, LogMoved, more-le
 use Rattle.rc_step_laws.proofs.Places.{numbers-In, places_to-are, place-logged, durable-within}
 use Rattle.rc_step_laws.proofs.Safe.{durable-safe}
 use Rattle.rc_step_laws.proofs.Segments.{log-later, later-refl, counted-still, within-still, put-moved, marked-moved}
-use Rattle.rc_step_laws.proofs.Views.{GoodView, Moved, moved-then, moved-quiet, view-after, still, AllQuiet}
-use Rattle.rc_step_laws.proofs.Views.{IsQuietOf, quiet-none, quiet-one, quiet-both, quiet-says, quiet-no_place}
+use Rattle.rc_step_laws.proofs.Views.{GoodView, Moved, moved-quiet, AllQuiet}
+use Rattle.rc_step_laws.proofs.Views.{IsQuietOf, quiet-none, quiet-one, quiet-says, quiet-no_place}
 use Rattle.rc_step_laws.proofs.Views.{quiet-moved}
 use Rattle.rc_step_laws.proofs.Rolling.{writing-is}
 use Rattle.rc_model.proofs.Walk.{Followed, kept-goes_on}
@@ -50,7 +50,7 @@ use Rattle.rc_step_laws.proofs.Views.{Kept, joined}
 use Rattle.rc_model.proofs.Sending.{each-frees, each-write_oks, each-to_ids}
 use Rattle.rc_step_laws.proofs.Writing.{moved-appends, moved-opens_roll}
 use Rattle.rc_model.proofs.Tables.{put-same}
-use Rattle.rc_model.proofs.Tests.{true_false, either}
+use Rattle.rc_model.proofs.Tests.{true_false}
 
 -- The phase
 
@@ -272,7 +272,8 @@ write_ok-no_place : {P : Type 0} (m x own : ServerId) (s e : ℕ) (digest : List
     → In (between m x (Place s e digest entries closed)) (write_oks own places) → P
 write_ok-no_place {P} m x own s e digest entries closed places at =
     each-write_oks (λ message. message ≡ between m x (Place s e digest entries closed) → P) own places
-    (λ place there client same. differ (ap (λ (message : Message). message.body) same)) (between m x (Place s e digest entries closed)) at refl
+    (λ place there client same. differ (ap (λ (message : Message). message.body) same))
+    (between m x (Place s e digest entries closed)) at refl
   where
     differ : {t o term table key version : ℕ} → ◌≡◌ {A = Body} (WriteOk t o term table key version) (Place s e digest entries closed) → P
     differ same = cc

@@ -1,5 +1,5 @@
 -- Each step of a master: what a message does, what its timer does, and its start.
-use Rattle.std.proofs.Common.{◌≡◌, ℕ, Bool, true, cond, List, [], ◌∷◌, ◌++◌, map, refl, sym, inl, arith}
+use Rattle.std.proofs.Common.{◌≡◌, ℕ, Bool, true, cond, List, [], ◌++◌, map, refl, sym, inl, arith}
 use Rattle.rc_types.specs.declared.ids.ServerId.{ServerId}
 use Rattle.rc_types.specs.declared.ids.Addr.{Addr}
 use Rattle.rc_types.specs.declared.ids.Addr.TheVariants.{Server, Coordinator, Outside}
@@ -12,12 +12,12 @@ use Rattle.rc_types.specs.declared.messages.Body.{Body}
 use Rattle.rc_types.specs.declared.messages.Body.TheVariants.{Write, Read, Stored, CommitOk, Refused, Plan, Data, Own, List as ServersOf}
 use Rattle.rc_model.specs.Messages.{from_coordinator}
 use Rattle.rc_model.specs.ServerList.{up_rows}
-use Rattle.rc_model.specs.Ownership.{knows_term, begin_part, put_data, grant}
-use Rattle.rc_model.specs.Master.{Master, Task}
+use Rattle.rc_model.specs.Ownership.{put_data, grant}
+use Rattle.rc_model.specs.Master.{Master}
 use Rattle.rc_model.specs.ListRules.{then_does}
 use Rattle.rc_model.specs.FollowUps.{goes_on}
 use Rattle.rc_model.specs.MasterTick.{fetch_of, ticks}
-use Rattle.rc_model.specs.MasterStep.{begins_task, task_of, takes_plan, says_deposed, master_takes_first}
+use Rattle.rc_model.specs.MasterStep.{task_of, takes_plan, says_deposed, master_takes_first}
 use Rattle.rc_model.specs.MasterStep.{deposed_takes, master_takes, master_ticks}
 use Rattle.rc_model.specs.Headline.{In}
 use Rattle.rc_step_laws.specs.Words.{OnDifferentHosts}

@@ -1,8 +1,7 @@
 -- A master's timer: what it says again was right before and is now.
-use Rattle.std.proofs.Common.{◌≡◌, ◌⊎◌, ℕ, ◌+◌, Bool, true, false, cond, not, nat_eq, nat_lt, ◌&&◌, List, [], ◌∷◌}
-use Rattle.std.proofs.Common.{◌++◌, length, drop, map, filter, Option, Some, None, is_some, refl, sym, ap, ◌∙◌, subst}
-use Rattle.std.proofs.Common.{inl, inr, arith}
-use Rattle.std.proofs.lemmas.Bool.{and_parts, eqb-true}
+use Rattle.std.proofs.Common.{◌≡◌, ℕ, ◌+◌, Bool, true, false, List, [], ◌∷◌}
+use Rattle.std.proofs.Common.{◌++◌, length, drop, map, Some, refl, sym, ap, ◌∙◌, subst}
+use Rattle.std.proofs.Common.{arith}
 use Rattle.std.proofs.lemmas.List.{length-map}
 use Rattle.rc_types.specs.declared.ids.ServerId.{ServerId}
 use Rattle.rc_types.specs.declared.ids.Addr.{Addr}
@@ -10,23 +9,18 @@ use Rattle.rc_types.specs.declared.ids.Addr.TheVariants.{Server}
 use Rattle.rc_types.specs.declared.entries.Entry.{Entry}
 use Rattle.rc_types.specs.declared.rows.PlanRow.{PlanRow}
 use Rattle.rc_types.specs.declared.kept.Member.{Member}
-use Rattle.rc_types.specs.declared.kept.Told.{Told}
 use Rattle.rc_types.specs.declared.messages.Message.{Message}
 use Rattle.rc_types.specs.declared.messages.Body.{Body}
-use Rattle.rc_types.specs.declared.messages.Body.TheVariants.{Place, Append, Close, Commit, Enlist, Ready, Recovered}
+use Rattle.rc_types.specs.declared.messages.Body.TheVariants.{Place, Append, Close, Enlist}
 use Rattle.rc_model.specs.Messages.{between, to_coordinator}
 use Rattle.rc_model.specs.ServerList.{is_up}
-use Rattle.rc_model.specs.Log.{Log, numbers_to, is_closing, is_writing}
-use Rattle.rc_model.specs.Ownership.{PartState}
+use Rattle.rc_model.specs.Log.{Log, numbers_to}
 use Rattle.rc_model.specs.Master.{Master, Task, ids_of, place_of}
 use Rattle.rc_model.specs.ListRules.{then_does, obeys_list}
-use Rattle.rc_model.specs.FollowUps.{attempt_of}
-use Rattle.rc_model.specs.MasterTick.{stood, standing, to_remind, is_closing_old, lacking, reminds_member}
-use Rattle.rc_model.specs.MasterTick.{reminds_members, reminds_open, reminds_shut_members, reminds_shut, awaits_commit}
-use Rattle.rc_model.specs.MasterTick.{commits_again, has_not_come, fetch_of, fetches_again, awaits_grant}
-use Rattle.rc_model.specs.MasterTick.{recovered_again, ready_again, reminds, ticks}
+use Rattle.rc_model.specs.MasterTick.{fetch_of}
+use Rattle.rc_model.specs.MasterTick.{reminds, ticks}
 use Rattle.rc_model.specs.Headline.{In}
-use Rattle.rc_model.proofs.Members.{In-append, In-map, map-In, In-filter}
+use Rattle.rc_model.proofs.Members.{map-In}
 use Rattle.rc_step_laws.specs.Words.{Stands, IsOpened, IsMember}
 use Rattle.rc_step_laws.specs.Moves.{MasterSays, body_said}
 use Rattle.rc_model.proofs.Sending.{Each, Copied, each-map, each-reminds}
@@ -35,7 +29,7 @@ use Rattle.rc_step_laws.proofs.Tests.{get-map, map-get}
 use Rattle.rc_step_laws.proofs.LogMoves.{GoodLog}
 use Rattle.rc_step_laws.proofs.Places.{numbers-In}
 use Rattle.rc_step_laws.proofs.Views.{GoodView, Moved, moved-then_does, moved-quiet, same-moved, AllQuiet, IsQuiet}
-use Rattle.rc_step_laws.proofs.Views.{IsQuietOf, quiet-none, quiet-one, quiet-both, quiet-says}
+use Rattle.rc_step_laws.proofs.Views.{IsQuietOf, quiet-one, quiet-says}
 use Rattle.rc_step_laws.proofs.ListRules.{place-whole, moved-obeys}
 use Rattle.rc_model.proofs.Tests.{true_false, either}
 

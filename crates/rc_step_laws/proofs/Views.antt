@@ -19,7 +19,6 @@ use Rattle.rc_step_laws.specs.Moves.{OwnFine, MasterSays, body_said}
 use Rattle.rc_step_laws.proofs.Logs.{log_later-refl}
 use Rattle.rc_model.proofs.Walk.{Joined}
 use Rattle.rc_step_laws.proofs.LogMoves.{GoodLog, LogMoved, more-left, segment-more, moved-log, log_moved-then}
-use Rattle.rc_model.proofs.Sending.{each-to_ids}
 
 -- Views
 

@@ -1,12 +1,11 @@
 -- Writes and reads, and an entry that is appended.
-use Rattle.std.proofs.Common.{◌≡◌, ℕ, zero, suc, ◌+◌, Bool, true, false, cond, not, List, [], ◌∷◌, ◌++◌, length, map}
-use Rattle.std.proofs.Common.{slice_get, Option, Some, None, refl, sym, ap, ◌∙◌, subst, arith}
+use Rattle.std.proofs.Common.{◌≡◌, ℕ, zero, suc, ◌+◌, Bool, true, false, List, [], ◌∷◌, ◌++◌, length, map}
+use Rattle.std.proofs.Common.{slice_get, Option, Some, refl, sym, ap, ◌∙◌, subst, arith}
 use Rattle.std.proofs.lemmas.List.{map-append, length-map}
 use Rattle.rc_types.specs.declared.ids.ServerId.{ServerId}
 use Rattle.rc_types.specs.declared.ids.Addr.TheVariants.{Server}
 use Rattle.rc_types.specs.declared.entries.Entry.{Entry}
 use Rattle.rc_types.specs.declared.faults.Fault.{Fault}
-use Rattle.rc_types.specs.declared.faults.Fault.TheVariants.{NotOwner, Rolling, ValueTooLong}
 use Rattle.rc_types.specs.declared.kept.Phase.{Phase}
 use Rattle.rc_types.specs.declared.kept.Phase.TheVariants.{Writing}
 use Rattle.rc_types.specs.declared.messages.Message.{Message}
@@ -14,13 +13,13 @@ use Rattle.rc_types.specs.declared.messages.Body.{Body}
 use Rattle.rc_types.specs.declared.messages.Body.TheVariants.{Place, Append, ReadOk}
 use Rattle.rc_model.specs.Messages.{between, to_outside, refuses}
 use Rattle.rc_model.specs.Segment.{Segment, with_entry}
-use Rattle.rc_model.specs.Log.{Log, head_of, is_writing}
-use Rattle.rc_model.specs.Heads.{appends, is_full, begin_roll, opens_head, next_digest}
+use Rattle.rc_model.specs.Log.{Log, head_of}
+use Rattle.rc_model.specs.Heads.{appends, opens_head, next_digest}
 use Rattle.rc_model.specs.Ownership.{term_of}
 use Rattle.rc_model.specs.Versions.{Found, read_of}
 use Rattle.rc_model.specs.Master.{Master, with_log, durable_entries, to_ids, ids_of, not_lost, places_head, appends_entry, dead_segments}
-use Rattle.rc_model.specs.Writing.{refused, is_too_long, written, rolls_for_write, writes_under, writes_if_owned}
-use Rattle.rc_model.specs.Writing.{writes, reads_if_owned, reads}
+use Rattle.rc_model.specs.Writing.{refused, written}
+use Rattle.rc_model.specs.Writing.{writes, reads}
 use Rattle.rc_model.specs.Headline.{In}
 use Rattle.rc_model.proofs.Members.{In-map}
 use Rattle.rc_step_laws.specs.Words.{Stands}
@@ -29,13 +28,12 @@ use Rattle.rc_step_laws.proofs.Lists.{get-end}
 use Rattle.rc_step_laws.proofs.LogMoves.{GoodSegment, GoodLog, LogMoved, more-left, segment-more}
 use Rattle.rc_step_laws.proofs.Segments.{put-moved}
 use Rattle.rc_model.proofs.Walk.{kept-writes, kept-reads}
-use Rattle.rc_step_laws.proofs.Views.{Kept, joined, GoodView, Moved, moved-then, moved-quiet, quiet-one, view-after}
+use Rattle.rc_step_laws.proofs.Views.{Kept, joined, GoodView, Moved, moved-quiet, quiet-one}
 use Rattle.rc_step_laws.proofs.Openings.{opens-moved}
-use Rattle.rc_step_laws.proofs.Rolling.{next-digest, roll-cases, writing-is}
+use Rattle.rc_step_laws.proofs.Rolling.{next-digest, writing-is}
 use Rattle.rc_step_laws.proofs.Hosts.{apart-choose}
 use Rattle.rc_model.proofs.Tables.{put-same}
-use Rattle.rc_model.proofs.Tests.{true_false, either}
-use Rattle.std.proofs.lemmas.Bool.{not-false}
+use Rattle.rc_model.proofs.Tests.{true_false}
 use Rattle.rc_model.proofs.Sending.{each-to_ids}
 
 -- An entry
