@@ -1,51 +1,38 @@
 -- What a master has freed is left out for good, and so is in none of its accepted recoveries.
-use Rattle.std.proofs.Common.{◌≡◌, ◌⊎◌, ℕ, ◌+◌, ◌<◌, ◌≤◌, Bool, true, false, cond, List, [], ◌∷◌, ◌++◌, Option, Some}
-use Rattle.std.proofs.Common.{None, refl, sym, ap, ◌∙◌, subst, inl, inr, arith}
+use Rattle.std.proofs.Common.{◌≡◌, ◌⊎◌, ℕ, ◌+◌, ◌<◌, ◌≤◌, Bool, true, false, cond, List, [], ◌∷◌, ◌++◌}
+use Rattle.std.proofs.Common.{refl, sym, ap, ◌∙◌, subst, inl, inr, arith}
 use Rattle.std.proofs.lemmas.Bool.{cases_order}
 use Rattle.std.proofs.lemmas.List.{append_assoc}
 use Rattle.rc_types.specs.declared.ids.ServerId.{ServerId}
 use Rattle.rc_types.specs.declared.ids.Addr.{Addr}
-use Rattle.rc_types.specs.declared.ids.Addr.TheVariants.{Server, Coordinator as AtCoordinator, Outside}
+use Rattle.rc_types.specs.declared.ids.Addr.TheVariants.{Server}
 use Rattle.rc_types.specs.declared.events.Setup.{Setup}
 use Rattle.rc_types.specs.declared.events.Event.{Event}
 use Rattle.rc_types.specs.declared.rows.PlanRow.{PlanRow}
 use Rattle.rc_types.specs.declared.messages.Message.{Message}
 use Rattle.rc_types.specs.declared.messages.Body.{Body}
 use Rattle.rc_types.specs.declared.messages.Body.TheVariants as body
-use Rattle.rc_model.specs.Tables.{put}
 use Rattle.rc_model.specs.Ids.{same_id, is_server}
-use Rattle.rc_model.specs.Messages.{to_coordinator}
-use Rattle.rc_model.specs.Backup.{Backup, backup_takes}
 use Rattle.rc_model.specs.Log.{Log}
-use Rattle.rc_model.specs.Master.{Master, new_master}
+use Rattle.rc_model.specs.Master.{Master}
 use Rattle.rc_model.specs.MasterStep.{master_takes, master_ticks}
-use Rattle.rc_model.specs.Coordinator.{Coordinator}
-use Rattle.rc_model.specs.Nodes.{Work, Ask, Take, Tick, Stop, Start, Suspect, Decide, Create, Split, HostNode}
-use Rattle.rc_model.specs.Nodes.{outside_sends, coordinator_step, server_of, next_server, starts_host, host_step}
-use Rattle.rc_model.specs.Nodes.{is_for_backup, with_backup, with_master, server_takes, takes_if_running}
-use Rattle.rc_model.specs.Nodes.{ticks_if_running}
-use Rattle.rc_model.specs.World.{World, opening, NodeName, TheOutside, TheCoordinator, TheHost, Job, with_last_view}
-use Rattle.rc_model.specs.World.{work_of, is_possible, node_done, job_done, step, replay_from, replay}
+use Rattle.rc_model.specs.World.{replay}
 use Rattle.rc_model.specs.Recovered.{Accepted}
 use Rattle.rc_model.specs.Headline.{In, WasAccepted}
 use Rattle.rc_model.proofs.Members.{In-left, In-right, In-append}
-use Rattle.rc_step_laws.specs.Facts.{GoodHost, IsPlan, body_fine}
-use Rattle.rc_step_laws.specs.Moves.{MasterMoved, BackupMoved, backup_body_said}
-use Rattle.rc_step_laws.proofs.MasterSteps.{master_takes_keeps, master_ticks_keeps}
-use Rattle.rc_step_laws.proofs.Backups.{moved-backup}
+use Rattle.rc_step_laws.specs.Facts.{IsPlan, body_fine}
 use Rattle.rc_step_laws.proofs.CoordinatorSteps as coordinator
 use Rattle.rc_log_laws.proofs.Covers.{PlanIs, plan-is, plan-head, head-not-below}
-use Rattle.rc_log_laws.proofs.Replays.{GoodWorld, IsGiven, is-good, is-fine, hears, is_server-true, work_of-given}
-use Rattle.rc_log_laws.proofs.Replays.{may-hear, to-coordinator-is, good-step, good-opening, good-world}
+use Rattle.rc_log_laws.proofs.Replays.{GoodWorld}
+use Rattle.rc_log_laws.proofs.Replays.{good-world}
 use Rattle.rc_log_laws.specs.Freed.{IsLeftOut, freed_by, freed_in, GoodFrees}
 use Rattle.rc_log_laws.specs.FreedClaims.{HasRow, RecoveriesAreDigests, HeadsAreNotShut, FreedIsLeftOut, FreedIsInNoRecovery}
 use Rattle.rc_log_laws.proofs.Stays.{fewer}
 use Rattle.rc_log_laws.proofs.EachMaster.{OthersSay, is_others, IsKeptByAll, kept-replay}
 use Rattle.rc_types.specs.declared.kept.Phase.TheVariants.{Opening, Writing}
-use Rattle.rc_log_laws.proofs.Walk.{Moves, takes-moves, ticks-moves}
-use Rattle.rc_model.proofs.Tables.{put-same}
-use Rattle.rc_model.proofs.Ids.{same_id-true, same_id-refl, server-same}
-use Rattle.rc_model.proofs.Tests.{true_false, either}
+use Rattle.rc_log_laws.proofs.Walk.{takes-moves, ticks-moves}
+use Rattle.rc_model.proofs.Ids.{same_id-refl}
+use Rattle.rc_model.proofs.Tests.{true_false}
 use Rattle.rc_model.proofs.Said.{is_server-true as server-true}
 
 -- What a master has freed, of all that was sent

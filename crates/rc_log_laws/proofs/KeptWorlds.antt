@@ -1,33 +1,24 @@
 -- Where masters free nothing, an accepted recovery holds each safe place.
-use Rattle.std.proofs.Common.{◌≡◌, ◌⊎◌, ℕ, ◌+◌, ◌<◌, ◌≤◌, false, List, [], ◌∷◌, Option, Some, None, take, refl, sym, subst, inl, inr, arith}
+use Rattle.std.proofs.Common.{◌≡◌, ◌⊎◌, ℕ, ◌<◌, ◌≤◌, false, List, take, sym, subst, inl, inr, arith}
 use Rattle.std.proofs.lemmas.Bool.{cases_order}
 use Rattle.rc_types.specs.declared.ids.ServerId.{ServerId}
 use Rattle.rc_types.specs.declared.events.Setup.{Setup}
 use Rattle.rc_types.specs.declared.events.Event.{Event}
-use Rattle.rc_types.specs.declared.messages.Message.{Message}
 use Rattle.rc_types.specs.declared.rows.PlanRow.{PlanRow}
-use Rattle.rc_model.specs.Ids.{is_server}
-use Rattle.rc_model.specs.Backup.{backup_takes}
-use Rattle.rc_model.specs.Master.{Master, new_master}
-use Rattle.rc_model.specs.MasterStep.{master_takes, master_ticks}
-use Rattle.rc_model.specs.Nodes.{Work, Ask, Take, Tick, Stop, Start, Suspect, Decide, Create, Split, HostNode}
-use Rattle.rc_model.specs.Nodes.{is_for_backup, with_backup, with_master, server_of, next_server, server_takes}
-use Rattle.rc_model.specs.Nodes.{takes_if_running, ticks_if_running, host_step}
-use Rattle.rc_model.specs.World.{World, opening, NodeName, TheOutside, TheCoordinator, TheHost, Job, with_last_view}
-use Rattle.rc_model.specs.World.{is_possible, work_of, node_done, job_done, step, replay_from, replay}
+use Rattle.rc_model.specs.Master.{Master}
+use Rattle.rc_model.specs.World.{World}
+use Rattle.rc_model.specs.World.{replay}
 use Rattle.rc_model.specs.Recovered.{Accepted}
 use Rattle.rc_model.specs.Headline.{In, WasAccepted, IsHeld}
 use Rattle.rc_step_laws.specs.Facts.{IsSafe, IsWriteOk}
 use Rattle.rc_log_laws.proofs.Covers.{PlanIs, held-in, head-not-below}
 use Rattle.rc_log_laws.proofs.Clauses.{accepted-is, acknowledged-is, safe-there}
-use Rattle.rc_log_laws.proofs.Replays.{GoodWorld, good-step, good-opening, good-world}
+use Rattle.rc_log_laws.proofs.Replays.{GoodWorld, good-world}
 use Rattle.rc_log_laws.specs.KeptClaims.{NothingIsDroppedWhereNothingIsFreed, DurableIsHeldWhereNothingIsFreed}
 use Rattle.rc_log_laws.proofs.Since.{since-take}
 use Rattle.rc_log_laws.proofs.SafePlaces.{stored-is-safe}
 use Rattle.rc_log_laws.proofs.EachMaster.{IsKeptByAll, kept-replay}
-use Rattle.rc_log_laws.proofs.Keeping.{Keeps, KeepsAfter, keeps-takes, keeps-ticks}
-use Rattle.rc_model.proofs.Tests.{either}
-use Rattle.rc_model.proofs.Tables.{put_id_each}
+use Rattle.rc_log_laws.proofs.Keeping.{Keeps, keeps-takes, keeps-ticks}
 
 -- each master that ever ran keeps all
 abbrev KeepsAll : (ServerId → Master) → Type 0

@@ -193,7 +193,8 @@ put-found : (hosts : ℕ → HostNode) (i : ℕ) → put hosts i (hosts i) ≡ h
 put-found hosts i = fun_ext (λ j. either (λ (host : HostNode). host ≡ hosts j) (nat_eq i j) (hosts i) (hosts j)
     (λ e. ap hosts (eqb-true i j e)) (λ _. refl))
 
-pub put_id-found : (masters : ServerId → Master) (key : ServerId) (master : Master) → masters key ≡ master → put_id masters key master ≡ masters
+pub put_id-found : (masters : ServerId → Master) (key : ServerId) (master : Master) → masters key ≡ master →
+    put_id masters key master ≡ masters
 put_id-found masters key master is =
     fun_ext (λ other. either (λ (one : Master). one ≡ masters other) (same_id key other) master (masters other)
     (λ e. sym is ∙ ap masters (same_id-true key other e)) (λ _. refl))

@@ -1,21 +1,18 @@
 -- What a log's changes keep of its freed segments: all of it, but for a roll that begins before the head writes.
-use Rattle.std.proofs.Common.{◌≡◌, ◌⊎◌, ℕ, ◌+◌, ◌-◌, ◌<◌, ◌≤◌, Bool, true, false, not, ◌&&◌, ◌||◌, nat_eq, nat_lt}
+use Rattle.std.proofs.Common.{◌≡◌, ◌⊎◌, ℕ, ◌+◌, ◌-◌, ◌<◌, ◌≤◌, Bool, true, false, not, ◌&&◌, ◌||◌, nat_eq}
 use Rattle.std.proofs.Common.{List, [], ◌∷◌, ◌++◌, filter, Option, Some, None, Result, Ok, Err, refl, sym, ap, subst}
 use Rattle.std.proofs.Common.{inl, inr, arith}
 use Rattle.std.specs.List.{list_any}
 use Rattle.std.proofs.lemmas.Bool.{and_parts, eqb-true, eq-eqb, ltb-true}
 use Rattle.rc_types.specs.declared.ids.ServerId.{ServerId}
-use Rattle.rc_types.specs.declared.kept.Phase.{Phase}
 use Rattle.rc_types.specs.declared.kept.Phase.TheVariants.{Opening, Closing, Writing}
 use Rattle.rc_types.specs.declared.faults.Fault.{Fault}
-use Rattle.rc_types.specs.declared.faults.Fault.TheVariants.{LogFull}
-use Rattle.rc_types.specs.declared.limits.TheConstants.{LAST_SEGMENT}
 use Rattle.rc_model.specs.ServerList.{ServerList}
-use Rattle.rc_model.specs.Config.{Config, choose, lose, refill, noted, committed_at}
+use Rattle.rc_model.specs.Config.{Config, lose, refill, noted, committed_at}
 use Rattle.rc_model.specs.Segment.{Segment, new_segment, under_new_epoch, is_ready}
-use Rattle.rc_model.specs.Log.{Log, head_of, old_head_of, has_old_head, with_segment, has_segment, is_opening, is_closing, is_writing}
-use Rattle.rc_model.specs.Heads.{opens_head, opened_first, open_first, next_digest, rolled, begin_roll, with_config}
-use Rattle.rc_model.specs.Heads.{stored, commit_noted, opens_change, refills, loses, shuts, with_shut, may_start}
+use Rattle.rc_model.specs.Log.{Log, head_of, old_head_of, has_old_head, with_segment, has_segment, is_opening, is_closing}
+use Rattle.rc_model.specs.Heads.{opens_head, opened_first, next_digest, rolled, with_config}
+use Rattle.rc_model.specs.Heads.{stored, commit_noted, opens_change, refills, loses, may_start}
 use Rattle.rc_model.specs.Heads.{may_write, left_out, with_freed, starts, closes_old, writes_on}
 use Rattle.rc_model.specs.Headline.{In}
 use Rattle.rc_model.proofs.Members.{In-append, In-filter}
@@ -23,7 +20,6 @@ use Rattle.rc_log_laws.proofs.MasterWorlds.{put-cases}
 use Rattle.rc_log_laws.specs.Freed.{IsLeftOut, GoodFrees}
 use Rattle.rc_model.proofs.Tests.{true_false, either}
 use Rattle.rc_model.proofs.Tables.{put_each}
-use Rattle.rc_step_laws.proofs.Rolling.{writing-is}
 
 -- fewer segments were freed
 pub fewer : (more freed : List ℕ) (log : Log) → ((s : ℕ) → In s freed → In s more) → GoodFrees more log → GoodFrees freed log
@@ -198,7 +194,8 @@ stays-first_opened log (Some ids) none = stays-opens log (1 ∷ []) ids (inr non
     first t (inl same) = omega (arith, same, none)
     first t (inr never) = absurd never
 
-pub stays-rolled : (log : Log) (dead : List ℕ) (chosen : Option (List ServerId)) → log.phase ≡ Writing → Stays log (rolled log dead chosen).0
+pub stays-rolled : (log : Log) (dead : List ℕ) (chosen : Option (List ServerId)) → log.phase ≡ Writing →
+    Stays log (rolled log dead chosen).0
 stays-rolled log dead None writing = stays-refl log
 stays-rolled log dead (Some ids) writing = stays-opens log (next_digest log dead) ids (inl writing) within
   where

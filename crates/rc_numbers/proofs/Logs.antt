@@ -1,19 +1,16 @@
 -- What the rules of a log do to the versions of its entries.
-use Rattle.std.proofs.Common.{ℕ, zero, suc, ◌≡◌, ◌+◌, ◌-◌, ◌≤◌, Bool, true, false, List, [], ◌∷◌, map, Option, Some}
-use Rattle.std.proofs.Common.{None, Result, Ok, Err, refl, sym, ap, subst}
+use Rattle.std.proofs.Common.{ℕ, zero, suc, ◌≡◌, ◌+◌, ◌-◌, ◌≤◌, Bool, true, false, List, [], ◌∷◌, map}
+use Rattle.std.proofs.Common.{Result, Ok, Err, refl, sym, ap, subst}
 use Rattle.std.proofs.lemmas.List.Elements.{All-nil, All-append}
 use Rattle.rc_types.specs.declared.ids.ServerId.{ServerId}
 use Rattle.rc_types.specs.declared.entries.Entry.{Entry}
 use Rattle.rc_types.specs.declared.faults.Fault.{Fault}
-use Rattle.rc_types.specs.declared.faults.Fault.TheVariants.{LogFull}
-use Rattle.rc_types.specs.declared.limits.TheConstants.{LAST_SEGMENT}
-use Rattle.std.proofs.Common.{nat_lt}
 use Rattle.rc_model.specs.ServerList.{ServerList}
-use Rattle.rc_model.specs.Config.{Config, choose, noted, committed_at, lose, refill}
+use Rattle.rc_model.specs.Config.{Config, noted, committed_at, lose, refill}
 use Rattle.rc_model.specs.Segment.{Segment, new_segment, with_entry}
-use Rattle.rc_model.specs.Log.{Log, LogPlace, places_in, places_to, entries_of, head_of, old_head_of, with_segment, has_segment}
-use Rattle.rc_model.specs.Heads.{opens_head, opened_first, open_first, appends, next_digest, rolled, begin_roll}
-use Rattle.rc_model.specs.Heads.{with_config, stored, commit_noted, opens_change, refills, loses, shuts, with_shut}
+use Rattle.rc_model.specs.Log.{Log, LogPlace, places_in, places_to, entries_of, head_of, with_segment, has_segment}
+use Rattle.rc_model.specs.Heads.{opens_head, appends}
+use Rattle.rc_model.specs.Heads.{with_config, stored, commit_noted, opens_change, refills, loses}
 use Rattle.rc_model.specs.Heads.{with_freed}
 use Rattle.rc_step_laws.proofs.Lists.{map-append}
 use Rattle.rc_numbers.specs.Numbers.{VersionsUpTo, LogWithin}

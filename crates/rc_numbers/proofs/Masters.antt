@@ -1,14 +1,12 @@
 -- What a master's rules do to the versions of the entries that it has, in a whole step.
-use Rattle.std.proofs.Common.{ℕ, ◌+◌, ◌-◌, ◌≤◌, Bool, true, false, List, [], ◌∷◌, ◌++◌, map, length, Option, refl, sym, subst, ◌≡◌}
+use Rattle.std.proofs.Common.{ℕ, ◌+◌, ◌-◌, ◌≤◌, Bool, true, false, List, [], ◌∷◌, map, Option, refl, sym, subst, ◌≡◌}
 use Rattle.std.proofs.Common.{arith}
-use Rattle.std.specs.List.{All}
-use Rattle.std.proofs.lemmas.List.Elements.{All-head, All-same}
+use Rattle.std.proofs.lemmas.List.Elements.{All-head}
 use Rattle.rc_types.specs.declared.ids.ServerId.{ServerId}
 use Rattle.rc_types.specs.declared.ids.Addr.{Addr}
 use Rattle.rc_types.specs.declared.entries.Entry.{Entry}
 use Rattle.rc_types.specs.declared.messages.Message.{Message}
 use Rattle.rc_types.specs.declared.messages.Body.{Body}
-use Rattle.rc_types.specs.declared.messages.Body.TheVariants.{Append}
 use Rattle.rc_model.specs.Segment.{Segment, with_closes_sent}
 use Rattle.rc_model.specs.Log.{Log, entries_of, old_head_of, with_segment, durable_now}
 use Rattle.rc_model.specs.Heads.{opens_head, appends, next_digest, stored, commit_noted, loses, left_out, starts, closes_old}

@@ -1,5 +1,5 @@
 -- What becomes of a master's parts, and of the entries that it is to replay: versions stay within a bound.
-use Rattle.std.proofs.Common.{ℕ, ◌≤◌, Bool, true, false, nat_lt, List, [], ◌∷◌, ◌++◌, map, length, Option, Some}
+use Rattle.std.proofs.Common.{ℕ, ◌≤◌, true, nat_lt, List, [], ◌∷◌, ◌++◌, map, length, Some}
 use Rattle.std.specs.List.{All}
 use Rattle.std.proofs.lemmas.List.Elements.{All-nil, All-cons, All-head, All-tail, All-push, All-append, All-map}
 use Rattle.rc_types.specs.declared.ids.ServerId.{ServerId}
@@ -125,7 +125,9 @@ module _ (n : ℕ) where
   answered-within durable [] all = all
   answered-within durable (state ∷ states) all =
       either PartsWithin (is_to_answer durable state) (record state { answered = true } ∷ states) (state ∷ answered_in durable states)
-      (λ e. All-cons (λ (one : PartState). RowsWithin one.rows) (record state { answered = true }) states (All-head (λ (one : PartState). RowsWithin one.rows) state states all)
+      (λ e. All-cons (λ (one : PartState). RowsWithin one.rows) (record state { answered = true }) states
+      (All-head (λ (one : PartState). RowsWithin one.rows) state states all)
       (All-tail (λ (one : PartState). RowsWithin one.rows) state states all))
-      (λ e. All-cons (λ (one : PartState). RowsWithin one.rows) state (answered_in durable states) (All-head (λ (one : PartState). RowsWithin one.rows) state states all)
+      (λ e. All-cons (λ (one : PartState). RowsWithin one.rows) state (answered_in durable states)
+      (All-head (λ (one : PartState). RowsWithin one.rows) state states all)
       (answered-within durable states (All-tail (λ (one : PartState). RowsWithin one.rows) state states all)))

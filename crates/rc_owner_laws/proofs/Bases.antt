@@ -1,6 +1,6 @@
 -- What a recovery master has of a part is the log of the crashed master, cut to it; once its end was told, all of it is safe.
 use Rattle.std.proofs.Common.{◌≡◌, ◌⊎◌, ℕ, ◌≤◌, Bool, true, false, List, ◌++◌, length, map, filter, take, drop}
-use Rattle.std.proofs.Common.{slice_get, Some, refl, sym, ap, ◌∙◌, subst, inl, inr, arith}
+use Rattle.std.proofs.Common.{Some, refl, sym, ap, ◌∙◌, subst, inl, inr, arith}
 use Rattle.std.proofs.lemmas.List.{take-append-drop, length-map}
 use Rattle.rc_types.specs.declared.ids.ServerId.{ServerId}
 use Rattle.rc_types.specs.declared.ids.Addr.{Addr}
@@ -21,7 +21,7 @@ use Rattle.rc_model.specs.Coordinator.{Coordinator}
 use Rattle.rc_model.specs.Nodes.{HostNode}
 use Rattle.rc_model.specs.Headline.{In, WasAccepted}
 use Rattle.rc_model.proofs.Members.{In-left}
-use Rattle.rc_step_laws.specs.Words.{Begins, log_in, IsNumbered}
+use Rattle.rc_step_laws.specs.Words.{Begins, log_in}
 use Rattle.rc_step_laws.proofs.Tests.{In-take, get-map}
 use Rattle.rc_step_laws.proofs.Places.{IsOf, places_to-are, place-logged}
 use Rattle.rc_digestpick.proofs.Ascending.{IsAscending}
@@ -30,7 +30,7 @@ use Rattle.rc_owner_laws.specs.Terms.{IsGivenBy}
 use Rattle.rc_owner_laws.specs.Data.{IsCut}
 use Rattle.rc_owner_laws.specs.Parts.{part_view, logged, under, durable_under, HasSent, WasPlanned, IsWaiting, HasJoined, IsPart}
 use Rattle.rc_owner_laws.specs.PartMoves.{HasEnded, HasAsked}
-use Rattle.rc_owner_laws.proofs.PartLists.{under-append, under-In, begins-within, begins-more, nothing-more}
+use Rattle.rc_owner_laws.proofs.PartLists.{under-append, under-In, begins-within, nothing-more}
 use Rattle.rc_owner_laws.specs.Worlds.{AllHold}
 use Rattle.rc_owner_laws.specs.Words.{IsSafelyLogged}
 use Rattle.rc_owner_laws.proofs.Rows.{segs_of, rows-ascend, one-row}

@@ -27,7 +27,6 @@ use Rattle.rc_owner_laws.proofs.Granting.{kept-good}
 use Rattle.rc_model.proofs.Ids.{same_id-true}
 use Rattle.rc_model.proofs.Tests.{true_false}
 use Rattle.rc_model.proofs.Tables.{put_id_each}
-use Rattle.rc_step_laws.proofs.Tests.{find-one}
 
 pub find-none : {X : Type 0} (test : X → Bool) (xs : List X) (x : X) → find test xs ≡ None → In x xs → test x ≡ true → ⊥
 find-none test [] x e at passes = absurd at

@@ -20,7 +20,7 @@ use Rattle.rc_owner_laws.specs.Waiting.{IsTablet}
 use Rattle.rc_owner_laws.proofs.Decided.{find-none}
 use Rattle.rc_model.proofs.Ids.{same_id-true}
 use Rattle.rc_model.proofs.Tests.{true_false, either}
-use Rattle.rc_step_laws.proofs.Hosts.{insert-In, order-In}
+use Rattle.rc_step_laws.proofs.Hosts.{order-In}
 use Rattle.rc_step_laws.proofs.Tests.{find-one}
 
 -- what holds of each of these tablets

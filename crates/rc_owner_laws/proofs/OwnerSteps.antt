@@ -29,7 +29,7 @@ use Rattle.rc_model.specs.Tablets.{holds, has_table, tablet_of, tablets_of, with
 use Rattle.rc_model.specs.Tablets.{marked_crashed, has_range, assigned}
 use Rattle.rc_model.specs.Pick.{pick, greater_pair}
 use Rattle.rc_model.specs.Attempts.{Attempt, Decision, GivenPart, has_answered, is_gathering}
-use Rattle.rc_model.specs.Attempts.{is_undecided, parts_of, plan_messages, gives_parts}
+use Rattle.rc_model.specs.Attempts.{parts_of, plan_messages, gives_parts}
 use Rattle.rc_model.specs.Coordinator.{Coordinator, new_coordinator, refuses_server, list_body, spreads_list}
 use Rattle.rc_model.specs.Coordinator.{begins_attempt, has_tablets, begins_if_needed, spreads_then_begins, attempt_at}
 use Rattle.rc_model.specs.Coordinator.{with_attempt, up_of_host, follows_generation, enlists, notes_ready}

@@ -12,48 +12,42 @@ use Rattle.rc_types.specs.declared.rows.Part.{Part}
 use Rattle.rc_types.specs.declared.rows.PlanRow.{PlanRow}
 use Rattle.rc_types.specs.declared.kept.GrantedRange.{GrantedRange}
 use Rattle.rc_types.specs.declared.faults.Fault.{Fault}
-use Rattle.rc_types.specs.declared.faults.Fault.TheVariants.{NotOwner, Rolling, ValueTooLong, Deposed}
 use Rattle.rc_types.specs.declared.messages.Message.{Message}
 use Rattle.rc_types.specs.declared.messages.Body.{Body}
 use Rattle.rc_types.specs.declared.messages.Body.TheVariants as body
-use Rattle.rc_model.specs.Messages.{between, to_coordinator, to_outside, refuses}
-use Rattle.rc_model.specs.ServerList.{from_rows, is_up}
-use Rattle.rc_model.specs.Log.{Log, LogPlace, places_of, head_of, numbers_to, is_writing, durable_now}
-use Rattle.rc_model.specs.Heads.{opens_head, next_digest, is_full, begin_roll, stored, commit_noted}
-use Rattle.rc_model.specs.Ownership.{PartState, Ownership, term_of, owns_term, knows_term, begin_part, put_data, grant}
+use Rattle.rc_model.specs.Messages.{between, to_coordinator, refuses}
+use Rattle.rc_model.specs.ServerList.{from_rows}
+use Rattle.rc_model.specs.Log.{Log, LogPlace, places_of, head_of, is_writing, durable_now}
+use Rattle.rc_model.specs.Heads.{stored, commit_noted}
+use Rattle.rc_model.specs.Ownership.{PartState, Ownership, term_of, owns_term, knows_term, put_data, grant}
 use Rattle.rc_model.specs.Ownership.{is_to_answer, is_complete, to_answer, after_answer, after_replay, without_first}
-use Rattle.rc_model.specs.Master.{Master, Task, with_log, durable_entries, ids_of, not_lost, places_head, appends_entry, dead_segments}
-use Rattle.rc_model.specs.Writing.{refused, is_too_long, written, rolls_for_write, writes_under, writes_if_owned}
+use Rattle.rc_model.specs.Master.{Master, Task, with_log, durable_entries, ids_of, not_lost, appends_entry}
+use Rattle.rc_model.specs.Writing.{refused, written}
 use Rattle.rc_model.specs.Writing.{writes, reads_if_owned, reads}
-use Rattle.rc_model.specs.ListRules.{then_does, obeys_list}
-use Rattle.rc_model.specs.FollowUps.{follows_start, follows_placed, follows_closing, follows_shut, follows_change}
-use Rattle.rc_model.specs.FollowUps.{write_oks, new_durable, follows_stored, rolls_for_replay, replays, follows_data}
-use Rattle.rc_model.specs.FollowUps.{attempt_of, answers_part, or_rule, follow_up, marks_shut, further, followed}
-use Rattle.rc_model.specs.FollowUps.{measure, goes_on}
-use Rattle.rc_model.specs.MasterTick.{reminds_open, reminds_shut, commits_again, has_not_come, fetch_of, fetches_again}
-use Rattle.rc_model.specs.MasterTick.{awaits_grant, recovered_again, ready_again, reminds, ticks}
-use Rattle.rc_model.specs.MasterStep.{begins_task, task_of, takes_plan, says_deposed, master_takes_first, deposed_takes}
+use Rattle.rc_model.specs.FollowUps.{write_oks, new_durable, replays}
+use Rattle.rc_model.specs.FollowUps.{attempt_of}
+use Rattle.rc_model.specs.MasterTick.{fetch_of}
+use Rattle.rc_model.specs.MasterTick.{reminds}
+use Rattle.rc_model.specs.MasterStep.{task_of}
 use Rattle.rc_model.specs.Headline.{In}
-use Rattle.rc_model.proofs.Members.{In-append, In-left, In-right, In-get, In-map, In-filter}
+use Rattle.rc_model.proofs.Members.{In-left, In-right, In-get}
 use Rattle.rc_model.proofs.Numbering.{places-push}
-use Rattle.rc_step_laws.proofs.Rolling.{roll-cases}
 use Rattle.rc_step_laws.proofs.Tests.{In-take, find-one}
 use Rattle.rc_owner_laws.specs.Parts.{PartView, part_view, WasGranted, WasPlanned, GoodParts}
 use Rattle.rc_owner_laws.specs.PartMoves.{HasHead, IsComplete, HasEnded, part_said, StateLater, PartsLater, PartsMoved, PartsHear}
 use Rattle.rc_owner_laws.specs.PartClaims.{TakesKeepParts, TicksKeepParts, NewHasGoodParts}
-use Rattle.rc_owner_laws.proofs.PartViews.{IsPlain, AllPlain, plain-says, plain-none, plain-one, plain-both, plain-to_ids}
-use Rattle.rc_owner_laws.proofs.PartViews.{later-refl, quiet, still, moved-then, moved-then_does}
+use Rattle.rc_owner_laws.proofs.PartViews.{IsPlain, plain-says, plain-none, plain-one, plain-to_ids}
+use Rattle.rc_owner_laws.proofs.PartViews.{later-refl, quiet}
 use Rattle.rc_owner_laws.proofs.PartPlaces.{same-stored, same-committed, quiet-log}
 use Rattle.rc_model.specs.Heads.{closes_old, left_out, starts, writes_on}
 use Rattle.rc_model.specs.Log.{old_head_of, with_segment}
 use Rattle.rc_model.specs.Segment.{is_unclosed, with_closes_sent}
 use Rattle.rc_model.specs.FollowUps.{close_marked, frees_segments}
-use Rattle.rc_model.specs.MasterStep.{master_takes, master_ticks}
 use Rattle.rc_model.proofs.Walk.{Taken, Ticked, Followed, begun as begun_master, kept-takes, kept-ticks}
 use Rattle.rc_model.proofs.Sending.{each-map, each-frees, each-write_oks, each-reminds}
 use Rattle.rc_owner_laws.proofs.PartPlaces.{same-segment, same-starts, same-closes, same-writes}
 use Rattle.rc_owner_laws.proofs.Quiet.{Kept, parts-joined, parts-listed, parts-rolls}
-use Rattle.rc_owner_laws.proofs.Appending.{good-durable, with_place, OwnsPoint, owns-point, good-client, replayed, good-replayed}
+use Rattle.rc_owner_laws.proofs.Appending.{good-durable, with_place, owns-point, good-client, replayed, good-replayed}
 use Rattle.rc_owner_laws.proofs.States.{data-stays, SameState, was-answered}
 use Rattle.rc_owner_laws.proofs.Recovering.{with_own, good-data, owning, good-owning, attempt-stays, begun, good-begun}
 use Rattle.rc_owner_laws.proofs.Recovering.{good-answered, complete-is}
@@ -212,9 +206,9 @@ module _ (sent : List Message) (m : ServerId) where
       stays state rows (now, at, same) = record { now = now; among = at; part_is = same.part; rows = same.rows ∙ rows; size = same.size }
 
   parts-answers : (master : Master) (term : ℕ) → to_answer (durable_entries master) master.ownership ≡ Some term → Kept sent m master (
-        record master { ownership = after_answer (durable_entries master) master.ownership },
-        to_coordinator master.log.own (body.Recovered (attempt_of term master.tasks) term) ∷ [],
-      )
+    record master { ownership = after_answer (durable_entries master) master.ownership },
+    to_coordinator master.log.own (body.Recovered (attempt_of term master.tasks) term) ∷ [],
+  )
   parts-answers master term e head good = by (find (is_to_answer (durable_entries master)) master.ownership.parts) refl e
     where
       v_now : PartView
@@ -424,7 +418,8 @@ module _ (sent : List Message) (m : ServerId) where
     writes = λ term table key value is owned writing room. parts-write master term table key value owned writing;
     reads = λ term table key is owned head good.
         quiet sent m master master (reads_if_owned master (Some term) table key).1 good head refl (plain-one _ tt);
-    lists = λ version rows is newer head good. quiet sent m master (record master { known = from_rows version rows }) [] good head refl plain-none;
+    lists = λ version rows is newer head good. quiet sent m master (record master { known = from_rows version rows })
+        [] good head refl plain-none;
     stores = λ teller seg epoch len closed is told head good. quiet-log sent m master (stored seg teller epoch len closed master.log) []
         head good (same-stored seg teller epoch len closed master.log) plain-none;
     commits = λ seg epoch is head good. quiet-log sent m master (commit_noted seg epoch master.log) [] head good

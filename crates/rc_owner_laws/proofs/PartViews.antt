@@ -16,8 +16,8 @@ use Rattle.rc_model.specs.Headline.{In}
 use Rattle.rc_model.proofs.Members.{In-left, In-append, In-map}
 use Rattle.rc_step_laws.proofs.Lists.{begins-refl, begins-trans}
 use Rattle.rc_step_laws.proofs.Copies.{More}
-use Rattle.rc_owner_laws.specs.Parts.{PartView, part_view, logged, durable_under, WasGranted, WasPlanned, HasSent}
-use Rattle.rc_owner_laws.specs.Parts.{SomeCame, AllCame, IsWaiting, HasJoined, IsPart, IsClients, GoodParts}
+use Rattle.rc_owner_laws.specs.Parts.{PartView, part_view, logged, durable_under, HasSent}
+use Rattle.rc_owner_laws.specs.Parts.{SomeCame, AllCame, IsWaiting, HasJoined, IsPart, GoodParts}
 use Rattle.rc_owner_laws.specs.PartMoves.{HasHead, IsComplete, part_said, StateLater, PartsLater, PartsMoved}
 use Rattle.rc_owner_laws.proofs.PartLists.{count-grows, logged-append}
 

@@ -1,5 +1,5 @@
 -- Rules that leave what the facts read: the list rules, what the timer says again, and most of the rules that follow up.
-use Rattle.std.proofs.Common.{ℕ, false, List, [], ◌∷◌, refl}
+use Rattle.std.proofs.Common.{ℕ, false, List, [], ◌∷◌}
 use Rattle.rc_types.specs.declared.ids.ServerId.{ServerId}
 use Rattle.rc_types.specs.declared.messages.Message.{Message}
 use Rattle.rc_model.specs.Log.{head_of}
@@ -40,6 +40,7 @@ module _ (sent : List Message) (m : ServerId) where
     replaces = λ master seg ids isn't head good. quiet-log sent m master (loses master.known seg master.log).0
         (to_ids _ ids (place_of (loses master.known seg master.log).0 seg ((loses master.known seg master.log).0.segments seg).shut))
         head good (same-loses master.known seg master.log)
-        (plain-to_ids _ ids (place_of (loses master.known seg master.log).0 seg ((loses master.known seg master.log).0.segments seg).shut) tt);
+        (plain-to_ids _ ids (place_of (loses master.known seg master.log).0 seg
+        ((loses master.known seg master.log).0.segments seg).shut) tt);
     opens = λ master ids none chosen. parts-opens master (1 ∷ []) ids;
   }

@@ -31,7 +31,7 @@ use Rattle.rc_log_laws.proofs.Clauses.{accepted-is, acknowledged-is}
 use Rattle.rc_log_laws.proofs.Covers.{IsCovered, PlanIs, covered}
 use Rattle.rc_owner_laws.specs.Grants.{IsOwn, own_said}
 use Rattle.rc_owner_laws.specs.Terms.{IsGrantedTo, IsGivenBy}
-use Rattle.rc_owner_laws.specs.Parts.{PartView, part_view, logged, under, rows_of_task, AllCame, WasGranted, HasJoined, IsClients}
+use Rattle.rc_owner_laws.specs.Parts.{part_view, logged, under, AllCame, WasGranted, IsClients}
 use Rattle.rc_owner_laws.specs.PartMoves.{HasWritten}
 use Rattle.rc_owner_laws.proofs.PartLists.{under-append, under-In, logged-append, begins-within, begins-more}
 use Rattle.rc_owner_laws.specs.Worlds.{parts_fine, AllHold}

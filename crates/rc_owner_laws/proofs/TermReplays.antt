@@ -5,15 +5,12 @@ use Rattle.rc_types.specs.declared.ids.Addr.TheVariants.{Coordinator as AtCoordi
 use Rattle.rc_types.specs.declared.events.Setup.{Setup}
 use Rattle.rc_types.specs.declared.events.Event.{Event}
 use Rattle.rc_types.specs.declared.messages.Message.{Message}
-use Rattle.rc_model.specs.Nodes.{Work, Take, Suspect, Decide, Create, Split, outside_sends, coordinator_step, host_step}
+use Rattle.rc_model.specs.Nodes.{Work, Take, outside_sends, coordinator_step, host_step}
 use Rattle.rc_model.specs.World.{World, opening, NodeName, TheOutside, TheCoordinator, TheHost, Job, work_of}
 use Rattle.rc_model.specs.World.{is_possible, node_done, job_done, step, replay_from, replay}
 use Rattle.rc_model.specs.Headline.{In}
-use Rattle.rc_model.proofs.Members.{In-left}
-use Rattle.rc_step_laws.specs.Moves.{CoordinatorLater}
-use Rattle.rc_step_laws.proofs.Copies.{More}
 use Rattle.rc_step_laws.proofs.CoordinatorSteps as coordinator
-use Rattle.rc_log_laws.proofs.Replays.{GoodWorld, IsGiven, work_of-given, may-hear, to-coordinator-is, good-world}
+use Rattle.rc_log_laws.proofs.Replays.{GoodWorld, IsGiven, work_of-given, to-coordinator-is, good-world}
 use Rattle.rc_owner_laws.proofs.OwnerReplays.{OfWorld, grants-world, later-coordinator}
 use Rattle.rc_owner_laws.specs.Terms.{GoodTerms}
 use Rattle.rc_owner_laws.proofs.Keeping.{terms-more}

@@ -1,6 +1,6 @@
 -- Each step of the coordinator keeps what holds of terms.
-use Rattle.std.proofs.Common.{◌≡◌, ◌⊎◌, ℕ, ◌+◌, ◌-◌, ◌≤◌, Bool, true, false, cond, not, ◌&&◌, List, [], ◌∷◌, ◌++◌}
-use Rattle.std.proofs.Common.{length, find, nat_eq, slice_get, slice_set, Option, Some, None, option_map, Result, Ok}
+use Rattle.std.proofs.Common.{◌≡◌, ◌⊎◌, ℕ, ◌+◌, ◌-◌, ◌≤◌, true, false, cond, not, ◌&&◌, List, [], ◌∷◌, ◌++◌}
+use Rattle.std.proofs.Common.{length, nat_eq, slice_get, slice_set, Option, Some, None, option_map, Result, Ok}
 use Rattle.std.proofs.Common.{Err, refl, sym, ap, ◌∙◌, subst, inl, inr, arith}
 use Rattle.std.proofs.lemmas.Bool.{eqb-true, and_parts}
 use Rattle.std.proofs.lemmas.Bool.Decides.{nat_tests}
@@ -25,7 +25,7 @@ use Rattle.rc_model.specs.Ids.{same_id}
 use Rattle.rc_model.specs.ServerList.{is_up, has_crashed, is_newest, enlisted}
 use Rattle.rc_model.specs.Tablets.{has_table, tablet_of, with_table, split_at, marked_crashed, has_range, assigned}
 use Rattle.rc_model.specs.Pick.{pick, greater_pair}
-use Rattle.rc_model.specs.Attempts.{Attempt, Decision, GivenPart, new_attempt, has_answered, is_gathering, is_undecided, parts_of}
+use Rattle.rc_model.specs.Attempts.{Attempt, Decision, GivenPart, new_attempt, has_answered, is_gathering, parts_of}
 use Rattle.rc_model.specs.Coordinator.{Coordinator, new_coordinator, refuses_server, list_body, begins_attempt}
 use Rattle.rc_model.specs.Coordinator.{has_tablets, begins_if_needed, spreads_then_begins, attempt_at, with_attempt}
 use Rattle.rc_model.specs.Coordinator.{up_of_host, follows_generation, enlists, notes_ready, with_crashed, suspects}
@@ -52,8 +52,7 @@ use Rattle.rc_owner_laws.proofs.Decided.{gives, given-in, find-none}
 use Rattle.rc_owner_laws.specs.Terms.{IsGivenBy, GoodTerms}
 use Rattle.rc_owner_laws.proofs.Keeping.{decided-later, SameTerms, same-refl, same-trans, kept-terms, IsNewTerm}
 use Rattle.rc_owner_laws.proofs.Keeping.{granted-terms, decided-terms}
-use Rattle.rc_model.proofs.Ids.{same_id-true}
-use Rattle.rc_model.proofs.Tests.{true_false, either}
+use Rattle.rc_model.proofs.Tests.{either}
 
 -- Steps in which no term is issued
 

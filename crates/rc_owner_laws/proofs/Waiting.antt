@@ -275,7 +275,7 @@ module _ (sent : List Message) (c : Coordinator) (base : GoodCoordinator sent c)
       either (λ (new : Coordinator). Moves (new, [])) (is_current c number attempt &&
       (is_gathering attempt && not (has_answered from attempt.replies)))
       (with_attempt c number (with_answer from rows attempt)) c
-      (λ all. kept (undecided-none sent c base grants attempt.decided
+      (λ all. kept (undecided-none attempt.decided
       (and_parts (is_gathering attempt) (not (has_answered from attempt.replies))
       (and_parts (is_current c number attempt) (is_gathering attempt && not (has_answered from attempt.replies))
       all).1).0))

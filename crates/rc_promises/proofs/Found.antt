@@ -1,7 +1,7 @@
 -- What a read finds among entries: the greatest version of its key under its term, of one of them, or 0.
-use Rattle.std.proofs.Common.{◌≡◌, ◌⊎◌, ℕ, ◌<◌, ◌≤◌, Bool, true, false, ◌&&◌, nat_eq, nat_lt, List, [], ◌∷◌, None}
+use Rattle.std.proofs.Common.{◌≡◌, ◌⊎◌, ℕ, ◌<◌, ◌≤◌, true, false, ◌&&◌, nat_eq, nat_lt, List, [], ◌∷◌, None}
 use Rattle.std.proofs.Common.{refl, sym, ap, ◌∙◌, subst, inl, inr, arith}
-use Rattle.std.proofs.lemmas.Bool.{and_parts, eqb-true, eq-eqb, ltb-true, and_from}
+use Rattle.std.proofs.lemmas.Bool.{and_parts, eqb-true, ltb-true, and_from}
 use Rattle.rc_types.specs.declared.entries.Entry.{Entry}
 use Rattle.rc_model.specs.Versions.{is_of, Found, or_greater, read_from, read_of}
 use Rattle.rc_model.specs.Headline.{In}
@@ -51,7 +51,8 @@ module _ (term table key : ℕ) where
           (is_of term table key entry && nat_lt found.version entry.version) ≡ false → entry.version ≤ found.version
       not-less (inr p) e = p
       not-less (inl less) e = true_false
-          (sym (and_from (is_of term table key entry) (nat_lt found.version entry.version) of (less-test found.version entry.version less)) ∙ e)
+          (sym (and_from (is_of term table key entry) (nat_lt found.version entry.version) of
+          (less-test found.version entry.version less)) ∙ e)
 
   from-least : (found : Found) (entries : List Entry) → found.version ≤ (read_from term table key found entries).version
   from-least found [] = omega arith
@@ -130,7 +131,8 @@ module _ (term table key : ℕ) where
   -- no entry of the key under the term is above what a read finds
   pub read-above : (entries : List Entry) (entry : Entry) → In entry entries → entry.term ≡ term → entry.table ≡ table → entry.key ≡ key →
       entry.version ≤ (read_of term table key entries).version
-  read-above entries entry at a b c = from-above (record { version = 0; value = None }) entries entry at (is-of-true term table key entry a b c)
+  read-above entries entry at a b c = from-above
+      (record { version = 0; value = None }) entries entry at (is-of-true term table key entry a b c)
 
   -- and above 0 it is one of them
   pub read-is : (entries : List Entry) → ((read_of term table key entries).version ≡ 0 → ⊥) →

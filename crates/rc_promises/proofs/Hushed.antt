@@ -1,11 +1,10 @@
 -- A master answers a read by a ReadOk, and sends none besides.
-use Rattle.std.proofs.Common.{◌≡◌, Bool, true, false, List, [], ◌∷◌, ◌++◌, refl, sym, subst}
+use Rattle.std.proofs.Common.{◌≡◌, Bool, true, false, List, [], ◌∷◌, refl, subst}
 use Rattle.rc_types.specs.declared.ids.ServerId.{ServerId}
 use Rattle.rc_types.specs.declared.ids.Addr.{Addr}
 use Rattle.rc_types.specs.declared.messages.Message.{Message}
 use Rattle.rc_types.specs.declared.messages.Body.{Body}
 use Rattle.rc_types.specs.declared.messages.Body.TheVariants.{Read, ReadOk}
-use Rattle.rc_model.specs.Log.{Log}
 use Rattle.rc_model.specs.Heads.{left_out}
 use Rattle.rc_model.specs.Master.{Master, to_ids}
 use Rattle.rc_model.specs.ListRules.{then_does}

@@ -97,7 +97,8 @@ ReadsBy master done = (before : List Message) (message : Message) (after : List 
     Reads master before table key version value
 
 reads-hushed : (master : Master) (done : Master × List Message) → Hush done → ReadsBy master done
-reads-hushed master done hushed before message after e table key version value says = hushed-no done.1 before message after hushed.hushed e table
+reads-hushed master done hushed before message after e table key version value says =
+    hushed-no done.1 before message after hushed.hushed e table
     key version value says
 
 -- the answer, and what follows up

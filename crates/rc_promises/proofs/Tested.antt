@@ -1,6 +1,6 @@
 -- Each sentence makes its test true, for every list of messages; so a run whose test fails refutes the sentence.
 use Rattle.std.proofs.Common.{◌≡◌, ◌⊎◌, ℕ, ◌<◌, ◌≤◌, Bool, true, false, cond, not, ◌&&◌, ◌||◌, nat_eq, nat_lt, nat_le}
-use Rattle.std.proofs.Common.{List, [], ◌∷◌, ◌++◌, Option, Some, None, refl, sym, ap, ◌∙◌, subst, inl, inr, append_assoc}
+use Rattle.std.proofs.Common.{List, [], ◌∷◌, ◌++◌, Option, refl, sym, ap, ◌∙◌, subst, inl, inr, append_assoc}
 use Rattle.std.specs.List.{list_any, list_all}
 use Rattle.std.proofs.lemmas.Bool.{eq-eqb, eqb-true, lt-ltb, le-leb, and_parts, and_from, or_left, or_right}
 use Rattle.rc_types.specs.declared.ids.ServerId.{ServerId}
@@ -16,7 +16,7 @@ use Rattle.rc_model.specs.Ids.{same_id, is_server}
 use Rattle.rc_model.specs.Made.{made}
 use Rattle.rc_model.specs.Recovered.{Ack}
 use Rattle.rc_model.specs.Owners.{granted, covers, grants_of, IsEarlier, is_earlier}
-use Rattle.rc_model.specs.Breach.{same_numbers, same_value}
+use Rattle.rc_model.specs.Breach.{same_value}
 use Rattle.rc_model.specs.Headline.{In, HasMade, HasAcknowledged}
 use Rattle.rc_model.proofs.Befores.{is_before-finds, is_before-found}
 use Rattle.rc_model.proofs.Members.{In-append, In-left, In-right, In-get}
@@ -28,7 +28,7 @@ use Rattle.rc_worked.specs.Sentences.{sees_own, sees_by_then, sees_value, sees_u
 use Rattle.rc_log_laws.specs.WordClaims.{sent_after}
 use Rattle.rc_promises.specs.Service.{WasGranted, HasAsked, IsOfKey, IsWritten, IsOneWrite, Answer, HasRead, SeesEveryWrite}
 use Rattle.rc_model.proofs.Ids.{same_id-true, same_id-refl}
-use Rattle.rc_model.proofs.Headlines.{same_numbers-refl, same_value-refl}
+use Rattle.rc_model.proofs.Headlines.{same_value-refl}
 
 -- Tests of lists
 

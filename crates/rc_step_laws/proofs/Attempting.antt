@@ -15,7 +15,7 @@ use Rattle.std.proofs.lemmas.List.{length-append, length-set}
 use Rattle.rc_model.specs.Tables.{put_id}
 use Rattle.rc_model.specs.Messages.{from_coordinator, to_each, to_coordinator}
 use Rattle.rc_model.specs.ServerList.{has_crashed, up_rows}
-use Rattle.rc_model.specs.Pick.{is_below, pick, greater_pair}
+use Rattle.rc_model.specs.Pick.{is_below, pick}
 use Rattle.rc_model.specs.Attempts.{Attempt, Decision, is_undecided}
 use Rattle.rc_model.specs.Coordinator.{Coordinator, new_coordinator, attempt_at}
 use Rattle.rc_model.specs.Headline.{In}
@@ -26,7 +26,6 @@ use Rattle.rc_step_laws.specs.Later.{AttemptLater}
 use Rattle.rc_step_laws.specs.Moves.{CoordinatorMoved, coordinator_body_said}
 use Rattle.rc_step_laws.proofs.Lists.{get-left, get-end, get-append, get-within, get-set, set-get}
 use Rattle.rc_model.proofs.Tests.{either}
-use Rattle.rc_model.proofs.Granting.{greater-left, greater-right}
 use Rattle.rc_model.proofs.Tables.{put_id_each}
 
 -- Pairs

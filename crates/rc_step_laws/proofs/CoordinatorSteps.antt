@@ -24,7 +24,7 @@ use Rattle.rc_model.specs.Messages.{from_coordinator, to_each, to_coordinator, c
 use Rattle.rc_model.specs.ServerList.{ServerList, is_up, has_crashed, is_newest, enlisted, crashed, up, up_rows}
 use Rattle.rc_model.specs.Tablets.{has_table, tablet_of, split_at, marked_crashed, has_range, assigned}
 use Rattle.rc_model.specs.Pick.{is_below, pick, greater_pair}
-use Rattle.rc_model.specs.Attempts.{Attempt, Decision, new_attempt, has_answered, is_gathering, is_undecided, parts_of}
+use Rattle.rc_model.specs.Attempts.{Attempt, Decision, new_attempt, has_answered, is_gathering, parts_of}
 use Rattle.rc_model.specs.Attempts.{plan_message, plan_messages}
 use Rattle.rc_model.specs.Coordinator.{Coordinator, refuses_server, list_body, spreads_list, begins_attempt}
 use Rattle.rc_model.specs.Coordinator.{has_tablets, begins_if_needed, spreads_then_begins, attempt_at, with_attempt}

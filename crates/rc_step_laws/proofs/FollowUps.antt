@@ -1,6 +1,6 @@
 -- The rules that follow up an input, one by one, and then until none applies.
-use Rattle.std.proofs.Common.{◌≡◌, ◌⊎◌, ℕ, zero, suc, ◌+◌, ◌-◌, ◌<◌, Bool, true, false, not, nat_eq, nat_lt, ◌&&◌}
-use Rattle.std.proofs.Common.{List, [], ◌∷◌, ◌++◌, length, take, map, filter, slice_get, Option, Some, None, refl, sym}
+use Rattle.std.proofs.Common.{◌≡◌, ◌⊎◌, ℕ, ◌+◌, ◌-◌, ◌<◌, Bool, true, false, not, nat_eq, ◌&&◌}
+use Rattle.std.proofs.Common.{List, [], ◌∷◌, ◌++◌, length, take, map, filter, slice_get, Some, refl, sym}
 use Rattle.std.proofs.Common.{ap, ◌∙◌, subst, inl, inr, arith}
 use Rattle.std.proofs.lemmas.Bool.{and_parts, eqb-true, ltb-true}
 use Rattle.std.specs.List.{list_any}
@@ -13,23 +13,23 @@ use Rattle.rc_types.specs.declared.kept.Phase.{Phase}
 use Rattle.rc_types.specs.declared.kept.Phase.TheVariants.{Opening, Closing, Writing}
 use Rattle.rc_types.specs.declared.messages.Message.{Message}
 use Rattle.rc_types.specs.declared.messages.Body.{Body}
-use Rattle.rc_types.specs.declared.messages.Body.TheVariants.{Place, WriteOk, Close, Commit, Free, Ready, Recovered}
-use Rattle.rc_model.specs.Messages.{between, to_coordinator, to_outside}
+use Rattle.rc_types.specs.declared.messages.Body.TheVariants.{Place, WriteOk, Close, Commit, Ready, Recovered}
+use Rattle.rc_model.specs.Messages.{between, to_coordinator}
 use Rattle.rc_model.specs.Config.{told_closed, is_closed, all_placed, all_closed}
 use Rattle.rc_model.specs.Segment.{Segment, is_ready, is_all_closed, is_unclosed, has_unclosed, with_closes_sent}
 use Rattle.rc_model.specs.Log.{Log, LogPlace, places_of, head_of, old_head_of, has_old_head, with_segment, numbers_to}
-use Rattle.rc_model.specs.Log.{is_opening, is_closing, is_writing, durable_now}
-use Rattle.rc_model.specs.Heads.{is_full, begin_roll, shuts, may_start, may_close, may_write, left_out, with_freed}
+use Rattle.rc_model.specs.Log.{is_opening, is_closing, durable_now}
+use Rattle.rc_model.specs.Heads.{shuts, may_start, may_close, may_write, left_out, with_freed}
 use Rattle.rc_model.specs.Heads.{starts, closes_old, writes_on}
-use Rattle.rc_model.specs.Ownership.{after_replay, to_answer, after_answer}
-use Rattle.rc_model.specs.Master.{Master, with_log, durable_entries, to_ids, ids_of, not_lost, to_unlost, appends_entry, dead_segments}
-use Rattle.rc_model.specs.FollowUps.{when, follows_start, follows_placed, close_is_due, close_marked, follows_closing}
-use Rattle.rc_model.specs.FollowUps.{frees_segments, follows_shut, first_open, wants_commit, commits, commits_open}
-use Rattle.rc_model.specs.FollowUps.{follows_change, write_oks, new_durable, follows_stored, rolls_for_replay, replays}
-use Rattle.rc_model.specs.FollowUps.{follows_data, attempt_of, answers_part, or_rule, follow_up, marks_shut, further}
-use Rattle.rc_model.specs.FollowUps.{followed, measure, goes_on}
+use Rattle.rc_model.specs.Ownership.{after_replay, after_answer}
+use Rattle.rc_model.specs.Master.{Master, with_log, durable_entries, to_ids, ids_of, appends_entry}
+use Rattle.rc_model.specs.FollowUps.{close_is_due, close_marked}
+use Rattle.rc_model.specs.FollowUps.{frees_segments, first_open, commits}
+use Rattle.rc_model.specs.FollowUps.{write_oks, new_durable, replays}
+use Rattle.rc_model.specs.FollowUps.{attempt_of}
+use Rattle.rc_model.specs.FollowUps.{goes_on}
 use Rattle.rc_model.specs.Headline.{In}
-use Rattle.rc_model.proofs.Members.{In-append, In-get, In-map, In-filter}
+use Rattle.rc_model.proofs.Members.{In-append, In-map, In-filter}
 use Rattle.rc_step_laws.specs.Words.{log_in, IsOpened, HasToldClosed}
 use Rattle.rc_step_laws.specs.Facts.{IsSafe}
 use Rattle.rc_step_laws.specs.Later.{LogLater}
@@ -41,28 +41,16 @@ use Rattle.rc_step_laws.proofs.LogMoves.{GoodSegment, GoodLog, LogMoved, more-le
 use Rattle.rc_step_laws.proofs.Places.{numbers-In, places_to-are, place-logged, durable-within}
 use Rattle.rc_step_laws.proofs.Safe.{durable-safe}
 use Rattle.rc_step_laws.proofs.Segments.{log-later, later-refl, counted-still, within-still, put-moved, marked-moved}
-use Rattle.rc_step_laws.proofs.Views.{GoodView, Moved, moved-then, moved-quiet, view-after, still, AllQuiet}
-use Rattle.rc_step_laws.proofs.Views.{IsQuietOf, quiet-none, quiet-one, quiet-both, quiet-says, quiet-no_place}
-use Rattle.rc_step_laws.proofs.Views.{quiet-moved, each-to_ids}
-use Rattle.rc_step_laws.proofs.Rolling.{roll-cases, writing-is}
+use Rattle.rc_step_laws.proofs.Views.{GoodView, Moved, moved-quiet, AllQuiet}
+use Rattle.rc_step_laws.proofs.Views.{IsQuietOf, quiet-none, quiet-one, quiet-says, quiet-no_place}
+use Rattle.rc_step_laws.proofs.Views.{quiet-moved}
+use Rattle.rc_step_laws.proofs.Rolling.{writing-is}
+use Rattle.rc_model.proofs.Walk.{Followed, kept-goes_on}
+use Rattle.rc_step_laws.proofs.Views.{Kept, joined}
+use Rattle.rc_model.proofs.Sending.{each-frees, each-write_oks, each-to_ids}
 use Rattle.rc_step_laws.proofs.Writing.{moved-appends, moved-opens_roll}
 use Rattle.rc_model.proofs.Tables.{put-same}
-use Rattle.rc_model.proofs.Tests.{true_false, either}
-
--- what a rule does, where it applies, is a move
-abbrev pub Does : List Message → ServerId → Master → Option (Master × List Message) → Type 0
-Does sent m master None = Unit {0}
-Does sent m master (Some done) = Moved sent m master done
-
-does-when : (sent : List Message) (m : ServerId) (master : Master) (b : Bool) (done : Master × List Message) →
-    (b ≡ true → Moved sent m master done) → Does sent m master (when b done)
-does-when sent m master true done moved = moved refl
-does-when sent m master false done moved = tt
-
-does-or : (sent : List Message) (m : ServerId) (master : Master) (one other : Option (Master × List Message)) →
-    Does sent m master one → Does sent m master other → Does sent m master (or_rule one other)
-does-or sent m master None other p q = q
-does-or sent m master (Some done) other p q = p
+use Rattle.rc_model.proofs.Tests.{true_false}
 
 -- The phase
 
@@ -118,12 +106,9 @@ then-quiet sent m old new messages good moved all =
 ready-quiet : (m own : ServerId) → own ≡ m → AllQuiet m (to_coordinator own Ready ∷ [])
 ready-quiet m own is = quiet-one m (to_coordinator own Ready) (record { from = ap Server is; quiet = tt })
 
-does-start : (sent : List Message) (m : ServerId) (master : Master) → GoodView sent m master → Does sent m master (follows_start master)
-does-start sent m master view = does-when sent m master (may_start master.log) (
-  with_log master (starts master.log),
-  to_coordinator master.log.own Ready ∷ [],
-)
-    (λ e. (
+moved-start : (m : ServerId) (master : Master) → may_start master.log ≡ true →
+    Kept m master (with_log master (starts master.log), to_coordinator master.log.own Ready ∷ [])
+moved-start m master e sent view = (
     let both = and_parts (is_opening master.log.phase) (nat_eq master.log.head 1 && is_ready (head_of master.log)) e in
     let first : master.log.head ≡ 1 =
     eqb-true master.log.head 1 (and_parts (nat_eq master.log.head 1) (is_ready (head_of master.log)) both.1).0 in
@@ -133,11 +118,10 @@ does-start sent m master view = does-when sent m master (may_start master.log) (
           (λ _ s above less. absurd (omega arith)) (λ quiet. absurd (quiet refl)))
           (ready-quiet m master.log.own view.log.own);
       known = view.known;
-    }))
+    })
 
-does-placed : (sent : List Message) (m : ServerId) (master : Master) → GoodView sent m master → Does sent m master (follows_placed master)
-does-placed sent m master view = does-when sent m master (may_close master.log) (with_log master (closes_old master.log), [])
-    (λ e. (
+moved-placed : (m : ServerId) (master : Master) → may_close master.log ≡ true → Kept m master (with_log master (closes_old master.log), [])
+moved-placed m master e sent view = (
     let was : master.log.phase ≡ Opening =
     opening-is master.log.phase
     (and_parts (is_opening master.log.phase) (has_old_head master.log && all_placed (head_of master.log).config)
@@ -146,7 +130,7 @@ does-placed sent m master view = does-when sent m master (may_close master.log) 
       log = phase-moved sent m master.log Closing view.log view.fine (λ writing. closing_writing writing)
           (λ writing. closing_writing writing) (λ _. view.log.empty (λ writing. opening_writing (sym was ∙ writing)));
       known = view.known;
-    }))
+    })
   where
     closing_writing : {P : Type 0} → Closing ≡ Writing → P
     closing_writing e = cc
@@ -166,10 +150,12 @@ close-no_place m own ids x s e t len digest entries closed at =
     let found = In-map (λ (id : ServerId). between own id (Close t len)) (between m x (Place s e digest entries closed)) ids at in
     let body : ◌≡◌ {A = Body} (Place s e digest entries closed) (Close t len) = ap (λ (message : Message). message.body) found.2 in cc
 
-does-closing : (sent : List Message) (m : ServerId) (master : Master) → GoodView sent m master → Does sent m master (follows_closing master)
-does-closing sent m master view = does-when sent m master (close_is_due log)
-    (with_log master (close_marked log), messages)
-    (λ e. (
+moved-closing : (m : ServerId) (master : Master) → close_is_due master.log ≡ true → Kept m master (
+  with_log master (close_marked master.log),
+  to_ids master.log.own (ids_of (filter (is_unclosed (old_head_of master.log)) (old_head_of master.log).config.members))
+      (Close (master.log.head - 1) (length (old_head_of master.log).entries)),
+)
+moved-closing m master e sent view = (
     let second = and_parts (is_closing log.phase)
     (has_old_head log && ((old_head_of log).config.committed && has_unclosed (old_head_of log))) e in
     let over = old_head-opened log
@@ -192,7 +178,7 @@ does-closing sent m master view = does-when sent m master (close_is_due log)
           (λ x t f digest entries at. close-no_place m log.own ids x t f (log.head - 1)
           (length (old_head_of log).entries) digest entries false at);
       known = view.known;
-    }))
+    })
   where
     log : Log
     log = master.log
@@ -219,15 +205,11 @@ freed-moved (s ∷ segs) sent m log good fine opened =
     (λ t at. (let was = opened t (inr at) in record { above = was.above; below = was.below })))
 
 frees-quiet : (m : ServerId) (log : Log) (segs : List ℕ) → log.own ≡ m → AllQuiet m (frees_segments log segs)
-frees-quiet m log [] own = quiet-none m
-frees-quiet m log (s ∷ segs) own = quiet-both m (to_unlost log s (Free s)) (frees_segments log segs)
-    (each-to_ids (IsQuietOf m) log.own (ids_of (not_lost (log.segments s).config.members)) (Free s)
-    (λ x at. record { from = ap Server own; quiet = tt }))
-    (frees-quiet m log segs own)
+frees-quiet m log segs own = each-frees (IsQuietOf m) log segs (λ seg id at. record { from = ap Server own; quiet = tt })
 
-does-shut : (sent : List Message) (m : ServerId) (master : Master) → GoodView sent m master → Does sent m master (follows_shut master)
-does-shut sent m master view = does-when sent m master (may_write log) (with_log master (writes_on log), frees_segments log (left_out log))
-    (λ e. (
+moved-shut : (m : ServerId) (master : Master) → may_write master.log ≡ true →
+    Kept m master (with_log master (writes_on master.log), frees_segments master.log (left_out master.log))
+moved-shut m master e sent view = (
     let second = and_parts (is_closing log.phase) (has_old_head log && ((old_head_of log).shut && is_ready (head_of log))) e in
     let third = and_parts (has_old_head log) ((old_head_of log).shut && is_ready (head_of log)) second.1 in
     let over = old_head-opened log third.0 in
@@ -245,7 +227,7 @@ does-shut sent m master view = does-when sent m master (may_write log) (with_log
           (log_moved-then sent m log (starts log) (writes_on log) [] [] view.log first freed)
           (frees-quiet m log (left_out log) view.log.own);
       known = view.known;
-    }))
+    })
   where
     log : Log
     log = master.log
@@ -262,9 +244,9 @@ does-shut sent m master view = does-when sent m master (may_write log) (with_log
 
 -- Commits
 
-does-commits : (sent : List Message) (m : ServerId) (master : Master) (s : ℕ) → GoodView sent m master →
+moved-commits : (sent : List Message) (m : ServerId) (master : Master) (s : ℕ) → GoodView sent m master →
     IsOpened master.log s → Moved sent m master (commits master s)
-does-commits sent m master s view opened =
+moved-commits sent m master s view opened =
     let log : Log = master.log in
     let one : Message = to_coordinator log.own (Commit s (log.segments s).config.epoch) in
     let quiet : AllQuiet m (one ∷ []) = quiet-one m one (record { from = ap Server view.log.own; quiet = tt }) in
@@ -277,37 +259,12 @@ does-commits sent m master s view opened =
       known = view.known;
     }
 
-does-change : (sent : List Message) (m : ServerId) (master : Master) → GoodView sent m master → Does sent m master (follows_change master)
-does-change sent m master view = by (first_open master.log) refl
-  where
-    by : (found : Option ℕ) → first_open master.log ≡ found → Does sent m master (commits_open master found)
-    by None e = tt
-    by (Some s) e =
-        let there = (find-one (λ seg. not (master.log.segments seg).shut) (numbers_to master.log.head) s e).0 in
-        let p = numbers-In s master.log.head there in
-        does-when sent m master (wants_commit (master.log.segments s)) (commits master s)
-        (λ _. does-commits sent m master s view (record { above = p.0; below = p.1 }))
+moved-change : (m : ServerId) (master : Master) (s : ℕ) → first_open master.log ≡ Some s → Kept m master (commits master s)
+moved-change m master s e sent view =
+    let there = (find-one (λ seg. not (master.log.segments seg).shut) (numbers_to master.log.head) s e).0 in
+    let p = numbers-In s master.log.head there in moved-commits sent m master s view (record { above = p.0; below = p.1 })
 
 -- Acknowledging
-
-each-write_oks : (P : Message → Type 0) (own : ServerId) (places : List LogPlace)
-    → ((place : LogPlace) → In place places →
-    P (to_outside own (WriteOk place.seg place.offset place.entry.term place.entry.table place.entry.key
-    place.entry.version)))
-    → (message : Message) → In message (write_oks own places) → P message
-each-write_oks P own [] holds message at = absurd at
-each-write_oks P own (place ∷ places) holds message at =
-    either (λ messages. In message messages → P message) place.client
-    (to_outside own (WriteOk place.seg place.offset place.entry.term place.entry.table place.entry.key
-    place.entry.version) ∷ write_oks own places) (write_oks own places)
-    (λ _ all. by (each-write_oks P own places (λ other there. holds other (inr there)) message) all)
-    (λ _ rest. each-write_oks P own places (λ other there. holds other (inr there)) message rest) at
-  where
-    by : (In message (write_oks own places) → P message)
-        → (message ≡ to_outside own (WriteOk place.seg place.offset place.entry.term place.entry.table place.entry.key
-        place.entry.version)) ⊎ In message (write_oks own places) → P message
-    by rec (inl e) = subst P (sym e) (holds place (inl refl))
-    by rec (inr rest) = rec rest
 
 -- no Place is a WriteOk
 write_ok-no_place : {P : Type 0} (m x own : ServerId) (s e : ℕ) (digest : List ℕ) (entries : List Entry) (closed : Bool)
@@ -315,7 +272,8 @@ write_ok-no_place : {P : Type 0} (m x own : ServerId) (s e : ℕ) (digest : List
     → In (between m x (Place s e digest entries closed)) (write_oks own places) → P
 write_ok-no_place {P} m x own s e digest entries closed places at =
     each-write_oks (λ message. message ≡ between m x (Place s e digest entries closed) → P) own places
-    (λ place there same. differ (ap (λ (message : Message). message.body) same)) (between m x (Place s e digest entries closed)) at refl
+    (λ place there client same. differ (ap (λ (message : Message). message.body) same))
+    (between m x (Place s e digest entries closed)) at refl
   where
     differ : {t o term table key version : ℕ} → ◌≡◌ {A = Body} (WriteOk t o term table key version) (Place s e digest entries closed) → P
     differ same = cc
@@ -375,7 +333,7 @@ stored-moved sent m log good fine = moved-log sent m log new messages good fine 
         either_place x s e digest entries closed (inr now) = no_place x s e digest entries closed now
 
     says : (message : Message) → In message messages → MasterSays sent (sent ++ messages) m log new message
-    says = each-write_oks (MasterSays sent (sent ++ messages) m log new) log.own (new_durable log) (λ place at. (
+    says = each-write_oks (MasterSays sent (sent ++ messages) m log new) log.own (new_durable log) (λ place at client. (
         let p = among place at in
         let safe : IsSafe sent m log place.seg place.offset = durable-safe sent m log p.0 place good fine p.1 p.2 in
         record {
@@ -390,54 +348,6 @@ stored-moved sent m log good fine = moved-log sent m log new messages good fine 
             version_is = refl;
           };
         }))
-
-does-stored : (sent : List Message) (m : ServerId) (master : Master) → GoodView sent m master → Does sent m master (follows_stored master)
-does-stored sent m master view = does-when sent m master (nat_lt master.log.durable (durable_now master.log))
-    (with_log master (record master.log { durable = durable_now master.log }), write_oks master.log.own (new_durable master.log))
-    (λ _. record { log = stored-moved sent m master.log view.log view.fine; known = view.known })
-
--- Replaying
-
-does-replays : (sent : List Message) (m : ServerId) (master : Master) (entries : List Entry) → GoodView sent m master →
-    master.log.phase ≡ Writing → Does sent m master (replays master entries)
-does-replays sent m master [] view writing = tt
-does-replays sent m master (entry ∷ entries) view writing =
-    either (Does sent m master) (is_full master.log) (rolls_for_replay master (begin_roll master.known (dead_segments master) master.log))
-    (Some (appends_entry (record master { ownership = after_replay master.ownership }) entry false))
-    (λ _. roll-cases (λ result. Does sent m master (rolls_for_replay master result)) master.known (dead_segments master) master.log
-    (λ fault. tt) (λ ids chosen. moved-opens_roll sent m master ids view writing chosen))
-    (λ _. (
-    let next : Master = record master { ownership = after_replay master.ownership } in
-    let done : Moved sent m next (appends_entry next entry false) = moved-appends sent m next entry false
-    (record { log = view.log; fine = view.fine; known = view.known }) writing in
-    record { log = done.log; known = done.known }))
-
-does-data : (sent : List Message) (m : ServerId) (master : Master) → GoodView sent m master → Does sent m master (follows_data master)
-does-data sent m master view =
-    either (Does sent m master) (is_writing master.log.phase) (replays master master.ownership.replay) None
-    (λ e. does-replays sent m master master.ownership.replay view (writing-is master.log.phase e)) (λ _. tt)
-
-does-answers : (sent : List Message) (m : ServerId) (master : Master) (found : Option ℕ) → GoodView sent m master →
-    Does sent m master (answers_part master found)
-does-answers sent m master None view = tt
-does-answers sent m master (Some term) view =
-    let one : Message = to_coordinator master.log.own (Recovered (attempt_of term master.tasks) term) in
-    moved-quiet sent m master (record master { ownership = after_answer (durable_entries master) master.ownership })
-    (one ∷ []) view refl refl
-    (quiet-one m one (record { from = ap Server view.log.own; quiet = tt }))
-
--- The first that applies
-
-does-follow_up : (sent : List Message) (m : ServerId) (master : Master) → GoodView sent m master → Does sent m master (follow_up master)
-does-follow_up sent m master view =
-    does-or sent m master (follows_start master) _ (does-start sent m master view)
-    (does-or sent m master (follows_placed master) _ (does-placed sent m master view)
-    (does-or sent m master (follows_closing master) _ (does-closing sent m master view)
-    (does-or sent m master (follows_shut master) _ (does-shut sent m master view)
-    (does-or sent m master (follows_change master) _ (does-change sent m master view)
-    (does-or sent m master (follows_stored master) _ (does-stored sent m master view)
-    (does-or sent m master (follows_data master) _ (does-data sent m master view)
-    (does-answers sent m master (to_answer (durable_entries master) master.ownership) view)))))))
 
 -- A segment that has become shut
 
@@ -493,38 +403,29 @@ shut-moved sent m log good fine e = put-moved sent m log s (record (old_head_of 
         subst (λ y. HasToldClosed sent y m (log.head - 1) (old_head_of log).config.epoch) (sym found.2)
         ((good.each (log.head - 1)).noted_closed found.0 found.1 is)
 
-moved-marks_shut : (sent : List Message) (m : ServerId) (master : Master) → GoodView sent m master →
-    Moved sent m master (marks_shut master, [])
-moved-marks_shut sent m master view = record {
-  log = either (λ log. LogMoved sent m master.log log []) (shuts master.log)
-      (with_segment (master.log.head - 1) (record (old_head_of master.log) { shut = true }) master.log) master.log
-      (λ e. shut-moved sent m master.log view.log view.fine e) (λ _. quiet-moved sent m master.log [] view.log view.fine (quiet-none m));
-  known = view.known;
+-- All of them
+
+by_rule : (m : ServerId) → Followed (Kept m)
+by_rule m = record {
+  marks = λ master e sent view. record { log = shut-moved sent m master.log view.log view.fine e; known = view.known };
+  starts = moved-start m;
+  places = moved-placed m;
+  closes = moved-closing m;
+  shuts = moved-shut m;
+  commits = λ master seg e wants. moved-change m master seg e;
+  counts = λ master more sent view. record { log = stored-moved sent m master.log view.log view.fine; known = view.known };
+  rolls = λ master ids writing room chosen sent view.
+      moved-opens_roll sent m master ids view (writing-is master.log.phase writing) chosen;
+  replays = λ master entry entries is writing room sent view. (
+      let next : Master = record master { ownership = after_replay master.ownership } in
+      let done : Moved sent m next (appends_entry next entry false) = moved-appends sent m next entry false
+      (record { log = view.log; fine = view.fine; known = view.known }) (writing-is master.log.phase writing) in
+      record { log = done.log; known = done.known });
+  answers = λ master term is sent view. (
+      let one : Message = to_coordinator master.log.own (Recovered (attempt_of term master.tasks) term) in
+      moved-quiet sent m master (record master { ownership = after_answer (durable_entries master) master.ownership })
+      (one ∷ []) view refl refl (quiet-one m one (record { from = ap Server view.log.own; quiet = tt })));
 }
 
--- Until none applies
-
-moved-further : (sent : List Message) (m : ServerId) (master : Master) (found : Option (Master × List Message))
-    (others : Master → Master × List Message) → GoodView sent m master → Does sent m master found
-    → ((more : List Message) (next : Master) → GoodView (sent ++ more) m next →
-    Moved (sent ++ more) m next (others next)) → Moved sent m master (further found master others)
-moved-further sent m master None others view does rest = still sent m master view
-moved-further sent m master (Some done) others view does rest =
-    moved-then sent m master done (others done.0) view does (rest done.1 done.0 (view-after sent m master done does))
-
-pub moved-followed : (times : ℕ) (sent : List Message) (m : ServerId) (master : Master) → GoodView sent m master →
-    Moved sent m master (followed times master)
-moved-followed zero sent m master view = moved-marks_shut sent m master view
-moved-followed (suc times) sent m master view =
-    let first : Moved sent m master (marks_shut master, []) = moved-marks_shut sent m master view in
-    let now : GoodView (sent ++ []) m (marks_shut master) = view-after sent m master (marks_shut master, []) first in
-    moved-then sent m master (marks_shut master, []) (further (follow_up (marks_shut master)) (marks_shut master)
-    (λ next. followed times next)) view first
-    (moved-further (sent ++ []) m (marks_shut master) (follow_up (marks_shut master)) (λ next. followed times next) now
-    (does-follow_up (sent ++ []) m (marks_shut master) now)
-    (λ more next good. moved-followed times ((sent ++ []) ++ more) m next good))
-
 pub moved-goes_on : (sent : List Message) (m : ServerId) (master : Master) → GoodView sent m master → Moved sent m master (goes_on master)
-moved-goes_on sent m master view =
-    either (λ after. Moved sent m master after) master.deposed (master, []) (followed (measure master) master)
-    (λ _. still sent m master view) (λ _. moved-followed (measure master) sent m master view)
+moved-goes_on sent m master = kept-goes_on (Kept m) (joined m) (by_rule m) master sent

@@ -29,12 +29,13 @@ use Rattle.rc_step_laws.proofs.LogMoves.{GoodLog, LogMoved, IsFresh}
 use Rattle.rc_step_laws.proofs.Places.{numbers-In}
 use Rattle.rc_step_laws.proofs.Segments.{SegmentSteady, put-moved, steady-moved}
 use Rattle.rc_step_laws.proofs.Members.{each-lost, ids-lost, each-replaced, each-new}
-use Rattle.rc_step_laws.proofs.Views.{GoodView, Moved, moved-then_does, still, SamePlace, each-to_ids, place-to_ids}
+use Rattle.rc_step_laws.proofs.Views.{GoodView, Moved, moved-then_does, still, SamePlace, place-to_ids}
 use Rattle.rc_step_laws.proofs.Openings.{opens-moved}
 use Rattle.rc_step_laws.proofs.Hosts.{apart-choose, apart-substituted, apart-rows}
 use Rattle.rc_step_laws.proofs.MasterTold.{each-noted, steady-members, config-moved}
 use Rattle.rc_model.proofs.Tables.{put-same}
 use Rattle.rc_model.proofs.Tests.{true_false, either}
+use Rattle.rc_model.proofs.Sending.{each-to_ids}
 
 -- A segment whole, closed where it is shut, is a Place of it
 

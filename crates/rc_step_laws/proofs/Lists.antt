@@ -1,19 +1,9 @@
 -- Lists, tables and tests, over plain variables.
-use Rattle.std.proofs.Common.{◌≡◌, ◌⊎◌, ℕ, zero, suc, ◌+◌, ◌<◌, ◌≤◌, Bool, true, false, cond, List, [], ◌∷◌, ◌++◌}
-use Rattle.std.proofs.Common.{length, drop, take, map, filter, slice_get, slice_set, nat_eq, Some, refl, sym, ap, ◌∙◌}
+use Rattle.std.proofs.Common.{◌≡◌, ◌⊎◌, ℕ, zero, suc, ◌+◌, ◌<◌, ◌≤◌, List, [], ◌∷◌, ◌++◌}
+use Rattle.std.proofs.Common.{length, drop, take, map, slice_get, slice_set, Some, refl, sym, ap, ◌∙◌}
 use Rattle.std.proofs.Common.{subst, inl, inr, arith}
-use Rattle.std.proofs.lemmas.Bool.{eqb-true, eq-eqb}
-use Rattle.std.proofs.lemmas.Bool.Decides.{nat_tests}
 use Rattle.std.proofs.lemmas.List.{append-nil, append_assoc}
-use Rattle.rc_types.specs.declared.ids.ServerId.{ServerId}
-use Rattle.rc_model.specs.Ids.{same_id}
-use Rattle.rc_model.specs.Tables.{put, put_id}
-use Rattle.rc_model.specs.Headline.{In}
 use Rattle.rc_step_laws.specs.Words.{Begins}
-use Rattle.rc_model.proofs.Members.{In-filter}
-use Rattle.rc_model.proofs.Tables.{put_each, put-same, put_id_each, put_id-same}
-use Rattle.rc_model.proofs.Ids.{same_parts, same_id-true, same_id-refl}
-use Rattle.rc_model.proofs.Tests.{true_false, either}
 
 -- Tables
 

@@ -1,5 +1,5 @@
 -- Each step of a master: what a message does, what its timer does, and its start.
-use Rattle.std.proofs.Common.{◌≡◌, ℕ, Bool, true, cond, List, [], ◌∷◌, ◌++◌, map, refl, sym, inl, arith}
+use Rattle.std.proofs.Common.{◌≡◌, ℕ, Bool, true, cond, List, [], ◌++◌, map, refl, sym, inl, arith}
 use Rattle.rc_types.specs.declared.ids.ServerId.{ServerId}
 use Rattle.rc_types.specs.declared.ids.Addr.{Addr}
 use Rattle.rc_types.specs.declared.ids.Addr.TheVariants.{Server, Coordinator, Outside}
@@ -12,12 +12,12 @@ use Rattle.rc_types.specs.declared.messages.Body.{Body}
 use Rattle.rc_types.specs.declared.messages.Body.TheVariants.{Write, Read, Stored, CommitOk, Refused, Plan, Data, Own, List as ServersOf}
 use Rattle.rc_model.specs.Messages.{from_coordinator}
 use Rattle.rc_model.specs.ServerList.{up_rows}
-use Rattle.rc_model.specs.Ownership.{knows_term, begin_part, put_data, grant}
-use Rattle.rc_model.specs.Master.{Master, Task}
+use Rattle.rc_model.specs.Ownership.{put_data, grant}
+use Rattle.rc_model.specs.Master.{Master}
 use Rattle.rc_model.specs.ListRules.{then_does}
 use Rattle.rc_model.specs.FollowUps.{goes_on}
 use Rattle.rc_model.specs.MasterTick.{fetch_of, ticks}
-use Rattle.rc_model.specs.MasterStep.{begins_task, task_of, takes_plan, says_deposed, master_takes_first}
+use Rattle.rc_model.specs.MasterStep.{task_of, takes_plan, says_deposed, master_takes_first}
 use Rattle.rc_model.specs.MasterStep.{deposed_takes, master_takes, master_ticks}
 use Rattle.rc_model.specs.Headline.{In}
 use Rattle.rc_step_laws.specs.Words.{OnDifferentHosts}
@@ -25,7 +25,8 @@ use Rattle.rc_step_laws.specs.Facts.{GoodMaster}
 use Rattle.rc_step_laws.specs.Moves.{OwnFine, MasterMoved, MayHear}
 use Rattle.rc_step_laws.specs.MasterClaims.{MasterTakesKeeps, MasterTicksKeeps, NewMasterIsGood}
 use Rattle.rc_step_laws.proofs.LogMoves.{GoodLog}
-use Rattle.rc_step_laws.proofs.Views.{GoodView, Moved, moved-then_does, moved-quiet, quiet-none, still}
+use Rattle.rc_model.proofs.Walk.{begun, kept-plan}
+use Rattle.rc_step_laws.proofs.Views.{Kept, joined, GoodView, Moved, moved-then_does, moved-quiet, quiet-none, still}
 use Rattle.rc_step_laws.proofs.Writing.{moved-writes, moved-reads, moved-refused}
 use Rattle.rc_step_laws.proofs.MasterTold.{moved-stored, moved-commit}
 use Rattle.rc_step_laws.proofs.ListRules.{moved-takes_list}
@@ -99,30 +100,14 @@ moved-of sent m old after moved = record {
 
 -- A plan
 
-moved-begins : (sent : List Message) (m : ServerId) (task : Task) (master : Master) → GoodView sent m master →
-    Moved sent m master (begins_task task master)
-moved-begins sent m task master view =
-    either (λ after. Moved sent m master after) (knows_term master.ownership task.part.term) (master, [])
-    (begun, map (fetch_of master.log.own task) task.rows)
-    (λ _. still sent m master view)
-    (λ _. moved-quiet sent m master begun (map (fetch_of master.log.own task) task.rows) view refl refl
-    (fetches-quiet m master.log.own task task.rows view.log.own))
-  where
-    begun : Master
-    begun = record master {
-      ownership = begin_part task.part (map (λ row. (row.seg, row.holder)) task.rows) master.ownership;
-      tasks = master.tasks ++ task ∷ [];
-    }
-
 moved-takes_plan : (sent : List Message) (m : ServerId) (attempt : ℕ) (crashed : ServerId) (rows : List PlanRow)
     (parts : List Part) (master : Master) → GoodView sent m master
     → Moved sent m master (takes_plan attempt crashed rows parts master)
-moved-takes_plan sent m attempt crashed rows [] master view = still sent m master view
-moved-takes_plan sent m attempt crashed rows (part ∷ parts) master view =
-    let task : Task = task_of attempt crashed rows part in
-    moved-then_does sent m master (begins_task task master) (λ after. takes_plan attempt crashed rows parts after) view
-    (moved-begins sent m task master view)
-    (λ now. moved-takes_plan (sent ++ (begins_task task master).1) m attempt crashed rows parts (begins_task task master).0 now)
+moved-takes_plan sent m attempt crashed rows parts master =
+    kept-plan (Kept m) (joined m) attempt crashed rows parts
+    (λ one part at new more view. moved-quiet more m one (begun (task_of attempt crashed rows part) one)
+    (map (fetch_of one.log.own (task_of attempt crashed rows part)) rows) view refl refl
+    (fetches-quiet m one.log.own (task_of attempt crashed rows part) rows view.log.own)) master sent
 
 -- A message
 

@@ -22,9 +22,10 @@ use Rattle.rc_step_laws.proofs.Lists.{begins-refl}
 use Rattle.rc_step_laws.proofs.Logs.{dead-grown, member-more, told-more, told_closed-more, committed-more}
 use Rattle.rc_step_laws.proofs.LogMoves.{GoodLog, GoodSegment, LogMoved, IsFresh, more-left, new_places, moved-log}
 use Rattle.rc_step_laws.proofs.Segments.{SegmentLater, log-later, later-refl, counted-still, within-still}
-use Rattle.rc_step_laws.proofs.Views.{each-to_ids, place-to_ids}
+use Rattle.rc_step_laws.proofs.Views.{place-to_ids}
 use Rattle.rc_model.proofs.Tables.{put-same, put_each}
 use Rattle.rc_model.proofs.Tests.{true_false}
+use Rattle.rc_model.proofs.Sending.{each-to_ids}
 
 not_writing : {P : Type 0} → Opening ≡ Writing → P
 not_writing e = cc

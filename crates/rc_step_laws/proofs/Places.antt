@@ -84,7 +84,8 @@ places_in-begins : (seg offset : ℕ) (xs ys : List (Entry × Bool)) → Begins 
 places_in-begins seg offset xs ys p =
     subst (λ zs. Begins (places_in seg offset xs) (places_in seg offset zs)) p.1 (places_in-append seg offset xs p.0)
 
-pub places_to-same : (old new : ℕ → Segment) (n : ℕ) → ((s : ℕ) → s ≤ n → (new s).entries ≡ (old s).entries) → places_to new n ≡ places_to old n
+pub places_to-same : (old new : ℕ → Segment) (n : ℕ) → ((s : ℕ) → s ≤ n → (new s).entries ≡ (old s).entries) →
+    places_to new n ≡ places_to old n
 places_to-same old new zero same = refl
 places_to-same old new (suc n) same =
     ap (λ l. l ++ places_in (suc n) 0 (new (suc n)).entries) (places_to-same old new n (λ s upto. same s (omega arith)))

@@ -17,6 +17,7 @@ use Rattle.rc_model.proofs.Members.{In-append, In-map}
 use Rattle.rc_step_laws.specs.Words.{IsMember, OnDifferentHosts}
 use Rattle.rc_step_laws.specs.Moves.{OwnFine, MasterSays, body_said}
 use Rattle.rc_step_laws.proofs.Logs.{log_later-refl}
+use Rattle.rc_model.proofs.Walk.{Joined}
 use Rattle.rc_step_laws.proofs.LogMoves.{GoodLog, LogMoved, more-left, segment-more, moved-log, log_moved-then}
 
 -- Views
@@ -146,14 +147,20 @@ quiet-both m first second p q message at = by (In-append message first second at
 pub still : (sent : List Message) (m : ServerId) (master : Master) → GoodView sent m master → Moved sent m master (master, [])
 still sent m master view = moved-quiet sent m master master [] view refl refl (quiet-none m)
 
--- To several
+-- Whatever was sent
 
--- what goes to each of these goes from its master to one of them
-pub each-to_ids : (P : Message → Type 0) (own : ServerId) (ids : List ServerId) (body : Body) →
-    ((x : ServerId) → In x ids → P (between own x body))
-    → (message : Message) → In message (to_ids own ids body) → P message
-each-to_ids P own ids body holds message at =
-    let found = In-map (λ (id : ServerId). between own id body) message ids at in subst P (sym found.2) (holds found.0 found.1)
+-- a good master moves, whatever was sent
+abbrev pub Kept : ServerId → Master → Master × List Message → Type 0
+Kept m master after = (sent : List Message) → GoodView sent m master → Moved sent m master after
+
+pub joined : (m : ServerId) → Joined (Kept m)
+joined m = record {
+  still = λ master sent view. still sent m master view;
+  both = λ one two first after p q sent view. moved-then sent m one (two, first) after view (p sent view)
+      (q (sent ++ first) (view-after sent m one (two, first) (p sent view)));
+}
+
+-- To several
 
 pub record SamePlace (x id : ServerId) (s e : ℕ) (closed : Bool) (t f : ℕ) (ends : Bool) : Type 0 where
   pub to_is : x ≡ id

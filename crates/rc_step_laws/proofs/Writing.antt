@@ -1,12 +1,11 @@
 -- Writes and reads, and an entry that is appended.
-use Rattle.std.proofs.Common.{◌≡◌, ℕ, zero, suc, ◌+◌, Bool, true, false, cond, not, List, [], ◌∷◌, ◌++◌, length, map}
-use Rattle.std.proofs.Common.{slice_get, Option, Some, None, refl, sym, ap, ◌∙◌, subst, arith}
+use Rattle.std.proofs.Common.{◌≡◌, ℕ, zero, suc, ◌+◌, Bool, true, false, List, [], ◌∷◌, ◌++◌, length, map}
+use Rattle.std.proofs.Common.{slice_get, Option, Some, refl, sym, ap, ◌∙◌, subst, arith}
 use Rattle.std.proofs.lemmas.List.{map-append, length-map}
 use Rattle.rc_types.specs.declared.ids.ServerId.{ServerId}
 use Rattle.rc_types.specs.declared.ids.Addr.TheVariants.{Server}
 use Rattle.rc_types.specs.declared.entries.Entry.{Entry}
 use Rattle.rc_types.specs.declared.faults.Fault.{Fault}
-use Rattle.rc_types.specs.declared.faults.Fault.TheVariants.{NotOwner, Rolling, ValueTooLong}
 use Rattle.rc_types.specs.declared.kept.Phase.{Phase}
 use Rattle.rc_types.specs.declared.kept.Phase.TheVariants.{Writing}
 use Rattle.rc_types.specs.declared.messages.Message.{Message}
@@ -14,13 +13,13 @@ use Rattle.rc_types.specs.declared.messages.Body.{Body}
 use Rattle.rc_types.specs.declared.messages.Body.TheVariants.{Place, Append, ReadOk}
 use Rattle.rc_model.specs.Messages.{between, to_outside, refuses}
 use Rattle.rc_model.specs.Segment.{Segment, with_entry}
-use Rattle.rc_model.specs.Log.{Log, head_of, is_writing}
-use Rattle.rc_model.specs.Heads.{appends, is_full, begin_roll, opens_head, next_digest}
+use Rattle.rc_model.specs.Log.{Log, head_of}
+use Rattle.rc_model.specs.Heads.{appends, opens_head, next_digest}
 use Rattle.rc_model.specs.Ownership.{term_of}
 use Rattle.rc_model.specs.Versions.{Found, read_of}
 use Rattle.rc_model.specs.Master.{Master, with_log, durable_entries, to_ids, ids_of, not_lost, places_head, appends_entry, dead_segments}
-use Rattle.rc_model.specs.Writing.{refused, is_too_long, written, rolls_for_write, writes_under, writes_if_owned}
-use Rattle.rc_model.specs.Writing.{writes, reads_if_owned, reads}
+use Rattle.rc_model.specs.Writing.{refused, written}
+use Rattle.rc_model.specs.Writing.{writes, reads}
 use Rattle.rc_model.specs.Headline.{In}
 use Rattle.rc_model.proofs.Members.{In-map}
 use Rattle.rc_step_laws.specs.Words.{Stands}
@@ -28,13 +27,14 @@ use Rattle.rc_step_laws.specs.Moves.{OwnFine, MasterSays}
 use Rattle.rc_step_laws.proofs.Lists.{get-end}
 use Rattle.rc_step_laws.proofs.LogMoves.{GoodSegment, GoodLog, LogMoved, more-left, segment-more}
 use Rattle.rc_step_laws.proofs.Segments.{put-moved}
-use Rattle.rc_step_laws.proofs.Views.{GoodView, Moved, moved-then, moved-quiet, quiet-one, each-to_ids, view-after}
+use Rattle.rc_model.proofs.Walk.{kept-writes, kept-reads}
+use Rattle.rc_step_laws.proofs.Views.{Kept, joined, GoodView, Moved, moved-quiet, quiet-one}
 use Rattle.rc_step_laws.proofs.Openings.{opens-moved}
-use Rattle.rc_step_laws.proofs.Rolling.{next-digest, roll-cases, writing-is}
+use Rattle.rc_step_laws.proofs.Rolling.{next-digest, writing-is}
 use Rattle.rc_step_laws.proofs.Hosts.{apart-choose}
 use Rattle.rc_model.proofs.Tables.{put-same}
-use Rattle.rc_model.proofs.Tests.{true_false, either}
-use Rattle.std.proofs.lemmas.Bool.{not-false}
+use Rattle.rc_model.proofs.Tests.{true_false}
+use Rattle.rc_model.proofs.Sending.{each-to_ids}
 
 -- An entry
 
@@ -144,62 +144,24 @@ moved-opens_roll sent m master ids view writing chosen = record {
   known = view.known;
 }
 
-moved-rolls_for_write : (sent : List Message) (m : ServerId) (master : Master) → GoodView sent m master → master.log.phase ≡ Writing
-    → Moved sent m master (rolls_for_write master (begin_roll master.known (dead_segments master) master.log))
-moved-rolls_for_write sent m master view writing =
-    roll-cases (λ result. Moved sent m master (rolls_for_write master result)) master.known (dead_segments master) master.log
-    (λ fault. moved-refused sent m master fault view)
-    (λ ids chosen. (
-    let log : Log = opens_head master.log (next_digest master.log (dead_segments master)) ids in
-    let done : Master × List Message = (with_log master log, places_head log) in
-    let first : Moved sent m master done = moved-opens_roll sent m master ids view writing chosen in
-    moved-then sent m master done (with_log master log, refuses log.own Rolling ∷ []) view first
-    (moved-refused (sent ++ places_head log) m (with_log master log) Rolling (view-after sent m master done first))))
+-- Writes and reads
 
--- A write
-
-moved-writes_under : (sent : List Message) (m : ServerId) (master : Master) (term table key : ℕ)
-    (value : Option (List ℕ)) → GoodView sent m master → Moved sent m master (writes_under master term table key value)
-moved-writes_under sent m master term table key value view =
-    either P (not (is_writing master.log.phase)) (refused master Rolling)
-    (cond (is_full master.log) (rolls_for_write master (begin_roll master.known (dead_segments master) master.log))
-    (appends_entry master (written master term table key value) true))
-    (λ _. moved-refused sent m master Rolling view)
-    (λ is. (
-    let writing : master.log.phase ≡ Writing = writing-is master.log.phase (not-false (is_writing master.log.phase) is) in
-    either P (is_full master.log) (rolls_for_write master (begin_roll master.known (dead_segments master) master.log))
-    (appends_entry master (written master term table key value) true)
-    (λ _. moved-rolls_for_write sent m master view writing)
-    (λ _. moved-appends sent m master (written master term table key value) true view writing)))
-  where
-    P : Master × List Message → Type 0
-    P after = Moved sent m master after
-
-moved-writes_if_owned : (sent : List Message) (m : ServerId) (master : Master) (term : Option ℕ) (table key : ℕ)
-    (value : Option (List ℕ)) → GoodView sent m master
-    → Moved sent m master (writes_if_owned master term table key value)
-moved-writes_if_owned sent m master None table key value view = moved-refused sent m master NotOwner view
-moved-writes_if_owned sent m master (Some term) table key value view = moved-writes_under sent m master term table key value view
+refusing : (m : ServerId) (master : Master) (fault : Fault) → Kept m master (refused master fault)
+refusing m master fault sent view = moved-refused sent m master fault view
 
 pub moved-writes : (sent : List Message) (m : ServerId) (master : Master) (table key : ℕ) (value : Option (List ℕ)) →
     GoodView sent m master → Moved sent m master (writes master table key value)
-moved-writes sent m master table key value view =
-    either (λ after. Moved sent m master after) (is_too_long value) (refused master ValueTooLong)
-    (writes_if_owned master (term_of master.ownership table key) table key value)
-    (λ _. moved-refused sent m master ValueTooLong view)
-    (λ _. moved-writes_if_owned sent m master (term_of master.ownership table key) table key value view)
-
--- A read
-
-moved-reads_if_owned : (sent : List Message) (m : ServerId) (master : Master) (term : Option ℕ) (table key : ℕ) →
-    GoodView sent m master → Moved sent m master (reads_if_owned master term table key)
-moved-reads_if_owned sent m master None table key view = moved-refused sent m master NotOwner view
-moved-reads_if_owned sent m master (Some term) table key view =
-    let found : Found = read_of term table key (durable_entries master) in
-    moved-quiet sent m master master (to_outside master.log.own (ReadOk table key found.version found.value) ∷ []) view refl refl
-    (quiet-one m (to_outside master.log.own (ReadOk table key found.version found.value))
-    (record { from = ap Server view.log.own; quiet = tt }))
+moved-writes sent m master table key value =
+    kept-writes (Kept m) (joined m) (refusing m) master table key value
+    (λ ids writing room chosen more view. moved-opens_roll more m master ids view (writing-is master.log.phase writing) chosen)
+    (λ term owned writing room more view.
+    moved-appends more m master (written master term table key value) true view (writing-is master.log.phase writing)) sent
 
 pub moved-reads : (sent : List Message) (m : ServerId) (master : Master) (table key : ℕ) → GoodView sent m master →
     Moved sent m master (reads master table key)
-moved-reads sent m master table key view = moved-reads_if_owned sent m master (term_of master.ownership table key) table key view
+moved-reads sent m master table key =
+    kept-reads (Kept m) (joined m) (refusing m) master (term_of master.ownership table key) table key
+    (λ term owned more view. (let found : Found = read_of term table key (durable_entries master) in
+    moved-quiet more m master master (to_outside master.log.own (ReadOk table key found.version found.value) ∷ []) view refl refl
+    (quiet-one m (to_outside master.log.own (ReadOk table key found.version found.value))
+    (record { from = ap Server view.log.own; quiet = tt })))) sent

@@ -30,7 +30,7 @@ use Rattle.rc_write_laws.proofs.Quiet.{is_loud, AllSoft, soft-ids, QuietLog, put
 use Rattle.rc_write_laws.proofs.Walk.{IsKept, takes-kept, tick-kept}
 use Rattle.rc_log_laws.proofs.EachMaster.{OthersSay, IsKeptByAll, kept-replay}
 use Rattle.rc_model.proofs.Tables.{put-same}
-use Rattle.rc_model.proofs.Ids.{same_id-true, same_id-refl}
+use Rattle.rc_model.proofs.Ids.{same_id-refl}
 use Rattle.rc_model.proofs.Tests.{true_false, either}
 use Rattle.rc_model.proofs.Said.{is_server-true}
 

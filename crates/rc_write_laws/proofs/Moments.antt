@@ -1,6 +1,6 @@
 -- A place is counted as durable in the event in which it becomes stored on all.
-use Rattle.std.proofs.Common.{◌≡◌, ℕ, zero, suc, ◌+◌, ◌-◌, ◌<◌, ◌≤◌, max, Bool, true, false, cond, nat_lt, List, []}
-use Rattle.std.proofs.Common.{◌∷◌, ◌++◌, length, map, Option, Some, None, Result, Ok, Err, refl, sym, ap, ◌∙◌, subst}
+use Rattle.std.proofs.Common.{◌≡◌, ℕ, zero, suc, ◌+◌, ◌-◌, ◌<◌, ◌≤◌, max, Bool, true, false, cond, List, []}
+use Rattle.std.proofs.Common.{◌∷◌, ◌++◌, length, map, refl, sym, ap, ◌∙◌, subst}
 use Rattle.std.proofs.Common.{inl, inr, arith}
 use Rattle.std.proofs.lemmas.Bool.{ltb-true}
 use Rattle.std.proofs.lemmas.List.{append_assoc, append-nil, map-append, length_push}
@@ -8,24 +8,15 @@ use Rattle.rc_types.specs.declared.ids.ServerId.{ServerId}
 use Rattle.rc_types.specs.declared.events.Event.{Event}
 use Rattle.rc_types.specs.declared.ids.Addr.{Addr}
 use Rattle.rc_types.specs.declared.entries.Entry.{Entry}
-use Rattle.rc_types.specs.declared.faults.Fault.{Fault}
-use Rattle.rc_types.specs.declared.faults.Fault.TheVariants.{LogFull}
-use Rattle.rc_types.specs.declared.limits.TheConstants.{LAST_SEGMENT}
 use Rattle.rc_types.specs.declared.messages.Message.{Message}
 use Rattle.rc_types.specs.declared.messages.Body.{Body}
-use Rattle.rc_model.specs.ServerList.{ServerList}
-use Rattle.rc_model.specs.Config.{choose}
 use Rattle.rc_model.specs.Segment.{Segment, new_segment, with_entry, durable_in, with_closes_sent}
-use Rattle.rc_model.specs.Log.{Log, head_of, old_head_of, with_segment, numbers_to, is_writing, durable_among, durable_now}
-use Rattle.rc_model.specs.Heads.{opens_head, next_digest, rolled, begin_roll, is_full, appends, shuts, with_shut}
-use Rattle.rc_model.specs.Heads.{may_start, may_close, may_write, left_out, with_freed, starts, closes_old, writes_on}
-use Rattle.rc_model.specs.Ownership.{after_replay, to_answer}
-use Rattle.rc_model.specs.Master.{Master, with_log, durable_entries, dead_segments, appends_entry}
+use Rattle.rc_model.specs.Log.{Log, head_of, old_head_of, with_segment, numbers_to, durable_among, durable_now}
+use Rattle.rc_model.specs.Heads.{opens_head, appends, shuts}
+use Rattle.rc_model.specs.Heads.{left_out, with_freed, starts, closes_old, writes_on}
+use Rattle.rc_model.specs.Master.{Master}
 use Rattle.rc_model.specs.ListRules.{then_does}
-use Rattle.rc_model.specs.FollowUps.{when, follows_start, follows_placed, close_is_due, close_marked, follows_closing}
-use Rattle.rc_model.specs.FollowUps.{follows_shut, first_open, wants_commit, commits, commits_open, follows_change}
-use Rattle.rc_model.specs.FollowUps.{follows_stored, rolls_for_replay, replays, follows_data, answers_part}
-use Rattle.rc_model.specs.FollowUps.{follows_replay, or_rule, follow_up, marks_shut, further, followed, measure}
+use Rattle.rc_model.specs.FollowUps.{commits}
 use Rattle.rc_model.specs.FollowUps.{goes_on}
 use Rattle.rc_model.specs.MasterTick.{ticks}
 use Rattle.rc_model.specs.MasterStep.{master_takes_first, deposed_takes, master_takes, master_ticks}

@@ -1,14 +1,14 @@
 -- What changes neither the places of a log nor what is counted of them, and asks for no commit.
-use Rattle.std.proofs.Common.{◌≡◌, ℕ, zero, suc, ◌+◌, ◌-◌, ◌≤◌, Bool, true, false, cond, nat_lt, nat_eq, List, [], ◌∷◌}
+use Rattle.std.proofs.Common.{◌≡◌, ℕ, suc, ◌+◌, ◌-◌, ◌≤◌, Bool, true, false, cond, nat_lt, nat_eq, List, [], ◌∷◌}
 use Rattle.std.proofs.Common.{◌++◌, Option, Some, None, Result, Ok, Err, refl, sym, ap, ◌∙◌, subst, arith, length, map}
 use Rattle.std.proofs.Common.{◌<◌}
 use Rattle.std.specs.List.{All}
-use Rattle.std.proofs.lemmas.List.Elements.{All-nil, All-cons, All-append, All-map}
+use Rattle.std.proofs.lemmas.List.Elements.{All-nil, All-cons, All-map}
 use Rattle.std.proofs.lemmas.List.{append-nil}
 use Rattle.std.proofs.lemmas.Bool.{eqb-true, eq-eqb, ltb-true}
 use Rattle.rc_types.specs.declared.ids.ServerId.{ServerId}
 use Rattle.rc_types.specs.declared.faults.Fault.{Fault}
-use Rattle.rc_types.specs.declared.faults.Fault.TheVariants.{LogFull, EpochsExhausted}
+use Rattle.rc_types.specs.declared.faults.Fault.TheVariants.{EpochsExhausted}
 use Rattle.rc_types.specs.declared.limits.TheConstants.{LAST_SEGMENT, LAST_EPOCH}
 use Rattle.rc_types.specs.declared.kept.Phase.{Phase}
 use Rattle.rc_types.specs.declared.messages.Message.{Message}
@@ -16,12 +16,12 @@ use Rattle.rc_types.specs.declared.messages.Body.{Body}
 use Rattle.rc_types.specs.declared.messages.Body.TheVariants.{WriteOk, Commit}
 use Rattle.rc_model.specs.Messages.{between}
 use Rattle.rc_model.specs.ServerList.{ServerList}
-use Rattle.rc_model.specs.Config.{Config, choose, told_if_heard, noted, committed_at, any_lost, with_lost}
+use Rattle.rc_model.specs.Config.{Config, told_if_heard, noted, committed_at, any_lost, with_lost}
 use Rattle.rc_model.specs.Config.{substitutes_for, changed, changes_to, lose, refills_with, refill}
 use Rattle.rc_model.specs.Segment.{Segment, new_segment, under_new_epoch}
-use Rattle.rc_model.specs.Log.{Log, places_in, places_to, places_of, old_head_of, with_segment, has_segment}
-use Rattle.rc_model.specs.Heads.{opens_head, opened_first, open_first, next_digest, rolled, begin_roll, with_config}
-use Rattle.rc_model.specs.Heads.{stored, commit_noted, opens_change, refills, loses, shuts, with_shut, with_freed}
+use Rattle.rc_model.specs.Log.{Log, places_in, places_to, places_of, with_segment, has_segment}
+use Rattle.rc_model.specs.Heads.{opens_head, with_config}
+use Rattle.rc_model.specs.Heads.{stored, commit_noted, opens_change, refills, loses, with_freed}
 use Rattle.rc_model.specs.Master.{to_ids}
 use Rattle.rc_write_laws.specs.LimitClaims.{IsWithinLimits}
 use Rattle.rc_model.proofs.Tests.{true_false, either}

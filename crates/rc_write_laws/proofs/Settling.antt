@@ -10,7 +10,7 @@ use Rattle.rc_types.specs.declared.ids.Addr.{Addr}
 use Rattle.rc_types.specs.declared.entries.Entry.{Entry}
 use Rattle.rc_types.specs.declared.messages.Message.{Message}
 use Rattle.rc_types.specs.declared.messages.Body.{Body}
-use Rattle.rc_types.specs.declared.messages.Body.TheVariants.{WriteOk, Write, Read}
+use Rattle.rc_types.specs.declared.messages.Body.TheVariants.{WriteOk}
 use Rattle.rc_types.specs.declared.events.Setup.{Setup}
 use Rattle.rc_model.specs.Messages.{to_outside}
 use Rattle.rc_model.specs.Config.{durable_len}

@@ -9,8 +9,8 @@ use Rattle.rc_types.specs.declared.entries.Entry.{Entry}
 use Rattle.rc_types.specs.declared.kept.Member.{Member}
 use Rattle.rc_types.specs.declared.kept.Told.{Told as ToldIt}
 use Rattle.rc_types.specs.declared.faults.Fault.{Fault}
-use Rattle.rc_types.specs.declared.faults.Fault.TheVariants.{LogFull, EpochsExhausted}
-use Rattle.rc_types.specs.declared.limits.TheConstants.{LAST_SEGMENT, LAST_EPOCH}
+use Rattle.rc_types.specs.declared.faults.Fault.TheVariants.{EpochsExhausted}
+use Rattle.rc_types.specs.declared.limits.TheConstants.{LAST_EPOCH}
 use Rattle.rc_model.specs.ServerList.{ServerList, has_crashed}
 use Rattle.rc_model.specs.Config.{Config, new_member, candidates, choose, told_with, is_heard, told_if_heard, noted}
 use Rattle.rc_model.specs.Config.{committed_at, all_closed, told_closed, told_len, any_lost, lost_if_crashed}
@@ -18,8 +18,8 @@ use Rattle.rc_model.specs.Config.{with_lost, substitutes_for, replaced, changed,
 use Rattle.rc_model.specs.Config.{refill}
 use Rattle.rc_model.specs.Segment.{Segment, new_segment, with_entry, under_new_epoch, is_all_closed}
 use Rattle.rc_model.specs.Log.{Log, head_of, old_head_of, has_old_head, with_segment, has_segment}
-use Rattle.rc_model.specs.Heads.{opens_head, opened_first, open_first, appends, next_digest, rolled, begin_roll}
-use Rattle.rc_model.specs.Heads.{with_config, stored, commit_noted, opens_change, refills, loses, shuts, with_shut}
+use Rattle.rc_model.specs.Heads.{opens_head, appends}
+use Rattle.rc_model.specs.Heads.{with_config, stored, commit_noted, opens_change, refills, loses, shuts}
 use Rattle.rc_model.specs.Heads.{with_freed}
 use Rattle.rc_model.specs.Headline.{In}
 use Rattle.rc_log_laws.proofs.MasterWorlds.{put-cases}

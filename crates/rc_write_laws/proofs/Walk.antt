@@ -102,7 +102,8 @@ module _ (Asked : Entry → Type 0) (R : Master → Master × List Message → T
     owns = λ table lo hi term previous attempt is. same master _ refl;
   }
 
-  pub first-kept_by : (master : Master) (from : Addr) (body : Body) → WritesAsked master body → R master (master_takes_first master from body)
+  pub first-kept_by : (master : Master) (from : Addr) (body : Body) → WritesAsked master body →
+      R master (master_takes_first master from body)
   first-kept_by master from body asked = kept-takes_first R joined listed master from body (taken master from body asked)
 
   -- The timer
@@ -146,7 +147,8 @@ module _ (Asked : Entry → Type 0) (R : Master → Master × List Message → T
         (soft-ids master.log.own
         (ids_of (filter (is_unclosed (old_head_of master.log)) (old_head_of master.log).config.members))
         (Close (master.log.head - 1) (length (old_head_of master.log).entries)) refl);
-    shuts = λ master may. kept.inputs.quiet master (with_log master (writes_on master.log)) (frees_segments master.log (left_out master.log))
+    shuts = λ master may. kept.inputs.quiet master (with_log master (writes_on master.log))
+        (frees_segments master.log (left_out master.log))
         (quiet-trans master.log (starts master.log) (writes_on master.log) (quiet-phase master.log Writing)
         (quiet-freed (left_out master.log) (starts master.log)))
         (soft-all _ (each-frees is_soft master.log (left_out master.log) (λ seg id at. refl)));
@@ -157,7 +159,8 @@ module _ (Asked : Entry → Type 0) (R : Master → Master × List Message → T
         kept.inputs.both master (record master { ownership = after_replay master.ownership }) []
         (appends_entry (record master { ownership = after_replay master.ownership }) entry false)
         (same Asked R kept.inputs master _ refl)
-        (kept.inputs.appends (record master { ownership = after_replay master.ownership }) entry false room (λ never. true_false (sym never)));
+        (kept.inputs.appends (record master { ownership = after_replay master.ownership }) entry false room
+        (λ never. true_false (sym never)));
     answers = λ master term is. says Asked R kept.inputs master _ _ (quiet-refl master.log) refl;
   }
 
