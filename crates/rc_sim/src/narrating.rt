@@ -7,7 +7,7 @@ ghost use Rattle.rc_world.specs.HostView.{IsWithinLimits};
 ghost use Rattle.rc_sim.specs.declared.verdicts.SimFault.TheVariants.{Memory, Read as ReadFailed, Write as WriteFailed};
 ghost use Rattle.rc_sim.specs.declared.verdicts.Verdict.TheVariants.{Breach};
 ghost use Rattle.rc_sim.specs.Failures.{failed_reads, failed_writes};
-ghost use Rattle.rc_sim.specs.Verdicts.{Narrated, Storied};
+ghost use Rattle.rc_sim.specs.Verdicts.{Narrated};
 ghost use Rattle.rc_sim.specs.Written.{IsWritten, IsBegun};
 
 use crate::answers::{Answer, bad};

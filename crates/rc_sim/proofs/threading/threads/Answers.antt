@@ -11,4 +11,5 @@ returns-clause-cut_short g c count same =
 pub returns-clause-no_breach : goal.returns-clause-no_breach
 returns-clause-no_breach g c =
     let answer = c.in_ok-answer.answer in
-    no_breach_of c.write_answer.result answer.verdict c.write_answer.ensures.verdict (threaded_is_none answer.verdict (string_bytes answer.text) c.in_ok-answer.ensures.ok)
+    no_breach_of c.write_answer.result answer.verdict
+    c.write_answer.ensures.verdict (threaded_is_none answer.verdict (string_bytes answer.text) c.in_ok-answer.ensures.ok)
