@@ -12,16 +12,19 @@ invariant_of-self c =
     let entries = c.self.inside.begun.entries in
     let places = c.self.inside.unanswered.items in
     let inside = c.if-not-is_empty.self-inside in
-    let facts : AreUnderTheirTerms inside.begun.entries × HoldUnanswered 0 inside.unanswered.items inside.begun.entries × (inside.touched.items ≡ []) =
+    let facts : AreUnderTheirTerms inside.begun.entries ×
+        HoldUnanswered 0 inside.unanswered.items inside.begun.entries × (inside.touched.items ≡ []) =
     elim c.if-not-is_empty.branch [
-      | then-not-is_empty w ↦ subst (λ now. AreUnderTheirTerms now.begun.entries × HoldUnanswered 0 now.unanswered.items now.begun.entries × (now.touched.items ≡ []))
+      | then-not-is_empty w ↦ subst (λ now. AreUnderTheirTerms now.begun.entries ×
+          HoldUnanswered 0 now.unanswered.items now.begun.entries × (now.touched.items ≡ []))
           (sym w.self-inside-is) (
             c.self.invariant.under_terms,
             subst (λ ps. HoldUnanswered 0 ps entries) (sym w.keep_unanswered.ensures)
                 (places-filter entries 0 places entries (stand-all entries) c.self.invariant.places_now),
             grind (arith, common_steps),
           )
-      | else-not-is_empty w ↦ subst (λ now. AreUnderTheirTerms now.begun.entries × HoldUnanswered 0 now.unanswered.items now.begun.entries × (now.touched.items ≡ []))
+      | else-not-is_empty w ↦ subst (λ now. AreUnderTheirTerms now.begun.entries ×
+          HoldUnanswered 0 now.unanswered.items now.begun.entries × (now.touched.items ≡ []))
           (sym w.self-inside-is)
           (c.self.invariant.under_terms, c.self.invariant.places_now, grind (arith, common_steps))
     ] in
