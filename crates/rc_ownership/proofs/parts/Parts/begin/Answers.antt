@@ -13,7 +13,7 @@ invariant_of-self c =
     let places = c.self.inside.unanswered.items in
     let inside = c.if-not-is_empty.self-inside in
     let facts : AreUnderTheirTerms inside.begun.entries ×
-        HoldUnanswered 0 inside.unanswered.items inside.begun.entries × (inside.touched.items ≡ []) =
+    HoldUnanswered 0 inside.unanswered.items inside.begun.entries × (inside.touched.items ≡ []) =
     elim c.if-not-is_empty.branch [
       | then-not-is_empty w ↦ subst (λ now. AreUnderTheirTerms now.begun.entries ×
           HoldUnanswered 0 now.unanswered.items now.begun.entries × (now.touched.items ≡ []))
