@@ -302,7 +302,8 @@ pub undone-noted : (entries changed : List (ℕ × PartState)) (changes now : Li
     (old new : PartState) (kept : ℕ) → IsChange entries changed changes now term before old new →
     undone now (take kept changed) ≡ undone changes (take kept entries)
 undone-noted entries changed changes now term before old new kept it =
-    ap (λ cs. undone cs (take kept changed)) it.noted ∙ undone-change changes entries changed term before old new kept it.found it.back it.written
+    ap (λ cs. undone cs (take kept changed)) it.noted ∙ undone-change changes entries changed term
+    before old new kept it.found it.back it.written
 
 pub table-change : (entries changed : List (ℕ × PartState)) (changes now : List (ℕ × Before)) (term : ℕ) (before : Before)
     (old new : PartState) (kept : ℕ) (places : List ℕ) (count : ℕ) → IsPartTable entries changes kept places count →
