@@ -1,5 +1,5 @@
 -- Dead segments, entry by entry.
-use Rattle.std.proofs.Common.{ℕ, Bool, List, [], map}
+use Rattle.std.proofs.Common.{Bool, List, map}
 use Rattle.rc_types.specs.declared.entries.Entry.{Entry}
 
 abbrev pub bare : List (Entry × Bool) → List Entry
