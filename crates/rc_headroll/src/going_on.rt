@@ -1,6 +1,6 @@
 //! The log goes on: a new head is placed, the old one closed, and the new one writes.
 
-ghost use Rattle.std.specs.Prelude.{◌≡◌, true, length, filter, not, nat_eq, OnOk, OnErr, IfOk, All};
+ghost use Rattle.std.specs.Prelude.{◌≡◌, ◌<◌, true, length, filter, not, nat_eq, OnOk, OnErr, IfOk, All};
 ghost use Rattle.std.specs.List.{list_any};
 ghost use Rattle.rc_model.specs.Log.{is_opening, is_closing, has_segment, has_old_head, with_segment};
 ghost use Rattle.rc_model.specs.Heads.{shuts, with_shut, may_start, may_close, may_write, starts, closes_old};
@@ -162,15 +162,32 @@ impl LogHead {
     }
 }
 
-/// Those of the numbers that the others lack.
+/// Those of the numbers that the others lack. Where the others are these without some, it goes over them once, and once
+/// more for each that they lack.
 fn without(alloc: Global, numbers: &[u16], others: &[u16]) -> Result<Vec<u16>, AllocError>
     ensures { IfOk result (λ rest. rest.items ≡ filter (λ seg. not (list_any (nat_eq seg) others.now)) numbers.now) }
 {
-    numbers
-        .iter()
-        .copied()
-        .filter(|number| !has_number(others, *number))
-        .collect(alloc)
+    let mut rest = Vec::new(alloc);
+    let mut place = 0;
+    for number in numbers {
+        if stands_at(others, place, *number) {
+            place += 1;
+        } else if !has_number(others, *number) {
+            rest.push(*number)?;
+        }
+    }
+    Ok(rest)
+}
+
+/// Whether the number stands at this place of these.
+fn stands_at(numbers: &[u16], place: usize, number: u16) -> bool
+    ensures within { result ≡ true → place < length numbers.now }
+    ensures among { result ≡ true → list_any (nat_eq number) numbers.now ≡ true }
+{
+    match numbers.get(place) {
+        Some(other) => number == *other,
+        None => false,
+    }
 }
 
 /// Marks these segments freed.
