@@ -2,7 +2,7 @@
 use Rattle.std.specs.Prelude.{ℕ, ◌-◌, ◌^◌, min, List, [], ◌∷◌, length}
 use Rattle.rc_types.specs.declared.entries.Entry.{Entry}
 use Rattle.rc_model.specs.Ownership.{PartRow, PartState, entries_that_came, count_under}
-use Rattle.rc_ownership.specs.Parts.{count_missing}
+use Rattle.rc_ownership.specs.Rows.{count_missing}
 use Rattle.rc_ownership.specs.declared.looks.PartProgress.{PartProgress}
 
 -- as much of a number as 64 bits hold
