@@ -1,5 +1,5 @@
 -- What a client may rely on holds of every world.
-use Rattle.std.proofs.Common.{◌≡◌, ◌≢◌, refl, ℕ, ◌++◌, List, Option, None, Some, subst}
+use Rattle.std.proofs.Common.{◌≡◌, ◌≢◌, refl, ℕ, ◌++◌, List, Option, None, Some, subst, arith}
 use Rattle.std.specs.List.{slice_get}
 use Rattle.rc_types.specs.declared.events.Setup.{Setup}
 use Rattle.rc_types.specs.declared.events.Event.{Event}
@@ -18,7 +18,7 @@ use Rattle.rc_world.specs.Served.{IsServed}
 
 -- what is a factor is no zero
 factor-is-some : (factor : ℕ) → IsFactor factor → factor ≢ 0
-factor-is-some factor within = omega arith
+factor-is-some factor within = omega (arith, within.0)
 
 -- the number that is given, or else the other one
 one-of : (setup : Setup) (given : Option ℕ) → IsFactor setup.factor →
