@@ -9,6 +9,7 @@ mod going_back;
 mod going_on;
 pub mod laws;
 mod log;
+mod numbers;
 mod opening;
 mod segment;
 mod state;

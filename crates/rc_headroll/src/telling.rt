@@ -8,6 +8,8 @@ ghost use Rattle.rc_headroll.specs.Before.{IsKept};
 ghost use Rattle.rc_headroll.specs.Concerned.{is_concerned, concerned};
 ghost use Rattle.rc_headroll.specs.LogData.{log_of, before_of};
 ghost use Rattle.rc_headroll.specs.Watching.{is_awake};
+ghost use Rattle.rc_headroll.specs.Soundness.{IsRoused};
+ghost use Rattle.rc_model.specs.ServerList.{ServerList as Servers};
 
 use crate::log::LogHead;
 use rc_serverlist::ServerList;
@@ -118,6 +120,7 @@ impl LogHead {
         ensures err { IfErr result (λ fault. ((fault ≡ OutOfMemory) × (log_of self.new ≡ log_of self.old))
             ⊎ (loses servers.now seg (log_of self.old) ≡ (log_of self.new, Err fault))) }
         ensures before { before_of self.new ≡ before_of self.old }
+        ensures roused { (others : Servers) → IsRoused others self.old → IsRoused others self.new }
     {
         self.wake(seg)?;
         self.keep(seg)?;
@@ -138,6 +141,7 @@ impl LogHead {
         ensures err { IfErr result (λ fault. ((fault ≡ OutOfMemory) × (log_of self.new ≡ log_of self.old))
             ⊎ (loses servers.now seg (log_of self.old) ≡ (log_of self.new, Err fault))) }
         ensures before { before_of self.new ≡ before_of self.old }
+        ensures roused { (others : Servers) → IsRoused others self.old → IsRoused others self.new }
     {
         self.segments[usize::from(seg) - 1].lose(alloc, self.own, servers)
     }
