@@ -7,7 +7,6 @@ mod before;
 mod durable;
 mod going_back;
 mod going_on;
-pub mod laws;
 mod log;
 mod numbers;
 mod opening;

@@ -44,7 +44,8 @@ impl Numbers {
 
     /// Adds all of these. Where memory is refused, some of them may have been added.
     pub(crate) fn insert_all(&mut self, numbers: &Numbers) -> Result<(), AllocError>
-        ensures added { OnOk result ((other : ℕ) → has_number numbers.now other ≡ true → has_number self.new other ≡ true) }
+        ensures added { OnOk result ((other : ℕ) → has_number numbers.now other ≡ true →
+            has_number self.new other ≡ true) }
         ensures others { (other : ℕ) → has_number self.old other ≡ true → has_number self.new other ≡ true }
     {
         for seg in &numbers.set {
@@ -55,7 +56,8 @@ impl Numbers {
 
     /// Takes a number out.
     pub(crate) fn remove(&mut self, seg: u16)
-        ensures { (other : ℕ) → has_number self.new other ≡ (if nat_eq seg other then false else has_number self.old other) }
+        ensures { (other : ℕ) →
+            has_number self.new other ≡ (if nat_eq seg other then false else has_number self.old other) }
     {
         self.set.remove(&seg);
     }
@@ -64,7 +66,8 @@ impl Numbers {
     pub(crate) fn next(&self, done: u16) -> Option<u16>
         ensures later { IfSome result (λ seg. done < seg) }
         ensures there { IfSome result (λ seg. has_number self.now seg ≡ true) }
-        ensures others { (other : ℕ) → done < other → IfSome result (λ seg. other < seg) → has_number self.now other ≡ false }
+        ensures others { (other : ℕ) → done < other → IfSome result (λ seg. other < seg) →
+            has_number self.now other ≡ false }
     {
         match self
             .set

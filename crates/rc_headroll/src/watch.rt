@@ -56,7 +56,8 @@ impl Watch {
 
     /// From here on the segment is not gone over.
     pub(crate) fn let_go(&mut self, seg: u16)
-        ensures awake { (other : ℕ) → is_awake self.new other ≡ (if nat_eq seg other then false else is_awake self.old other) }
+        ensures awake { (other : ℕ) →
+            is_awake self.new other ≡ (if nat_eq seg other then false else is_awake self.old other) }
         ensures filed { self.new.filed ≡ self.old.filed }
     {
         self.awake.remove(seg);
@@ -66,7 +67,8 @@ impl Watch {
     pub(crate) fn next(&self, done: u16) -> Option<u16>
         ensures later { IfSome result (λ seg. done < seg) }
         ensures awake { IfSome result (λ seg. is_awake self.now seg ≡ true) }
-        ensures others { (other : ℕ) → done < other → IfSome result (λ seg. other < seg) → is_awake self.now other ≡ false }
+        ensures others { (other : ℕ) → done < other → IfSome result (λ seg. other < seg) →
+            is_awake self.now other ≡ false }
     {
         self.awake.next(done)
     }

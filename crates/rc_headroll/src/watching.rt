@@ -1,4 +1,4 @@
-//! Which segments the timer goes over.
+//! Which segments the timer and a new server list go over.
 
 ghost use Rattle.std.specs.Prelude.{◌≡◌, ◌<◌, ◌≤◌, ℕ, true, false, OnOk, OnErr, IfSome};
 ghost use Rattle.rc_model.specs.Log.{has_segment};
@@ -40,9 +40,8 @@ impl LogHead {
     }
 
     /// From here on the timer goes over each segment that was not freed and has a member which is lost or
-    /// which the list shows crashed. It costs as many steps as there are ids of members of other segments,
-    /// and goes over no other segments than those of which a member has crashed. Where memory is refused,
-    /// the log is as it was.
+    /// which the list shows crashed. It looks at the ids of members that are on file, once, and at no other
+    /// segment than those of which a member has crashed. Where memory is refused, the log is as it was.
     pub fn rouse(&mut self, servers: &ServerList) -> Result<(), AllocError>
         ensures log { log_of self.new ≡ log_of self.old }
         ensures before { before_of self.new ≡ before_of self.old }
@@ -52,44 +51,54 @@ impl LogHead {
     }
 
     /// Lets each segment go that wants nothing, of those that the timer goes over. A step comes to it only at
-    /// its beginning. It takes no memory.
-    pub fn rest(&mut self)
+    /// its beginning. Where memory is refused, the log is as it was.
+    pub fn rest(&mut self) -> Result<(), AllocError>
         requires { before_of self.old ≡ log_of self.old }
         ensures log { log_of self.new ≡ log_of self.old }
         ensures before { before_of self.new ≡ before_of self.old }
     {
-        self.rest_after(0);
+        self.rest_after(0)
+    }
+
+    /// Lets those go that want nothing, of the last three segments: one that was shut when the last step ended is
+    /// among them, save where that step opened several heads. Where memory is refused, the log is as it was.
+    pub fn rest_newest(&mut self) -> Result<(), AllocError>
+        requires { before_of self.old ≡ log_of self.old }
+        ensures log { log_of self.new ≡ log_of self.old }
+        ensures before { before_of self.new ≡ before_of self.old }
+    {
+        self.rest_after(self.head().saturating_sub(3))
     }
 
     /// Lets those go that want nothing, of the segments after this one.
-    pub(crate) fn rest_after(&mut self, seg: u16)
+    fn rest_after(&mut self, seg: u16) -> Result<(), AllocError>
         requires { before_of self.old ≡ log_of self.old }
         ensures log { log_of self.new ≡ log_of self.old }
         ensures before { before_of self.new ≡ before_of self.old }
     {
         let mut done = seg;
         while let Some(seg) = self.next_awake(done) {
-            self.let_go(seg);
+            self.let_go(seg)?;
             done = seg;
         }
+        Ok(())
     }
 
-    /// Lets a segment go, if it wants nothing and there is memory to file it.
-    fn let_go(&mut self, seg: u16)
+    /// Files a segment under its members and lets it go, if it wants nothing.
+    fn let_go(&mut self, seg: u16) -> Result<(), AllocError>
         requires known { has_segment (log_of self.old) seg ≡ true }
         requires same { before_of self.old ≡ log_of self.old }
         ensures log { log_of self.new ≡ log_of self.old }
         ensures before { before_of self.new ≡ before_of self.old }
     {
-        if !self.segments[usize::from(seg) - 1].wants_nothing() {
-            return;
-        }
-        if let Ok(()) = self.file(seg) {
+        if self.segments[usize::from(seg) - 1].wants_nothing() {
+            self.file(seg)?;
             self.pass_over(seg);
         }
+        Ok(())
     }
 
-    /// Files a segment under each of its members, if it wasn't freed.
+    /// Files a segment under each of its members, if it wasn't freed. Where memory is refused, the log is as it was.
     fn file(&mut self, seg: u16) -> Result<(), AllocError>
         requires { has_segment (log_of self.old) seg ≡ true }
         ensures log { log_of self.new ≡ log_of self.old }
