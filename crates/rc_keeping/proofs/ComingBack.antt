@@ -12,7 +12,7 @@ use Rattle.rc_model.specs.MasterStep.{master_takes}
 use Rattle.rc_model.specs.Coordinator.{Coordinator}
 use Rattle.rc_model.specs.Nodes.{HostNode, coordinator_step, server_of, runs, is_for_backup, with_backup}
 use Rattle.rc_model.specs.Nodes.{with_master, server_takes, takes_if_running, is_some_master}
-use Rattle.rc_model.specs.Works.{host_after_work as after_all}
+use Rattle.rc_model.specs.Works.{host_after as after_all}
 use Rattle.rc_model.proofs.Tests.{either, true_false}
 use Rattle.rc_history.specs.Nodes.{TheHost, TheCoordinator}
 use Rattle.rc_history.specs.Remade.{host_keeps, stopped, SameButMaster}
