@@ -12,7 +12,7 @@ use Rattle.rc_types.specs.declared.kept.Member.{Member}
 use Rattle.rc_model.specs.Ids.{same_id}
 use Rattle.rc_model.specs.ServerList.{ServerList, has_crashed}
 use Rattle.rc_model.proofs.Ids.{same_id-true, same_id-refl}
-use Rattle.rc_headroll.specs.Watching.{Watched, has_number, is_among, is_filed}
+use Rattle.rc_headroll.specs.Watching.{has_number, is_among, is_under}
 
 -- One more segment is filed under an id
 
@@ -33,54 +33,29 @@ module _ (old new : List (ServerId × List ℕ)) (id : ServerId) (numbers : List
       by false other = filed
 
 -- and under one more member
-pub filed-next : (old new : Watched) (seg : ℕ) (members : List Member) (i : ℕ) (d : Member) → i < length members →
-    ((id : ServerId) (o : ℕ) → is_filed old id o ≡ true → is_filed new id o ≡ true) →
-    list_all (λ member. is_filed old member.id seg) (take i members) ≡ true → is_filed new (get_or members i d).id seg ≡ true →
-    list_all (λ member. is_filed new member.id seg) (take (i + 1) members) ≡ true
+pub filed-next : (old new : List (ServerId × List ℕ)) (seg : ℕ) (members : List Member) (i : ℕ) (d : Member) → i < length members →
+    ((id : ServerId) (o : ℕ) → is_under old id o ≡ true → is_under new id o ≡ true) →
+    list_all (λ member. is_under old member.id seg) (take i members) ≡ true → is_under new (get_or members i d).id seg ≡ true →
+    list_all (λ member. is_under new member.id seg) (take (i + 1) members) ≡ true
 filed-next old new seg members i d inside more filed here =
-    ap (list_all (λ member. is_filed new member.id seg)) (take_more members i d inside)
-    ∙ list_all-append (λ member. is_filed new member.id seg) (take i members) (get_or members i d ∷ [])
-    ∙ and_from (list_all (λ member. is_filed new member.id seg) (take i members)) (is_filed new (get_or members i d).id seg && true)
-    (each (take i members) filed) (and_from (is_filed new (get_or members i d).id seg) true here refl)
+    ap (list_all (λ member. is_under new member.id seg)) (take_more members i d inside)
+    ∙ list_all-append (λ member. is_under new member.id seg) (take i members) (get_or members i d ∷ [])
+    ∙ and_from (list_all (λ member. is_under new member.id seg) (take i members)) (is_under new (get_or members i d).id seg && true)
+    (each (take i members) filed) (and_from (is_under new (get_or members i d).id seg) true here refl)
   where
     step : (a b a' b' : Bool) → (a ≡ true → a' ≡ true) → (b ≡ true → b' ≡ true) → (a && b) ≡ true → (a' && b') ≡ true
     step true b a' b' first others e = and_from a' b' (first refl) (others e)
     step false b a' b' first others e = absurd (false≢true e)
 
-    each : (ms : List Member) → list_all (λ member. is_filed old member.id seg) ms ≡ true →
-        list_all (λ member. is_filed new member.id seg) ms ≡ true
+    each : (ms : List Member) → list_all (λ member. is_under old member.id seg) ms ≡ true →
+        list_all (λ member. is_under new member.id seg) ms ≡ true
     each [] all = refl
     each (m ∷ ms) all =
-        step (is_filed old m.id seg) (list_all (λ member. is_filed old member.id seg) ms) (is_filed new m.id seg)
-        (list_all (λ member. is_filed new member.id seg) ms) (more m.id seg) (each ms) all
+        step (is_under old m.id seg) (list_all (λ member. is_under old member.id seg) ms) (is_under new m.id seg)
+        (list_all (λ member. is_under new member.id seg) ms) (more m.id seg) (each ms) all
 
--- What is filed under crashed ids is gone over
+-- Ids that have crashed are on file no more
 
-pub woken-next : (servers : ServerList) (k : ServerId) (numbers : List ℕ) (rest : List (ServerId × List ℕ)) (old new : List ℕ) →
-    ((o : ℕ) → has_number old o ≡ true → has_number new o ≡ true) →
-    (has_crashed servers k ≡ true → (o : ℕ) → has_number numbers o ≡ true → has_number new o ≡ true) →
-    (id : ServerId) (seg : ℕ) → has_crashed servers id ≡ true →
-    (has_number old seg || is_among (lookup (same_id id) ((k, numbers) ∷ rest)) seg) ≡ true →
-    (has_number new seg || is_among (lookup (same_id id) rest) seg) ≡ true
-woken-next servers k numbers rest old new more woken id seg crashed either =
-    by (has_number old seg) (same_id id k) refl refl either
-  where
-    first : (a b : Bool) → a ≡ true → (a || b) ≡ true
-    first a b e = ap (λ (x : Bool). x || b) e
-
-    second : (a b : Bool) → b ≡ true → (a || b) ≡ true
-    second true b e = refl
-    second false b e = e
-
-    by : (was same : Bool) → has_number old seg ≡ was → same_id id k ≡ same →
-        (was || is_among (cond same (Some numbers) (lookup (same_id id) rest)) seg) ≡ true →
-        (has_number new seg || is_among (lookup (same_id id) rest) seg) ≡ true
-    by true same was is e = first (has_number new seg) (is_among (lookup (same_id id) rest) seg) (more seg was)
-    by false true was is e = first (has_number new seg) (is_among (lookup (same_id id) rest) seg)
-        (woken (subst (λ (o : ServerId). has_crashed servers o ≡ true) (same_id-true id k is) crashed) seg e)
-    by false false was is e = second (has_number new seg) (is_among (lookup (same_id id) rest) seg) e
-
--- ids that have crashed are on file no more
 module _ (servers : ServerList) (old new : List (ServerId × List ℕ))
     (kept : new ≡ filter (λ entry. not (has_crashed servers entry.0)) old) (id : ServerId) (seg : ℕ) where
   same-answer : (k : ServerId) → same_id id k ≡ true → not (has_crashed servers k) ≡ not (has_crashed servers id)

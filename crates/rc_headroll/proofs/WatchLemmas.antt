@@ -1,6 +1,7 @@
 -- The timer goes over each segment that may want something, whatever is done with the log.
 use Rattle.std.proofs.Common.{◌≡◌, ⊎_elim, ℕ, ◌+◌, ◌-◌, ◌<◌, ◌≤◌, Bool, true, false, cond, not, ◌&&◌, ◌||◌, eqb, List, []}
-use Rattle.std.proofs.Common.{◌∷◌, ◌++◌, length, get_or, set, map, Some, is_some, Result, Ok, Err, is_ok, IsOk, refl, ap, sym, ◌∙◌, subst, arith}
+use Rattle.std.proofs.Common.{◌∷◌, ◌++◌, length, get_or, set, map, Some, is_some, Result, Ok, Err, is_ok, IsOk}
+use Rattle.std.proofs.Common.{refl, ap, sym, ◌∙◌, subst, arith}
 use Rattle.std.specs.List.{list_all, list_any}
 use Rattle.std.specs.Map.{lookup}
 use Rattle.std.proofs.lemmas.Bool.{and_parts, and_from, cases_eq, cond_both, cond-false, ne_eqb, false≢true}
@@ -254,6 +255,10 @@ filed-more old new seg (member ∷ members) more asleep filed =
 watched-also : (old new : Watched) (seg : ℕ) (s : Segment) → IsMore old new → is_watched old seg s ≡ true → is_watched new seg s ≡ true
 watched-also old new seg s more watched = by (is_awake new seg) refl
   where
+    not-before : (b : Bool) → (b ≡ true → is_awake new seg ≡ true) → is_awake new seg ≡ false → b ≡ false
+    not-before true now asleep = absurd (false≢true (sym asleep ∙ now refl))
+    not-before false now asleep = refl
+
     by : (b : Bool) → is_awake new seg ≡ b → is_watched new seg s ≡ true
     by true awake = or-first (is_awake new seg) (wants_nothing s && is_on_file new seg s) awake
     by false asleep =
@@ -266,10 +271,6 @@ watched-also old new seg s more watched = by (is_awake new seg) refl
         (or-from s.freed (list_all (λ member. is_filed old member.id seg) s.config.members)
         (list_all (λ member. is_filed new member.id seg) s.config.members)
         (filed-more old new seg s.config.members more asleep) parts.1))
-
-    not-before : (b : Bool) → (b ≡ true → is_awake new seg ≡ true) → is_awake new seg ≡ false → b ≡ false
-    not-before true now asleep = absurd (false≢true (sym asleep ∙ now refl))
-    not-before false now asleep = refl
 
 watched-more : (old new : Watched) (head : ℕ) (t : ℕ → Segment) → IsMore old new → AreWatched old head t → AreWatched new head t
 watched-more old new head t more watched = λ seg above within. watched-also old new seg (t seg) more (watched seg above within)
@@ -418,9 +419,43 @@ roused-from servers watch head t watched none = λ seg above within.
     either true placed filed concerned p f none' = refl
     either false placed filed concerned p f none' = ap not (none' p f)
 
+-- a segment that was freed is on file
+pub on-file-freed : (watch : Watched) (seg : ℕ) (s : Segment) → s.freed ≡ true → is_on_file watch seg s ≡ true
+on-file-freed watch seg s freed = or-first s.freed (list_all (λ member. is_filed watch member.id seg) s.config.members) freed
+
+-- and one that is filed under each member
+pub on-file-each : (watch : Watched) (seg : ℕ) (s : Segment) (members : List Member) → members ≡ s.config.members →
+    list_all (λ member. is_filed watch member.id seg) members ≡ true → is_on_file watch seg s ≡ true
+on-file-each watch seg s members same filed =
+    or-second s.freed (list_all (λ member. is_filed watch member.id seg) s.config.members)
+    (ap (list_all (λ member. is_filed watch member.id seg)) (sym same) ∙ filed)
+
 -- a change of one segment that is gone over
 pub roused-put : (servers : ServerList) (watch : Watched) (head : ℕ) (t : ℕ → Segment) (seg : ℕ) (x : Segment) →
     is_awake watch seg ≡ true → AreRoused servers watch head t → AreRoused servers watch head (put t seg x)
 roused-put servers watch head t seg x awake roused =
     put_each (λ o s. 0 < o → o ≤ head → (is_awake watch o || (s.freed || not (is_concerned servers s))) ≡ true) t seg x
     (λ above within. or-first (is_awake watch seg) (x.freed || not (is_concerned servers x)) awake) roused
+
+pub roused-set : (servers : ServerList) (kept : LogData) (seg from : ℕ) (x : Segment) →
+    true ≡ has_segment (log_of kept) seg → from ≡ seg → is_awake kept.watch seg ≡ true →
+    AreRoused servers kept.watch (log_of kept).head (log_of kept).segments →
+    AreRoused servers kept.watch (length (set kept.segments (from - 1) x)) (segment_at (set kept.segments (from - 1) x))
+roused-set servers kept seg from x has is awake roused =
+    let at = seg_place kept seg from has is in
+    rw (length-set kept.segments (from - 1) x, segment_at-set kept.segments (from - 1) x seg at.0 at.1)
+    (roused-put servers kept.watch (length kept.segments) (segment_at kept.segments) seg x awake roused)
+
+-- more is gone over
+pub roused-more : (servers : ServerList) (old new : LogData) → log_of new ≡ log_of old →
+    ((seg : ℕ) → is_awake old.watch seg ≡ true → is_awake new.watch seg ≡ true) →
+    AreRoused servers old.watch (log_of old).head (log_of old).segments →
+    AreRoused servers new.watch (log_of new).head (log_of new).segments
+roused-more servers old new same more roused =
+    subst (λ (log : Log). AreRoused servers new.watch log.head log.segments) (sym same)
+    (λ seg above within. either (is_awake old.watch seg) (is_awake new.watch seg)
+    (((log_of old).segments seg).freed || not (is_concerned servers ((log_of old).segments seg))) (more seg) (roused seg above within))
+  where
+    either : (a a' b : Bool) → (a ≡ true → a' ≡ true) → (a || b) ≡ true → (a' || b) ≡ true
+    either true a' b more' e = or-first a' b (more' refl)
+    either false a' b more' e = or-second a' b e

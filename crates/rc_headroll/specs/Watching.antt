@@ -29,9 +29,13 @@ abbrev pub is_among : Option (List ℕ) → ℕ → Bool
 is_among None seg = false
 is_among (Some numbers) seg = has_number numbers seg
 
+-- the number is under the id, in this file
+abbrev pub is_under : List (ServerId × List ℕ) → ServerId → ℕ → Bool
+is_under filed id seg = is_among (lookup (same_id id) filed) seg
+
 -- the segment is filed under the id
 abbrev pub is_filed : Watched → ServerId → ℕ → Bool
-is_filed watch id seg = is_among (lookup (same_id id) watch.filed) seg
+is_filed watch id seg = is_under watch.filed id seg
 
 -- the segment was freed, or is filed under each of its members
 abbrev pub is_on_file : Watched → ℕ → Segment → Bool

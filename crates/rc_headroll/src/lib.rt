@@ -5,6 +5,7 @@
 
 mod before;
 mod durable;
+mod filing;
 mod going_back;
 mod going_on;
 mod log;

@@ -2,12 +2,11 @@
 
 ghost use Rattle.std.specs.Prelude.{◌≡◌, ◌<◌, ℕ, true, false, nat_eq, if◌then◌else◌, OnOk, OnErr, IfSome};
 ghost use Rattle.std.specs.List.{list_all};
-ghost use Rattle.std.specs.Map.{lookup};
 ghost use Rattle.rc_types.specs.declared.ids.ServerId.{ServerId as Id};
-ghost use Rattle.rc_model.specs.Ids.{same_id};
 ghost use Rattle.rc_model.specs.ServerList.{has_crashed};
-ghost use Rattle.rc_headroll.specs.Watching.{is_among, is_awake, is_filed};
+ghost use Rattle.rc_headroll.specs.Watching.{is_awake, is_filed};
 
+use crate::filing::{file_under_all, forget_crashed, wake_crashed};
 use crate::numbers::Numbers;
 use indexmap::IndexMap;
 use rc_serverlist::ServerList;
@@ -79,10 +78,7 @@ impl Watch {
         ensures others { (id : Id) (other : ℕ) → is_filed self.old id other ≡ true → is_filed self.new id other ≡ true }
         ensures awake { self.new.awake ≡ self.old.awake }
     {
-        for member in members {
-            file_under(self.alloc, &mut self.filed, member.id, seg)?;
-        }
-        Ok(())
+        file_under_all(self.alloc, &mut self.filed, seg, members)
     }
 
     /// From here on each segment is gone over that is filed under an id which the list shows crashed. No id
@@ -94,34 +90,8 @@ impl Watch {
             is_awake self.new seg ≡ false → is_filed self.new id seg ≡ true }
         ensures others { (seg : ℕ) → is_awake self.old seg ≡ true → is_awake self.new seg ≡ true }
     {
-        for (id, numbers) in &self.filed {
-            if servers.has_crashed(*id) {
-                self.awake.insert_all(numbers)?;
-            }
-        }
-        self.filed.retain(|id, _| !servers.has_crashed(*id));
+        wake_crashed(&mut self.awake, &self.filed, servers)?;
+        forget_crashed(&mut self.filed, servers);
         Ok(())
-    }
-}
-
-/// Files a segment under an id. Where memory is refused, nothing has changed.
-fn file_under(
-    alloc: Global,
-    filed: &mut IndexMap<ServerId, Numbers>,
-    id: ServerId,
-    seg: u16,
-) -> Result<(), AllocError>
-    ensures filed { OnOk result (is_among (lookup (same_id id) filed.new.entries) seg ≡ true) }
-    ensures others { (one : Id) (other : ℕ) → is_among (lookup (same_id one) filed.old.entries) other ≡ true →
-        is_among (lookup (same_id one) filed.new.entries) other ≡ true }
-{
-    match filed.get_mut(&id) {
-        Some(numbers) => numbers.insert(seg),
-        None => {
-            let mut numbers = Numbers::new(alloc);
-            numbers.insert(seg)?;
-            filed.insert(id, numbers)?;
-            Ok(())
-        }
     }
 }
