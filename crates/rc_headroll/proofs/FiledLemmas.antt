@@ -76,3 +76,12 @@ module _ (servers : ServerList) (old new : List (ServerId × List ℕ))
   dropped-others up filed =
       ap (λ (o : Option (List ℕ)). is_among o seg)
       (found ∙ ap (λ (b : Bool). cond (not b) (lookup (same_id id) old) None) up) ∙ filed
+
+  -- each other one is, unless the segment was added
+  pub still-filed : (awake : List ℕ) → (has_crashed servers id ≡ true → is_under old id seg ≡ true → has_number awake seg ≡ true) →
+      is_under old id seg ≡ true → has_number awake seg ≡ false → is_under new id seg ≡ true
+  still-filed awake woken filed asleep = by (has_crashed servers id) refl
+    where
+      by : (b : Bool) → has_crashed servers id ≡ b → is_under new id seg ≡ true
+      by true crashed = absurd (false≢true (sym asleep ∙ woken crashed filed))
+      by false up = dropped-others up filed
