@@ -12,15 +12,9 @@ use Rattle.std.specs.Map.{keys_of, lookup, set_value}
 use Rattle.std.specs.Ordering.{is_eq, match_ordering, ordering_then}
 use Rattle.std.specs.declared.cmp.Ordering.TheVariants.{Less, Equal, Greater}
 use Rattle.std.proofs.Common.{rules}
-use Rattle.rc_types.specs.declared.ids.ServerId.{ServerId}
-use Rattle.rc_types.specs.declared.messages.Message.{Message}
-use Rattle.rc_types.specs.declared.messages.Body.{Body}
-use Rattle.rc_model.specs.Ids.{same_id, id_before, insert_id_once}
-use Rattle.rc_model.specs.Tables.{put_id}
-use Rattle.rc_model.specs.Messages.{between}
-use Rattle.rc_model.specs.Replica.{Replica}
-use Rattle.rc_model.specs.Backup.{Backup, Held, nothing_held, with_held, replica_of, replica_after, without_replica}
-use Rattle.rc_model.specs.Backup.{insert_number, is_refused, stored_of, keeps, stores, frees, restarted, restart}
+use Rattle.rc_model.specs.Model.{ServerId, Message, Body, same_id, id_before, insert_id_once, put_id, between, Replica, Backup, Held}
+use Rattle.rc_model.specs.Model.{nothing_held, with_held, replica_of, replica_after, without_replica, insert_number, is_refused}
+use Rattle.rc_model.specs.Model.{stored_of, keeps, stores, frees, restarted, restart}
 use Rattle.rc_backup.specs.BackupView.{Holdings, held_in, backup_of, id_order, put_first}
 use Rattle.rc_backup.specs.HeldAfter.{next_replica, with_replica, stored_after, held_without}
 use Rattle.rc_backup.proofs.MapLemmas.{set_value-inserted, with_each, keys-with_each}

@@ -9,9 +9,7 @@ use Rattle.std.specs.BTreeSet.{BTreeSet, contains}
 use Rattle.std.proofs.lemmas.Bool.{or_cases, le-leb, eq-eqb, and_from}
 use Rattle.std.proofs.lemmas.Bool.Decides.{nat_tests}
 use Rattle.std.proofs.lemmas.List.{append-nil}
-use Rattle.rc_types.specs.declared.messages.Message.{Message}
-use Rattle.rc_model.specs.Recovered.{Ack, ack_in, all_acknowledged}
-use Rattle.rc_model.specs.Headline.{In}
+use Rattle.rc_model.specs.Model.{Message, Ack, ack_in, all_acknowledged, In}
 use Rattle.rc_model.proofs.Members.{In-append}
 use Rattle.rc_evidence.specs.declared.highs.TermKey.{TermKey}
 use Rattle.rc_evidence.specs.Highs.{key_order, same_key, ack_key, high_at, is_level, NotesVersion}

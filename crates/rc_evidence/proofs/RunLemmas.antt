@@ -10,13 +10,7 @@ use Rattle.std.specs.Map.{lookup}
 use Rattle.std.specs.BTreeMap.{BTreeMap, get, is_at}
 use Rattle.std.proofs.lemmas.Bool.{cond-true, cond-false}
 use Rattle.std.proofs.lemmas.Bool.Decides.{nat_tests}
-use Rattle.rc_types.specs.declared.ids.ServerId.{ServerId}
-use Rattle.rc_types.specs.declared.entries.Entry.{Entry}
-use Rattle.rc_types.specs.declared.messages.Message.{Message}
-use Rattle.rc_types.specs.declared.verdicts.Breach.TheVariants.{Invented}
-use Rattle.rc_model.specs.Made.{made}
-use Rattle.rc_model.specs.Recovered.{Accepted}
-use Rattle.rc_model.specs.Breach.{is_one_entry, first_invented_from}
+use Rattle.rc_model.specs.Model.{ServerId, Entry, Message, Invented, made, Accepted, is_one_entry, first_invented_from}
 use Rattle.rc_evidence.specs.declared.places.PlaceKey.{PlaceKey}
 use Rattle.rc_evidence.specs.declared.places.Seen.{Seen}
 use Rattle.rc_evidence.specs.declared.runs.SegmentKey.{SegmentKey}

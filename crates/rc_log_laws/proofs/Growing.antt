@@ -1,12 +1,7 @@
 -- Logs and their replicas.
 use Rattle.std.proofs.Common.{◌≡◌, ℕ, ◌<◌, Bool, true, List, ◌++◌, length, Some, slice_get, inl, arith}
 use Rattle.std.proofs.lemmas.List.{length-map}
-use Rattle.rc_types.specs.declared.ids.ServerId.{ServerId}
-use Rattle.rc_types.specs.declared.entries.Entry.{Entry}
-use Rattle.rc_types.specs.declared.messages.Message.{Message}
-use Rattle.rc_model.specs.Log.{LogPlace}
-use Rattle.rc_model.specs.Master.{Master}
-use Rattle.rc_model.specs.World.{replay}
+use Rattle.rc_model.specs.Model.{ServerId, Entry, Message, LogPlace, Master, replay}
 use Rattle.rc_step_laws.specs.Words.{log_in}
 use Rattle.rc_step_laws.specs.Facts.{IsSafe, GoodMaster, GoodReplica}
 use Rattle.rc_step_laws.specs.Moves.{OwnFine}

@@ -5,25 +5,13 @@ use Rattle.std.proofs.Common.{subst, inl, inr, arith}
 use Rattle.std.proofs.lemmas.Bool.{eqb-true, eq-eqb, ltb-true, lt-ltb, leb-true, le-leb, and_parts, and_from, or_cases}
 use Rattle.std.proofs.lemmas.Bool.{or_left, or_right, or_from, or_parts, not-false, not_from_true, true_from_ne_false}
 use Rattle.std.proofs.lemmas.Bool.{false_from_ne_true}
-use Rattle.rc_types.specs.declared.ids.ServerId.{ServerId}
-use Rattle.rc_types.specs.declared.entries.Entry.{Entry}
-use Rattle.rc_types.specs.declared.rows.PlanRow.{PlanRow}
-use Rattle.rc_types.specs.declared.messages.Message.{Message}
-use Rattle.rc_types.specs.declared.messages.Body.{Body}
-use Rattle.rc_types.specs.declared.messages.Body.TheVariants.{Place, Append}
-use Rattle.rc_types.specs.declared.verdicts.Breach.{Breach}
-use Rattle.rc_types.specs.declared.verdicts.Breach.TheVariants.{Missing, Invented, Version}
-use Rattle.rc_model.specs.Ids.{is_server}
-use Rattle.rc_model.specs.Pick.{ascending}
-use Rattle.rc_model.specs.Made.{entry_at, made}
-use Rattle.rc_model.specs.Recovered.{Ack, acknowledged, all_acknowledged, Accepted, accepted, reach, is_recovered}
-use Rattle.rc_model.specs.Owners.{is_earlier, grants_of}
-use Rattle.rc_model.specs.Breach.{same_numbers, same_value, same_entry, is_of_ack, agrees, all_agree, is_greater}
-use Rattle.rc_model.specs.Breach.{has_greater, holds_greater, is_superseded, is_missing, first_missing, all_same}
-use Rattle.rc_model.specs.Breach.{is_one_entry, first_invented_from, or_else, first_invented, segments_of, falls}
-use Rattle.rc_model.specs.Breach.{first_fall, missing_of, invented_of, falls_of, breach}
-use Rattle.rc_model.specs.Headline.{In, IsHeld, IsOfAck, IsSuperseded, IsThere, IsOneEntry, RisesOver, Headline}
-use Rattle.rc_model.specs.Headline.{NothingDroppedIsNothingMissing, NoBreachIsTheHeadline}
+use Rattle.rc_model.specs.Model.{ServerId, Entry, PlanRow, Message, Body, Place, Append, Breach, Missing, Invented, Version, is_server}
+use Rattle.rc_model.specs.Model.{ascending, entry_at, made, Ack, acknowledged, all_acknowledged, Accepted, accepted, reach, is_recovered}
+use Rattle.rc_model.specs.Model.{is_earlier, grants_of, same_numbers, same_value, same_entry, is_of_ack, agrees, all_agree, is_greater}
+use Rattle.rc_model.specs.Model.{has_greater, holds_greater, is_superseded, is_missing, first_missing, all_same, is_one_entry}
+use Rattle.rc_model.specs.Model.{first_invented_from, or_else, first_invented, segments_of, falls, first_fall, missing_of, invented_of}
+use Rattle.rc_model.specs.Model.{falls_of, breach, In, IsHeld, IsOfAck, IsSuperseded, IsThere, IsOneEntry, RisesOver, Headline}
+use Rattle.rc_model.specs.Model.{NothingDroppedIsNothingMissing, NoBreachIsTheHeadline}
 use Rattle.rc_model.proofs.Befores.{is_before-finds, is_before-found}
 use Rattle.rc_model.proofs.Members.{In-ascending, is_recovered-held, held-is_recovered, held-reaches, held-from_reach, held-segment}
 use Rattle.rc_model.proofs.Said.{is_server-true, is_server-from, HasMade-from, HasMade-in, HasAcknowledged-from}

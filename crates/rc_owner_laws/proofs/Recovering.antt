@@ -4,19 +4,10 @@ use Rattle.std.proofs.Common.{take, nat_eq, nat_le, Some, None, refl, sym, ap, â
 use Rattle.std.specs.List.{list_any}
 use Rattle.std.proofs.lemmas.Bool.{and_parts, eqb-true, eq-eqb, leb-true, or_right, or_left, or_parts}
 use Rattle.std.proofs.lemmas.List.{length-map}
-use Rattle.rc_types.specs.declared.ids.ServerId.{ServerId}
-use Rattle.rc_types.specs.declared.entries.Entry.{Entry}
-use Rattle.rc_types.specs.declared.rows.Part.{Part}
-use Rattle.rc_types.specs.declared.kept.GrantedRange.{GrantedRange}
-use Rattle.rc_types.specs.declared.messages.Message.{Message}
-use Rattle.rc_model.specs.Log.{LogPlace}
-use Rattle.rc_model.specs.Ownership.{PartRow, PartState, Ownership, owns_term, has_part, knows_term, awaited_row}
-use Rattle.rc_model.specs.Ownership.{rows_in_order, insert_row, awaits, all_came, entries_that_came, under_term}
-use Rattle.rc_model.specs.Ownership.{joined, joining, part_with_row, with_row, data_in, replay_in, put_data, new_part}
-use Rattle.rc_model.specs.Ownership.{count_under, is_complete, answered_in, after_answer}
-use Rattle.rc_model.specs.Master.{Task}
-use Rattle.rc_model.specs.FollowUps.{attempt_of}
-use Rattle.rc_model.specs.Headline.{In}
+use Rattle.rc_model.specs.Model.{ServerId, Entry, Part, GrantedRange, Message, LogPlace, PartRow, PartState, Ownership, owns_term}
+use Rattle.rc_model.specs.Model.{has_part, knows_term, awaited_row, rows_in_order, insert_row, awaits, all_came, entries_that_came}
+use Rattle.rc_model.specs.Model.{under_term, joined, joining, part_with_row, with_row, data_in, replay_in, put_data, new_part}
+use Rattle.rc_model.specs.Model.{count_under, is_complete, answered_in, after_answer, Task, attempt_of, In}
 use Rattle.rc_model.proofs.Members.{In-append, In-left, In-right}
 use Rattle.rc_step_laws.specs.Words.{Begins}
 use Rattle.rc_step_laws.proofs.Lists.{begins-refl}

@@ -1,9 +1,6 @@
 -- All facts hold of every world that a list of events leads to, and so does the headline.
 use Rattle.std.proofs.Common.{◌≡◌, ◌⊎◌, ◌<◌, Bool, true, false, List, take, Some, slice_get, refl, inl, inr}
-use Rattle.rc_types.specs.declared.events.Setup.{Setup}
-use Rattle.rc_types.specs.declared.events.Event.{Event}
-use Rattle.rc_types.specs.declared.entries.Entry.{Entry}
-use Rattle.rc_model.specs.World.{World, replay}
+use Rattle.rc_model.specs.Model.{Setup, Event, Entry, World, replay}
 use Rattle.rc_model.proofs.Headlines.{breach_is_headline}
 use Rattle.rc_step_laws.specs.Words.{log_in}
 use Rattle.rc_step_laws.specs.Facts.{IsSafe}

@@ -7,8 +7,7 @@ use Rattle.std.specs.List.Sorted.{IsNonDecreasingBy}
 use Rattle.std.specs.Prelude.{slice_index_or}
 use Rattle.std.specs.Option.{IsSome}
 use Rattle.indexmap.specs.IndexMap.{get}
-use Rattle.rc_types.specs.declared.entries.Entry.{Entry}
-use Rattle.rc_model.specs.Ownership.{count_under}
+use Rattle.rc_model.specs.Model.{Entry, count_under}
 use Rattle.rc_ownership.specs.declared.highs.Slot.{Slot}
 use Rattle.rc_ownership.specs.Counts.{CountTable, count_in, AreKnown}
 use Rattle.rc_ownership.specs.Highs.{with_high, highs_of}

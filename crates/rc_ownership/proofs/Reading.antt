@@ -5,8 +5,7 @@ use Rattle.std.proofs.Common.{append_assoc, zero, suc}
 use Rattle.std.proofs.lemmas.Bool.Decides.{nat_tests}
 use Rattle.std.specs.List.{list_any}
 use Rattle.std.specs.Option.{option_map_or}
-use Rattle.rc_types.specs.declared.entries.Entry.{Entry}
-use Rattle.rc_model.specs.Versions.{is_of, greatest_version, Found, read_from, read_of}
+use Rattle.rc_model.specs.Model.{Entry, is_of, greatest_version, Found, read_from, read_of}
 use Rattle.rc_ownership.specs.Highs.{highs_from, highs_of}
 use Rattle.rc_ownership.proofs.RecordHighs.{highs_after}
 

@@ -3,10 +3,8 @@ use Rattle.std.proofs.Common.{◌≡◌, ◌⊎◌, inl, inr, ◌<◌, ℕ, ◌+
 use Rattle.std.proofs.Common.{[], ◌∷◌, length, Some, Result, Ok, Err, OnOk, IfErr, OnErr, drop, refl, sym, ap}
 use Rattle.std.proofs.Common.{◌∙◌, suc, slice_index_or, arith}
 use Rattle.std.proofs.Math.Seq.{drop-cons}
-use Rattle.rc_types.specs.declared.events.Event.{Event}
-use Rattle.rc_types.specs.declared.faults.Fault.{Fault}
+use Rattle.rc_model.specs.Model.{Event, Fault, World, step, is_possible}
 use Rattle.rc_types.specs.declared.faults.Fault.TheVariants.{OutOfMemory, BadEvent}
-use Rattle.rc_model.specs.World.{World, step, is_possible}
 use Rattle.rc_reading.specs.declared.scenarios.ScenarioEvent.{ScenarioEvent}
 use Rattle.rc_reading.specs.declared.scenarios.ScenarioEvent.TheVariants as scene
 use Rattle.rc_reading.specs.declared.hosts.Hosts.{Hosts}

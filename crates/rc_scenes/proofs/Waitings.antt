@@ -8,9 +8,7 @@ use Rattle.std.specs.List.{items_where_true, AllWithin}
 use Rattle.std.specs.List.Sorted.{IsPartitionedBy}
 use Rattle.std.specs.List.Retain.{ReturnsInTurn}
 use Rattle.std.proofs.lemmas.Option.{slice_get_within}
-use Rattle.rc_types.specs.declared.ids.Addr.TheVariants.{Outside}
-use Rattle.rc_types.specs.declared.messages.Message.{Message}
-use Rattle.rc_types.specs.declared.events.Event.{Event}
+use Rattle.rc_model.specs.Model.{Outside, Message, Event}
 use Rattle.rc_scenes.specs.declared.passing.Passing.{Passing}
 use Rattle.rc_scenes.specs.Delivered.{is_delivered}
 use Rattle.rc_scenes.specs.Settling.{next_due, due_from}

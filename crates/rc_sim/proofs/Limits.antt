@@ -4,8 +4,7 @@ use Rattle.std.proofs.Common.{List, [], ◌∷◌, ◌++◌, length, Option, Som
 use Rattle.std.proofs.Common.{option_map, refl, arith, All, codes, subst}
 use Rattle.std.specs.Option.{IfSome}
 use Rattle.std.proofs.lemmas.List.Elements.{All-push}
-use Rattle.rc_types.specs.declared.events.Setup.{Setup}
-use Rattle.rc_types.specs.declared.limits.TheConstants.{MAX_FACTOR, MAX_SEGMENT, MAX_HOSTS}
+use Rattle.rc_model.specs.Model.{Setup, MAX_FACTOR, MAX_SEGMENT, MAX_HOSTS}
 use Rattle.serde_json.specs.Data.{Data}
 use Rattle.serde_json.specs.Find.{as_u64, as_number, as_bool, get}
 use Rattle.rc_reading.specs.declared.scenarios.Scenario.{Scenario}

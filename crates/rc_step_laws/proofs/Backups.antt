@@ -4,25 +4,12 @@ use Rattle.std.proofs.Common.{filter, nat_eq, nat_lt, nat_le, Option, Some, None
 use Rattle.std.proofs.Common.{arith}
 use Rattle.std.proofs.lemmas.Bool.{cases_eq, eq-eqb, or_cases, or_right, or_parts}
 use Rattle.std.specs.List.{list_any}
-use Rattle.rc_types.specs.declared.ids.ServerId.{ServerId}
-use Rattle.rc_types.specs.declared.ids.Addr.{Addr}
-use Rattle.rc_types.specs.declared.ids.Addr.TheVariants.{Server}
-use Rattle.rc_types.specs.declared.entries.Entry.{Entry}
-use Rattle.rc_types.specs.declared.rows.Row.{Row}
-use Rattle.rc_types.specs.declared.rows.Part.{Part}
-use Rattle.rc_types.specs.declared.messages.Message.{Message}
-use Rattle.rc_types.specs.declared.messages.Body.{Body}
-use Rattle.rc_types.specs.declared.messages.Body.TheVariants.{Place, Append, Close, Free, Gather, Fetch, Stored, Replicas, Data}
-use Rattle.rc_model.specs.Ids.{same_id}
-use Rattle.rc_model.specs.Messages.{between, to_coordinator}
-use Rattle.rc_model.specs.Replica.{Replica}
-use Rattle.rc_model.specs.Backup.{Backup, Held, replica_of, without_replica, replica_after, with_held, is_freed}
-use Rattle.rc_model.specs.Backup.{is_refused, keeps, stores, insert_number, frees, row_of_replica, rows_of_replicas}
-use Rattle.rc_model.specs.Backup.{fences, is_in_part, data_of, answers_fetch, backup_takes, restarted}
-use Rattle.rc_model.specs.Master.{Master}
+use Rattle.rc_model.specs.Model.{ServerId, Addr, Server, Entry, Row, Part, Message, Body, Place, Append, Close, Free, Gather, Fetch}
+use Rattle.rc_model.specs.Model.{Stored, Replicas, Data, same_id, between, to_coordinator, Replica, Backup, Held, replica_of}
+use Rattle.rc_model.specs.Model.{without_replica, replica_after, with_held, is_freed, is_refused, keeps, stores, insert_number, frees}
+use Rattle.rc_model.specs.Model.{row_of_replica, rows_of_replicas, fences, is_in_part, data_of, answers_fetch, backup_takes, restarted}
+use Rattle.rc_model.specs.Model.{Master, HostNode, server_of, In}
 use Rattle.rc_model.specs.Coordinator.{Coordinator}
-use Rattle.rc_model.specs.Nodes.{HostNode, server_of}
-use Rattle.rc_model.specs.Headline.{In}
 use Rattle.rc_model.proofs.Members.{In-left, In-append}
 use Rattle.rc_step_laws.specs.Words.{IsOf, held_at}
 use Rattle.rc_step_laws.specs.Facts.{IsCopy, IsAnswer, IsStored, StillStands, GoodHeld, GoodReplica, GoodHost, Good}

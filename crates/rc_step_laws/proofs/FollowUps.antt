@@ -5,30 +5,14 @@ use Rattle.std.proofs.Common.{ap, ◌∙◌, subst, inl, inr, arith}
 use Rattle.std.proofs.lemmas.Bool.{and_parts, eqb-true, ltb-true}
 use Rattle.std.specs.List.{list_any}
 use Rattle.std.proofs.lemmas.List.{length-map}
-use Rattle.rc_types.specs.declared.ids.ServerId.{ServerId}
-use Rattle.rc_types.specs.declared.ids.Addr.TheVariants.{Server}
-use Rattle.rc_types.specs.declared.entries.Entry.{Entry}
-use Rattle.rc_types.specs.declared.kept.Member.{Member}
-use Rattle.rc_types.specs.declared.kept.Phase.{Phase}
-use Rattle.rc_types.specs.declared.kept.Phase.TheVariants.{Opening, Closing, Writing}
-use Rattle.rc_types.specs.declared.messages.Message.{Message}
-use Rattle.rc_types.specs.declared.messages.Body.{Body}
-use Rattle.rc_types.specs.declared.messages.Body.TheVariants.{Place, WriteOk, Close, Commit, Ready, Recovered}
-use Rattle.rc_model.specs.Messages.{between, to_coordinator}
-use Rattle.rc_model.specs.Config.{told_closed, is_closed, all_placed, all_closed}
-use Rattle.rc_model.specs.Segment.{Segment, is_ready, is_all_closed, is_unclosed, has_unclosed, with_closes_sent}
-use Rattle.rc_model.specs.Log.{Log, LogPlace, places_of, head_of, old_head_of, has_old_head, with_segment, numbers_to}
-use Rattle.rc_model.specs.Log.{is_opening, is_closing, durable_now}
-use Rattle.rc_model.specs.Heads.{shuts, may_start, may_close, may_write, left_out, with_freed}
-use Rattle.rc_model.specs.Heads.{starts, closes_old, writes_on}
-use Rattle.rc_model.specs.Ownership.{after_replay, after_answer}
-use Rattle.rc_model.specs.Master.{Master, with_log, durable_entries, to_ids, ids_of, appends_entry}
-use Rattle.rc_model.specs.FollowUps.{close_is_due, close_marked}
-use Rattle.rc_model.specs.FollowUps.{frees_segments, first_open, commits}
-use Rattle.rc_model.specs.FollowUps.{write_oks, new_durable, replays}
-use Rattle.rc_model.specs.FollowUps.{attempt_of}
-use Rattle.rc_model.specs.FollowUps.{goes_on}
-use Rattle.rc_model.specs.Headline.{In}
+use Rattle.rc_model.specs.Model.{ServerId, Server, Entry, Member, Phase, Opening, Closing, Writing, Message, Body, Place, WriteOk, Close}
+use Rattle.rc_model.specs.Model.{Commit, Ready, Recovered, between, to_coordinator, told_closed, is_closed, all_placed, all_closed}
+use Rattle.rc_model.specs.Model.{Segment, is_ready, is_all_closed, is_unclosed, has_unclosed, with_closes_sent, Log, LogPlace, places_of}
+use Rattle.rc_model.specs.Model.{head_of, old_head_of, has_old_head, with_segment, numbers_to, is_opening, is_closing, durable_now, shuts}
+use Rattle.rc_model.specs.Model.{may_start, may_close, may_write, left_out, with_freed, starts, closes_old, writes_on, after_replay}
+use Rattle.rc_model.specs.Model.{after_answer, Master, with_log, durable_entries, to_ids, ids_of, appends_entry, close_is_due}
+use Rattle.rc_model.specs.Model.{close_marked, frees_segments, first_open, commits, write_oks, new_durable, replays, attempt_of, goes_on}
+use Rattle.rc_model.specs.Model.{In}
 use Rattle.rc_model.proofs.Members.{In-append, In-map, In-filter}
 use Rattle.rc_step_laws.specs.Words.{log_in, IsOpened, HasToldClosed}
 use Rattle.rc_step_laws.specs.Facts.{IsSafe}

@@ -6,14 +6,9 @@ use Rattle.std.proofs.lemmas.Bool.{eq-eqb}
 use Rattle.std.proofs.lemmas.List.{append-nil, append_assoc}
 use Rattle.std.specs.List.{list_any}
 use Rattle.std.specs.Option.{option_map}
-use Rattle.rc_types.specs.declared.ids.ServerId.{ServerId}
-use Rattle.rc_types.specs.declared.kept.Member.{Member}
-use Rattle.rc_model.specs.Ids.{id_before, insert_id, ids_in_order}
-use Rattle.rc_model.specs.ServerList.{ServerList, knows, first_rows, up_rows, up}
-use Rattle.rc_model.specs.Config.{new_member, of_other_hosts, counted_from, candidates, choose, staying, first_free}
-use Rattle.rc_model.specs.Config.{and_then, substitutes, replaced}
-use Rattle.rc_model.specs.Master.{ids_of}
-use Rattle.rc_model.specs.Headline.{In}
+use Rattle.rc_model.specs.Model.{ServerId, Member, id_before, insert_id, ids_in_order, ServerList, knows, first_rows, up_rows, up}
+use Rattle.rc_model.specs.Model.{new_member, of_other_hosts, counted_from, candidates, choose, staying, first_free, and_then, substitutes}
+use Rattle.rc_model.specs.Model.{replaced, ids_of, In}
 use Rattle.rc_model.proofs.Members.{In-left, In-right, In-append, In-map, map-In, In-filter}
 use Rattle.rc_step_laws.specs.Words.{NotOnHostOf, OnDifferentHosts}
 use Rattle.rc_step_laws.proofs.Tests.{any-here, find-one}

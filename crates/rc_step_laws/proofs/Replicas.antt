@@ -4,15 +4,7 @@ use Rattle.std.proofs.Common.{length, drop, slice_get, nat_le, Option, Some, Non
 use Rattle.std.proofs.Common.{arith}
 use Rattle.std.proofs.lemmas.Bool.{eq-eqb, le-leb}
 use Rattle.std.proofs.lemmas.List.{length-append, append-nil}
-use Rattle.rc_types.specs.declared.ids.ServerId.{ServerId}
-use Rattle.rc_types.specs.declared.entries.Entry.{Entry}
-use Rattle.rc_types.specs.declared.messages.Message.{Message}
-use Rattle.rc_types.specs.declared.messages.Body.TheVariants.{Place, Append, Stored}
-use Rattle.rc_model.specs.Messages.{between}
-use Rattle.rc_model.specs.Replica.{Replica, grown}
-use Rattle.rc_model.specs.Log.{Log}
-use Rattle.rc_model.specs.Master.{Master}
-use Rattle.rc_model.specs.Headline.{In, HasMade}
+use Rattle.rc_model.specs.Model.{ServerId, Entry, Message, Place, Append, Stored, between, Replica, grown, Log, Master, In, HasMade}
 use Rattle.rc_step_laws.specs.Words.{Begins, log_in, Stands, HasTold, HasToldClosed, IsMember}
 use Rattle.rc_step_laws.specs.Facts.{GoodMaster, IsPlace, IsCopy, GoodReplica}
 use Rattle.rc_step_laws.specs.Moves.{OwnFine}
