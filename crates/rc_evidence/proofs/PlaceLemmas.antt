@@ -13,9 +13,8 @@ use Rattle.rc_model.specs.Model.{ServerId, Entry, Message, is_server, made, entr
 use Rattle.rc_model.specs.Model.{is_one_entry}
 use Rattle.rc_evidence.specs.declared.places.PlaceKey.{PlaceKey}
 use Rattle.rc_evidence.specs.declared.places.Seen.{Seen}
-use Rattle.rc_evidence.specs.Places.{Summary, summary_at, summary_in, place_order, with_entry, with_sent, same_place}
-use Rattle.rc_evidence.specs.Places.{entry_of_run, is_alike, all_alike, summary_of, sent_at, NotesEntry, NotesSent}
-use Rattle.rc_evidence.specs.Places.{Indexes}
+use Rattle.rc_evidence.specs.Places.{Summary, summary_at, summary_in, place_order, with_entry, with_sent, same_place, entry_of_run}
+use Rattle.rc_evidence.specs.Places.{is_alike, all_alike, summary_of, sent_at, NotesEntry, NotesSent, Indexes}
 
 -- one more element of a list
 pub taken_more : {X : Type 0} (xs : List X) (i : ℕ) (x : X) → i < length xs → x ≡ get_or xs i x → take (i + 1) xs ≡ take i xs ++ x ∷ []

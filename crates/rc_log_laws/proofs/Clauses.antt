@@ -7,8 +7,7 @@ use Rattle.rc_model.specs.Model.{Accepted, is_valid, Log, Master, HostNode, HasM
 use Rattle.rc_model.specs.Model.{IsSuperseded, IsThere, NothingIsMissing, NothingIsInvented}
 use Rattle.rc_types.specs.declared.ids.Addr.TheVariants.{Coordinator as AtCoordinator}
 use Rattle.rc_model.specs.Coordinator.{Coordinator}
-use Rattle.rc_step_laws.specs.Words.{log_in}
-use Rattle.rc_step_laws.specs.Facts.{IsCopy, IsWriteOk, Good, body_fine}
+use Rattle.rc_step_laws.specs.All.{log_in, IsCopy, IsWriteOk, Good, body_fine}
 use Rattle.rc_step_laws.proofs.Lists.{get-begins}
 use Rattle.rc_log_laws.proofs.Covers.{PlanIs, plan-is, IsCovered, covered}
 use Rattle.rc_model.proofs.Tests.{either}

@@ -11,8 +11,7 @@ use Rattle.rc_model.specs.Model.{World, opening, NodeName, TheOutside, TheCoordi
 use Rattle.rc_model.specs.Model.{node_done, job_done, step, replay_from, replay, In}
 use Rattle.rc_types.specs.declared.ids.Addr.TheVariants.{Coordinator as AtCoordinator}
 use Rattle.rc_model.specs.Nodes.{Ask, Tick, Stop, Start, Suspect, Decide}
-use Rattle.rc_step_laws.specs.Facts.{GoodMaster, GoodHost}
-use Rattle.rc_step_laws.specs.Moves.{MasterMoved}
+use Rattle.rc_step_laws.specs.All.{GoodMaster, GoodHost, MasterMoved}
 use Rattle.rc_step_laws.proofs.MasterSteps.{master_takes_keeps, master_ticks_keeps}
 use Rattle.rc_step_laws.proofs.CoordinatorSteps as coordinator
 use Rattle.rc_log_laws.proofs.Replays.{GoodWorld, IsGiven, is-good, is-fine, hears, is_server-true, work_of-given}

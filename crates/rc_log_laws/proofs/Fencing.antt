@@ -2,9 +2,7 @@
 use Rattle.std.proofs.Common.{◌≡◌, ◌⊎◌, ℕ, ◌≤◌, Bool, true, List, [], ◌∷◌, sym, ap, ◌∙◌, subst, inl, inr, arith}
 use Rattle.rc_model.specs.Model.{ServerId, Row, Event, Body, Stored, Replicas, between, to_coordinator, Attempt, World, opening, step}
 use Rattle.rc_model.specs.Model.{replay_from, replay, In}
-use Rattle.rc_step_laws.specs.Words.{held_at, IsOf}
-use Rattle.rc_step_laws.specs.Facts.{IsAnswer, body_fine}
-use Rattle.rc_step_laws.specs.Later.{IsNewStored}
+use Rattle.rc_step_laws.specs.All.{held_at, IsOf, IsAnswer, body_fine, IsNewStored}
 use Rattle.rc_step_laws.proofs.Attempting.{numbered-same}
 use Rattle.rc_log_laws.proofs.Replays.{GoodWorld, GoodStep, led-step, good-world}
 use Rattle.rc_log_laws.specs.LogClaims.{WasGathered, FencesHold, WhoAnsweredIsFenced}

@@ -10,8 +10,7 @@ use Rattle.rc_model.proofs.Members.{In-left, In-right, In-append}
 use Rattle.rc_step_laws.specs.Facts.{IsPlan, body_fine}
 use Rattle.rc_step_laws.proofs.CoordinatorSteps as coordinator
 use Rattle.rc_log_laws.proofs.Covers.{PlanIs, plan-is, plan-head, head-not-below}
-use Rattle.rc_log_laws.proofs.Replays.{GoodWorld}
-use Rattle.rc_log_laws.proofs.Replays.{good-world}
+use Rattle.rc_log_laws.proofs.Replays.{GoodWorld, good-world}
 use Rattle.rc_log_laws.specs.Freed.{IsLeftOut, freed_by, freed_in, GoodFrees}
 use Rattle.rc_log_laws.specs.FreedClaims.{HasRow, RecoveriesAreDigests, HeadsAreNotShut, FreedIsLeftOut, FreedIsInNoRecovery}
 use Rattle.rc_log_laws.proofs.Stays.{fewer}

@@ -6,10 +6,8 @@ use Rattle.rc_types.specs.declared.ids.Addr.TheVariants.{Coordinator as AtCoordi
 use Rattle.rc_types.specs.declared.messages.Body.TheVariants as body
 use Rattle.rc_model.specs.Coordinator.{Coordinator}
 use Rattle.rc_model.proofs.Members.{In-left, In-append}
-use Rattle.rc_step_laws.specs.Words.{held_at}
-use Rattle.rc_step_laws.specs.Facts.{GoodHeld, GoodHost, GoodCoordinator, Good, IsTold, StillStands, IsStored, body_fine, Fine}
-use Rattle.rc_step_laws.specs.Later.{HostLater, IsNewStored}
-use Rattle.rc_step_laws.specs.Moves.{BackupMoved, backup_body_said}
+use Rattle.rc_step_laws.specs.All.{held_at, GoodHeld, GoodHost, GoodCoordinator, Good, IsTold, StillStands, IsStored, body_fine, Fine}
+use Rattle.rc_step_laws.specs.All.{HostLater, IsNewStored, BackupMoved, backup_body_said}
 use Rattle.rc_step_laws.proofs.Copies.{More}
 use Rattle.rc_step_laws.proofs.Attempting.{kept-refl, attempt-kept}
 use Rattle.rc_step_laws.proofs.Backups.{Quiet, own-fine}

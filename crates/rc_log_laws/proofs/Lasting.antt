@@ -5,10 +5,8 @@ use Rattle.rc_model.specs.Model.{Held, is_freed, Master, HostNode, In}
 use Rattle.rc_types.specs.declared.ids.Addr.TheVariants.{Coordinator as AtCoordinator}
 use Rattle.rc_types.specs.declared.messages.Body.TheVariants as body
 use Rattle.rc_model.specs.Coordinator.{Coordinator}
-use Rattle.rc_step_laws.specs.Words.{held_at, IsOf}
-use Rattle.rc_step_laws.specs.Facts.{GoodMaster, IsStored, StillStands, IsAnswer, IsPlan, GoodReplica, GoodHeld, Good, body_fine}
-use Rattle.rc_step_laws.specs.Later.{HeldLater, HostLater, AttemptLater, IsNewStored}
-use Rattle.rc_step_laws.specs.Moves.{OwnFine, CoordinatorLater}
+use Rattle.rc_step_laws.specs.All.{held_at, IsOf, GoodMaster, IsStored, StillStands, IsAnswer, IsPlan, GoodReplica, GoodHeld, Good}
+use Rattle.rc_step_laws.specs.All.{body_fine, HeldLater, HostLater, AttemptLater, IsNewStored, OwnFine, CoordinatorLater}
 use Rattle.rc_step_laws.proofs.Lists.{begins-trans}
 use Rattle.rc_step_laws.proofs.Copies.{More, CopyLives, NoneNewUpTo, copy-later, grows-log}
 use Rattle.rc_step_laws.proofs.Logs.{Grown, append-grown, close-grown, write_ok-grown}

@@ -8,9 +8,8 @@ use Rattle.rc_types.specs.declared.ids.Addr.TheVariants.{Coordinator as AtCoordi
 use Rattle.rc_types.specs.declared.messages.Body.TheVariants as body
 use Rattle.rc_model.specs.Coordinator.{Coordinator}
 use Rattle.rc_model.proofs.Members.{In-left, In-append}
-use Rattle.rc_step_laws.specs.Facts.{GoodMaster, GoodHost, Good, body_fine, Fine}
-use Rattle.rc_step_laws.specs.Later.{HostLater, IsNewPlace}
-use Rattle.rc_step_laws.specs.Moves.{OwnFine, MasterMoved, MasterSays, body_said}
+use Rattle.rc_step_laws.specs.All.{GoodMaster, GoodHost, Good, body_fine, Fine, HostLater, IsNewPlace, OwnFine, MasterMoved, MasterSays}
+use Rattle.rc_step_laws.specs.All.{body_said}
 use Rattle.rc_step_laws.proofs.Copies.{More}
 use Rattle.rc_step_laws.proofs.Logs.{Grown}
 use Rattle.rc_step_laws.proofs.Attempting.{kept-refl, attempt-kept}

@@ -2,8 +2,7 @@
 use Rattle.std.proofs.Common.{◌≡◌, ℕ, List, [], ◌∷◌, ◌++◌, take, drop, refl, sym, subst}
 use Rattle.std.proofs.lemmas.List.{take-append-drop}
 use Rattle.rc_model.specs.Model.{ServerId, Setup, Event, World, opening, step, replay_from, replay}
-use Rattle.rc_step_laws.specs.Facts.{IsSafe}
-use Rattle.rc_step_laws.specs.Later.{LogLater}
+use Rattle.rc_step_laws.specs.All.{IsSafe, LogLater}
 use Rattle.rc_step_laws.proofs.Copies.{More}
 use Rattle.rc_step_laws.proofs.Logs.{log_later-refl, log_later-trans, safe-grown}
 use Rattle.rc_log_laws.proofs.Replays.{GoodWorld, GoodStep, led-step, good-world}

@@ -12,9 +12,8 @@ use Rattle.rc_model.proofs.Walk.{Joined, Listed, Rolls, Taken, Ticked, Followed,
 use Rattle.rc_model.proofs.Sending.{each-map, each-write_oks, each-reminds}
 use Rattle.rc_log_laws.specs.Freed.{IsLeftOut, GoodFrees, freed_by, freed_in}
 use Rattle.rc_log_laws.proofs.Silent.{Silent, Frees, silent-none, silent-ids, silent-all, freed-append, freed-segments}
-use Rattle.rc_log_laws.proofs.Stays.{Stays, fewer, stays-refl, stays-put, stays-stored, stays-commit_noted}
-use Rattle.rc_log_laws.proofs.Stays.{stays-loses, stays-starts, stays-closes, stays-first_opened, stays-rolled}
-use Rattle.rc_log_laws.proofs.Stays.{writes-leave_out}
+use Rattle.rc_log_laws.proofs.Stays.{Stays, fewer, stays-refl, stays-put, stays-stored, stays-commit_noted, stays-loses, stays-starts}
+use Rattle.rc_log_laws.proofs.Stays.{stays-closes, stays-first_opened, stays-rolled, writes-leave_out}
 use Rattle.rc_step_laws.proofs.Rolling.{writing-is}
 
 -- what holds of the freed segments holds with those that are freed in the step

@@ -5,9 +5,8 @@ use Rattle.rc_types.specs.declared.ids.Addr.TheVariants.{Coordinator as AtCoordi
 use Rattle.rc_types.specs.declared.messages.Body.TheVariants as body
 use Rattle.rc_model.specs.Coordinator.{Coordinator}
 use Rattle.rc_model.proofs.Members.{In-left, In-append}
-use Rattle.rc_step_laws.specs.Facts.{GoodHost, GoodCoordinator, Good, body_fine, Fine}
-use Rattle.rc_step_laws.specs.Later.{HostLater}
-use Rattle.rc_step_laws.specs.Moves.{CoordinatorMoved, CoordinatorLater, coordinator_body_said}
+use Rattle.rc_step_laws.specs.All.{GoodHost, GoodCoordinator, Good, body_fine, Fine, HostLater, CoordinatorMoved, CoordinatorLater}
+use Rattle.rc_step_laws.specs.All.{coordinator_body_said}
 use Rattle.rc_step_laws.proofs.Copies.{More}
 use Rattle.rc_step_laws.proofs.Attempting.{kept-refl, attempt_later-refl}
 use Rattle.rc_step_laws.proofs.Storing.{held_later-refl}

@@ -1,7 +1,6 @@
 -- How members change, and what a roll opens.
-use Rattle.std.proofs.Common.{◌≡◌, ℕ, zero, suc, ◌+◌, Bool, true, false, not, ◌||◌, nat_eq, nat_lt, List, [], ◌∷◌}
-use Rattle.std.proofs.Common.{◌++◌, map, filter, Option, Some, None, Result, Ok, Err, slice_get, refl, sym, ap, ◌∙◌}
-use Rattle.std.proofs.Common.{subst}
+use Rattle.std.proofs.Common.{◌≡◌, ℕ, zero, suc, ◌+◌, Bool, true, false, not, ◌||◌, nat_eq, nat_lt, List, [], ◌∷◌, ◌++◌, map, filter}
+use Rattle.std.proofs.Common.{Option, Some, None, Result, Ok, Err, slice_get, refl, sym, ap, ◌∙◌, subst}
 use Rattle.std.specs.List.{list_any}
 use Rattle.rc_model.specs.Model.{ServerId, Fault, EpochsExhausted, LogFull, Member, LAST_SEGMENT, LAST_EPOCH, ServerList, Config}
 use Rattle.rc_model.specs.Model.{new_member, changed, changes_to, replaced, with_lost, any_lost, substitutes_for, lose, noted, choose}

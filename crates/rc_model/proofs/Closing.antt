@@ -1,6 +1,5 @@
 -- A whole step makes the phase Closing only where the new head is placed on all its members.
-use Rattle.std.proofs.Common.{◌≡◌, ◌⊎◌, inl, inr, ℕ, ◌-◌, Bool, true, false, cond, ◌&&◌, List, [], Result, Ok, Err, refl}
-use Rattle.std.proofs.Common.{sym, ap, ◌∙◌}
+use Rattle.std.proofs.Common.{◌≡◌, ◌⊎◌, inl, inr, ℕ, ◌-◌, Bool, true, false, cond, ◌&&◌, List, [], Result, Ok, Err, refl, sym, ap, ◌∙◌}
 use Rattle.std.proofs.lemmas.Bool.{and_parts}
 use Rattle.rc_model.specs.Model.{ServerId, Addr, Fault, Phase, Opening, Closing, Writing, Message, Body, put, ServerList, Config}
 use Rattle.rc_model.specs.Model.{all_placed, lose, refill, noted, committed_at, Segment, with_closes_sent, Log, head_of, with_segment}
@@ -11,8 +10,7 @@ use Rattle.rc_model.proofs.Tests.{either, true_false}
 use Rattle.rc_model.proofs.Tables.{put_each}
 use Rattle.rc_model.proofs.Phases.{freed-phase}
 use Rattle.rc_model.proofs.Walk.{OfLog, LogJoined, LogListed, LogWritten, LogFollowed, of_log-joined, of_log-listed, same-deposed}
-use Rattle.rc_model.proofs.Walk.{of_log-taken, of_log-ticked, of_log-followed, kept-goes_on, kept-takes_first}
-use Rattle.rc_model.proofs.Walk.{kept-ticks_first}
+use Rattle.rc_model.proofs.Walk.{of_log-taken, of_log-ticked, of_log-followed, kept-goes_on, kept-takes_first, kept-ticks_first}
 
 -- where the phase is Closing, the head is placed on all its members
 abbrev LogPlaced : Log → Type 0

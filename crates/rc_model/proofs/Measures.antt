@@ -25,9 +25,8 @@ use Rattle.rc_model.proofs.Ids.{same_id-refl}
 use Rattle.rc_model.proofs.Tests.{either, true_false}
 use Rattle.rc_model.proofs.Tables.{put_each, put-same, put-other}
 use Rattle.rc_model.proofs.Counting.{Narrower, filter-lower, filter-agrees}
-use Rattle.rc_model.proofs.LogParts.{AllSameParts, same_parts-put, length-places_in, places_to-agrees, total}
-use Rattle.rc_model.proofs.LogParts.{total-places, durable-within, marked, with_freed-marked, MarkedAlone}
-use Rattle.rc_model.proofs.LogParts.{marked-alone}
+use Rattle.rc_model.proofs.LogParts.{AllSameParts, same_parts-put, length-places_in, places_to-agrees, total, total-places}
+use Rattle.rc_model.proofs.LogParts.{durable-within, marked, with_freed-marked, MarkedAlone, marked-alone}
 
 -- the later master has a lower measure, and as many replicas of each segment
 pub record Lowers (old new : Master) : Type 0 where

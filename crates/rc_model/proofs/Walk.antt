@@ -17,8 +17,7 @@ use Rattle.rc_model.specs.Model.{new_durable, rolls_for_replay, replays, attempt
 use Rattle.rc_model.specs.Model.{followed, measure, goes_on, fetch_of, reminds, ticks, begins_task, task_of, takes_plan, says_deposed}
 use Rattle.rc_model.specs.Model.{master_takes_first, deposed_takes, master_takes, master_ticks, In}
 use Rattle.rc_types.specs.declared.ids.Addr.TheVariants.{Coordinator}
-use Rattle.rc_types.specs.declared.messages.Body.TheVariants.{Plan}
-use Rattle.rc_types.specs.declared.messages.Body.TheVariants.{List as ServersOf}
+use Rattle.rc_types.specs.declared.messages.Body.TheVariants.{Plan, List as ServersOf}
 use Rattle.rc_model.proofs.Tests.{either}
 use Rattle.rc_model.proofs.Rules.{AllDone, done-or, done-when}
 

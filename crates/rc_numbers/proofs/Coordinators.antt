@@ -1,7 +1,6 @@
 -- What each rule of the coordinator does to its numbers.
-use Rattle.std.proofs.Common.{ℕ, ◌≡◌, ◌+◌, ◌-◌, ◌*◌, ◌≤◌, not, cond, true, false, nat_eq, ◌&&◌, List, [], ◌∷◌, ◌++◌}
-use Rattle.std.proofs.Common.{length, filter, Option, Some, None, Result, Ok, Err, arith, leb-false, length-append}
-use Rattle.std.proofs.Common.{length-set, refl}
+use Rattle.std.proofs.Common.{ℕ, ◌≡◌, ◌+◌, ◌-◌, ◌*◌, ◌≤◌, not, cond, true, false, nat_eq, ◌&&◌, List, [], ◌∷◌, ◌++◌, length, filter}
+use Rattle.std.proofs.Common.{Option, Some, None, Result, Ok, Err, arith, leb-false, length-append, length-set, refl}
 use Rattle.rc_model.specs.Model.{ServerId, Pair, Addr, Server, Row, Part, Tablet, Grant, Fault, Deposed, StaleGeneration, StaleAttempt}
 use Rattle.rc_model.specs.Model.{NotReady, NoTable, BadSplit, TableExists, TooManyTablets, Recovering, Message, Body, Enlist, Ready}
 use Rattle.rc_model.specs.Model.{Commit, CommitOk, Replicas, Recovered, SplitOk, Gather, MAX_TABLETS, from_coordinator, to_each}

@@ -1,6 +1,5 @@
 -- What a master's rules do to the versions of the entries that it has, in a whole step.
-use Rattle.std.proofs.Common.{ℕ, ◌+◌, ◌-◌, ◌≤◌, Bool, true, false, List, [], ◌∷◌, map, Option, refl, sym, subst, ◌≡◌}
-use Rattle.std.proofs.Common.{arith}
+use Rattle.std.proofs.Common.{ℕ, ◌+◌, ◌-◌, ◌≤◌, Bool, true, false, List, [], ◌∷◌, map, Option, refl, sym, subst, ◌≡◌, arith}
 use Rattle.std.proofs.lemmas.List.Elements.{All-head}
 use Rattle.rc_model.specs.Model.{ServerId, Addr, Entry, Message, Body, Segment, with_closes_sent, Log, entries_of, old_head_of}
 use Rattle.rc_model.specs.Model.{with_segment, durable_now, opens_head, appends, next_digest, stored, commit_noted, loses, left_out}

@@ -7,9 +7,7 @@ use Rattle.rc_model.specs.Model.{replica_of, replica_after, is_refused, keeps, s
 use Rattle.rc_model.specs.Model.{data_of, answers_fetch, backup_takes, Master, In}
 use Rattle.rc_types.specs.declared.ids.Addr.TheVariants.{Coordinator as AtCoordinator}
 use Rattle.rc_types.specs.declared.messages.Body.TheVariants as body
-use Rattle.rc_step_laws.specs.Words.{Begins, log_in}
-use Rattle.rc_step_laws.specs.Facts.{GoodHeld, GoodReplica}
-use Rattle.rc_step_laws.specs.Later.{LogLater}
+use Rattle.rc_step_laws.specs.All.{Begins, log_in, GoodHeld, GoodReplica, LogLater}
 use Rattle.rc_step_laws.proofs.Lists.{begins-length}
 use Rattle.rc_step_laws.proofs.Copies.{More, grows-log}
 use Rattle.rc_owner_laws.specs.Data.{IsCut, data_between, data_fine}

@@ -1,7 +1,6 @@
 -- Attempts, answers and decisions: what is decided after one of them, and what the messages say that tell it.
-use Rattle.std.proofs.Common.{◌≡◌, ◌⊎◌, ℕ, ◌+◌, ◌-◌, ◌<◌, Bool, true, false, cond, List, [], ◌∷◌}
-use Rattle.std.proofs.Common.{◌++◌, length, find, slice_get, slice_set, Some, None}
-use Rattle.std.proofs.Common.{refl, sym, ap, ◌∙◌, subst, inl, inr, arith}
+use Rattle.std.proofs.Common.{◌≡◌, ◌⊎◌, ℕ, ◌+◌, ◌-◌, ◌<◌, Bool, true, false, cond, List, [], ◌∷◌, ◌++◌, length, find, slice_get}
+use Rattle.std.proofs.Common.{slice_set, Some, None, refl, sym, ap, ◌∙◌, subst, inl, inr, arith}
 use Rattle.rc_model.specs.Model.{ServerId, Addr, Server, Row, Part, Message, Body, put_id, to_each, same_id, Attempt, Decision, GivenPart}
 use Rattle.rc_model.specs.Model.{new_attempt, parts_of, plan_message, plan_messages, begins_attempt, with_answer, In}
 use Rattle.rc_types.specs.declared.ids.Addr.TheVariants.{Coordinator as AtCoordinator}

@@ -15,8 +15,7 @@ use Rattle.rc_types.specs.declared.messages.Body.TheVariants.{Plan as PlanBody}
 use Rattle.rc_model.specs.Coordinator.{Coordinator}
 use Rattle.rc_model.specs.Nodes.{Ask, Tick, Start}
 use Rattle.rc_model.proofs.Members.{In-append}
-use Rattle.rc_step_laws.specs.Words.{IsNumbered}
-use Rattle.rc_step_laws.specs.Moves.{MasterMoved, BackupMoved}
+use Rattle.rc_step_laws.specs.All.{IsNumbered, MasterMoved, BackupMoved}
 use Rattle.rc_step_laws.proofs.Attempting.{numbered-at}
 use Rattle.rc_step_laws.proofs.MasterSteps.{master_takes_keeps, master_ticks_keeps}
 use Rattle.rc_step_laws.proofs.Backups.{moved-backup}

@@ -6,9 +6,7 @@ use Rattle.rc_model.specs.Model.{GivenPart, part_of, given_to, gives_parts, deci
 use Rattle.rc_types.specs.declared.rows.Plan.{Plan}
 use Rattle.rc_model.specs.Coordinator.{Coordinator}
 use Rattle.rc_model.proofs.Members.{In-left, In-right, In-append}
-use Rattle.rc_step_laws.specs.Words.{IsNumbered}
-use Rattle.rc_step_laws.specs.Later.{AttemptLater}
-use Rattle.rc_step_laws.specs.Moves.{CoordinatorLater}
+use Rattle.rc_step_laws.specs.All.{IsNumbered, AttemptLater, CoordinatorLater}
 use Rattle.rc_step_laws.proofs.Lists.{get-set}
 use Rattle.rc_step_laws.proofs.Copies.{More, split}
 use Rattle.rc_owner_laws.specs.Grants.{owner_at, IsDecided, GoodGrants}

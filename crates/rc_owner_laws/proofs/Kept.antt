@@ -9,8 +9,7 @@ use Rattle.rc_model.specs.Model.{HasAcknowledged}
 use Rattle.rc_types.specs.declared.messages.Body.TheVariants as body
 use Rattle.rc_model.specs.Coordinator.{Coordinator}
 use Rattle.rc_model.proofs.Members.{In-left, In-right, In-get, place_of, filter-In}
-use Rattle.rc_step_laws.specs.Words.{log_in}
-use Rattle.rc_step_laws.specs.Facts.{IsSafe, IsWriteOk}
+use Rattle.rc_step_laws.specs.All.{log_in, IsSafe, IsWriteOk}
 use Rattle.rc_step_laws.proofs.Tests.{any-one}
 use Rattle.rc_owner_laws.proofs.OwnersOrdered.{one-chain}
 use Rattle.rc_owner_laws.specs.Grants.{IsOwn, own_said}
@@ -21,9 +20,8 @@ use Rattle.rc_owner_laws.specs.Worlds.{AllHold}
 use Rattle.rc_owner_laws.specs.Words.{Keeps, IsCarriedOn}
 use Rattle.rc_owner_laws.specs.VersionClaims.{NoVersionTwice}
 use Rattle.rc_owner_laws.proofs.Bases.{IsTaskOf, task-of}
-use Rattle.rc_owner_laws.proofs.Rising.{granted_of, IsRemembered, remembered, Has, has-itself, Covers}
-use Rattle.rc_owner_laws.proofs.Rising.{starts-keeps, GoesTo, goes-on, acked, acknowledger, IsOwned, owner}
-use Rattle.rc_owner_laws.proofs.Rising.{versions-rise}
+use Rattle.rc_owner_laws.proofs.Rising.{granted_of, IsRemembered, remembered, Has, has-itself, Covers, starts-keeps, GoesTo, goes-on}
+use Rattle.rc_owner_laws.proofs.Rising.{acked, acknowledger, IsOwned, owner, versions-rise}
 use Rattle.rc_model.proofs.Tests.{true_false}
 
 -- What stands in a segment is among the entries of the log's places

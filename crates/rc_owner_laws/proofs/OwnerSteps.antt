@@ -23,15 +23,13 @@ use Rattle.rc_types.specs.declared.rows.Plan.{Plan}
 use Rattle.rc_model.specs.Coordinator.{Coordinator}
 use Rattle.rc_model.specs.Nodes.{Tick, Suspect, Decide}
 use Rattle.rc_model.proofs.Members.{In-left, In-right, In-append}
-use Rattle.rc_step_laws.specs.Words.{IsNumbered}
-use Rattle.rc_step_laws.specs.Facts.{GoodCoordinator}
+use Rattle.rc_step_laws.specs.All.{IsNumbered, GoodCoordinator}
 use Rattle.rc_step_laws.proofs.Servers.{crashed-not-up, crashed-stays-crashed, crashed-stays-enlisted}
 use Rattle.rc_step_laws.proofs.Attempting.{numbered-at, numbered-same, numbered-set, undecided-none}
 use Rattle.rc_owner_laws.specs.Grants.{TabletsApart, owner_of, owner_at, term_in, term_at, IsGiven, PartsApart}
 use Rattle.rc_owner_laws.specs.Grants.{IsDecided, GoodGrants, GrantsMoved}
-use Rattle.rc_owner_laws.proofs.Tablets.{some-none, owner_at-marked, apart-marked, owner_at-split}
-use Rattle.rc_owner_laws.proofs.Tablets.{apart-split, owner_at-new, owner_at-beside, owner_at-before, apart-new}
-use Rattle.rc_owner_laws.proofs.Tablets.{assigned-beside, assigned-within, apart-assigned}
+use Rattle.rc_owner_laws.proofs.Tablets.{some-none, owner_at-marked, apart-marked, owner_at-split, apart-split, owner_at-new}
+use Rattle.rc_owner_laws.proofs.Tablets.{owner_at-beside, owner_at-before, apart-new, assigned-beside, assigned-within, apart-assigned}
 use Rattle.rc_owner_laws.proofs.Chains.{found-at, of_owner, apart-of_owner, IsPartOf, part-of, length-gives, parts-apart, part-once}
 use Rattle.rc_owner_laws.proofs.Granting.{kept-good, IsNewGrant, granted-good}
 use Rattle.rc_owner_laws.proofs.Decided.{find-none, gives, given-in, OwnSays, says-none, says-one}

@@ -1,7 +1,6 @@
 -- Each step of a master keeps its parts.
-use Rattle.std.proofs.Common.{◌-◌, drop, take, ◌≡◌, ◌⊎◌, ℕ, zero, suc, ◌<◌, Bool, true, false, cond, not, List, [], ◌∷◌}
-use Rattle.std.proofs.Common.{◌++◌, length, map, filter, nat_lt, find, Option, Some, None, option_map, refl, sym, ap}
-use Rattle.std.proofs.Common.{◌∙◌, subst, inl, inr, arith}
+use Rattle.std.proofs.Common.{◌-◌, drop, take, ◌≡◌, ◌⊎◌, ℕ, zero, suc, ◌<◌, Bool, true, false, cond, not, List, [], ◌∷◌, ◌++◌, length}
+use Rattle.std.proofs.Common.{map, filter, nat_lt, find, Option, Some, None, option_map, refl, sym, ap, ◌∙◌, subst, inl, inr, arith}
 use Rattle.std.proofs.lemmas.Bool.{and_parts, ltb-true}
 use Rattle.std.proofs.lemmas.List.{append-nil}
 use Rattle.rc_model.specs.Model.{ServerId, Addr, Server, Outside, Entry, Part, PlanRow, GrantedRange, Fault, Message, Body, between}
@@ -20,12 +19,10 @@ use Rattle.rc_step_laws.proofs.Tests.{In-take, find-one}
 use Rattle.rc_owner_laws.specs.Parts.{PartView, part_view, RangeWasGranted, WasPlanned, GoodParts}
 use Rattle.rc_owner_laws.specs.PartMoves.{HasHead, IsComplete, HasEnded, part_said, StateLater, PartsLater, PartsMoved, PartsHear}
 use Rattle.rc_owner_laws.specs.PartClaims.{TakesKeepParts, TicksKeepParts, NewHasGoodParts}
-use Rattle.rc_owner_laws.proofs.PartViews.{IsPlain, plain-says, plain-none, plain-one, plain-to_ids}
-use Rattle.rc_owner_laws.proofs.PartViews.{later-refl, quiet}
-use Rattle.rc_owner_laws.proofs.PartPlaces.{same-stored, same-committed, quiet-log}
+use Rattle.rc_owner_laws.proofs.PartViews.{IsPlain, plain-says, plain-none, plain-one, plain-to_ids, later-refl, quiet}
+use Rattle.rc_owner_laws.proofs.PartPlaces.{same-stored, same-committed, quiet-log, same-segment, same-starts, same-closes, same-writes}
 use Rattle.rc_model.proofs.Walk.{Taken, Ticked, Followed, begun as begun_master, kept-takes, kept-ticks}
 use Rattle.rc_model.proofs.Sending.{each-map, each-frees, each-write_oks, each-reminds}
-use Rattle.rc_owner_laws.proofs.PartPlaces.{same-segment, same-starts, same-closes, same-writes}
 use Rattle.rc_owner_laws.proofs.Quiet.{Kept, parts-joined, parts-listed, parts-rolls}
 use Rattle.rc_owner_laws.proofs.Appending.{good-durable, with_place, owns-point, good-client, replayed, good-replayed}
 use Rattle.rc_owner_laws.proofs.States.{data-stays, SameState, was-answered}

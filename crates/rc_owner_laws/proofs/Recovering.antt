@@ -11,16 +11,14 @@ use Rattle.rc_model.specs.Model.{count_under, is_complete, answered_in, after_an
 use Rattle.rc_model.proofs.Members.{In-append, In-left, In-right}
 use Rattle.rc_step_laws.specs.Words.{Begins}
 use Rattle.rc_step_laws.proofs.Lists.{begins-refl}
-use Rattle.rc_owner_laws.specs.Parts.{PartView, logged, under, durable_under, RangeWasGranted, WasPlanned, HasSent}
-use Rattle.rc_owner_laws.specs.Parts.{rows_of_task, SomeCame, AllCame, IsWaiting, HasJoined, IsPart, IsClients}
-use Rattle.rc_owner_laws.specs.Parts.{IsReplayed, GoodParts}
+use Rattle.rc_owner_laws.specs.Parts.{PartView, logged, under, durable_under, RangeWasGranted, WasPlanned, HasSent, rows_of_task}
+use Rattle.rc_owner_laws.specs.Parts.{SomeCame, AllCame, IsWaiting, HasJoined, IsPart, IsClients, IsReplayed, GoodParts}
 use Rattle.rc_owner_laws.specs.PartMoves.{IsComplete}
 use Rattle.rc_owner_laws.proofs.PartLists.{append-nil, under-append, under-all, under-none, count-take, nothing-more}
 use Rattle.rc_owner_laws.proofs.Appending.{knows-part, owns-granted}
 use Rattle.rc_owner_laws.proofs.States.{has_term, has_term-same, differ-same, one-term, differ-append, awaits-some, joined-part}
-use Rattle.rc_owner_laws.proofs.States.{awaits-term, same-data, replay-term, IsOther, IsTaker, data-cases}
-use Rattle.rc_owner_laws.proofs.States.{some-with_row, rows-some, all-came, SameState, same-answered, answered-was}
-use Rattle.rc_owner_laws.proofs.States.{was-answered, data-stays}
+use Rattle.rc_owner_laws.proofs.States.{awaits-term, same-data, replay-term, IsOther, IsTaker, data-cases, some-with_row, rows-some}
+use Rattle.rc_owner_laws.proofs.States.{all-came, SameState, same-answered, answered-was, was-answered, data-stays}
 use Rattle.rc_model.proofs.Tests.{true_false, either}
 
 abbrev pub with_own : Ownership → PartView → PartView

@@ -11,8 +11,7 @@ use Rattle.rc_types.specs.declared.ids.Addr.TheVariants.{Coordinator as AtCoordi
 use Rattle.rc_types.specs.declared.messages.Body.TheVariants as body
 use Rattle.rc_model.specs.Coordinator.{Coordinator}
 use Rattle.rc_model.proofs.Members.{In-append, In-get, In-left, In-map, map-In, In-filter, filter-In}
-use Rattle.rc_step_laws.specs.Words.{Begins, log_in}
-use Rattle.rc_step_laws.specs.Facts.{IsSafe, IsWriteOk, body_fine}
+use Rattle.rc_step_laws.specs.All.{Begins, log_in, IsSafe, IsWriteOk, body_fine}
 use Rattle.rc_log_laws.proofs.Clauses.{accepted-is, acknowledged-is}
 use Rattle.rc_log_laws.proofs.Covers.{IsCovered, PlanIs, covered}
 use Rattle.rc_owner_laws.specs.Grants.{IsOwn, own_said}

@@ -10,8 +10,7 @@ use Rattle.rc_types.specs.declared.rows.Plan.{Plan}
 use Rattle.rc_types.specs.declared.messages.Body.TheVariants as body
 use Rattle.rc_model.specs.Coordinator.{Coordinator}
 use Rattle.rc_model.proofs.Said.{HasMade-from, HasMade-in}
-use Rattle.rc_step_laws.specs.Words.{Begins, log_in, IsNumbered}
-use Rattle.rc_step_laws.specs.Facts.{Good, IsPlan, body_fine}
+use Rattle.rc_step_laws.specs.All.{Begins, log_in, IsNumbered, Good, IsPlan, body_fine}
 use Rattle.rc_step_laws.proofs.Attempting.{numbered-same}
 use Rattle.rc_log_laws.proofs.Clauses.{made-is, accepted-is, held-made}
 use Rattle.rc_owner_laws.specs.Terms.{IsGivenBy}

@@ -1,7 +1,6 @@
 -- Each step of the coordinator keeps each part that waits for its grant a tablet of the list, and refuses nobody for want of one.
-use Rattle.std.proofs.Common.{◌≡◌, ◌⊎◌, ℕ, ◌+◌, ◌-◌, ◌≤◌, Bool, true, false, cond, not, ◌&&◌, List, [], ◌∷◌, ◌++◌}
-use Rattle.std.proofs.Common.{length, filter, nat_eq, slice_get, Option, Some, None, Result, Ok, Err, refl, sym, ap}
-use Rattle.std.proofs.Common.{◌∙◌, subst, inl, inr, arith}
+use Rattle.std.proofs.Common.{◌≡◌, ◌⊎◌, ℕ, ◌+◌, ◌-◌, ◌≤◌, Bool, true, false, cond, not, ◌&&◌, List, [], ◌∷◌, ◌++◌, length, filter, nat_eq}
+use Rattle.std.proofs.Common.{slice_get, Option, Some, None, Result, Ok, Err, refl, sym, ap, ◌∙◌, subst, inl, inr, arith}
 use Rattle.std.proofs.lemmas.Bool.{and_parts, not-false}
 use Rattle.std.proofs.lemmas.Bool.Decides.{nat_tests}
 use Rattle.rc_model.specs.Model.{ServerId, Pair, Addr, Server, Outside, Row, Part, Tablet, Grant, Fault, Deposed, StaleGeneration}
@@ -24,8 +23,7 @@ use Rattle.rc_types.specs.declared.messages.Body.TheVariants.{Plan as PlanBody}
 use Rattle.rc_model.specs.Coordinator.{Coordinator}
 use Rattle.rc_model.specs.Nodes.{Tick, Suspect, Decide}
 use Rattle.rc_model.proofs.Members.{In-left, In-append}
-use Rattle.rc_step_laws.specs.Facts.{GoodCoordinator}
-use Rattle.rc_step_laws.specs.Words.{IsNumbered}
+use Rattle.rc_step_laws.specs.All.{GoodCoordinator, IsNumbered}
 use Rattle.rc_step_laws.proofs.Servers.{crashed-not-up}
 use Rattle.rc_step_laws.proofs.Attempting.{numbered-at, undecided-none}
 use Rattle.rc_owner_laws.specs.Grants.{IsGiven, IsDecided, GoodGrants}

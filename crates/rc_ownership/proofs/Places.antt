@@ -1,7 +1,6 @@
 -- The places of the parts whose end may not have been told.
-use Rattle.std.proofs.Common.{◌≡◌, ℕ, ◌+◌, inl, inr, Bool, true, false, cond, not, ◌&&◌, find, filter, Option}
-use Rattle.std.proofs.Common.{Some, None, option_map, List, [], ◌∷◌, ◌++◌, length, suc, sym, ap, subst, ◌∙◌, refl, arith}
-use Rattle.std.proofs.Common.{true≢false}
+use Rattle.std.proofs.Common.{◌≡◌, ℕ, ◌+◌, inl, inr, Bool, true, false, cond, not, ◌&&◌, find, filter, Option, Some, None, option_map}
+use Rattle.std.proofs.Common.{List, [], ◌∷◌, ◌++◌, length, suc, sym, ap, subst, ◌∙◌, refl, arith, true≢false}
 use Rattle.std.specs.Prelude.{slice_get}
 use Rattle.std.specs.Option.{option_map_or}
 use Rattle.std.specs.Map.{lookup, set_value}

@@ -5,8 +5,7 @@ use Rattle.rc_model.specs.Model.{reminds, master_takes_first, deposed_takes, mas
 use Rattle.rc_model.proofs.Tests.{true_false}
 use Rattle.rc_model.proofs.Walk.{Joined, Listed, Taken, Ticked, Followed, kept-then, kept-takes_first, kept-deposed}
 use Rattle.rc_model.proofs.Walk.{kept-goes_on, kept-ticks}
-use Rattle.rc_model.proofs.Sending.{Each, each-none, each-one, each-both, each-map, each-to_ids, each-frees}
-use Rattle.rc_model.proofs.Sending.{each-write_oks, each-reminds}
+use Rattle.rc_model.proofs.Sending.{Each, each-none, each-one, each-both, each-map, each-to_ids, each-frees, each-write_oks, each-reminds}
 
 -- the message answers a read
 abbrev pub is_read_ok : Body → Bool

@@ -5,8 +5,7 @@ use Rattle.std.proofs.lemmas.Bool.{eqb-true, eq-eqb}
 use Rattle.rc_model.specs.Model.{ServerId, Server, Entry, Grant, Message, Ack, Master, HostNode, replay, HasAcknowledged, WasAcknowledged}
 use Rattle.rc_model.specs.Model.{HasMade}
 use Rattle.rc_model.specs.Coordinator.{Coordinator}
-use Rattle.rc_step_laws.specs.Words.{log_in}
-use Rattle.rc_step_laws.specs.Facts.{IsWriteOk}
+use Rattle.rc_step_laws.specs.All.{log_in, IsWriteOk}
 use Rattle.rc_log_laws.proofs.Clauses.{made-is}
 use Rattle.rc_log_laws.proofs.Replays.{good-world}
 use Rattle.rc_write_laws.specs.AckClaims.{IsAsked}

@@ -1,7 +1,6 @@
 -- A read misses no write that was acknowledged under an earlier term, or before it under its own.
-use Rattle.std.proofs.Common.{◌≡◌, ◌⊎◌, ◌≢◌, ℕ, zero, suc, ◌<◌, ◌≤◌, Bool, true, false, cond, ◌&&◌, IsTrue, List, []}
-use Rattle.std.proofs.Common.{◌∷◌, ◌++◌, length, map, filter, take, Option, Some, slice_get, refl, sym, ap, ◌∙◌, subst}
-use Rattle.std.proofs.Common.{inl, inr, arith}
+use Rattle.std.proofs.Common.{◌≡◌, ◌⊎◌, ◌≢◌, ℕ, zero, suc, ◌<◌, ◌≤◌, Bool, true, false, cond, ◌&&◌, IsTrue, List, [], ◌∷◌, ◌++◌, length}
+use Rattle.std.proofs.Common.{map, filter, take, Option, Some, slice_get, refl, sym, ap, ◌∙◌, subst, inl, inr, arith}
 use Rattle.std.proofs.lemmas.List.{take-append-le, length-append}
 use Rattle.rc_model.specs.Model.{ServerId, Addr, Server, Entry, PlanRow, Setup, Event, Grant, Message, Body, WriteOk, made, Ack, Accepted}
 use Rattle.rc_model.specs.Model.{Granted, granted, covers, grants_of, IsBefore, previous, onward, IsEarlier, one_of, made_below}
@@ -9,8 +8,7 @@ use Rattle.rc_model.specs.Model.{recovered_entries, base, is_carried, is_stored_
 use Rattle.rc_model.specs.Model.{Found, read_of, in_range, term_of, under_term, Master, durable_entries, write_oks, factor_of, World}
 use Rattle.rc_model.specs.Model.{replay, master_of, In, HasMade, HasAcknowledged, WasAccepted, IsHeld}
 use Rattle.rc_model.proofs.Members.{In-left, In-get, place_of, filter-In}
-use Rattle.rc_step_laws.specs.Words.{Begins, log_in}
-use Rattle.rc_step_laws.specs.Facts.{IsSafe, IsWriteOk}
+use Rattle.rc_step_laws.specs.All.{Begins, log_in, IsSafe, IsWriteOk}
 use Rattle.rc_step_laws.proofs.Logs.{get-log}
 use Rattle.rc_step_laws.proofs.Places.{IsOf, places_to-are, place-logged}
 use Rattle.rc_step_laws.proofs.Tests.{In-take, get-map}

@@ -2,8 +2,7 @@
 use Rattle.std.proofs.Common.{◌≡◌, ◌⊎◌, ℕ, ◌<◌, List, ◌∷◌, ◌++◌, Some, slice_get, refl, sym, ap, ◌∙◌, subst, inl, inr, arith}
 use Rattle.rc_model.specs.Model.{ServerId, Entry, Grant, Message, Ack, IsEarlier, places_of, Master, HostNode, In, HasAcknowledged}
 use Rattle.rc_model.specs.Coordinator.{Coordinator}
-use Rattle.rc_step_laws.specs.Words.{log_in}
-use Rattle.rc_step_laws.specs.Facts.{IsSafe}
+use Rattle.rc_step_laws.specs.All.{log_in, IsSafe}
 use Rattle.rc_owner_laws.specs.Parts.{logged}
 use Rattle.rc_owner_laws.specs.Worlds.{AllHold}
 use Rattle.rc_owner_laws.specs.VersionClaims.{MayFree}

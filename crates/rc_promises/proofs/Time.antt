@@ -4,8 +4,7 @@ use Rattle.rc_model.specs.Model.{ServerId, Addr, Server, Entry, Setup, Event, Gr
 use Rattle.rc_model.specs.Model.{previous, onward, IsEarlier, from_coordinator, places_of, in_range, own_body, World, replay, In}
 use Rattle.rc_model.specs.Model.{HasAcknowledged, WasAccepted}
 use Rattle.rc_model.proofs.Members.{In-left, In-get, place_of}
-use Rattle.rc_step_laws.specs.Words.{Begins, log_in}
-use Rattle.rc_step_laws.specs.Facts.{IsWriteOk}
+use Rattle.rc_step_laws.specs.All.{Begins, log_in, IsWriteOk}
 use Rattle.rc_step_laws.proofs.Logs.{get-log}
 use Rattle.rc_step_laws.proofs.Places.{IsOf, places_to-are, place-logged, places-later}
 use Rattle.rc_log_laws.proofs.Clauses.{made-is, accepted-is}

@@ -9,10 +9,8 @@ use Rattle.rc_types.specs.declared.ids.Addr.TheVariants.{Coordinator as AtCoordi
 use Rattle.std.proofs.lemmas.List.{length-append, length-set}
 use Rattle.rc_model.specs.Coordinator.{Coordinator}
 use Rattle.rc_model.proofs.Members.{In-left}
-use Rattle.rc_step_laws.specs.Words.{OnDifferentHosts, IsNumbered, IsOf}
-use Rattle.rc_step_laws.specs.Facts.{GoodAttempt, GoodCoordinator}
-use Rattle.rc_step_laws.specs.Later.{AttemptLater}
-use Rattle.rc_step_laws.specs.Moves.{CoordinatorMoved, coordinator_body_said}
+use Rattle.rc_step_laws.specs.All.{OnDifferentHosts, IsNumbered, IsOf, GoodAttempt, GoodCoordinator, AttemptLater, CoordinatorMoved}
+use Rattle.rc_step_laws.specs.All.{coordinator_body_said}
 use Rattle.rc_step_laws.proofs.Lists.{get-left, get-end, get-append, get-within, get-set, set-get}
 use Rattle.rc_model.proofs.Tests.{either}
 use Rattle.rc_model.proofs.Tables.{put_id_each}

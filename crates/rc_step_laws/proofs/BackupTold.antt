@@ -2,8 +2,7 @@
 use Rattle.std.proofs.Common.{◌≡◌, ◌⊎◌, ℕ, ◌<◌, ◌≤◌, Bool, true, false, List, [], ◌∷◌, ◌++◌, length, refl, ap, inl, inr, arith}
 use Rattle.rc_model.specs.Model.{ServerId, Server, Entry, Message, Place, Stored, between, Replica, Held, Log, In}
 use Rattle.rc_model.proofs.Members.{In-append}
-use Rattle.rc_step_laws.specs.Words.{HasTold, HasToldClosed, IsMember}
-use Rattle.rc_step_laws.specs.Facts.{IsCopy, GoodReplica, GoodHeld}
+use Rattle.rc_step_laws.specs.All.{HasTold, HasToldClosed, IsMember, IsCopy, GoodReplica, GoodHeld}
 use Rattle.rc_step_laws.proofs.Copies.{More, made-more, placed-more, opened_at-more}
 
 -- no Place is new

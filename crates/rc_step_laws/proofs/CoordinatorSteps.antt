@@ -1,7 +1,6 @@
 -- Each step of the coordinator keeps what holds of it, and says only what it may say.
-use Rattle.std.proofs.Common.{◌≡◌, ◌⊎◌, ℕ, ◌+◌, true, false, cond, not, ◌&&◌, List, [], ◌∷◌, ◌++◌, length, filter}
-use Rattle.std.proofs.Common.{slice_get, Option, Some, None, Result, Ok, Err, refl, sym, ap, ◌∙◌, subst, inl, inr, suc}
-use Rattle.std.proofs.Common.{arith}
+use Rattle.std.proofs.Common.{◌≡◌, ◌⊎◌, ℕ, ◌+◌, true, false, cond, not, ◌&&◌, List, [], ◌∷◌, ◌++◌, length, filter, slice_get, Option}
+use Rattle.std.proofs.Common.{Some, None, Result, Ok, Err, refl, sym, ap, ◌∙◌, subst, inl, inr, suc, arith}
 use Rattle.std.proofs.lemmas.Bool.{and_parts}
 use Rattle.rc_model.specs.Model.{ServerId, Pair, Addr, Server, Outside, Row, Part, Grant, Fault, Deposed, StaleGeneration, StaleAttempt}
 use Rattle.rc_model.specs.Model.{NotReady, NoTable, TableExists, TooManyTablets, Message, Body, Enlist, Ready, Commit, CommitOk, Replicas}
@@ -21,14 +20,11 @@ use Rattle.rc_types.specs.declared.rows.Plan.{Plan}
 use Rattle.rc_types.specs.declared.messages.Body.TheVariants.{Plan as PlanBody}
 use Rattle.rc_model.specs.Coordinator.{Coordinator}
 use Rattle.rc_model.proofs.Members.{In-left, In-append}
-use Rattle.rc_step_laws.specs.Words.{OnDifferentHosts, IsNumbered}
-use Rattle.rc_step_laws.specs.Facts.{IsPlan, GoodAttempt, GoodCoordinator}
-use Rattle.rc_step_laws.specs.Moves.{CoordinatorMoved, CoordinatorMayHear, coordinator_body_said}
-use Rattle.rc_step_laws.proofs.Servers.{crashed-not-up, crashed-stays-crashed, crashed-stays-enlisted}
-use Rattle.rc_step_laws.proofs.Servers.{apart-crashed, apart-enlisted}
-use Rattle.rc_step_laws.proofs.Attempting.{below-refl, numbered-at, Kept, Says, undecided-none}
-use Rattle.rc_step_laws.proofs.Attempting.{says-none, says-one, says-each, moved-kept, moved-added, of-added}
-use Rattle.rc_step_laws.proofs.Attempting.{moved-changed, numbered-set}
+use Rattle.rc_step_laws.specs.All.{OnDifferentHosts, IsNumbered, IsPlan, GoodAttempt, GoodCoordinator, CoordinatorMoved}
+use Rattle.rc_step_laws.specs.All.{CoordinatorMayHear, coordinator_body_said}
+use Rattle.rc_step_laws.proofs.Servers.{crashed-not-up, crashed-stays-crashed, crashed-stays-enlisted, apart-crashed, apart-enlisted}
+use Rattle.rc_step_laws.proofs.Attempting.{below-refl, numbered-at, Kept, Says, undecided-none, says-none, says-one, says-each}
+use Rattle.rc_step_laws.proofs.Attempting.{moved-kept, moved-added, of-added, moved-changed, numbered-set}
 use Rattle.rc_model.proofs.Tables.{put_id-same, put_id_each}
 use Rattle.rc_model.proofs.Tests.{true_false, either}
 use Rattle.rc_model.proofs.Granting.{greater-left, greater-right}

@@ -1,7 +1,6 @@
 -- The rules that follow up an input, one by one, and then until none applies.
-use Rattle.std.proofs.Common.{◌≡◌, ◌⊎◌, ℕ, ◌+◌, ◌-◌, ◌<◌, Bool, true, false, not, nat_eq, ◌&&◌}
-use Rattle.std.proofs.Common.{List, [], ◌∷◌, ◌++◌, length, take, map, filter, slice_get, Some, refl, sym}
-use Rattle.std.proofs.Common.{ap, ◌∙◌, subst, inl, inr, arith}
+use Rattle.std.proofs.Common.{◌≡◌, ◌⊎◌, ℕ, ◌+◌, ◌-◌, ◌<◌, Bool, true, false, not, nat_eq, ◌&&◌, List, [], ◌∷◌, ◌++◌, length, take, map}
+use Rattle.std.proofs.Common.{filter, slice_get, Some, refl, sym, ap, ◌∙◌, subst, inl, inr, arith}
 use Rattle.std.proofs.lemmas.Bool.{and_parts, eqb-true, ltb-true}
 use Rattle.std.specs.List.{list_any}
 use Rattle.std.proofs.lemmas.List.{length-map}
@@ -14,10 +13,7 @@ use Rattle.rc_model.specs.Model.{after_answer, Master, with_log, durable_entries
 use Rattle.rc_model.specs.Model.{close_marked, frees_segments, first_open, commits, write_oks, new_durable, replays, attempt_of, goes_on}
 use Rattle.rc_model.specs.Model.{In}
 use Rattle.rc_model.proofs.Members.{In-append, In-map, In-filter}
-use Rattle.rc_step_laws.specs.Words.{log_in, IsOpened, HasToldClosed}
-use Rattle.rc_step_laws.specs.Facts.{IsSafe}
-use Rattle.rc_step_laws.specs.Later.{LogLater}
-use Rattle.rc_step_laws.specs.Moves.{OwnFine, MasterSays}
+use Rattle.rc_step_laws.specs.All.{log_in, IsOpened, HasToldClosed, IsSafe, LogLater, OwnFine, MasterSays}
 use Rattle.rc_step_laws.proofs.Lists.{begins-refl, get-drop, get-take}
 use Rattle.rc_step_laws.proofs.Logs.{Grown, safe-grown, told_closed-more}
 use Rattle.rc_step_laws.proofs.Tests.{all-each, find-one}
@@ -25,12 +21,10 @@ use Rattle.rc_step_laws.proofs.LogMoves.{GoodSegment, GoodLog, LogMoved, more-le
 use Rattle.rc_step_laws.proofs.Places.{numbers-In, places_to-are, place-logged, durable-within}
 use Rattle.rc_step_laws.proofs.Safe.{durable-safe}
 use Rattle.rc_step_laws.proofs.Segments.{log-later, later-refl, counted-still, within-still, put-moved, marked-moved}
-use Rattle.rc_step_laws.proofs.Views.{GoodView, Moved, moved-quiet, AllQuiet}
-use Rattle.rc_step_laws.proofs.Views.{IsQuietOf, quiet-none, quiet-one, quiet-says, quiet-no_place}
-use Rattle.rc_step_laws.proofs.Views.{quiet-moved}
+use Rattle.rc_step_laws.proofs.Views.{GoodView, Moved, moved-quiet, AllQuiet, IsQuietOf, quiet-none, quiet-one, quiet-says}
+use Rattle.rc_step_laws.proofs.Views.{quiet-no_place, quiet-moved, Kept, joined}
 use Rattle.rc_step_laws.proofs.Rolling.{writing-is}
 use Rattle.rc_model.proofs.Walk.{Followed, kept-goes_on}
-use Rattle.rc_step_laws.proofs.Views.{Kept, joined}
 use Rattle.rc_model.proofs.Sending.{each-frees, each-write_oks, each-to_ids}
 use Rattle.rc_step_laws.proofs.Writing.{moved-appends, moved-opens_roll}
 use Rattle.rc_model.proofs.Tables.{put-same}

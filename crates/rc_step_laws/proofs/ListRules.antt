@@ -9,9 +9,7 @@ use Rattle.rc_model.specs.Model.{Log, with_segment, numbers_to, opened_first, op
 use Rattle.rc_model.specs.Model.{Master, with_log, to_ids, ids_of, place_of, places_segment, replaces_lost, replaces_lost_of, opens_first}
 use Rattle.rc_model.specs.Model.{tries_first, obeys_list, takes_list, In}
 use Rattle.rc_model.proofs.Members.{In-right, map-In}
-use Rattle.rc_step_laws.specs.Words.{log_in, IsOpened, OnDifferentHosts}
-use Rattle.rc_step_laws.specs.Facts.{IsPlace}
-use Rattle.rc_step_laws.specs.Moves.{OwnFine, MasterSays}
+use Rattle.rc_step_laws.specs.All.{log_in, IsOpened, OnDifferentHosts, IsPlace, OwnFine, MasterSays}
 use Rattle.rc_step_laws.proofs.Lists.{begins-refl}
 use Rattle.rc_step_laws.proofs.LogMoves.{GoodLog, LogMoved, IsFresh}
 use Rattle.rc_step_laws.proofs.Places.{numbers-In}

@@ -7,14 +7,11 @@ use Rattle.rc_model.specs.Model.{WriteOk, Stored, between, told_len, told_closed
 use Rattle.rc_model.specs.Model.{In}
 use Rattle.rc_types.specs.declared.ids.Addr.TheVariants.{Coordinator}
 use Rattle.rc_model.proofs.Members.{In-left, In-append}
-use Rattle.rc_step_laws.specs.Words.{log_in, IsOpened, HasTold, HasToldClosed, IsMember, IsCommitted, OnDifferentHosts}
-use Rattle.rc_step_laws.specs.Facts.{IsSafe, IsDigest, IsPlace}
-use Rattle.rc_step_laws.specs.Later.{LogLater, IsNewPlace}
-use Rattle.rc_step_laws.specs.Moves.{OwnFine, MasterSays, body_said}
+use Rattle.rc_step_laws.specs.All.{log_in, IsOpened, HasTold, HasToldClosed, IsMember, IsCommitted, OnDifferentHosts, IsSafe, IsDigest}
+use Rattle.rc_step_laws.specs.All.{IsPlace, LogLater, IsNewPlace, OwnFine, MasterSays, body_said}
 use Rattle.rc_step_laws.proofs.Copies.{More}
-use Rattle.rc_step_laws.proofs.Logs.{Grown, member-more, told-more, told_closed-more, committed-more, length-log}
-use Rattle.rc_step_laws.proofs.Logs.{log_later-trans, safe-grown, digest-grown, place-grown, append-grown}
-use Rattle.rc_step_laws.proofs.Logs.{close-grown, write_ok-grown, own_fine-grown}
+use Rattle.rc_step_laws.proofs.Logs.{Grown, member-more, told-more, told_closed-more, committed-more, length-log, log_later-trans}
+use Rattle.rc_step_laws.proofs.Logs.{safe-grown, digest-grown, place-grown, append-grown, close-grown, write_ok-grown, own_fine-grown}
 
 -- What holds of a log
 

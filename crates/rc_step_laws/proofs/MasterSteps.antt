@@ -6,10 +6,8 @@ use Rattle.rc_model.specs.Model.{goes_on, fetch_of, ticks, task_of, takes_plan, 
 use Rattle.rc_model.specs.Model.{master_takes, master_ticks, In}
 use Rattle.rc_types.specs.declared.ids.Addr.TheVariants.{Coordinator}
 use Rattle.rc_types.specs.declared.messages.Body.TheVariants.{Plan, List as ServersOf}
-use Rattle.rc_step_laws.specs.Words.{OnDifferentHosts}
-use Rattle.rc_step_laws.specs.Facts.{GoodMaster}
-use Rattle.rc_step_laws.specs.Moves.{OwnFine, MasterMoved, MayHear}
-use Rattle.rc_step_laws.specs.MasterClaims.{MasterTakesKeeps, MasterTicksKeeps, NewMasterIsGood}
+use Rattle.rc_step_laws.specs.All.{OnDifferentHosts, GoodMaster, OwnFine, MasterMoved, MayHear, MasterTakesKeeps, MasterTicksKeeps}
+use Rattle.rc_step_laws.specs.All.{NewMasterIsGood}
 use Rattle.rc_step_laws.proofs.LogMoves.{GoodLog}
 use Rattle.rc_model.proofs.Walk.{begun, kept-plan}
 use Rattle.rc_step_laws.proofs.Views.{Kept, joined, GoodView, Moved, moved-then_does, moved-quiet, quiet-none, still}

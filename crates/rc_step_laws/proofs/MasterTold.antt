@@ -4,8 +4,7 @@ use Rattle.std.proofs.lemmas.Bool.{and_parts, eqb-true, ltb-true, leb-true}
 use Rattle.rc_model.specs.Model.{ServerId, Member, Phase, Message, Stored, CommitOk, between, from_coordinator, Config, told_if_heard}
 use Rattle.rc_model.specs.Model.{noted, committed_at, Segment, Log, has_segment, with_config, stored, commit_noted, Master, with_log}
 use Rattle.rc_model.specs.Model.{ids_of, In}
-use Rattle.rc_step_laws.specs.Words.{IsOpened}
-use Rattle.rc_step_laws.specs.Moves.{OwnFine}
+use Rattle.rc_step_laws.specs.All.{IsOpened, OwnFine}
 use Rattle.rc_step_laws.proofs.LogMoves.{GoodSegment, GoodLog, LogMoved}
 use Rattle.rc_step_laws.proofs.Segments.{SegmentSteady, steady-moved, marked-steady}
 use Rattle.rc_step_laws.proofs.Members.{EachNoted, each-told, ids-told}

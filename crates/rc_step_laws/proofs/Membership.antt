@@ -7,8 +7,7 @@ use Rattle.rc_model.specs.Made.{placed_to, members_of}
 use Rattle.rc_model.proofs.Tests.{either}
 use Rattle.rc_model.proofs.Members.{In-gathered, In-gathered_rest, In-gathered_piece}
 use Rattle.rc_model.proofs.Said.{is_server-true, is_server-from}
-use Rattle.rc_step_laws.specs.Words.{IsMember}
-use Rattle.rc_step_laws.specs.MemberClaims.{MembersWerePlaced}
+use Rattle.rc_step_laws.specs.All.{IsMember, MembersWerePlaced}
 
 -- what makes x a member
 record Places (to : Addr) (body : Body) (s e : ℕ) (x : ServerId) : Type 0 where

@@ -5,9 +5,7 @@ use Rattle.std.proofs.lemmas.Bool.{and_parts}
 use Rattle.rc_model.specs.Model.{ServerId, Member, Message, Config, told_len, any_lost, least_told, durable_len, Segment, durable_in, Log}
 use Rattle.rc_model.specs.Model.{LogPlace, places_of, durable_now, In}
 use Rattle.rc_model.proofs.Members.{In-map}
-use Rattle.rc_step_laws.specs.Words.{log_in, HasTold, IsMember}
-use Rattle.rc_step_laws.specs.Facts.{IsSafe}
-use Rattle.rc_step_laws.specs.Moves.{OwnFine}
+use Rattle.rc_step_laws.specs.All.{log_in, HasTold, IsMember, IsSafe, OwnFine}
 use Rattle.rc_step_laws.proofs.Lists.{get-within}
 use Rattle.rc_step_laws.proofs.Copies.{split}
 use Rattle.rc_step_laws.proofs.LogMoves.{GoodLog}

@@ -3,10 +3,8 @@ use Rattle.std.proofs.Common.{◌≡◌, ◌⊎◌, ℕ, ◌<◌, ◌≤◌, Boo
 use Rattle.std.proofs.Common.{sym, ap, ◌∙◌, subst, arith}
 use Rattle.rc_model.specs.Model.{ServerId, Entry, Member, Phase, Writing, Message, Place, between, Config, told_len, told_closed, Segment}
 use Rattle.rc_model.specs.Model.{no_segment, Log, LogPlace, places_of, with_segment, ids_of, In}
-use Rattle.rc_step_laws.specs.Words.{Begins, log_in, IsOpened, HasTold, HasToldClosed, IsMember, IsCommitted, OnDifferentHosts}
-use Rattle.rc_step_laws.specs.Facts.{IsSafe}
-use Rattle.rc_step_laws.specs.Later.{LogLater}
-use Rattle.rc_step_laws.specs.Moves.{OwnFine, MasterSays}
+use Rattle.rc_step_laws.specs.All.{Begins, log_in, IsOpened, HasTold, HasToldClosed, IsMember, IsCommitted, OnDifferentHosts, IsSafe}
+use Rattle.rc_step_laws.specs.All.{LogLater, OwnFine, MasterSays}
 use Rattle.rc_step_laws.proofs.Lists.{begins-refl, begins-length}
 use Rattle.rc_step_laws.proofs.Tests.{get-begins_back}
 use Rattle.rc_step_laws.proofs.Copies.{More}

@@ -6,9 +6,7 @@ use Rattle.rc_model.specs.Model.{ServerId, Server, Entry, Message, Place, Stored
 use Rattle.rc_model.specs.Model.{put_replica, keeps, Master, HostNode, server_of, In}
 use Rattle.rc_model.specs.Coordinator.{Coordinator}
 use Rattle.rc_model.proofs.Members.{In-left}
-use Rattle.rc_step_laws.specs.Facts.{IsTold, StillStands, GoodHeld, GoodReplica}
-use Rattle.rc_step_laws.specs.Later.{HeldLater}
-use Rattle.rc_step_laws.specs.Moves.{BackupMoved, backup_body_said}
+use Rattle.rc_step_laws.specs.All.{IsTold, StillStands, GoodHeld, GoodReplica, HeldLater, BackupMoved, backup_body_said}
 use Rattle.rc_step_laws.proofs.Copies.{More, placed-more}
 use Rattle.rc_step_laws.proofs.ReplicaLists.{replica_of-put, replica_of-other, Ascending-put}
 use Rattle.rc_step_laws.proofs.Replicas.{Changed}

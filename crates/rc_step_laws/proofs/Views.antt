@@ -3,8 +3,7 @@ use Rattle.std.proofs.Common.{◌≡◌, ◌⊎◌, ℕ, Bool, false, List, [], 
 use Rattle.rc_model.specs.Model.{ServerId, Addr, Server, Entry, Message, Body, Place, ReadOk, Refused, Commit, Enlist, Ready, Fetch}
 use Rattle.rc_model.specs.Model.{Recovered, Free, between, up_rows, Log, Master, to_ids, then_does, In}
 use Rattle.rc_model.proofs.Members.{In-append, In-map}
-use Rattle.rc_step_laws.specs.Words.{IsMember, OnDifferentHosts}
-use Rattle.rc_step_laws.specs.Moves.{OwnFine, MasterSays, body_said}
+use Rattle.rc_step_laws.specs.All.{IsMember, OnDifferentHosts, OwnFine, MasterSays, body_said}
 use Rattle.rc_step_laws.proofs.Logs.{log_later-refl}
 use Rattle.rc_model.proofs.Walk.{Joined}
 use Rattle.rc_step_laws.proofs.LogMoves.{GoodLog, LogMoved, more-left, segment-more, moved-log, log_moved-then}

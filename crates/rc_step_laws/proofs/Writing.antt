@@ -7,8 +7,7 @@ use Rattle.rc_model.specs.Model.{to_outside, refuses, Segment, with_entry, Log, 
 use Rattle.rc_model.specs.Model.{read_of, Master, with_log, durable_entries, to_ids, ids_of, not_lost, places_head, appends_entry}
 use Rattle.rc_model.specs.Model.{dead_segments, refused, written, writes, reads, In}
 use Rattle.rc_model.proofs.Members.{In-map}
-use Rattle.rc_step_laws.specs.Words.{Stands}
-use Rattle.rc_step_laws.specs.Moves.{OwnFine, MasterSays}
+use Rattle.rc_step_laws.specs.All.{Stands, OwnFine, MasterSays}
 use Rattle.rc_step_laws.proofs.Lists.{get-end}
 use Rattle.rc_step_laws.proofs.LogMoves.{GoodSegment, GoodLog, LogMoved, more-left, segment-more}
 use Rattle.rc_step_laws.proofs.Segments.{put-moved}

@@ -6,3 +6,4 @@ pub mod MasterClaims
 pub mod BackupClaims
 pub mod CoordinatorClaims
 pub mod MemberClaims
+pub mod All

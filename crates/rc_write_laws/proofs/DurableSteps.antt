@@ -4,13 +4,11 @@ use Rattle.rc_model.specs.Model.{Addr, Server, Message, Body, Stored, is_all_clo
 use Rattle.rc_model.specs.Model.{left_out, starts, closes_old, writes_on, Master, then_does, goes_on, ticks, master_takes_first}
 use Rattle.rc_model.specs.Model.{deposed_takes, master_takes, master_ticks}
 use Rattle.rc_model.proofs.Tests.{either}
-use Rattle.rc_model.proofs.Walk.{OfLog, LogJoined, LogListed, LogWritten, LogFollowed, of_log-joined, of_log-listed}
-use Rattle.rc_model.proofs.Walk.{of_log-taken, of_log-ticked, of_log-followed, kept-takes_first, kept-ticks_first}
-use Rattle.rc_model.proofs.Walk.{kept-goes_on, same-deposed}
-use Rattle.rc_write_laws.proofs.Told.{Told, InputOk, input-refl, input-trans, input-commit_noted, IsWholeTold}
-use Rattle.rc_write_laws.proofs.Told.{input-stored, input-loses, input-chosen, input-appends, FollowOk, follow-refl}
-use Rattle.rc_write_laws.proofs.Told.{follow-trans, follow-alike, follow-appends, follow-marks, follow-freed}
-use Rattle.rc_write_laws.proofs.Told.{follow-same, follow-chosen}
+use Rattle.rc_model.proofs.Walk.{OfLog, LogJoined, LogListed, LogWritten, LogFollowed, of_log-joined, of_log-listed, of_log-taken}
+use Rattle.rc_model.proofs.Walk.{of_log-ticked, of_log-followed, kept-takes_first, kept-ticks_first, kept-goes_on, same-deposed}
+use Rattle.rc_write_laws.proofs.Told.{Told, InputOk, input-refl, input-trans, input-commit_noted, IsWholeTold, input-stored, input-loses}
+use Rattle.rc_write_laws.proofs.Told.{input-chosen, input-appends, FollowOk, follow-refl, follow-trans, follow-alike, follow-appends}
+use Rattle.rc_write_laws.proofs.Told.{follow-marks, follow-freed, follow-same, follow-chosen}
 
 -- Inputs
 

@@ -12,9 +12,8 @@ use Rattle.rc_step_laws.specs.Facts.{GoodMaster}
 use Rattle.rc_step_laws.proofs.Tests.{find-one}
 use Rattle.rc_step_laws.proofs.Places.{In-numbers}
 use Rattle.rc_write_laws.specs.CommitClaims.{CommitsAreAskedInOrder}
-use Rattle.rc_write_laws.proofs.Quiet.{is_loud, AllSoft, soft-ids, QuietLog}
+use Rattle.rc_write_laws.proofs.Quiet.{is_loud, AllSoft, soft-ids, QuietLog, All-In}
 use Rattle.rc_write_laws.proofs.Walk.{IsKept, takes-kept, tick-kept}
-use Rattle.rc_write_laws.proofs.Quiet.{All-In}
 use Rattle.rc_log_laws.proofs.EachMaster.{OthersSay, IsKeptByAll, kept-replay}
 use Rattle.rc_write_laws.proofs.Settling.{ok_of}
 use Rattle.rc_model.proofs.Tests.{true_false, either}

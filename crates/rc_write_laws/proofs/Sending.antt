@@ -10,8 +10,7 @@ use Rattle.rc_types.specs.declared.ids.Addr.TheVariants.{Coordinator as AtCoordi
 use Rattle.rc_model.specs.Coordinator.{Coordinator}
 use Rattle.rc_model.specs.Nodes.{Ask, Tick, Stop, Start, Suspect, Decide}
 use Rattle.rc_model.proofs.Members.{In-append, In-left}
-use Rattle.rc_step_laws.specs.Facts.{StillStands}
-use Rattle.rc_step_laws.specs.Moves.{MasterMoved, CoordinatorMoved, BackupMoved, stored_said}
+use Rattle.rc_step_laws.specs.All.{StillStands, MasterMoved, CoordinatorMoved, BackupMoved, stored_said}
 use Rattle.rc_step_laws.proofs.MasterSteps.{master_takes_keeps, master_ticks_keeps}
 use Rattle.rc_step_laws.proofs.CoordinatorSteps.{moved-takes, moved-suspects, moved-decides, moved-creates, moved-splits, moved-ticks}
 use Rattle.rc_step_laws.proofs.Backups.{moved-backup}

@@ -1,7 +1,6 @@
 -- What is shut, and what is counted, was stored on all members at some moment, so it is durable; and so is what was acknowledged.
-use Rattle.std.proofs.Common.{◌≡◌, ◌≢◌, ◌⊎◌, ℕ, zero, suc, ◌+◌, ◌-◌, ◌<◌, ◌≤◌, min, max, Bool, true, false, not, ◌&&◌}
-use Rattle.std.proofs.Common.{List, [], ◌∷◌, ◌++◌, length, take, nat_lt, ◌||◌, slice_get, Some, refl, sym, ap, ◌∙◌}
-use Rattle.std.proofs.Common.{subst, inl, inr, arith}
+use Rattle.std.proofs.Common.{◌≡◌, ◌≢◌, ◌⊎◌, ℕ, zero, suc, ◌+◌, ◌-◌, ◌<◌, ◌≤◌, min, max, Bool, true, false, not, ◌&&◌, List, [], ◌∷◌}
+use Rattle.std.proofs.Common.{◌++◌, length, take, nat_lt, ◌||◌, slice_get, Some, refl, sym, ap, ◌∙◌, subst, inl, inr, arith}
 use Rattle.std.specs.List.{list_all}
 use Rattle.std.proofs.lemmas.Bool.{and_parts, cases_order}
 use Rattle.std.proofs.lemmas.Bool.Decides.{nat_tests}
@@ -13,9 +12,7 @@ use Rattle.rc_model.specs.Model.{is_stored_on_all, WasStored, EarlierWereStored,
 use Rattle.rc_model.specs.Model.{factor_of, World, opening, step, replay, In}
 use Rattle.rc_types.specs.declared.messages.Body.TheVariants as body
 use Rattle.rc_model.proofs.Replays.{replay_from-push}
-use Rattle.rc_step_laws.specs.Words.{log_in}
-use Rattle.rc_step_laws.specs.Facts.{IsStored, GoodMaster}
-use Rattle.rc_step_laws.specs.Later.{LogLater}
+use Rattle.rc_step_laws.specs.All.{log_in, IsStored, GoodMaster, LogLater}
 use Rattle.rc_step_laws.proofs.Lists.{get-below, get-begins, get-within}
 use Rattle.rc_step_laws.proofs.Places.{IsOf, places_to-are, places-later, IsCovered, durable-covered}
 use Rattle.rc_step_laws.proofs.Tests.{all-each, In-take}
