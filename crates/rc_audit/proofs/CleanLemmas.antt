@@ -6,16 +6,9 @@ use Rattle.std.specs.BTreeMap.{BTreeMap, get, is_at}
 use Rattle.std.specs.Cmp.Lexicographic.{pointwise}
 use Rattle.std.proofs.lemmas.Bool.{and_parts, eqb-true}
 use Rattle.std.proofs.lemmas.Bool.Decides.{nat_tests}
-use Rattle.rc_types.specs.declared.ids.ServerId.{ServerId}
-use Rattle.rc_types.specs.declared.rows.PlanRow.{PlanRow}
-use Rattle.rc_types.specs.declared.messages.Message.{Message}
-use Rattle.rc_types.specs.declared.messages.Body.{Body}
-use Rattle.rc_types.specs.declared.verdicts.Breach.{Breach}
-use Rattle.rc_types.specs.declared.verdicts.Breach.TheVariants.{Missing}
-use Rattle.rc_model.specs.Recovered.{Ack, Accepted, acknowledged, plan_in, accepted, is_recovered}
-use Rattle.rc_model.specs.Breach.{all_agree, holds_greater, is_superseded, is_missing, first_missing, missing_of, or_else}
-use Rattle.rc_model.specs.Made.{made}
-use Rattle.rc_model.specs.Ids.{same_id, is_server}
+use Rattle.rc_model.specs.Model.{ServerId, PlanRow, Message, Body, Breach, Missing, Ack, Accepted, acknowledged, plan_in, accepted}
+use Rattle.rc_model.specs.Model.{is_recovered, all_agree, holds_greater, is_superseded, is_missing, first_missing, missing_of, or_else}
+use Rattle.rc_model.specs.Model.{made, same_id, is_server}
 use Rattle.rc_audit.specs.declared.missing.Clean.{Clean}
 use Rattle.rc_evidence.specs.Places.{id_order}
 use Rattle.rc_audit.specs.Clean.{AreClean}

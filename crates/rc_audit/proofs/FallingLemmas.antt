@@ -4,13 +4,8 @@ use Rattle.std.proofs.Common.{nat_eq, nat_lt, length, drop, get_or, refl, sym, a
 use Rattle.std.specs.BTreeMap.{BTreeMap, get}
 use Rattle.std.proofs.lemmas.Bool.{cond-false, and_parts, eqb-true, false_from_ne_true}
 use Rattle.std.proofs.lemmas.Bool.Decides.{nat_tests}
-use Rattle.rc_types.specs.declared.messages.Message.{Message}
-use Rattle.rc_types.specs.declared.messages.Body.{Body}
-use Rattle.rc_types.specs.declared.verdicts.Breach.TheVariants.{Version}
-use Rattle.rc_model.specs.Recovered.{Ack, ack_in, all_acknowledged}
-use Rattle.rc_model.specs.Owners.{is_earlier}
-use Rattle.rc_model.specs.Breach.{falls, first_fall, falls_of, or_else}
-use Rattle.rc_model.specs.Headline.{In}
+use Rattle.rc_model.specs.Model.{Message, Body, Version, Ack, ack_in, all_acknowledged, is_earlier, falls, first_fall, falls_of, or_else}
+use Rattle.rc_model.specs.Model.{In}
 use Rattle.rc_evidence.specs.declared.highs.TermKey.{TermKey}
 use Rattle.rc_evidence.specs.Highs.{key_order, ack_key, is_level}
 use Rattle.rc_evidence.specs.Bars.{IsBar, AreBars}

@@ -9,12 +9,8 @@ use Rattle.std.specs.Map.{lookup}
 use Rattle.std.proofs.lemmas.Bool.{cond-false, cond-true, and_parts, or_from, or_left, not_from_true, lt-ltb, eq-eqb}
 use Rattle.std.proofs.lemmas.Bool.Decides.{nat_tests}
 use Rattle.std.proofs.lemmas.List.{length-map}
-use Rattle.rc_types.specs.declared.messages.Message.{Message}
-use Rattle.rc_types.specs.declared.messages.Body.{Body}
-use Rattle.rc_types.specs.declared.verdicts.Breach.TheVariants.{Missing}
-use Rattle.rc_model.specs.Made.{made}
-use Rattle.rc_model.specs.Recovered.{Ack, ack_in, all_acknowledged, Accepted, reach, is_recovered}
-use Rattle.rc_model.specs.Breach.{all_agree, is_missing, is_superseded, first_missing}
+use Rattle.rc_model.specs.Model.{Message, Body, Missing, made, Ack, ack_in, all_acknowledged, Accepted, reach, is_recovered, all_agree}
+use Rattle.rc_model.specs.Model.{is_missing, is_superseded, first_missing}
 use Rattle.rc_evidence.specs.Standings.{acked_below, all_kept, one_above}
 use Rattle.rc_evidence.proofs.SupersededLemmas.{got_through}
 use Rattle.rc_evidence.proofs.SenderLemmas.{drop_step}

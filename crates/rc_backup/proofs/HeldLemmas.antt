@@ -12,12 +12,8 @@ use Rattle.std.specs.List.Sorted.{IsStrictlySortedBy}
 use Rattle.std.specs.Map.{keys_of, lookup, remove_entry, set_value}
 use Rattle.std.specs.Ordering.{nat_cmp, is_eq, match_ordering}
 use Rattle.std.specs.declared.cmp.Ordering.TheVariants.{Less, Equal, Greater}
-use Rattle.rc_types.specs.declared.ids.ServerId.{ServerId}
-use Rattle.rc_types.specs.declared.rows.Part.{Part}
-use Rattle.rc_types.specs.declared.messages.Body.{Body}
-use Rattle.rc_model.specs.Replica.{Replica}
-use Rattle.rc_model.specs.Backup.{Held, replica_of, put_replica, without_replica, replica_after, insert_number}
-use Rattle.rc_model.specs.Backup.{is_refused, stays, restarted}
+use Rattle.rc_model.specs.Model.{ServerId, Part, Body, Replica, Held, replica_of, put_replica, without_replica, replica_after}
+use Rattle.rc_model.specs.Model.{insert_number, is_refused, stays, restarted}
 use Rattle.rc_backup.specs.HeldAfter.{next_replica, put_after, with_replica, stored_after, held_without, data_from, fetched}
 use Rattle.rc_backup.proofs.MapLemmas.{set_value-inserted, remove_entry-filter}
 

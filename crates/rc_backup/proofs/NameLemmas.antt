@@ -3,8 +3,7 @@ use Rattle.std.proofs.Common.{◌≡◌, ℕ, suc, List, [], ◌∷◌, ◌++◌
 use Rattle.std.specs.List.{All}
 use Rattle.std.specs.BTreeMap.{is_at}
 use Rattle.std.specs.Map.{keys_of, lookup}
-use Rattle.rc_types.specs.declared.ids.ServerId.{ServerId}
-use Rattle.rc_model.specs.Backup.{Held, open_names_of, open_names_among, open_names}
+use Rattle.rc_model.specs.Model.{ServerId, Held, open_names_of, open_names_among, open_names}
 use Rattle.rc_backup.specs.BackupView.{held_in, backup_of, id_order}
 use Rattle.rc_backup.proofs.TableLemmas.{Table, holds, found-held}
 

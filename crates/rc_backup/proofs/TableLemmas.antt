@@ -1,6 +1,6 @@
 -- The table of a backup, in order of master, as the definitions see it, and what a message about one master makes of it.
-use Rattle.std.proofs.Common.{◌≡◌, ℕ, Bool, true, false, cond, nat_eq, nat_lt, ◌&&◌, ◌||◌, List, [], ◌∷◌, Option, Some}
-use Rattle.std.proofs.Common.{None, unwrap_or, refl, sym, ap, ◌∙◌, arith}
+use Rattle.std.proofs.Common.{◌≡◌, ℕ, Bool, true, false, cond, nat_eq, nat_lt, ◌&&◌, ◌||◌, List, [], ◌∷◌, Option, Some, None, unwrap_or}
+use Rattle.std.proofs.Common.{refl, sym, ap, ◌∙◌, arith, rules}
 use Rattle.std.proofs.Math.Path.{fun_ext}
 use Rattle.std.proofs.lemmas.Bool.Decides.{nat_tests}
 use Rattle.std.proofs.lemmas.Map.Steps.{set_value_same}
@@ -11,16 +11,9 @@ use Rattle.std.specs.List.Sorted.{IsStrictlySortedBy}
 use Rattle.std.specs.Map.{keys_of, lookup, set_value}
 use Rattle.std.specs.Ordering.{is_eq, match_ordering, ordering_then}
 use Rattle.std.specs.declared.cmp.Ordering.TheVariants.{Less, Equal, Greater}
-use Rattle.std.proofs.Common.{rules}
-use Rattle.rc_types.specs.declared.ids.ServerId.{ServerId}
-use Rattle.rc_types.specs.declared.messages.Message.{Message}
-use Rattle.rc_types.specs.declared.messages.Body.{Body}
-use Rattle.rc_model.specs.Ids.{same_id, id_before, insert_id_once}
-use Rattle.rc_model.specs.Tables.{put_id}
-use Rattle.rc_model.specs.Messages.{between}
-use Rattle.rc_model.specs.Replica.{Replica}
-use Rattle.rc_model.specs.Backup.{Backup, Held, nothing_held, with_held, replica_of, replica_after, without_replica}
-use Rattle.rc_model.specs.Backup.{insert_number, is_refused, stored_of, keeps, stores, frees, restarted, restart}
+use Rattle.rc_model.specs.Model.{ServerId, Message, Body, same_id, id_before, insert_id_once, put_id, between, Replica, Backup, Held}
+use Rattle.rc_model.specs.Model.{nothing_held, with_held, replica_of, replica_after, without_replica, insert_number, is_refused}
+use Rattle.rc_model.specs.Model.{stored_of, keeps, stores, frees, restarted, restart}
 use Rattle.rc_backup.specs.BackupView.{Holdings, held_in, backup_of, id_order, put_first}
 use Rattle.rc_backup.specs.HeldAfter.{next_replica, with_replica, stored_after, held_without}
 use Rattle.rc_backup.proofs.MapLemmas.{set_value-inserted, with_each, keys-with_each}

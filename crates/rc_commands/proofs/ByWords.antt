@@ -23,15 +23,13 @@ use Rattle.rc_commands.specs.Asking.{is_version, run_in, stops_in, threads_in, w
 use Rattle.rc_commands.specs.Asking as line_of
 use Rattle.rc_commands.specs.Commands as command
 use Rattle.rc_commands.specs.Commands.{ramseg}
-use Rattle.rc_commands.proofs.Words.{IsLevel, asks, audit_is, explore_is, fuzz_is, leaf, line_told, run_is, same, stops_is}
-use Rattle.rc_commands.proofs.Words.{log_is, picture_is, shrink_is}
-use Rattle.rc_commands.proofs.Words.{tells, tells_first, text_tells, threads_is, trace_is}
+use Rattle.rc_commands.proofs.Words.{IsLevel, asks, audit_is, explore_is, fuzz_is, leaf, line_told, run_is, same, stops_is, log_is}
+use Rattle.rc_commands.proofs.Words.{picture_is, shrink_is, tells, tells_first, text_tells, threads_is, trace_is}
 use Rattle.rc_commands.specs.Numbers.{decimal_in}
 use Rattle.rc_commands.proofs.Heap.{heap_given, none_first}
-use Rattle.rc_commands.proofs.Lines.{audit_found, audit_line, by_command, empty_told, explain_found, explain_line}
-use Rattle.rc_commands.proofs.Lines.{explore_found, explore_line, faults_at, fuzz_found, fuzz_line}
-use Rattle.rc_commands.proofs.Lines.{no_option, run_found, run_line, stops_found, stops_line}
-use Rattle.rc_commands.proofs.Lines.{log_found, log_line, picture_found, picture_line, shrink_found, shrink_line}
+use Rattle.rc_commands.proofs.Lines.{audit_found, audit_line, by_command, empty_told, explain_found, explain_line, explore_found}
+use Rattle.rc_commands.proofs.Lines.{explore_line, faults_at, fuzz_found, fuzz_line, no_option, run_found, run_line, stops_found}
+use Rattle.rc_commands.proofs.Lines.{stops_line, log_found, log_line, picture_found, picture_line, shrink_found, shrink_line}
 use Rattle.rc_commands.proofs.Lines.{threads_found, threads_line, told, trace_found, trace_line}
 
 -- no error comes exactly where a command stands alone; else each is a request exactly where a text is asked for

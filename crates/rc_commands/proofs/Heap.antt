@@ -1,7 +1,6 @@
 -- A line that begins with `run` and goes on past it is refused, or gives `--heap` a value.
-use Rattle.std.proofs.Common.{◌≡◌, ◌∙◌, ◌⊎◌, inl, inr, ⊎_elim, ◌||◌, ℕ, Bool, true, false, List, [], ◌∷◌, ◌++◌, length}
-use Rattle.std.proofs.Common.{drop, Option, Some, None, codes, is_some, eqb, nat_lt, refl, sym, ap, subst, true≢false}
-use Rattle.std.proofs.Common.{option_map}
+use Rattle.std.proofs.Common.{◌≡◌, ◌∙◌, ◌⊎◌, inl, inr, ⊎_elim, ◌||◌, ℕ, Bool, true, false, List, [], ◌∷◌, ◌++◌, length, drop, Option}
+use Rattle.std.proofs.Common.{Some, None, codes, is_some, eqb, nat_lt, refl, sym, ap, subst, true≢false, option_map}
 use Rattle.std.specs.List.{fold}
 use Rattle.std.specs.Option.{option_map_or}
 use Rattle.std.specs.Prelude.{encode_utf8, slice_get, if◌then◌else◌}
@@ -11,11 +10,10 @@ use Rattle.clap.specs.Kinds.{Kinds, or_else}
 use Rattle.clap.specs.declared.parser.matches.ValueSource.{ValueSource}
 use Rattle.clap.specs.declared.parser.matches.ValueSource.TheVariants.{CommandLine}
 use Rattle.clap.specs.declared.builder.value_parser.Reading.{Reading}
-use Rattle.clap.specs.Walk.{Held, Row, Rule, Step, Text, Waiting, Walk, after_flag, after_step, arg_by_long}
-use Rattle.clap.specs.Walk.{arg_by_short, bundle_met, bundle_step, done, finished, first_of, has_row, idle, long_met}
-use Rattle.clap.specs.Walk.{long_or_other, most_values, nothing_held, option, pending_count, plain, plain_word}
-use Rattle.clap.specs.Walk.{reading_by, settled, short_met, short_or_plain, trailing, used, walk, walk_from, walked}
-use Rattle.clap.specs.Walk.{with_default, with_values, without}
+use Rattle.clap.specs.Walk.{Held, Row, Rule, Step, Text, Waiting, Walk, after_flag, after_step, arg_by_long, arg_by_short, bundle_met}
+use Rattle.clap.specs.Walk.{bundle_step, done, finished, first_of, has_row, idle, long_met, long_or_other, most_values, nothing_held}
+use Rattle.clap.specs.Walk.{option, pending_count, plain, plain_word, reading_by, settled, short_met, short_or_plain, trailing, used}
+use Rattle.clap.specs.Walk.{walk, walk_from, walked, with_default, with_values, without}
 use Rattle.clap.specs.Simple.{Shape, filled, help_rule}
 use Rattle.clap.specs.Faults.{bundle_fault, bundle_step_fault, flag_word_fault, flags_fault, level_fault, long_fault}
 use Rattle.clap.specs.Faults.{settle_fault, short_fault, step_fault, turn_fault, walk_fault}

@@ -1,7 +1,6 @@
 -- What `clap` makes of one word that names no command.
-use Rattle.std.proofs.Common.{◌≡◌, ◌∙◌, ◌⊎◌, inl, inr, ⊎_elim, is_some, eqb, ◌==◌, ◌&&◌, ◌||◌, ℕ, Bool, true, false}
-use Rattle.std.proofs.Common.{not, cond, suc, arith, ◌+◌, take, List, [], ◌∷◌, Option, Some, None, codes, length, refl}
-use Rattle.std.proofs.Common.{sym, ap, ap₂, subst, true≢false}
+use Rattle.std.proofs.Common.{◌≡◌, ◌∙◌, ◌⊎◌, inl, inr, ⊎_elim, is_some, eqb, ◌==◌, ◌&&◌, ◌||◌, ℕ, Bool, true, false, not, cond, suc}
+use Rattle.std.proofs.Common.{arith, ◌+◌, take, List, [], ◌∷◌, Option, Some, None, codes, length, refl, sym, ap, ap₂, subst, true≢false}
 use Rattle.std.proofs.Math.Bool.{or-false}
 use Rattle.std.proofs.lemmas.Bool.Decides.{eqb_tells}
 use Rattle.std.specs.List.{list_all, list_any, before_first, after_first, prefix_len}
@@ -15,9 +14,8 @@ use Rattle.clap.specs.Walk.{arg_by_index, done, short_met, Held, Names, Rule, St
 use Rattle.clap.specs.Walk.{idle, subcommand_met, long_or_other, short_or_plain, after_flag, subcommand_or_other}
 use Rattle.clap.specs.Walk.{arg_by_long, arg_by_short, bundle_step, bundle_met, long_met, plain, trailing, value}
 use Rattle.clap.specs.Simple.{Shape, built, built_leaf, filled, help_rule, version_rule}
-use Rattle.clap.specs.Faults.{positional_fault, short_fault, turn_fault, walk_fault, flag_word_fault, other_fault}
-use Rattle.clap.specs.Faults.{step_fault, stray_fault, level_fault, flags_fault, bundle_step_fault, bundle_fault}
-use Rattle.clap.specs.Faults.{long_fault}
+use Rattle.clap.specs.Faults.{positional_fault, short_fault, turn_fault, walk_fault, flag_word_fault, other_fault, step_fault}
+use Rattle.clap.specs.Faults.{stray_fault, level_fault, flags_fault, bundle_step_fault, bundle_fault, long_fault}
 use Rattle.clap.proofs.OnLiterals.{clap_on_literals}
 use Rattle.rc_commands.specs.Asking.{exploring, is_help, is_option, is_request, is_version}
 use Rattle.rc_commands.specs.Commands as command

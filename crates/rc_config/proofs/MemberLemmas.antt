@@ -3,9 +3,7 @@ use Rattle.std.proofs.Common.{◌≡◌, ◌⊎◌, ⊎_elim, ℕ, ◌+◌, ◌<
 use Rattle.std.proofs.Common.{get_or, set, map, min, None, refl, ap, sym, ◌∙◌, arith, append_assoc}
 use Rattle.std.proofs.lemmas.List.{take_more, take_more_set, drop_more, drop-set-lt, drop_all, get_or_default, length-set}
 use Rattle.std.proofs.lemmas.List.Edits.{map_over_more}
-use Rattle.rc_types.specs.declared.kept.Member.{Member}
-use Rattle.rc_types.specs.declared.ids.ServerId.{ServerId}
-use Rattle.rc_model.specs.Config.{least_told, told_len, new_member, replaced}
+use Rattle.rc_model.specs.Model.{Member, ServerId, least_told, told_len, new_member, replaced}
 
 -- an id, and a member, for reads past the end
 abbrev pub no_id : ServerId

@@ -1,12 +1,8 @@
 -- Where nobody is lost, nobody is replaced.
 use Rattle.std.proofs.Common.{◌≡◌, Bool, true, false, ◌||◌, List, [], ◌∷◌, Some, Result, Ok, refl, ap, sym, ◌∙◌}
 use Rattle.std.proofs.lemmas.Bool.{cond-false, false≢true}
-use Rattle.rc_types.specs.declared.ids.ServerId.{ServerId}
-use Rattle.rc_types.specs.declared.kept.Member.{Member}
-use Rattle.rc_types.specs.declared.faults.Fault.{Fault}
-use Rattle.rc_model.specs.ServerList.{ServerList}
-use Rattle.rc_model.specs.Config.{Config, any_lost, with_lost, staying, substitutes, substitutes_for, candidates}
-use Rattle.rc_model.specs.Config.{refills_with, refill}
+use Rattle.rc_model.specs.Model.{ServerId, Member, Fault, ServerList, Config, any_lost, with_lost, staying, substitutes, substitutes_for}
+use Rattle.rc_model.specs.Model.{candidates, refills_with, refill}
 use Rattle.rc_config.proofs.MemberLemmas.{replaced-none}
 
 or-false : (a b : Bool) → (a || b) ≡ false → (a ≡ false) × (b ≡ false)

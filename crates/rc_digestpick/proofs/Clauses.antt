@@ -1,12 +1,8 @@
 -- What a result says that is the picked plan or refusal, or for want of memory F1.
 use Rattle.std.proofs.Common.{◌≡◌, ◌≢◌, ◌⊎◌, ℕ, ⊎_elim, inr, inl, IfOk, IfErr, List, Some, None, Result, Ok, Err, ap}
-use Rattle.rc_types.specs.declared.ids.ServerId.{ServerId}
-use Rattle.rc_types.specs.declared.ids.Pair.{Pair}
-use Rattle.rc_types.specs.declared.rows.Row.{Row}
+use Rattle.rc_model.specs.Model.{ServerId, Pair, Row, Fault, HeadMissing, SegmentMissing, HeldRow, head_row, pick, IsPickable}
 use Rattle.rc_types.specs.declared.rows.Plan.{Plan}
-use Rattle.rc_types.specs.declared.faults.Fault.{Fault}
-use Rattle.rc_types.specs.declared.faults.Fault.TheVariants.{OutOfMemory, HeadMissing, SegmentMissing}
-use Rattle.rc_model.specs.Pick.{HeldRow, head_row, pick, IsPickable}
+use Rattle.rc_types.specs.declared.faults.Fault.TheVariants.{OutOfMemory}
 use Rattle.rc_digestpick.specs.Missing.{HasNoHead, IsLeastMissing}
 use Rattle.rc_digestpick.proofs.Pickable.{pick_none, picked-from_pickable, pickable-from_picked}
 use Rattle.rc_digestpick.proofs.NonePickable.{head_none, head_missing, segment_missing, missing_segment}

@@ -3,11 +3,8 @@ use Rattle.std.proofs.Common.{◌≡◌, ◌≢◌, ℕ, true, false, nat_eq, Li
 use Rattle.std.specs.List.{All}
 use Rattle.std.proofs.lemmas.Bool.{eqb-true, eq-eqb, ne_eqb, cases_eq, and_parts}
 use Rattle.std.proofs.lemmas.List.Elements.{filter_passes}
-use Rattle.rc_types.specs.declared.ids.ServerId.{ServerId}
-use Rattle.rc_types.specs.declared.ids.Pair.{Pair}
-use Rattle.rc_types.specs.declared.rows.Row.{Row}
-use Rattle.rc_types.specs.declared.rows.PlanRow.{PlanRow}
-use Rattle.rc_model.specs.Pick.{HeldRow, held_rows, row_of, closed_first, is_valid, is_valid_of, taken_row, AreTaken}
+use Rattle.rc_model.specs.Model.{ServerId, Pair, Row, PlanRow, HeldRow, held_rows, row_of, closed_first, is_valid, is_valid_of, taken_row}
+use Rattle.rc_model.specs.Model.{AreTaken}
 use Rattle.rc_digestpick.specs.Orders.{IsBetter, IsFirst}
 use Rattle.rc_digestpick.proofs.Orders.{tells_better, apart_better, split_better}
 use Rattle.rc_digestpick.proofs.Firsts.{All-middle, first_by_first}

@@ -3,9 +3,7 @@ use Rattle.std.proofs.Common.{◌≡◌, ℕ, ◌+◌, ◌<◌, Bool, cond, List
 use Rattle.std.proofs.Common.{length, get_or, refl, sym, ap, ◌∙◌, append_assoc}
 use Rattle.std.proofs.lemmas.List.{take_more}
 use Rattle.std.proofs.lemmas.List.Elements.{filter-append}
-use Rattle.rc_types.specs.declared.ids.ServerId.{ServerId}
-use Rattle.rc_types.specs.declared.rows.Row.{Row}
-use Rattle.rc_model.specs.Pick.{HeldRow, rows_of, held_rows, first_by, first_by_from}
+use Rattle.rc_model.specs.Model.{ServerId, Row, HeldRow, rows_of, held_rows, first_by, first_by_from}
 use Rattle.rc_digestpick.specs.Held.{first_after}
 
 pub rows_of-append : (holder : ServerId) (xs ys : List Row) → rows_of holder (xs ++ ys) ≡ rows_of holder xs ++ rows_of holder ys

@@ -3,14 +3,9 @@ use Rattle.std.proofs.Common.{◌≡◌, ◌≢◌, ◌⊎◌, ⊎_elim, inl, in
 use Rattle.std.proofs.Common.{Some, None, IsSome, Result, Ok, Err, filter, refl, sym, ap, ◌∙◌, subst, arith}
 use Rattle.std.specs.List.{All}
 use Rattle.std.proofs.lemmas.Bool.{eq-eqb, ne_eqb, cases_eq}
-use Rattle.rc_types.specs.declared.ids.ServerId.{ServerId}
-use Rattle.rc_types.specs.declared.ids.Pair.{Pair}
-use Rattle.rc_types.specs.declared.rows.Row.{Row}
-use Rattle.rc_types.specs.declared.rows.PlanRow.{PlanRow}
-use Rattle.rc_types.specs.declared.faults.Fault.{Fault}
-use Rattle.rc_types.specs.declared.faults.Fault.TheVariants.{HeadMissing, SegmentMissing}
-use Rattle.rc_model.specs.Pick.{HeldRow, held_rows, head_row, row_of, head_first, closed_first, is_open_valid}
-use Rattle.rc_model.specs.Pick.{is_valid_of, first_by, taken_row, taken_rows, plan_row, plan_of, ascending, pick}
+use Rattle.rc_model.specs.Model.{ServerId, Pair, Row, PlanRow, Fault, HeadMissing, SegmentMissing, HeldRow, held_rows, head_row, row_of}
+use Rattle.rc_model.specs.Model.{head_first, closed_first, is_open_valid, is_valid_of, first_by, taken_row, taken_rows, plan_row, plan_of}
+use Rattle.rc_model.specs.Model.{ascending, pick}
 use Rattle.rc_digestpick.specs.Missing.{HasNoHead, IsLeastMissing}
 use Rattle.rc_digestpick.proofs.Ascending.{In, IsAscending, IsBelow-in, IsAscending-ascending, In-ascending}
 use Rattle.rc_digestpick.proofs.Ascending.{In-from_ascending, In-contains, Contains-in}

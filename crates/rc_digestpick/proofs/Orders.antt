@@ -4,9 +4,7 @@ use Rattle.std.proofs.Common.{◌≡◌, ℕ, ◌<◌, ◌⊎◌, ⊎_elim, inl,
 use Rattle.std.specs.Bool.{Decides}
 use Rattle.std.proofs.lemmas.Bool.{cases_order, false≢true}
 use Rattle.std.proofs.lemmas.Bool.Decides.{Decides-or, Decides-and, Decides-ltb, Decides-eqb}
-use Rattle.rc_types.specs.declared.ids.ServerId.{ServerId}
-use Rattle.rc_model.specs.Ids.{id_before}
-use Rattle.rc_model.specs.Pick.{HeldRow, longer_first, head_first, closed_first}
+use Rattle.rc_model.specs.Model.{ServerId, id_before, HeldRow, longer_first, head_first, closed_first}
 use Rattle.rc_digestpick.specs.Orders.{IsLower, IsLonger, IsHigher, IsBetter}
 
 -- the greater number first, and of equal ones as the rest says

@@ -1,13 +1,8 @@
 -- A plan is pickable exactly where it is picked.
 use Rattle.std.proofs.Common.{◌≡◌, ℕ, List, [], ◌∷◌, Option, Some, None, Result, Ok, Err, refl, sym, ap, ◌∙◌}
-use Rattle.rc_types.specs.declared.ids.ServerId.{ServerId}
-use Rattle.rc_types.specs.declared.ids.Pair.{Pair}
-use Rattle.rc_types.specs.declared.rows.Row.{Row}
-use Rattle.rc_types.specs.declared.rows.PlanRow.{PlanRow}
+use Rattle.rc_model.specs.Model.{ServerId, Pair, Row, PlanRow, Fault, HeadMissing, SegmentMissing, HeldRow, head_row, taken_row}
+use Rattle.rc_model.specs.Model.{taken_rows, plan_row, plan_of, ascending, pick, AreTaken, IsPickable}
 use Rattle.rc_types.specs.declared.rows.Plan.{Plan}
-use Rattle.rc_types.specs.declared.faults.Fault.{Fault}
-use Rattle.rc_types.specs.declared.faults.Fault.TheVariants.{HeadMissing, SegmentMissing}
-use Rattle.rc_model.specs.Pick.{HeldRow, head_row, taken_row, taken_rows, plan_row, plan_of, ascending, pick, AreTaken, IsPickable}
 use Rattle.rc_digestpick.proofs.PlanRows.{taken_rows_some, taken_rows_err, taken_rows_none}
 
 module _ (min : Pair) (replies : List (ServerId × List Row)) where

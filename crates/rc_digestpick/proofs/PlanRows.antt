@@ -3,13 +3,7 @@ use Rattle.std.proofs.Common.{◌≡◌, ◌≢◌, ℕ, suc, ◌+◌, ◌<◌, 
 use Rattle.std.proofs.Common.{Option, Some, None, Result, Ok, Err, take, drop, length, get_or, refl, sym, ◌∙◌}
 use Rattle.std.proofs.lemmas.Bool.{eq-eqb, ne_eqb, cases_eq}
 use Rattle.std.proofs.lemmas.List.{take_more, take-append-drop}
-use Rattle.rc_types.specs.declared.ids.ServerId.{ServerId}
-use Rattle.rc_types.specs.declared.ids.Pair.{Pair}
-use Rattle.rc_types.specs.declared.rows.Row.{Row}
-use Rattle.rc_types.specs.declared.rows.PlanRow.{PlanRow}
-use Rattle.rc_types.specs.declared.faults.Fault.{Fault}
-use Rattle.rc_types.specs.declared.faults.Fault.TheVariants.{SegmentMissing}
-use Rattle.rc_model.specs.Pick.{HeldRow, row_of, taken_row, taken_rows, plan_row}
+use Rattle.rc_model.specs.Model.{ServerId, Pair, Row, PlanRow, Fault, SegmentMissing, HeldRow, row_of, taken_row, taken_rows, plan_row}
 
 module _ (min : Pair) (replies : List (ServerId × List Row)) (head : HeldRow) where
   -- what is taken of a first segment and of the others

@@ -2,9 +2,7 @@
 use Rattle.std.proofs.Common.{◌≡◌, ℕ, ◌+◌, ◌<◌, true, false, nat_lt, ◌&&◌, List, [], ◌∷◌, ◌++◌, length, take, get_or, ap, sym, ◌∙◌}
 use Rattle.std.proofs.lemmas.Bool.{lt-ltb}
 use Rattle.std.proofs.lemmas.List.{take_more}
-use Rattle.rc_types.specs.declared.events.Setup.{Setup}
-use Rattle.rc_types.specs.declared.events.Event.{Event}
-use Rattle.rc_model.specs.World.{World, is_possible, step, opening, replay_from}
+use Rattle.rc_model.specs.Model.{Setup, Event, World, is_possible, step, opening, replay_from}
 use Rattle.rc_model.proofs.Replays.{step-impossible, replay_from-push}
 use Rattle.rc_reading.specs.declared.scenarios.ScenarioEvent.{ScenarioEvent}
 use Rattle.rc_world.specs.Happened.{Happened, opened, with_events, can_happen, replayed}

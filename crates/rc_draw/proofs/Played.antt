@@ -1,10 +1,8 @@
 -- What a part of a run comes to.
 use Rattle.std.proofs.Common.{◌≡◌, ℕ, ◌≤◌, Bool, true, false, nat_lt, ◌&&◌, if◌then◌else◌, List, [], ◌∷◌, length}
 use Rattle.std.proofs.Common.{Option, Some, None, option_map, Result, Ok, Err, OnOk, refl, sym, ap, subst, ◌∙◌}
-use Rattle.rc_types.specs.declared.events.Event.{Event}
-use Rattle.rc_types.specs.declared.faults.Fault.{Fault}
+use Rattle.rc_model.specs.Model.{Event, Fault, World, is_possible, step}
 use Rattle.rc_types.specs.declared.faults.Fault.TheVariants.{BadEvent}
-use Rattle.rc_model.specs.World.{World, is_possible, step}
 use Rattle.rc_model.proofs.Replays.{step-impossible}
 use Rattle.rc_reading.specs.declared.scenarios.ScenarioEvent.{ScenarioEvent}
 use Rattle.rc_reading.specs.declared.scenarios.ScenarioEvent.TheVariants as scene

@@ -1,8 +1,7 @@
 -- A drawing, step by step.
 use Rattle.std.proofs.Common.{◌≡◌, ℕ, ◌+◌, ◌-◌, ◌<◌, ◌≤◌, Bool, refl, ap, sym, ◌∙◌, add-one, arith}
 use Rattle.rand_pcg.specs.Lcg.{Lcg}
-use Rattle.rc_types.specs.declared.events.Setup.{Setup}
-use Rattle.rc_model.specs.World.{World}
+use Rattle.rc_model.specs.Model.{Setup, World}
 use Rattle.rc_world.specs.Happened.{Happened, opened, replayed}
 use Rattle.rc_draw.specs.declared.words.Words.{Words}
 use Rattle.rc_draw.specs.Words.{next_words, after_words}

@@ -1,7 +1,6 @@
 -- The greatest versions under earlier terms.
-use Rattle.std.proofs.Common.{◌≡◌, ◌⊎◌, ℕ, ◌+◌, ◌<◌, Bool, true, false, cond, max, List, [], ◌∷◌, ◌++◌, Option, Some}
-use Rattle.std.proofs.Common.{None, unwrap_or, length, take, get_or, refl, sym, ap, ◌∙◌, subst, inl, inr, append_assoc}
-use Rattle.std.proofs.Common.{arith}
+use Rattle.std.proofs.Common.{◌≡◌, ◌⊎◌, ℕ, ◌+◌, ◌<◌, Bool, true, false, cond, max, List, [], ◌∷◌, ◌++◌, Option, Some, None, unwrap_or}
+use Rattle.std.proofs.Common.{length, take, get_or, refl, sym, ap, ◌∙◌, subst, inl, inr, append_assoc, arith}
 use Rattle.std.specs.Ordering.{nat_cmp}
 use Rattle.std.specs.List.{list_any}
 use Rattle.std.specs.BTreeMap.{BTreeMap, get, is_at}
@@ -9,9 +8,7 @@ use Rattle.std.specs.BTreeSet.{BTreeSet, contains}
 use Rattle.std.proofs.lemmas.Bool.{or_cases, le-leb, eq-eqb, and_from}
 use Rattle.std.proofs.lemmas.Bool.Decides.{nat_tests}
 use Rattle.std.proofs.lemmas.List.{append-nil}
-use Rattle.rc_types.specs.declared.messages.Message.{Message}
-use Rattle.rc_model.specs.Recovered.{Ack, ack_in, all_acknowledged}
-use Rattle.rc_model.specs.Headline.{In}
+use Rattle.rc_model.specs.Model.{Message, Ack, ack_in, all_acknowledged, In}
 use Rattle.rc_model.proofs.Members.{In-append}
 use Rattle.rc_evidence.specs.declared.highs.TermKey.{TermKey}
 use Rattle.rc_evidence.specs.Highs.{key_order, same_key, ack_key, high_at, is_level, NotesVersion}

@@ -7,9 +7,7 @@ use Rattle.std.specs.BTreeSet.{BTreeSet, contains}
 use Rattle.std.specs.Map.{lookup}
 use Rattle.std.proofs.lemmas.List.{take_more}
 use Rattle.std.proofs.lemmas.Bool.{eqb-true, eq-eqb, or_cases, or_left, or_right}
-use Rattle.rc_types.specs.declared.messages.Message.{Message}
-use Rattle.rc_model.specs.Owners.{IsBefore, previous, onward, IsEarlier, is_earlier, grants_of}
-use Rattle.rc_model.specs.Headline.{In}
+use Rattle.rc_model.specs.Model.{Message, IsBefore, previous, onward, IsEarlier, is_earlier, grants_of, In}
 use Rattle.rc_model.proofs.Befores.{before-through, is_before-finds, is_before-found}
 use Rattle.rc_model.proofs.Members.{In-left, In-right, In-append}
 use Rattle.rc_evidence.specs.declared.grants.Grant.{Grant}

@@ -1,13 +1,10 @@
 -- The grants of each term, message by message.
-use Rattle.std.proofs.Common.{◌≡◌, ◌⊎◌, ℕ, ◌+◌, ◌<◌, Bool, true, false, cond, List, [], ◌∷◌, ◌++◌, Some, nat_eq}
-use Rattle.std.proofs.Common.{length, map, take, get_or, filter, slice_get, refl, sym, ap, ◌∙◌, subst, inl, inr}
-use Rattle.std.proofs.Common.{append_assoc}
+use Rattle.std.proofs.Common.{◌≡◌, ◌⊎◌, ℕ, ◌+◌, ◌<◌, Bool, true, false, cond, List, [], ◌∷◌, ◌++◌, Some, nat_eq, length, map, take}
+use Rattle.std.proofs.Common.{get_or, filter, slice_get, refl, sym, ap, ◌∙◌, subst, inl, inr, append_assoc}
 use Rattle.std.specs.BTreeMap.{BTreeMap}
 use Rattle.std.proofs.lemmas.List.{append-nil}
 use Rattle.std.proofs.lemmas.Bool.{eqb-true, eq-eqb}
-use Rattle.rc_types.specs.declared.messages.Message.{Message}
-use Rattle.rc_model.specs.Owners.{Granted, grant_in, granted, covers, grants_of, IsBefore, previous}
-use Rattle.rc_model.specs.Headline.{In}
+use Rattle.rc_model.specs.Model.{Message, Granted, grant_in, granted, covers, grants_of, IsBefore, previous, In}
 use Rattle.rc_evidence.specs.declared.grants.Grant.{Grant}
 use Rattle.rc_evidence.specs.declared.grants.TermGrants.{TermGrants}
 use Rattle.rc_evidence.specs.Grants.{grant_of, holds_point, under, grants_at, AddsGrants, AreGrants}

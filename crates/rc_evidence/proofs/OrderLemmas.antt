@@ -6,9 +6,7 @@ use Rattle.std.specs.BTreeMap.{BTreeMap, get, is_at}
 use Rattle.std.specs.List.{list_all}
 use Rattle.std.specs.Map.{lookup}
 use Rattle.std.proofs.lemmas.Bool.Decides.{nat_tests}
-use Rattle.rc_types.specs.declared.messages.Message.{Message}
-use Rattle.rc_model.specs.Owners.{IsBefore, previous, onward, grants_of}
-use Rattle.rc_model.specs.Headline.{In}
+use Rattle.rc_model.specs.Model.{Message, IsBefore, previous, onward, grants_of, In}
 use Rattle.rc_model.proofs.Befores.{is_before-finds}
 use Rattle.rc_evidence.specs.declared.grants.Grant.{Grant}
 use Rattle.rc_evidence.specs.declared.grants.TermGrants.{TermGrants}

@@ -9,18 +9,12 @@ use Rattle.std.proofs.lemmas.Grind.{common_steps}
 use Rattle.std.proofs.lemmas.Bool.Decides.{nat_tests}
 use Rattle.std.proofs.lemmas.Bool.{cond_both, cond-false, le-ltb, ltb-false}
 use Rattle.std.proofs.lemmas.Option.{slice_get_past}
-use Rattle.rc_types.specs.declared.ids.ServerId.{ServerId}
-use Rattle.rc_types.specs.declared.entries.Entry.{Entry}
-use Rattle.rc_types.specs.declared.messages.Message.{Message}
-use Rattle.rc_model.specs.Ids.{is_server}
-use Rattle.rc_model.specs.Made.{made, entry_at}
-use Rattle.rc_model.specs.Recovered.{Ack}
-use Rattle.rc_model.specs.Breach.{all_same, same_entry, agrees, all_agree, is_one_entry}
+use Rattle.rc_model.specs.Model.{ServerId, Entry, Message, is_server, made, entry_at, Ack, all_same, same_entry, agrees, all_agree}
+use Rattle.rc_model.specs.Model.{is_one_entry}
 use Rattle.rc_evidence.specs.declared.places.PlaceKey.{PlaceKey}
 use Rattle.rc_evidence.specs.declared.places.Seen.{Seen}
-use Rattle.rc_evidence.specs.Places.{Summary, summary_at, summary_in, place_order, with_entry, with_sent, same_place}
-use Rattle.rc_evidence.specs.Places.{entry_of_run, is_alike, all_alike, summary_of, sent_at, NotesEntry, NotesSent}
-use Rattle.rc_evidence.specs.Places.{Indexes}
+use Rattle.rc_evidence.specs.Places.{Summary, summary_at, summary_in, place_order, with_entry, with_sent, same_place, entry_of_run}
+use Rattle.rc_evidence.specs.Places.{is_alike, all_alike, summary_of, sent_at, NotesEntry, NotesSent, Indexes}
 
 -- one more element of a list
 pub taken_more : {X : Type 0} (xs : List X) (i : ℕ) (x : X) → i < length xs → x ≡ get_or xs i x → take (i + 1) xs ≡ take i xs ++ x ∷ []

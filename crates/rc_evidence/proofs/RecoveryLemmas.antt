@@ -8,9 +8,7 @@ use Rattle.std.specs.Map.{keys_of, lookup}
 use Rattle.std.proofs.lemmas.Grind.{common_steps}
 use Rattle.std.proofs.lemmas.Bool.Decides.{nat_tests}
 use Rattle.std.proofs.lemmas.Bool.{eqb-true}
-use Rattle.rc_types.specs.declared.rows.PlanRow.{PlanRow}
-use Rattle.rc_model.specs.Pick.{insert_once}
-use Rattle.rc_model.specs.Recovered.{reach}
+use Rattle.rc_model.specs.Model.{PlanRow, insert_once, reach}
 use Rattle.rc_evidence.specs.Recoveries.{HasReaches}
 
 -- a map puts a new key where the list of the different numbers has it

@@ -3,12 +3,8 @@ use Rattle.std.proofs.Common.{◌≡◌, ℕ, ◌+◌, ◌<◌, Bool, true, fals
 use Rattle.std.proofs.Common.{length, take, drop, get_or, refl, sym, ap, ◌∙◌}
 use Rattle.std.specs.BTreeMap.{BTreeMap, get}
 use Rattle.std.proofs.lemmas.List.{drop_more}
-use Rattle.rc_types.specs.declared.ids.ServerId.{ServerId}
-use Rattle.rc_types.specs.declared.messages.Message.{Message}
-use Rattle.rc_model.specs.Ids.{is_server}
-use Rattle.rc_model.specs.Recovered.{Ack, ack_in, acknowledged, all_acknowledged, Accepted}
-use Rattle.rc_model.specs.Breach.{holds_greater, is_superseded, first_missing}
-use Rattle.rc_types.specs.declared.verdicts.Breach.{Breach}
+use Rattle.rc_model.specs.Model.{ServerId, Message, is_server, Ack, ack_in, acknowledged, all_acknowledged, Accepted, holds_greater}
+use Rattle.rc_model.specs.Model.{is_superseded, first_missing, Breach}
 use Rattle.rc_evidence.specs.declared.highs.TermKey.{TermKey}
 use Rattle.rc_evidence.specs.Places.{id_order}
 use Rattle.rc_evidence.specs.declared.senders.Sent.{Sent}

@@ -6,12 +6,7 @@ use Rattle.std.specs.BTreeMap.{BTreeMap}
 use Rattle.std.proofs.lemmas.List.{append-nil}
 use Rattle.std.proofs.lemmas.Grind.{common_steps}
 use Rattle.std.proofs.lemmas.Bool.Decides.{nat_tests}
-use Rattle.rc_types.specs.declared.ids.ServerId.{ServerId}
-use Rattle.rc_types.specs.declared.messages.Message.{Message}
-use Rattle.rc_model.specs.Ids.{same_id, is_server}
-use Rattle.rc_model.specs.Made.{made}
-use Rattle.rc_model.specs.Recovered.{Ack, ack_in, acknowledged}
-use Rattle.rc_model.specs.Breach.{all_agree}
+use Rattle.rc_model.specs.Model.{ServerId, Message, same_id, is_server, made, Ack, ack_in, acknowledged, all_agree}
 use Rattle.rc_evidence.specs.declared.writes.AckedWrite.{AckedWrite}
 use Rattle.rc_evidence.specs.declared.standing.Standing.{Standing}
 use Rattle.rc_evidence.specs.Writes.{ack_of, acks_from, acks_by}

@@ -6,13 +6,7 @@ use Rattle.std.proofs.lemmas.Bool.{and_parts, eqb-true}
 use Rattle.std.proofs.lemmas.Bool.Decides.{nat_tests}
 use Rattle.std.proofs.lemmas.List.{get_or-map, length-map}
 use Rattle.std.proofs.lemmas.Grind.{common_steps}
-use Rattle.rc_types.specs.declared.entries.Entry.{Entry}
-use Rattle.rc_types.specs.declared.rows.PlanRow.{PlanRow}
-use Rattle.rc_types.specs.declared.messages.Message.{Message}
-use Rattle.rc_types.specs.declared.messages.Body.{Body}
-use Rattle.rc_types.specs.declared.messages.Body.TheVariants.{Place, Append}
-use Rattle.rc_model.specs.Recovered.{Ack, reach}
-use Rattle.rc_model.specs.Breach.{is_greater, has_greater, holds_greater}
+use Rattle.rc_model.specs.Model.{Entry, PlanRow, Message, Body, Place, Append, Ack, reach, is_greater, has_greater, holds_greater}
 use Rattle.rc_evidence.specs.declared.highs.TermKey.{TermKey}
 use Rattle.rc_evidence.specs.Highs.{same_key}
 use Rattle.rc_evidence.specs.Superseded.{greater_below, superseded_in, says_above, Supersedes}

@@ -3,10 +3,8 @@ use Rattle.std.proofs.Common.{◌≡◌, ℕ, Bool, true, false, ◌&&◌, cond,
 use Rattle.std.proofs.Common.{refl, sym, ap, ◌∙◌, subst, append_assoc}
 use Rattle.std.proofs.lemmas.Bool.{and_parts}
 use Rattle.std.proofs.lemmas.List.{append-nil, append_cancel_left}
-use Rattle.rc_types.specs.declared.events.Event.{Event}
-use Rattle.rc_types.specs.declared.events.Setup.{Setup}
-use Rattle.rc_types.specs.declared.messages.Message.{Message}
-use Rattle.rc_model.specs.World.{World, NodeName, Job, opening, same_node, work_of, is_possible, step, replay_from, replay}
+use Rattle.rc_model.specs.Model.{Event, Setup, Message, World, NodeName, Job, opening, same_node, work_of, is_possible, step, replay_from}
+use Rattle.rc_model.specs.Model.{replay}
 use Rattle.rc_model.proofs.Ids.{same_node-true}
 use Rattle.rc_model.proofs.Replays.{noted, sent_more-step}
 use Rattle.rc_history.specs.Nodes.{node_in}

@@ -1,17 +1,10 @@
 -- Each node of a world keeps its name.
 use Rattle.std.proofs.Common.{◌≡◌, ℕ, List, [], ◌∷◌, Option, Some, None, refl, ap, ◌∙◌}
-use Rattle.rc_types.specs.declared.events.Event.{Event}
-use Rattle.rc_types.specs.declared.events.Setup.{Setup}
-use Rattle.rc_types.specs.declared.messages.Message.{Message}
-use Rattle.rc_model.specs.Ids.{is_server}
-use Rattle.rc_model.specs.Backup.{backup_takes}
-use Rattle.rc_model.specs.Master.{Master}
-use Rattle.rc_model.specs.MasterStep.{master_takes}
-use Rattle.rc_model.specs.Nodes.{Work, Ask, Take, Tick, Stop, Start, Suspect, Decide, Create, Split, HostNode, host_step}
-use Rattle.rc_model.specs.Nodes.{is_for_backup, with_backup, with_master, server_takes, server_of, takes_if_running}
-use Rattle.rc_model.specs.Nodes.{ticks_if_running}
-use Rattle.rc_model.specs.World.{World, NodeName, TheOutside, TheCoordinator, TheHost, Job, node_done, job_done, work_of}
-use Rattle.rc_model.specs.World.{is_possible, opening, step, replay_from, replay}
+use Rattle.rc_model.specs.Model.{Event, Setup, Message, is_server, backup_takes, Master, master_takes, Work, Take, Create, Split}
+use Rattle.rc_model.specs.Model.{HostNode, host_step, is_for_backup, with_backup, with_master, server_takes, server_of, takes_if_running}
+use Rattle.rc_model.specs.Model.{ticks_if_running, World, NodeName, TheOutside, TheCoordinator, TheHost, Job, node_done, job_done}
+use Rattle.rc_model.specs.Model.{work_of, is_possible, opening, step, replay_from, replay}
+use Rattle.rc_model.specs.Nodes.{Ask, Tick, Stop, Start, Suspect, Decide}
 use Rattle.rc_model.proofs.Tests.{either}
 use Rattle.rc_model.proofs.Tables.{put_each}
 use Rattle.rc_history.specs.Nodes.{name_of, node_in}

@@ -1,19 +1,12 @@
 -- A node is made anew from what was kept of its works.
 use Rattle.std.proofs.Common.{◌≡◌, Bool, true, false, cond, List, [], ◌∷◌, filter, Option, Some, None, refl, sym, ap, ◌∙◌, subst}
-use Rattle.rc_types.specs.declared.ids.Addr.{Addr}
-use Rattle.rc_types.specs.declared.ids.Addr.TheVariants.{Server, Coordinator as AtCoordinator, Outside}
-use Rattle.rc_types.specs.declared.messages.Message.{Message}
-use Rattle.rc_types.specs.declared.messages.Body.{Body}
-use Rattle.rc_types.specs.declared.messages.Body.TheVariants.{Fetch}
-use Rattle.rc_model.specs.Ids.{is_server}
-use Rattle.rc_model.specs.Backup.{Backup, backup_takes}
-use Rattle.rc_model.specs.Master.{Master}
-use Rattle.rc_model.specs.MasterStep.{master_takes}
+use Rattle.rc_model.specs.Model.{Addr, Server, Outside, Message, Body, Fetch, is_server, Backup, backup_takes, Master, master_takes, Work}
+use Rattle.rc_model.specs.Model.{Take, Create, Split, HostNode, host_step, coordinator_step, is_for_backup, with_backup, with_master}
+use Rattle.rc_model.specs.Model.{server_takes, server_of, takes_if_running, ticks_if_running, is_some_master, host_after}
+use Rattle.rc_model.specs.Model.{coordinator_after}
+use Rattle.rc_types.specs.declared.ids.Addr.TheVariants.{Coordinator as AtCoordinator}
 use Rattle.rc_model.specs.Coordinator.{Coordinator}
-use Rattle.rc_model.specs.Nodes.{Work, Ask, Take, Tick, Stop, Start, Suspect, Decide, Create, Split, HostNode, host_step, coordinator_step}
-use Rattle.rc_model.specs.Nodes.{is_for_backup, with_backup, with_master, server_takes, server_of, takes_if_running}
-use Rattle.rc_model.specs.Nodes.{ticks_if_running, is_some_master}
-use Rattle.rc_model.specs.Works.{host_after, coordinator_after}
+use Rattle.rc_model.specs.Nodes.{Ask, Tick, Stop, Start, Suspect, Decide}
 use Rattle.rc_model.proofs.Tests.{either, true_false}
 use Rattle.rc_history.specs.Remade.{changes_backup, host_keeps, coordinator_keeps, stopped, SameButMaster, HostsCanBeRemade}
 use Rattle.rc_history.specs.Remade.{CoordinatorCanBeRemade}

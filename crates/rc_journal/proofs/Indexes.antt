@@ -3,8 +3,7 @@ use Rattle.std.proofs.Common.{◌≡◌, ◌≢◌, ℕ, zero, suc, ◌+◌, ◌
 use Rattle.std.proofs.Common.{option_map, slice_get, slice_set, refl, sym, ap, ◌∙◌, subst, arith, length-append, append_assoc}
 use Rattle.std.proofs.lemmas.List.{length-set, map-set}
 use Rattle.std.proofs.lemmas.Option.{slice_get-map}
-use Rattle.rc_types.specs.declared.messages.Message.{Message}
-use Rattle.rc_model.specs.World.{node_of}
+use Rattle.rc_model.specs.Model.{Message, node_of}
 use Rattle.rc_journal.specs.Views.{name_at}
 use Rattle.rc_journal.specs.Names.{number_at}
 use Rattle.rc_journal.specs.Numbers.{numbers_to}

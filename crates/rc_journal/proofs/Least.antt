@@ -3,8 +3,7 @@ use Rattle.std.proofs.Common.{◌≡◌, ℕ, zero, suc, ◌+◌, ◌<◌, ◌�
 use Rattle.std.proofs.Common.{slice_get, slice_index_or, refl, sym, ap, ◌∙◌, arith}
 use Rattle.std.specs.List.{find, AllWithin}
 use Rattle.std.specs.List.Sorted.{IsPartitionedBy}
-use Rattle.rc_types.specs.declared.messages.Message.{Message}
-use Rattle.rc_model.specs.World.{NodeName, same_node, node_of}
+use Rattle.rc_model.specs.Model.{Message, NodeName, same_node, node_of}
 use Rattle.rc_journal.specs.Numbers.{numbers_from}
 use Rattle.rc_journal.specs.Rising.{Rises}
 

@@ -5,8 +5,7 @@ use lib.ListN.{get_elem?}
 use prog.Atomic.{either}
 use Rattle.atomic_table.specs.Table.{State, Me, step, keeps, Allows, Splits, Joins}
 use Rattle.atomic_table.proofs.Lists.{set_else}
-use Rattle.rc_types.specs.declared.events.Setup.{Setup}
-use Rattle.rc_types.specs.declared.events.Event.{Event}
+use Rattle.rc_model.specs.Model.{Setup, Event}
 use Rattle.rc_journal.specs.declared.view.Desk.{Desk}
 use Rattle.rc_journal.specs.declared.view.Place.{Place}
 use Rattle.rc_journal.specs.declared.view.View.{View}

@@ -1,8 +1,6 @@
 -- Lists of an index, one of which is changed.
-use Rattle.std.proofs.Common.{◌≡◌, ◌≢◌, ℕ, ◌+◌, ◌<◌, ◌≤◌, ⊎_elim, List, length, Some, slice_get}
-use Rattle.std.proofs.Common.{slice_set, sym, ap, ◌∙◌, subst, arith}
-use Rattle.rc_types.specs.declared.messages.Message.{Message}
-use Rattle.rc_model.specs.World.{node_of}
+use Rattle.std.proofs.Common.{◌≡◌, ◌≢◌, ℕ, ◌+◌, ◌<◌, ◌≤◌, ⊎_elim, List, length, Some, slice_get, slice_set, sym, ap, ◌∙◌, subst, arith}
+use Rattle.rc_model.specs.Model.{Message, node_of}
 use Rattle.rc_journal.specs.Names.{number_at}
 use Rattle.rc_journal.proofs.Indexes.{get-set, get-set-other, same-or, some-is}
 

@@ -4,9 +4,7 @@ use Rattle.std.proofs.Common.{sym, ap, ◌∙◌, subst, arith}
 use mathlib.Core.Option.{some, some-injective, some-ne-none}
 use lib.ListN.{get_elem?}
 use Rattle.atomic_table.proofs.Lists.{at_set}
-use Rattle.rc_types.specs.declared.events.Setup.{Setup}
-use Rattle.rc_types.specs.declared.events.Event.{Event}
-use Rattle.rc_model.specs.World.{replay, is_possible, work_of}
+use Rattle.rc_model.specs.Model.{Setup, Event, replay, is_possible, work_of}
 use Rattle.rc_history.specs.Events.{StartsWith, is_for}
 use Rattle.rc_history.proofs.Lists.{starts-same, starts-append, starts-through}
 use Rattle.rc_history.proofs.Longer.{events_of-own, events_of-other}

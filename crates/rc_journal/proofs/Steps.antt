@@ -2,11 +2,7 @@
 use Rattle.std.proofs.Common.{◌≡◌, ℕ, zero, suc, ◌+◌, ◌<◌, Bool, true, ◌&&◌, List, [], ◌∷◌, ◌++◌, length, map, refl, sym, ap, ◌∙◌}
 use Rattle.std.proofs.Common.{subst, length-append, arith}
 use Rattle.std.specs.List.{range_with_len}
-use Rattle.rc_types.specs.declared.events.Setup.{Setup}
-use Rattle.rc_types.specs.declared.events.Event.{Event}
-use Rattle.rc_types.specs.declared.messages.Message.{Message}
-use Rattle.rc_types.specs.declared.limits.TheConstants.{MAX_EVENTS}
-use Rattle.rc_model.specs.World.{opening, replay, is_possible}
+use Rattle.rc_model.specs.Model.{Setup, Event, Message, MAX_EVENTS, opening, replay, is_possible}
 use Rattle.rc_history.specs.Events.{is_legal}
 use Rattle.rc_history.proofs.Longer.{legal_from-append, events_of-other}
 use Rattle.rc_journal.specs.declared.ledger.Ledger.{Ledger}

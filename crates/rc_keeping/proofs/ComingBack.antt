@@ -1,17 +1,10 @@
 -- A node comes back from what it keeps, whatever of it is refused.
 use Rattle.std.specs.Prelude.{◌&&◌, nat_lt}
 use Rattle.std.proofs.Common.{◌≡◌, ℕ, Bool, true, false, cond, List, [], ◌∷◌, filter, Option, Some, None, refl, sym, ap, ◌∙◌, subst}
-use Rattle.rc_types.specs.declared.ids.Addr.TheVariants.{Server}
-use Rattle.rc_types.specs.declared.ids.ServerId.{ServerId}
-use Rattle.rc_types.specs.declared.limits.TheConstants.{MAX_HOSTS}
-use Rattle.rc_types.specs.declared.messages.Message.{Message}
-use Rattle.rc_model.specs.Ids.{is_server}
-use Rattle.rc_model.specs.Backup.{backup_takes}
-use Rattle.rc_model.specs.Master.{Master}
-use Rattle.rc_model.specs.MasterStep.{master_takes}
+use Rattle.rc_model.specs.Model.{Server, ServerId, MAX_HOSTS, Message, is_server, backup_takes, Master, master_takes, HostNode}
+use Rattle.rc_model.specs.Model.{coordinator_step, server_of, runs, is_for_backup, with_backup, with_master, server_takes}
+use Rattle.rc_model.specs.Model.{takes_if_running, is_some_master}
 use Rattle.rc_model.specs.Coordinator.{Coordinator}
-use Rattle.rc_model.specs.Nodes.{HostNode, coordinator_step, server_of, runs, is_for_backup, with_backup}
-use Rattle.rc_model.specs.Nodes.{with_master, server_takes, takes_if_running, is_some_master}
 use Rattle.rc_model.specs.Works.{host_after as after_all}
 use Rattle.rc_model.proofs.Tests.{either, true_false}
 use Rattle.rc_history.specs.Nodes.{TheHost, TheCoordinator}

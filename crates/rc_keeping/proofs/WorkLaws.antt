@@ -1,8 +1,7 @@
 -- Each work is read back, and nothing else is.
 use Rattle.std.proofs.Common.{◌≡◌, ℕ, zero, suc, ◌<◌, List, ◌∷◌, ◌++◌, Option, Some, None, refl, sym, ap, ◌∙◌, arith}
 use Rattle.rc_types.specs.declared.ids.Addr.TheVariants as addr
-use Rattle.rc_types.specs.declared.messages.Message.{Message}
-use Rattle.rc_types.specs.declared.messages.Body.{Body}
+use Rattle.rc_model.specs.Model.{Message, Body}
 use Rattle.rc_codec.specs.Parts.{four_bytes, eight_bytes}
 use Rattle.rc_codec.specs.Spelling.{id_code, kept_code, body_code, message_code}
 use Rattle.rc_codec.specs.Reading.{◌>>=◌}

@@ -2,26 +2,12 @@
 use Rattle.std.proofs.Common.{◌≡◌, ◌⊎◌, ℕ, ◌+◌, ◌-◌, ◌<◌, ◌≤◌, true, ◌&&◌, List, nat_eq, nat_le, Some, None, slice_get}
 use Rattle.std.proofs.Common.{sym, ap, ◌∙◌, subst, inl, inr, arith}
 use Rattle.std.proofs.lemmas.Bool.{eqb-true, leb-true, and_parts}
-use Rattle.rc_types.specs.declared.ids.ServerId.{ServerId}
-use Rattle.rc_types.specs.declared.ids.Addr.{Addr}
-use Rattle.rc_types.specs.declared.ids.Addr.TheVariants.{Server, Coordinator as AtCoordinator, Outside}
-use Rattle.rc_types.specs.declared.entries.Entry.{Entry}
-use Rattle.rc_types.specs.declared.rows.Row.{Row}
-use Rattle.rc_types.specs.declared.rows.PlanRow.{PlanRow}
-use Rattle.rc_types.specs.declared.messages.Message.{Message}
-use Rattle.rc_types.specs.declared.messages.Body.{Body}
-use Rattle.rc_types.specs.declared.messages.Body.TheVariants.{Place, Append}
-use Rattle.rc_model.specs.Made.{entry_at}
-use Rattle.rc_model.specs.Recovered.{Ack, Accepted}
-use Rattle.rc_model.specs.Pick.{is_valid}
-use Rattle.rc_model.specs.Log.{Log}
-use Rattle.rc_model.specs.Master.{Master}
+use Rattle.rc_model.specs.Model.{ServerId, Addr, Server, Outside, Entry, Row, PlanRow, Message, Body, Place, Append, entry_at, Ack}
+use Rattle.rc_model.specs.Model.{Accepted, is_valid, Log, Master, HostNode, HasMade, HasAcknowledged, WasAccepted, IsHeld, OnlyIt}
+use Rattle.rc_model.specs.Model.{IsSuperseded, IsThere, NothingIsMissing, NothingIsInvented}
+use Rattle.rc_types.specs.declared.ids.Addr.TheVariants.{Coordinator as AtCoordinator}
 use Rattle.rc_model.specs.Coordinator.{Coordinator}
-use Rattle.rc_model.specs.Nodes.{HostNode}
-use Rattle.rc_model.specs.Headline.{HasMade, HasAcknowledged, WasAccepted, IsHeld, OnlyIt, IsSuperseded, IsThere}
-use Rattle.rc_model.specs.Headline.{NothingIsMissing, NothingIsInvented}
-use Rattle.rc_step_laws.specs.Words.{log_in}
-use Rattle.rc_step_laws.specs.Facts.{IsCopy, IsWriteOk, Good, body_fine}
+use Rattle.rc_step_laws.specs.All.{log_in, IsCopy, IsWriteOk, Good, body_fine}
 use Rattle.rc_step_laws.proofs.Lists.{get-begins}
 use Rattle.rc_log_laws.proofs.Covers.{PlanIs, plan-is, IsCovered, covered}
 use Rattle.rc_model.proofs.Tests.{either}

@@ -3,22 +3,10 @@ use Rattle.std.proofs.Common.{◌≡◌, ◌⊎◌, ℕ, zero, suc, ◌+◌, ◌
 use Rattle.std.proofs.Common.{length, Some, slice_get, refl, sym, ap, ◌∙◌, subst, inl, inr, arith}
 use Rattle.std.proofs.lemmas.Bool.{cases_order}
 use Rattle.std.proofs.lemmas.Bool.Decides.{nat_tests}
-use Rattle.rc_types.specs.declared.ids.ServerId.{ServerId}
-use Rattle.rc_types.specs.declared.ids.Pair.{Pair}
-use Rattle.rc_types.specs.declared.entries.Entry.{Entry}
-use Rattle.rc_types.specs.declared.rows.Row.{Row}
+use Rattle.rc_model.specs.Model.{ServerId, Pair, Entry, Row, PlanRow, Message, Place, CommitOk, Replicas, between, to_coordinator}
+use Rattle.rc_model.specs.Model.{from_coordinator, HeldRow, is_below, is_valid, Log, Master, Attempt, HostNode, In, IsHeld}
 use Rattle.rc_types.specs.declared.rows.Plan.{Plan}
-use Rattle.rc_types.specs.declared.rows.PlanRow.{PlanRow}
-use Rattle.rc_types.specs.declared.messages.Message.{Message}
-use Rattle.rc_types.specs.declared.messages.Body.TheVariants.{Place, CommitOk, Replicas}
-use Rattle.rc_model.specs.Messages.{between, to_coordinator, from_coordinator}
-use Rattle.rc_model.specs.Pick.{HeldRow, is_below, is_valid}
-use Rattle.rc_model.specs.Log.{Log}
-use Rattle.rc_model.specs.Master.{Master}
-use Rattle.rc_model.specs.Attempts.{Attempt}
 use Rattle.rc_model.specs.Coordinator.{Coordinator}
-use Rattle.rc_model.specs.Nodes.{HostNode}
-use Rattle.rc_model.specs.Headline.{In, IsHeld}
 use Rattle.rc_step_laws.specs.Words.{log_in, HasTold, HasToldClosed, IsMember, IsOpenedAt, IsCommitted, IsNumbered}
 use Rattle.rc_step_laws.specs.Facts.{IsSafe, IsOutdated, IsDead, IsDigest, GoodMaster, IsPlace, IsCopy, IsAnswer, IsPlan, GoodAttempt, Good}
 use Rattle.rc_step_laws.proofs.Copies.{split}

@@ -1,12 +1,9 @@
 -- Who has crashed stays so.
 use Rattle.std.proofs.Common.{◌≡◌, ◌⊎◌, ℕ, true, false, List, [], ◌∷◌, sym, ◌∙◌, subst, inl, inr}
-use Rattle.rc_types.specs.declared.ids.ServerId.{ServerId}
-use Rattle.rc_types.specs.declared.events.Event.{Event}
-use Rattle.rc_model.specs.ServerList.{is_up, has_crashed}
-use Rattle.rc_model.specs.World.{World, opening, step, replay_from, replay}
+use Rattle.rc_model.specs.Model.{ServerId, Event, is_up, has_crashed, World, opening, step, replay_from, replay, Take, Create, Split}
 use Rattle.rc_step_laws.proofs.Servers.{crashed-not-up}
 use Rattle.rc_model.proofs.Replays.{replay_from-push}
-use Rattle.rc_model.specs.Nodes.{Ask, Take, Tick, Stop, Start, Suspect, Decide, Create, Split}
+use Rattle.rc_model.specs.Nodes.{Ask, Tick, Stop, Start, Suspect, Decide}
 use Rattle.rc_log_laws.proofs.Granted.{grants-takes, grants-ticks, grants-suspects, grants-decides, grants-creates, grants-splits}
 use Rattle.rc_log_laws.proofs.Replays.{GoodWorld, GoodStep, led-step, good-world}
 use Rattle.rc_log_laws.specs.CommitClaims.{CrashedIsNeverUp, WasCommitted, EachGrantGoesToTheUp, GrantsGoToTheUp, CrashedAreGrantedNoMore}

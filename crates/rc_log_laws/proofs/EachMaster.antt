@@ -1,33 +1,17 @@
 -- A walk over the events of a world: what the own steps of masters keep of each of them holds in every world.
 use Rattle.std.proofs.Common.{◌≡◌, ℕ, ◌+◌, Bool, true, false, List, [], ◌∷◌, ◌++◌, Option, Some}
 use Rattle.std.proofs.Common.{None, refl, sym, ap, ◌∙◌, subst, inl, inr, arith}
-use Rattle.rc_types.specs.declared.ids.ServerId.{ServerId}
-use Rattle.rc_types.specs.declared.ids.Addr.{Addr}
-use Rattle.rc_types.specs.declared.ids.Addr.TheVariants.{Server, Coordinator as AtCoordinator, Outside}
-use Rattle.rc_types.specs.declared.rows.Part.{Part}
-use Rattle.rc_types.specs.declared.events.Setup.{Setup}
-use Rattle.rc_types.specs.declared.events.Event.{Event}
-use Rattle.rc_types.specs.declared.messages.Message.{Message}
-use Rattle.rc_types.specs.declared.messages.Body.{Body}
-use Rattle.rc_types.specs.declared.messages.Body.TheVariants.{Place, Append, Close, Free, Gather, Fetch, Data, Stored, Replicas}
-use Rattle.rc_types.specs.declared.messages.Body.TheVariants.{Enlist}
-use Rattle.rc_model.specs.Ids.{same_id, is_server}
-use Rattle.rc_model.specs.Tables.{put_id}
-use Rattle.rc_model.specs.Messages.{between, to_coordinator}
-use Rattle.rc_model.specs.Replica.{Replica}
-use Rattle.rc_model.specs.Backup.{Backup, backup_takes, keeps, stores, stored_of, is_refused, replica_of}
-use Rattle.rc_model.specs.Backup.{replica_after, rows_of_replicas, data_of, answers_fetch}
-use Rattle.rc_model.specs.Master.{Master, new_master}
-use Rattle.rc_model.specs.MasterStep.{master_takes, master_ticks}
-use Rattle.rc_model.specs.Nodes.{Work, Ask, Take, Tick, Stop, Start, Suspect, Decide, Create, Split, HostNode}
-use Rattle.rc_model.specs.Nodes.{master_setup, outside_sends, coordinator_step, server_of, host_step, is_for_backup}
-use Rattle.rc_model.specs.Nodes.{with_backup, with_master, server_takes, takes_if_running, ticks_if_running}
-use Rattle.rc_model.specs.Nodes.{starts_host, next_server}
-use Rattle.rc_model.specs.World.{World, opening, NodeName, TheOutside, TheCoordinator, TheHost, Job, work_of}
-use Rattle.rc_model.specs.World.{is_possible, with_last_view, node_done, job_done, step, replay_from, replay}
-use Rattle.rc_model.specs.Headline.{In}
-use Rattle.rc_step_laws.specs.Facts.{GoodMaster, GoodHost}
-use Rattle.rc_step_laws.specs.Moves.{MasterMoved}
+use Rattle.rc_model.specs.Model.{ServerId, Addr, Server, Outside, Part, Setup, Event, Message, Body, Place, Append, Close, Free, Gather}
+use Rattle.rc_model.specs.Model.{Fetch, Data, Stored, Replicas, Enlist, same_id, is_server, put_id, between, to_coordinator, Replica}
+use Rattle.rc_model.specs.Model.{Backup, backup_takes, keeps, stores, stored_of, is_refused, replica_of, replica_after, rows_of_replicas}
+use Rattle.rc_model.specs.Model.{data_of, answers_fetch, Master, new_master, master_takes, master_ticks, Work, Take, Create, Split}
+use Rattle.rc_model.specs.Model.{HostNode, master_setup, outside_sends, coordinator_step, server_of, host_step, is_for_backup}
+use Rattle.rc_model.specs.Model.{with_backup, with_master, server_takes, takes_if_running, ticks_if_running, starts_host, next_server}
+use Rattle.rc_model.specs.Model.{World, opening, NodeName, TheOutside, TheCoordinator, TheHost, Job, work_of, is_possible, with_last_view}
+use Rattle.rc_model.specs.Model.{node_done, job_done, step, replay_from, replay, In}
+use Rattle.rc_types.specs.declared.ids.Addr.TheVariants.{Coordinator as AtCoordinator}
+use Rattle.rc_model.specs.Nodes.{Ask, Tick, Stop, Start, Suspect, Decide}
+use Rattle.rc_step_laws.specs.All.{GoodMaster, GoodHost, MasterMoved}
 use Rattle.rc_step_laws.proofs.MasterSteps.{master_takes_keeps, master_ticks_keeps}
 use Rattle.rc_step_laws.proofs.CoordinatorSteps as coordinator
 use Rattle.rc_log_laws.proofs.Replays.{GoodWorld, IsGiven, is-good, is-fine, hears, is_server-true, work_of-given}

@@ -1,17 +1,8 @@
 -- Who has answered about a master tells it no more.
 use Rattle.std.proofs.Common.{◌≡◌, ◌⊎◌, ℕ, ◌≤◌, Bool, true, List, [], ◌∷◌, sym, ap, ◌∙◌, subst, inl, inr, arith}
-use Rattle.rc_types.specs.declared.ids.ServerId.{ServerId}
-use Rattle.rc_types.specs.declared.rows.Row.{Row}
-use Rattle.rc_types.specs.declared.events.Event.{Event}
-use Rattle.rc_types.specs.declared.messages.Body.{Body}
-use Rattle.rc_types.specs.declared.messages.Body.TheVariants.{Stored, Replicas}
-use Rattle.rc_model.specs.Messages.{between, to_coordinator}
-use Rattle.rc_model.specs.Attempts.{Attempt}
-use Rattle.rc_model.specs.World.{World, opening, step, replay_from, replay}
-use Rattle.rc_model.specs.Headline.{In}
-use Rattle.rc_step_laws.specs.Words.{held_at, IsOf}
-use Rattle.rc_step_laws.specs.Facts.{IsAnswer, body_fine}
-use Rattle.rc_step_laws.specs.Later.{IsNewStored}
+use Rattle.rc_model.specs.Model.{ServerId, Row, Event, Body, Stored, Replicas, between, to_coordinator, Attempt, World, opening, step}
+use Rattle.rc_model.specs.Model.{replay_from, replay, In}
+use Rattle.rc_step_laws.specs.All.{held_at, IsOf, IsAnswer, body_fine, IsNewStored}
 use Rattle.rc_step_laws.proofs.Attempting.{numbered-same}
 use Rattle.rc_log_laws.proofs.Replays.{GoodWorld, GoodStep, led-step, good-world}
 use Rattle.rc_log_laws.specs.LogClaims.{WasGathered, FencesHold, WhoAnsweredIsFenced}

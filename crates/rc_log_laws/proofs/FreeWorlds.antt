@@ -3,33 +3,18 @@ use Rattle.std.proofs.Common.{◌≡◌, ◌⊎◌, ℕ, ◌+◌, ◌<◌, ◌�
 use Rattle.std.proofs.Common.{refl, sym, ap, ◌∙◌, subst, inl, inr, arith}
 use Rattle.std.proofs.lemmas.Bool.{cases_order}
 use Rattle.std.proofs.lemmas.List.{append_assoc}
-use Rattle.rc_types.specs.declared.ids.ServerId.{ServerId}
-use Rattle.rc_types.specs.declared.ids.Addr.{Addr}
-use Rattle.rc_types.specs.declared.ids.Addr.TheVariants.{Server}
-use Rattle.rc_types.specs.declared.events.Setup.{Setup}
-use Rattle.rc_types.specs.declared.events.Event.{Event}
-use Rattle.rc_types.specs.declared.rows.PlanRow.{PlanRow}
-use Rattle.rc_types.specs.declared.messages.Message.{Message}
-use Rattle.rc_types.specs.declared.messages.Body.{Body}
+use Rattle.rc_model.specs.Model.{ServerId, Addr, Server, Setup, Event, PlanRow, Message, Body, same_id, is_server, Log, Master}
+use Rattle.rc_model.specs.Model.{master_takes, master_ticks, replay, Accepted, In, WasAccepted, Opening, Writing}
 use Rattle.rc_types.specs.declared.messages.Body.TheVariants as body
-use Rattle.rc_model.specs.Ids.{same_id, is_server}
-use Rattle.rc_model.specs.Log.{Log}
-use Rattle.rc_model.specs.Master.{Master}
-use Rattle.rc_model.specs.MasterStep.{master_takes, master_ticks}
-use Rattle.rc_model.specs.World.{replay}
-use Rattle.rc_model.specs.Recovered.{Accepted}
-use Rattle.rc_model.specs.Headline.{In, WasAccepted}
 use Rattle.rc_model.proofs.Members.{In-left, In-right, In-append}
 use Rattle.rc_step_laws.specs.Facts.{IsPlan, body_fine}
 use Rattle.rc_step_laws.proofs.CoordinatorSteps as coordinator
 use Rattle.rc_log_laws.proofs.Covers.{PlanIs, plan-is, plan-head, head-not-below}
-use Rattle.rc_log_laws.proofs.Replays.{GoodWorld}
-use Rattle.rc_log_laws.proofs.Replays.{good-world}
+use Rattle.rc_log_laws.proofs.Replays.{GoodWorld, good-world}
 use Rattle.rc_log_laws.specs.Freed.{IsLeftOut, freed_by, freed_in, GoodFrees}
 use Rattle.rc_log_laws.specs.FreedClaims.{HasRow, RecoveriesAreDigests, HeadsAreNotShut, FreedIsLeftOut, FreedIsInNoRecovery}
 use Rattle.rc_log_laws.proofs.Stays.{fewer}
 use Rattle.rc_log_laws.proofs.EachMaster.{OthersSay, is_others, IsKeptByAll, kept-replay}
-use Rattle.rc_types.specs.declared.kept.Phase.TheVariants.{Opening, Writing}
 use Rattle.rc_log_laws.proofs.Walk.{takes-moves, ticks-moves}
 use Rattle.rc_model.proofs.Ids.{same_id-refl}
 use Rattle.rc_model.proofs.Tests.{true_false}

@@ -1,36 +1,20 @@
 -- The coordinator grants a commit only to a server that is up.
 use Rattle.std.proofs.Common.{◌≡◌, ◌⊎◌, ℕ, ◌+◌, Bool, true, false, cond, not, ◌&&◌, List, [], ◌∷◌, ◌++◌, filter}
 use Rattle.std.proofs.Common.{Option, Some, None, Result, Ok, Err, refl, sym, ap, ◌∙◌, subst, inl, inr}
-use Rattle.rc_types.specs.declared.ids.ServerId.{ServerId}
-use Rattle.rc_types.specs.declared.ids.Pair.{Pair}
-use Rattle.rc_types.specs.declared.ids.Addr.{Addr}
-use Rattle.rc_types.specs.declared.ids.Addr.TheVariants.{Server}
+use Rattle.rc_model.specs.Model.{ServerId, Pair, Addr, Server, Part, Grant, Fault, Deposed, StaleGeneration, StaleAttempt, NotReady}
+use Rattle.rc_model.specs.Model.{NoTable, TableExists, TooManyTablets, Message, Body, Enlist, Ready, Commit, CommitOk, Replicas}
+use Rattle.rc_model.specs.Model.{Recovered, Gather, SplitOk, put_id, from_coordinator, to_each, coordinator_refuses, coordinator_tells}
+use Rattle.rc_model.specs.Model.{ServerList, is_up, has_crashed, is_newest, enlisted, up, has_table, tablet_of, marked_crashed, has_range}
+use Rattle.rc_model.specs.Model.{assigned, pick, greater_pair, Attempt, Decision, has_answered, is_gathering, parts_of, plan_message}
+use Rattle.rc_model.specs.Model.{plan_messages, refuses_server, list_body, spreads_list, begins_attempt, has_tablets, begins_if_needed}
+use Rattle.rc_model.specs.Model.{spreads_then_begins, attempt_at, up_of_host, follows_generation, enlists, notes_ready, with_crashed}
+use Rattle.rc_model.specs.Model.{suspects, commits_pair, is_current, ready_ids, decides_with, decides_attempt, decides, own_body}
+use Rattle.rc_model.specs.Model.{range_of, grant_of, grant_to, part_of_sender, grants_if_given, grants_or_repeats, takes_recovered}
+use Rattle.rc_model.specs.Model.{first_grant, creates_table, is_too_many, creates, split_fault, splits_unless, splits, has_open_part}
+use Rattle.rc_model.specs.Model.{asks_again, asks_again_of, coordinator_ticks, coordinator_takes, In}
 use Rattle.rc_types.specs.declared.rows.Plan.{Plan}
-use Rattle.rc_types.specs.declared.rows.Part.{Part}
-use Rattle.rc_types.specs.declared.kept.Grant.{Grant}
-use Rattle.rc_types.specs.declared.faults.Fault.{Fault}
-use Rattle.rc_types.specs.declared.faults.Fault.TheVariants.{Deposed, StaleGeneration, StaleAttempt, NotReady, NoTable}
-use Rattle.rc_types.specs.declared.faults.Fault.TheVariants.{TableExists, TooManyTablets}
-use Rattle.rc_types.specs.declared.messages.Message.{Message}
-use Rattle.rc_types.specs.declared.messages.Body.{Body}
-use Rattle.rc_types.specs.declared.messages.Body.TheVariants.{Enlist, Ready, Commit, CommitOk, Replicas, Recovered}
-use Rattle.rc_types.specs.declared.messages.Body.TheVariants.{Gather, SplitOk, Plan as PlanBody}
-use Rattle.rc_model.specs.Tables.{put_id}
-use Rattle.rc_model.specs.Messages.{from_coordinator, to_each, coordinator_refuses, coordinator_tells}
-use Rattle.rc_model.specs.ServerList.{ServerList, is_up, has_crashed, is_newest, enlisted, up}
-use Rattle.rc_model.specs.Tablets.{has_table, tablet_of, marked_crashed, has_range, assigned}
-use Rattle.rc_model.specs.Pick.{pick, greater_pair}
-use Rattle.rc_model.specs.Attempts.{Attempt, Decision, has_answered, is_gathering, parts_of, plan_message, plan_messages}
-use Rattle.rc_model.specs.Coordinator.{Coordinator, refuses_server, list_body, spreads_list, begins_attempt}
-use Rattle.rc_model.specs.Coordinator.{has_tablets, begins_if_needed, spreads_then_begins, attempt_at, up_of_host}
-use Rattle.rc_model.specs.Coordinator.{follows_generation, enlists, notes_ready, with_crashed, suspects, commits_pair}
-use Rattle.rc_model.specs.Deciding.{is_current, ready_ids, decides_with, decides_attempt, decides, own_body, range_of}
-use Rattle.rc_model.specs.Deciding.{grant_of, grant_to, part_of_sender, grants_if_given, grants_or_repeats}
-use Rattle.rc_model.specs.Deciding.{takes_recovered}
-use Rattle.rc_model.specs.CoordinatorStep.{first_grant, creates_table, is_too_many, creates, split_fault}
-use Rattle.rc_model.specs.CoordinatorStep.{splits_unless, splits, has_open_part, asks_again, asks_again_of}
-use Rattle.rc_model.specs.CoordinatorStep.{coordinator_ticks, coordinator_takes}
-use Rattle.rc_model.specs.Headline.{In}
+use Rattle.rc_types.specs.declared.messages.Body.TheVariants.{Plan as PlanBody}
+use Rattle.rc_model.specs.Coordinator.{Coordinator}
 use Rattle.rc_model.proofs.Members.{In-append}
 use Rattle.rc_model.proofs.Tests.{true_false, either}
 use Rattle.rc_model.proofs.Ids.{server-same}

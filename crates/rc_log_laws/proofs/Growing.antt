@@ -1,15 +1,8 @@
 -- Logs and their replicas.
 use Rattle.std.proofs.Common.{◌≡◌, ℕ, ◌<◌, Bool, true, List, ◌++◌, length, Some, slice_get, inl, arith}
 use Rattle.std.proofs.lemmas.List.{length-map}
-use Rattle.rc_types.specs.declared.ids.ServerId.{ServerId}
-use Rattle.rc_types.specs.declared.entries.Entry.{Entry}
-use Rattle.rc_types.specs.declared.messages.Message.{Message}
-use Rattle.rc_model.specs.Log.{LogPlace}
-use Rattle.rc_model.specs.Master.{Master}
-use Rattle.rc_model.specs.World.{replay}
-use Rattle.rc_step_laws.specs.Words.{log_in}
-use Rattle.rc_step_laws.specs.Facts.{IsSafe, GoodMaster, GoodReplica}
-use Rattle.rc_step_laws.specs.Moves.{OwnFine}
+use Rattle.rc_model.specs.Model.{ServerId, Entry, Message, LogPlace, Master, replay}
+use Rattle.rc_step_laws.specs.All.{log_in, IsSafe, GoodMaster, GoodReplica, OwnFine}
 use Rattle.rc_step_laws.proofs.Lists.{get-below}
 use Rattle.rc_step_laws.proofs.Copies.{grows-log, final-log}
 use Rattle.rc_step_laws.proofs.Safe.{covered-safe}

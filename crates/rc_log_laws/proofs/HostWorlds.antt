@@ -1,24 +1,13 @@
 -- A host's backup moves, or the host starts or stops, and the world stays good.
 use Rattle.std.proofs.Common.{◌≡◌, ◌⊎◌, ℕ, ◌≤◌, Bool, true, false, List, ◌++◌, refl, sym, ap, ◌∙◌, subst, inl, inr, arith}
-use Rattle.rc_types.specs.declared.ids.ServerId.{ServerId}
-use Rattle.rc_types.specs.declared.ids.Addr.{Addr}
-use Rattle.rc_types.specs.declared.ids.Addr.TheVariants.{Server, Coordinator as AtCoordinator, Outside}
-use Rattle.rc_types.specs.declared.messages.Message.{Message}
-use Rattle.rc_types.specs.declared.messages.Body.{Body}
+use Rattle.rc_model.specs.Model.{ServerId, Addr, Server, Outside, Message, Body, put, between, from_coordinator, is_up, Backup, Master}
+use Rattle.rc_model.specs.Model.{HostNode, server_of, In}
+use Rattle.rc_types.specs.declared.ids.Addr.TheVariants.{Coordinator as AtCoordinator}
 use Rattle.rc_types.specs.declared.messages.Body.TheVariants as body
-use Rattle.rc_model.specs.Tables.{put}
-use Rattle.rc_model.specs.Messages.{between, from_coordinator}
-use Rattle.rc_model.specs.ServerList.{is_up}
-use Rattle.rc_model.specs.Backup.{Backup}
-use Rattle.rc_model.specs.Master.{Master}
 use Rattle.rc_model.specs.Coordinator.{Coordinator}
-use Rattle.rc_model.specs.Nodes.{HostNode, server_of}
-use Rattle.rc_model.specs.Headline.{In}
 use Rattle.rc_model.proofs.Members.{In-left, In-append}
-use Rattle.rc_step_laws.specs.Words.{held_at}
-use Rattle.rc_step_laws.specs.Facts.{GoodHeld, GoodHost, GoodCoordinator, Good, IsTold, StillStands, IsStored, body_fine, Fine}
-use Rattle.rc_step_laws.specs.Later.{HostLater, IsNewStored}
-use Rattle.rc_step_laws.specs.Moves.{BackupMoved, backup_body_said}
+use Rattle.rc_step_laws.specs.All.{held_at, GoodHeld, GoodHost, GoodCoordinator, Good, IsTold, StillStands, IsStored, body_fine, Fine}
+use Rattle.rc_step_laws.specs.All.{HostLater, IsNewStored, BackupMoved, backup_body_said}
 use Rattle.rc_step_laws.proofs.Copies.{More}
 use Rattle.rc_step_laws.proofs.Attempting.{kept-refl, attempt-kept}
 use Rattle.rc_step_laws.proofs.Backups.{Quiet, own-fine}

@@ -2,20 +2,10 @@
 use Rattle.std.proofs.Common.{◌≡◌, ◌⊎◌, ℕ, ◌+◌, ◌-◌, ◌<◌, ◌≤◌, Bool, true, false, cond, not, ◌||◌, nat_eq, List, []}
 use Rattle.std.proofs.Common.{◌∷◌, filter, Result, Ok, Err, refl, sym, ap, subst, inl, inr, arith}
 use Rattle.std.specs.List.{list_any}
-use Rattle.rc_types.specs.declared.ids.ServerId.{ServerId}
-use Rattle.rc_types.specs.declared.ids.Addr.{Addr}
-use Rattle.rc_types.specs.declared.faults.Fault.{Fault}
-use Rattle.rc_types.specs.declared.messages.Message.{Message}
-use Rattle.rc_types.specs.declared.messages.Body.{Body}
-use Rattle.rc_model.specs.ServerList.{ServerList}
-use Rattle.rc_model.specs.Config.{Config, lose, refill, noted, committed_at}
-use Rattle.rc_model.specs.Segment.{Segment, new_segment, with_entry, under_new_epoch, with_closes_sent}
-use Rattle.rc_model.specs.Log.{Log, head_of, old_head_of, with_segment, has_segment}
-use Rattle.rc_model.specs.Heads.{opens_head, next_digest, with_config, opens_change, refills, loses, left_out, with_freed}
-use Rattle.rc_model.specs.Master.{Master, with_log, dead_segments, is_dead_segment}
-use Rattle.rc_model.specs.Writing.{written}
-use Rattle.rc_model.specs.MasterStep.{master_takes, master_ticks}
-use Rattle.rc_model.specs.Headline.{In}
+use Rattle.rc_model.specs.Model.{ServerId, Addr, Fault, Message, Body, ServerList, Config, lose, refill, noted, committed_at, Segment}
+use Rattle.rc_model.specs.Model.{new_segment, with_entry, under_new_epoch, with_closes_sent, Log, head_of, old_head_of, with_segment}
+use Rattle.rc_model.specs.Model.{has_segment, opens_head, next_digest, with_config, opens_change, refills, loses, left_out, with_freed}
+use Rattle.rc_model.specs.Model.{Master, with_log, dead_segments, is_dead_segment, written, master_takes, master_ticks, In}
 use Rattle.rc_model.proofs.Members.{In-left, In-right}
 use Rattle.rc_model.proofs.Tables.{put_each}
 use Rattle.rc_model.proofs.Tests.{either}

@@ -1,15 +1,7 @@
 -- Where masters free nothing, an accepted recovery holds each safe place.
 use Rattle.std.proofs.Common.{◌≡◌, ◌⊎◌, ℕ, ◌<◌, ◌≤◌, false, List, take, sym, subst, inl, inr, arith}
 use Rattle.std.proofs.lemmas.Bool.{cases_order}
-use Rattle.rc_types.specs.declared.ids.ServerId.{ServerId}
-use Rattle.rc_types.specs.declared.events.Setup.{Setup}
-use Rattle.rc_types.specs.declared.events.Event.{Event}
-use Rattle.rc_types.specs.declared.rows.PlanRow.{PlanRow}
-use Rattle.rc_model.specs.Master.{Master}
-use Rattle.rc_model.specs.World.{World}
-use Rattle.rc_model.specs.World.{replay}
-use Rattle.rc_model.specs.Recovered.{Accepted}
-use Rattle.rc_model.specs.Headline.{In, WasAccepted, IsHeld}
+use Rattle.rc_model.specs.Model.{ServerId, Setup, Event, PlanRow, Master, World, replay, Accepted, In, WasAccepted, IsHeld}
 use Rattle.rc_step_laws.specs.Facts.{IsSafe, IsWriteOk}
 use Rattle.rc_log_laws.proofs.Covers.{PlanIs, held-in, head-not-below}
 use Rattle.rc_log_laws.proofs.Clauses.{accepted-is, acknowledged-is, safe-there}

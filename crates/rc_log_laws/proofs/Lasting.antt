@@ -1,25 +1,12 @@
 -- What holds of a message, of a host and of a master in a good world holds of it in a later one.
 use Rattle.std.proofs.Common.{◌≡◌, ◌⊎◌, ℕ, ◌≤◌, Bool, true, false, List, length, Some, None, sym, ◌∙◌, subst, inl, inr, arith}
-use Rattle.rc_types.specs.declared.ids.ServerId.{ServerId}
-use Rattle.rc_types.specs.declared.ids.Addr.{Addr}
-use Rattle.rc_types.specs.declared.ids.Addr.TheVariants.{Server, Coordinator as AtCoordinator, Outside}
-use Rattle.rc_types.specs.declared.rows.Row.{Row}
-use Rattle.rc_types.specs.declared.rows.PlanRow.{PlanRow}
-use Rattle.rc_types.specs.declared.messages.Message.{Message}
-use Rattle.rc_types.specs.declared.messages.Body.{Body}
+use Rattle.rc_model.specs.Model.{ServerId, Addr, Server, Outside, Row, PlanRow, Message, Body, between, from_coordinator, is_up, Replica}
+use Rattle.rc_model.specs.Model.{Held, is_freed, Master, HostNode, In}
+use Rattle.rc_types.specs.declared.ids.Addr.TheVariants.{Coordinator as AtCoordinator}
 use Rattle.rc_types.specs.declared.messages.Body.TheVariants as body
-use Rattle.rc_model.specs.Messages.{between, from_coordinator}
-use Rattle.rc_model.specs.ServerList.{is_up}
-use Rattle.rc_model.specs.Replica.{Replica}
-use Rattle.rc_model.specs.Backup.{Held, is_freed}
-use Rattle.rc_model.specs.Master.{Master}
 use Rattle.rc_model.specs.Coordinator.{Coordinator}
-use Rattle.rc_model.specs.Nodes.{HostNode}
-use Rattle.rc_model.specs.Headline.{In}
-use Rattle.rc_step_laws.specs.Words.{held_at, IsOf}
-use Rattle.rc_step_laws.specs.Facts.{GoodMaster, IsStored, StillStands, IsAnswer, IsPlan, GoodReplica, GoodHeld, Good, body_fine}
-use Rattle.rc_step_laws.specs.Later.{HeldLater, HostLater, AttemptLater, IsNewStored}
-use Rattle.rc_step_laws.specs.Moves.{OwnFine, CoordinatorLater}
+use Rattle.rc_step_laws.specs.All.{held_at, IsOf, GoodMaster, IsStored, StillStands, IsAnswer, IsPlan, GoodReplica, GoodHeld, Good}
+use Rattle.rc_step_laws.specs.All.{body_fine, HeldLater, HostLater, AttemptLater, IsNewStored, OwnFine, CoordinatorLater}
 use Rattle.rc_step_laws.proofs.Lists.{begins-trans}
 use Rattle.rc_step_laws.proofs.Copies.{More, CopyLives, NoneNewUpTo, copy-later, grows-log}
 use Rattle.rc_step_laws.proofs.Logs.{Grown, append-grown, close-grown, write_ok-grown}

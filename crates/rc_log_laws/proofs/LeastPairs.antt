@@ -2,42 +2,24 @@
 use Rattle.std.proofs.Common.{◌≡◌, ◌⊎◌, ℕ, not, true, false, cond, ◌&&◌, List, [], ◌∷◌, ◌++◌, Option, Some, None}
 use Rattle.std.proofs.Common.{Result, Ok, Err, refl, sym, ap, ◌∙◌, subst, inl, inr, arith}
 use Rattle.std.proofs.lemmas.Bool.Decides.{nat_tests}
-use Rattle.rc_types.specs.declared.ids.ServerId.{ServerId}
-use Rattle.rc_types.specs.declared.ids.Pair.{Pair}
-use Rattle.rc_types.specs.declared.ids.Addr.{Addr}
-use Rattle.rc_types.specs.declared.ids.Addr.TheVariants.{Server, Coordinator as AtCoordinator, Outside}
-use Rattle.rc_types.specs.declared.rows.Row.{Row}
+use Rattle.rc_model.specs.Model.{ServerId, Pair, Addr, Server, Outside, Row, Part, Grant, Fault, Deposed, StaleGeneration, StaleAttempt}
+use Rattle.rc_model.specs.Model.{NotReady, NoTable, TableExists, TooManyTablets, Event, Message, Body, Enlist, Ready, Commit, CommitOk}
+use Rattle.rc_model.specs.Model.{Replicas, Recovered, put_id, same_id, is_server, from_coordinator, coordinator_refuses, is_up}
+use Rattle.rc_model.specs.Model.{has_crashed, is_newest, enlisted, has_table, tablet_of, has_range, assigned, marked_crashed, pick}
+use Rattle.rc_model.specs.Model.{is_below, greater_pair, Attempt, has_answered, is_gathering, refuses_server, list_body, begins_attempt}
+use Rattle.rc_model.specs.Model.{has_tablets, begins_if_needed, spreads_then_begins, attempt_at, with_attempt, up_of_host}
+use Rattle.rc_model.specs.Model.{follows_generation, enlists, notes_ready, with_crashed, suspects, commits_pair, is_current, with_answer}
+use Rattle.rc_model.specs.Model.{keeps_answer_in, ready_ids, decides_with, decides_attempt, own_body, range_of, grant_of, grant_to}
+use Rattle.rc_model.specs.Model.{part_of_sender, grants_if_given, grants_or_repeats, takes_recovered, creates_table, coordinator_ticks}
+use Rattle.rc_model.specs.Model.{is_too_many, creates, split_fault, splits_unless, coordinator_takes, Work, Take, Create, Split}
+use Rattle.rc_model.specs.Model.{outside_sends, coordinator_step, host_step, World, opening, NodeName, TheOutside, TheCoordinator}
+use Rattle.rc_model.specs.Model.{TheHost, Job, work_of, is_possible, node_done, job_done, step, replay_from, replay, pair_in, least_pair}
+use Rattle.rc_model.specs.Model.{In}
+use Rattle.rc_types.specs.declared.ids.Addr.TheVariants.{Coordinator as AtCoordinator}
 use Rattle.rc_types.specs.declared.rows.Plan.{Plan}
-use Rattle.rc_types.specs.declared.rows.Part.{Part}
-use Rattle.rc_types.specs.declared.kept.Grant.{Grant}
-use Rattle.rc_types.specs.declared.faults.Fault.{Fault}
-use Rattle.rc_types.specs.declared.faults.Fault.TheVariants.{Deposed, StaleGeneration, StaleAttempt, NotReady, NoTable}
-use Rattle.rc_types.specs.declared.faults.Fault.TheVariants.{TableExists, TooManyTablets}
-use Rattle.rc_types.specs.declared.events.Event.{Event}
-use Rattle.rc_types.specs.declared.messages.Message.{Message}
-use Rattle.rc_types.specs.declared.messages.Body.{Body}
-use Rattle.rc_types.specs.declared.messages.Body.TheVariants.{Enlist, Ready, Commit, CommitOk, Replicas, Recovered}
 use Rattle.rc_types.specs.declared.messages.Body.TheVariants as body
-use Rattle.rc_model.specs.Tables.{put_id}
-use Rattle.rc_model.specs.Ids.{same_id, is_server}
-use Rattle.rc_model.specs.Messages.{from_coordinator, coordinator_refuses}
-use Rattle.rc_model.specs.ServerList.{is_up, has_crashed, is_newest, enlisted}
-use Rattle.rc_model.specs.Tablets.{has_table, tablet_of, has_range, assigned, marked_crashed}
-use Rattle.rc_model.specs.Pick.{pick, is_below, greater_pair}
-use Rattle.rc_model.specs.Attempts.{Attempt, has_answered, is_gathering}
-use Rattle.rc_model.specs.Coordinator.{Coordinator, refuses_server, list_body, begins_attempt, has_tablets}
-use Rattle.rc_model.specs.Coordinator.{begins_if_needed, spreads_then_begins, attempt_at, with_attempt, up_of_host}
-use Rattle.rc_model.specs.Coordinator.{follows_generation, enlists, notes_ready, with_crashed, suspects, commits_pair}
-use Rattle.rc_model.specs.Deciding.{is_current, with_answer, keeps_answer_in, ready_ids, decides_with, decides_attempt}
-use Rattle.rc_model.specs.Deciding.{own_body, range_of, grant_of, grant_to, part_of_sender, grants_if_given}
-use Rattle.rc_model.specs.Deciding.{grants_or_repeats, takes_recovered}
-use Rattle.rc_model.specs.CoordinatorStep.{creates_table, coordinator_ticks, is_too_many, creates, split_fault}
-use Rattle.rc_model.specs.CoordinatorStep.{splits_unless, coordinator_takes}
-use Rattle.rc_model.specs.Nodes.{Work, Take, Tick, Suspect, Decide, Create, Split, outside_sends, coordinator_step, host_step}
-use Rattle.rc_model.specs.World.{World, opening, NodeName, TheOutside, TheCoordinator, TheHost, Job, work_of}
-use Rattle.rc_model.specs.World.{is_possible, node_done, job_done, step, replay_from, replay}
-use Rattle.rc_model.specs.Recovered.{pair_in, least_pair}
-use Rattle.rc_model.specs.Headline.{In}
+use Rattle.rc_model.specs.Coordinator.{Coordinator}
+use Rattle.rc_model.specs.Nodes.{Tick, Suspect, Decide}
 use Rattle.rc_step_laws.specs.Facts.{commit_ok_fine, body_fine}
 use Rattle.rc_step_laws.proofs.Attempting.{below-trans}
 use Rattle.rc_log_laws.specs.CommitClaims.{LeastIsTheGreatestCommit}

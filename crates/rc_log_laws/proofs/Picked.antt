@@ -2,16 +2,10 @@
 use Rattle.std.proofs.Common.{◌≡◌, ◌⊎◌, ℕ, Bool, true, false, cond, not, List, [], ◌∷◌, filter, nat_eq, nat_lt, Option}
 use Rattle.std.proofs.Common.{Some, None, Result, Ok, Err, refl, sym, ap, ◌∙◌, subst, inl, inr}
 use Rattle.std.proofs.lemmas.Bool.{eqb-true, and_parts, not-true}
-use Rattle.rc_types.specs.declared.ids.ServerId.{ServerId}
-use Rattle.rc_types.specs.declared.ids.Pair.{Pair}
-use Rattle.rc_types.specs.declared.rows.Row.{Row}
+use Rattle.rc_model.specs.Model.{ServerId, Pair, Row, PlanRow, Fault, HeldRow, rows_of, held_rows, is_valid, is_open_valid, is_valid_of}
+use Rattle.rc_model.specs.Model.{head_first, closed_first, first_by_from, first_by, head_row, row_of, insert_once, ascending, plan_row}
+use Rattle.rc_model.specs.Model.{taken_row, row_then, taken_rows, plan_of, pick_by, pick, In}
 use Rattle.rc_types.specs.declared.rows.Plan.{Plan}
-use Rattle.rc_types.specs.declared.rows.PlanRow.{PlanRow}
-use Rattle.rc_types.specs.declared.faults.Fault.{Fault}
-use Rattle.rc_model.specs.Pick.{HeldRow, rows_of, held_rows, is_valid, is_open_valid, is_valid_of, head_first}
-use Rattle.rc_model.specs.Pick.{closed_first, first_by_from, first_by, head_row, row_of, insert_once, ascending}
-use Rattle.rc_model.specs.Pick.{plan_row, taken_row, row_then, taken_rows, plan_of, pick_by, pick}
-use Rattle.rc_model.specs.Headline.{In}
 use Rattle.rc_model.proofs.Members.{In-append, In-filter}
 use Rattle.rc_model.proofs.Tests.{either}
 

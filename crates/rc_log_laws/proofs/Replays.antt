@@ -3,33 +3,19 @@ use Rattle.std.proofs.Common.{◌≡◌, ℕ, ◌+◌, Bool, true, nat_eq, List,
 use Rattle.std.proofs.Common.{refl, sym, ap, ◌∙◌, subst, inl, inr, arith}
 use Rattle.std.proofs.lemmas.Bool.{and_parts, eqb-true}
 use Rattle.std.proofs.Math.Path.{fun_ext}
-use Rattle.rc_types.specs.declared.ids.ServerId.{ServerId}
-use Rattle.rc_types.specs.declared.ids.Addr.{Addr}
-use Rattle.rc_types.specs.declared.ids.Addr.TheVariants.{Server, Coordinator as AtCoordinator, Outside}
-use Rattle.rc_types.specs.declared.entries.Entry.{Entry}
-use Rattle.rc_types.specs.declared.events.Setup.{Setup}
-use Rattle.rc_types.specs.declared.events.Event.{Event}
+use Rattle.rc_model.specs.Model.{ServerId, Addr, Server, Outside, Entry, Setup, Event, Message, Body, same_id, is_server, put, put_id}
+use Rattle.rc_model.specs.Model.{between, to_coordinator, Backup, backup_takes, Master, new_master, master_takes, master_ticks, suspects}
+use Rattle.rc_model.specs.Model.{decides, creates, splits, coordinator_ticks, coordinator_takes, Work, Take, Create, Split, HostNode}
+use Rattle.rc_model.specs.Model.{master_setup, is_for_clients, outside_can, coordinator_can, server_of, host_can, is_for_backup}
+use Rattle.rc_model.specs.Model.{with_backup, with_master, server_takes, takes_if_running, ticks_if_running, next_server, starts_host}
+use Rattle.rc_model.specs.Model.{World, opening, NodeName, TheOutside, TheCoordinator, TheHost, Job, node_of, delivery, work_of, node_can}
+use Rattle.rc_model.specs.Model.{is_possible_job, is_possible, with_last_view, host_done, node_done, job_done, step, replay_from, replay}
+use Rattle.rc_model.specs.Model.{In, NothingIsMissing, NothingIsInvented}
+use Rattle.rc_types.specs.declared.ids.Addr.TheVariants.{Coordinator as AtCoordinator}
 use Rattle.rc_types.specs.declared.events.Event.TheVariants as event
-use Rattle.rc_types.specs.declared.messages.Message.{Message}
-use Rattle.rc_types.specs.declared.messages.Body.{Body}
 use Rattle.rc_types.specs.declared.messages.Body.TheVariants as body
-use Rattle.rc_model.specs.Ids.{same_id, is_server}
-use Rattle.rc_model.specs.Tables.{put, put_id}
-use Rattle.rc_model.specs.Messages.{between, to_coordinator}
-use Rattle.rc_model.specs.Backup.{Backup, backup_takes}
-use Rattle.rc_model.specs.Master.{Master, new_master}
-use Rattle.rc_model.specs.MasterStep.{master_takes, master_ticks}
-use Rattle.rc_model.specs.Coordinator.{Coordinator, suspects}
-use Rattle.rc_model.specs.Deciding.{decides}
-use Rattle.rc_model.specs.CoordinatorStep.{creates, splits, coordinator_ticks, coordinator_takes}
-use Rattle.rc_model.specs.Nodes.{Work, Ask, Take, Tick, Stop, Start, Suspect, Decide, Create, Split, HostNode}
-use Rattle.rc_model.specs.Nodes.{master_setup, is_for_clients, outside_can, coordinator_can, server_of, host_can}
-use Rattle.rc_model.specs.Nodes.{is_for_backup, with_backup, with_master, server_takes, takes_if_running}
-use Rattle.rc_model.specs.Nodes.{ticks_if_running, next_server, starts_host}
-use Rattle.rc_model.specs.World.{World, opening, NodeName, TheOutside, TheCoordinator, TheHost, Job, node_of, delivery}
-use Rattle.rc_model.specs.World.{work_of, node_can, is_possible_job, is_possible, with_last_view, host_done, node_done}
-use Rattle.rc_model.specs.World.{job_done, step, replay_from, replay}
-use Rattle.rc_model.specs.Headline.{In, NothingIsMissing, NothingIsInvented}
+use Rattle.rc_model.specs.Coordinator.{Coordinator}
+use Rattle.rc_model.specs.Nodes.{Ask, Tick, Stop, Start, Suspect, Decide}
 use Rattle.rc_model.proofs.Members.{In-get}
 use Rattle.rc_step_laws.specs.Facts.{GoodMaster, GoodHost, Good, body_fine, Fine}
 use Rattle.rc_step_laws.specs.Moves.{OwnFine, MasterMoved, MayHear, CoordinatorMayHear, BackupMoved}

@@ -1,14 +1,7 @@
 -- Durable places and acknowledgements.
 use Rattle.std.proofs.Common.{◌≡◌, ℕ, List, ◌++◌, take, Some, slice_get, refl, sym, subst}
-use Rattle.rc_types.specs.declared.ids.ServerId.{ServerId}
-use Rattle.rc_types.specs.declared.entries.Entry.{Entry}
-use Rattle.rc_types.specs.declared.events.Setup.{Setup}
-use Rattle.rc_types.specs.declared.events.Event.{Event}
-use Rattle.rc_model.specs.Recovered.{Ack}
-use Rattle.rc_model.specs.World.{World, replay}
-use Rattle.rc_model.specs.Headline.{HasAcknowledged}
-use Rattle.rc_step_laws.specs.Words.{log_in}
-use Rattle.rc_step_laws.specs.Facts.{IsSafe, IsWriteOk}
+use Rattle.rc_model.specs.Model.{ServerId, Entry, Setup, Event, Ack, World, replay, HasAcknowledged}
+use Rattle.rc_step_laws.specs.All.{log_in, IsSafe, IsWriteOk}
 use Rattle.rc_step_laws.proofs.Lists.{get-below}
 use Rattle.rc_step_laws.proofs.Logs.{get-log}
 use Rattle.rc_step_laws.proofs.Backups.{own-fine}

@@ -1,14 +1,7 @@
 -- Messages that free nothing, and those of a master that frees.
 use Rattle.std.proofs.Common.{◌≡◌, ◌⊎◌, ℕ, List, [], ◌∷◌, ◌++◌, refl, sym, ap, ◌∙◌, subst, inl, inr}
 use Rattle.std.proofs.lemmas.List.{append_assoc}
-use Rattle.rc_types.specs.declared.ids.ServerId.{ServerId}
-use Rattle.rc_types.specs.declared.messages.Message.{Message}
-use Rattle.rc_types.specs.declared.messages.Body.{Body}
-use Rattle.rc_types.specs.declared.messages.Body.TheVariants.{Free}
-use Rattle.rc_model.specs.Log.{Log}
-use Rattle.rc_model.specs.Master.{to_ids, to_unlost, ids_of, not_lost}
-use Rattle.rc_model.specs.FollowUps.{frees_segments}
-use Rattle.rc_model.specs.Headline.{In}
+use Rattle.rc_model.specs.Model.{ServerId, Message, Body, Free, Log, to_ids, to_unlost, ids_of, not_lost, frees_segments, In}
 use Rattle.rc_model.proofs.Members.{In-append}
 use Rattle.rc_model.proofs.Sending.{Each, each-to_ids}
 use Rattle.rc_log_laws.specs.Freed.{freed_by, freed_in}

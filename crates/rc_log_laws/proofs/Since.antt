@@ -1,12 +1,8 @@
 -- From a world to a later one: what was sent stays, each master's log is a later one, and what is safe stays safe.
 use Rattle.std.proofs.Common.{◌≡◌, ℕ, List, [], ◌∷◌, ◌++◌, take, drop, refl, sym, subst}
 use Rattle.std.proofs.lemmas.List.{take-append-drop}
-use Rattle.rc_types.specs.declared.ids.ServerId.{ServerId}
-use Rattle.rc_types.specs.declared.events.Setup.{Setup}
-use Rattle.rc_types.specs.declared.events.Event.{Event}
-use Rattle.rc_model.specs.World.{World, opening, step, replay_from, replay}
-use Rattle.rc_step_laws.specs.Facts.{IsSafe}
-use Rattle.rc_step_laws.specs.Later.{LogLater}
+use Rattle.rc_model.specs.Model.{ServerId, Setup, Event, World, opening, step, replay_from, replay}
+use Rattle.rc_step_laws.specs.All.{IsSafe, LogLater}
 use Rattle.rc_step_laws.proofs.Copies.{More}
 use Rattle.rc_step_laws.proofs.Logs.{log_later-refl, log_later-trans, safe-grown}
 use Rattle.rc_log_laws.proofs.Replays.{GoodWorld, GoodStep, led-step, good-world}

@@ -1,16 +1,10 @@
 -- What a server keeps of a master that it has fenced stays as it is.
 use Rattle.std.proofs.Common.{◌≡◌, ℕ, ◌≤◌, true, List, [], ◌∷◌, Option, Some, None, refl, sym, ◌∙◌, subst, arith}
-use Rattle.rc_types.specs.declared.ids.ServerId.{ServerId}
-use Rattle.rc_types.specs.declared.events.Event.{Event}
-use Rattle.rc_types.specs.declared.messages.Message.{Message}
-use Rattle.rc_model.specs.Ids.{is_server}
-use Rattle.rc_model.specs.Backup.{Backup, backup_takes}
-use Rattle.rc_model.specs.Master.{Master}
-use Rattle.rc_model.specs.MasterStep.{master_takes, master_ticks}
-use Rattle.rc_model.specs.Nodes.{Work, Take, Tick, Stop, Start, HostNode, server_of, host_step, is_for_backup}
-use Rattle.rc_model.specs.Nodes.{with_backup, with_master, server_takes, takes_if_running, ticks_if_running}
-use Rattle.rc_model.specs.World.{World, opening, NodeName, TheOutside, TheCoordinator, TheHost, Job, work_of}
-use Rattle.rc_model.specs.World.{is_possible, node_done, job_done, step, replay_from, replay}
+use Rattle.rc_model.specs.Model.{ServerId, Event, Message, is_server, Backup, backup_takes, Master, master_takes, master_ticks, Work}
+use Rattle.rc_model.specs.Model.{Take, HostNode, server_of, host_step, is_for_backup, with_backup, with_master, server_takes}
+use Rattle.rc_model.specs.Model.{takes_if_running, ticks_if_running, World, opening, NodeName, TheOutside, TheCoordinator, TheHost, Job}
+use Rattle.rc_model.specs.Model.{work_of, is_possible, node_done, job_done, step, replay_from, replay}
+use Rattle.rc_model.specs.Nodes.{Tick, Stop, Start}
 use Rattle.rc_model.proofs.Storing.{AllFencedStay, fenced-stay}
 use Rattle.rc_log_laws.proofs.Replays.{good-world}
 use Rattle.rc_log_laws.specs.LogClaims.{AnsweredReplicasStay}

@@ -1,20 +1,13 @@
 -- What a log's changes keep of its freed segments: all of it, but for a roll that begins before the head writes.
-use Rattle.std.proofs.Common.{◌≡◌, ◌⊎◌, ℕ, ◌+◌, ◌-◌, ◌<◌, ◌≤◌, Bool, true, false, not, ◌&&◌, ◌||◌, nat_eq}
-use Rattle.std.proofs.Common.{List, [], ◌∷◌, ◌++◌, filter, Option, Some, None, Result, Ok, Err, refl, sym, ap, subst}
-use Rattle.std.proofs.Common.{inl, inr, arith}
+use Rattle.std.proofs.Common.{◌≡◌, ◌⊎◌, ℕ, ◌+◌, ◌-◌, ◌<◌, ◌≤◌, Bool, true, false, not, ◌&&◌, ◌||◌, nat_eq, List, [], ◌∷◌, ◌++◌, filter}
+use Rattle.std.proofs.Common.{Option, Some, None, Result, Ok, Err, refl, sym, ap, subst, inl, inr, arith}
 use Rattle.std.specs.List.{list_any}
 use Rattle.std.proofs.lemmas.Bool.{and_parts, eqb-true, eq-eqb, ltb-true}
-use Rattle.rc_types.specs.declared.ids.ServerId.{ServerId}
-use Rattle.rc_types.specs.declared.kept.Phase.TheVariants.{Opening, Closing, Writing}
-use Rattle.rc_types.specs.declared.faults.Fault.{Fault}
-use Rattle.rc_model.specs.ServerList.{ServerList}
-use Rattle.rc_model.specs.Config.{Config, lose, refill, noted, committed_at}
-use Rattle.rc_model.specs.Segment.{Segment, new_segment, under_new_epoch, is_ready}
-use Rattle.rc_model.specs.Log.{Log, head_of, old_head_of, has_old_head, with_segment, has_segment, is_opening, is_closing}
-use Rattle.rc_model.specs.Heads.{opens_head, opened_first, next_digest, rolled, with_config}
-use Rattle.rc_model.specs.Heads.{stored, commit_noted, opens_change, refills, loses, may_start}
-use Rattle.rc_model.specs.Heads.{may_write, left_out, with_freed, starts, closes_old, writes_on}
-use Rattle.rc_model.specs.Headline.{In}
+use Rattle.rc_model.specs.Model.{ServerId, Opening, Closing, Writing, Fault, ServerList, Config, lose, refill, noted, committed_at}
+use Rattle.rc_model.specs.Model.{Segment, new_segment, under_new_epoch, is_ready, Log, head_of, old_head_of, has_old_head, with_segment}
+use Rattle.rc_model.specs.Model.{has_segment, is_opening, is_closing, opens_head, opened_first, next_digest, rolled, with_config, stored}
+use Rattle.rc_model.specs.Model.{commit_noted, opens_change, refills, loses, may_start, may_write, left_out, with_freed, starts}
+use Rattle.rc_model.specs.Model.{closes_old, writes_on, In}
 use Rattle.rc_model.proofs.Members.{In-append, In-filter}
 use Rattle.rc_log_laws.proofs.MasterWorlds.{put-cases}
 use Rattle.rc_log_laws.specs.Freed.{IsLeftOut, GoodFrees}

@@ -3,19 +3,9 @@ use Rattle.std.proofs.Common.{◌≡◌, ◌⊎◌, ℕ, zero, suc, ◌-◌, ◌
 use Rattle.std.proofs.Common.{length, Some, slice_get, refl, sym, subst, inl, inr, arith}
 use Rattle.std.proofs.lemmas.Bool.{and_parts, ltb-true}
 use Rattle.std.proofs.lemmas.List.{length-map}
-use Rattle.rc_types.specs.declared.ids.ServerId.{ServerId}
-use Rattle.rc_types.specs.declared.entries.Entry.{Entry}
-use Rattle.rc_types.specs.declared.kept.Member.{Member}
-use Rattle.rc_types.specs.declared.messages.Message.{Message}
-use Rattle.rc_model.specs.Config.{Config, any_lost, least_told, durable_len}
-use Rattle.rc_model.specs.Segment.{Segment, durable_in}
-use Rattle.rc_model.specs.Log.{LogPlace, has_segment}
-use Rattle.rc_model.specs.Master.{Master}
-use Rattle.rc_model.specs.Durable.{all_shut_to, is_stored_on_all}
-use Rattle.rc_model.specs.Headline.{In}
-use Rattle.rc_step_laws.specs.Words.{log_in, HasTold, IsOpened}
-use Rattle.rc_step_laws.specs.Facts.{IsSafe, GoodMaster}
-use Rattle.rc_step_laws.specs.Moves.{OwnFine}
+use Rattle.rc_model.specs.Model.{ServerId, Entry, Member, Message, Config, any_lost, least_told, durable_len, Segment, durable_in}
+use Rattle.rc_model.specs.Model.{LogPlace, has_segment, Master, all_shut_to, is_stored_on_all, In}
+use Rattle.rc_step_laws.specs.All.{log_in, HasTold, IsOpened, IsSafe, GoodMaster, OwnFine}
 use Rattle.rc_step_laws.proofs.Lists.{get-below}
 use Rattle.rc_step_laws.proofs.MasterTold.{has-opened}
 use Rattle.rc_step_laws.proofs.Safe.{durable_len-tells, covered-safe}

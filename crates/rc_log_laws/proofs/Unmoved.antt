@@ -1,16 +1,7 @@
 -- What is sent by others changes nothing of a master's facts.
 use Rattle.std.proofs.Common.{◌⊎◌, ℕ, Bool, false, List, inl, inr}
-use Rattle.rc_types.specs.declared.ids.ServerId.{ServerId}
-use Rattle.rc_types.specs.declared.entries.Entry.{Entry}
-use Rattle.rc_types.specs.declared.messages.Message.{Message}
-use Rattle.rc_types.specs.declared.messages.Body.TheVariants.{Place, Stored}
-use Rattle.rc_model.specs.Messages.{between}
-use Rattle.rc_model.specs.Log.{Log}
-use Rattle.rc_model.specs.Master.{Master}
-use Rattle.rc_model.specs.Headline.{In}
-use Rattle.rc_step_laws.specs.Words.{IsMember}
-use Rattle.rc_step_laws.specs.Facts.{GoodMaster, IsTold}
-use Rattle.rc_step_laws.specs.Moves.{OwnFine}
+use Rattle.rc_model.specs.Model.{ServerId, Entry, Message, Place, Stored, between, Log, Master, In}
+use Rattle.rc_step_laws.specs.All.{IsMember, GoodMaster, IsTold, OwnFine}
 use Rattle.rc_step_laws.proofs.Copies.{More, told-more, told_closed-more, member-more}
 use Rattle.rc_step_laws.proofs.Logs.{Grown, committed-more, log_later-refl, safe-grown, digest-grown, place-grown, told-grown}
 

@@ -2,28 +2,18 @@
 use Rattle.std.proofs.Common.{◌≡◌, ◌⊎◌, ℕ, ◌-◌, Bool, true, false, List, [], ◌∷◌, ◌++◌, filter, length, Some, refl}
 use Rattle.std.proofs.Common.{sym, ap, ◌∙◌, subst, inl, inr}
 use Rattle.std.proofs.lemmas.List.{append-nil, append_assoc}
-use Rattle.rc_types.specs.declared.ids.Addr.{Addr}
-use Rattle.rc_types.specs.declared.entries.Entry.{Entry}
-use Rattle.rc_types.specs.declared.messages.Message.{Message}
-use Rattle.rc_types.specs.declared.messages.Body.{Body}
-use Rattle.rc_types.specs.declared.messages.Body.TheVariants.{Append, Close}
-use Rattle.rc_model.specs.Log.{Log, head_of, old_head_of, durable_now}
-use Rattle.rc_model.specs.Heads.{opens_head, appends, next_digest, loses, left_out, may_write, starts, closes_old, writes_on}
-use Rattle.rc_model.specs.Heads.{stored, commit_noted}
-use Rattle.rc_model.specs.Master.{Master, with_log, ids_of, not_lost, place_of, appends_entry, dead_segments, places_head}
-use Rattle.rc_model.specs.FollowUps.{close_marked, frees_segments, write_oks, new_durable, commits}
-use Rattle.rc_model.specs.MasterTick.{reminds}
-use Rattle.rc_model.specs.MasterStep.{master_takes, master_ticks}
-use Rattle.rc_model.specs.Segment.{is_unclosed, with_closes_sent, with_entry}
-use Rattle.rc_model.specs.Headline.{In}
+use Rattle.rc_model.specs.Model.{Addr, Entry, Message, Body, Append, Close, Log, head_of, old_head_of, durable_now, opens_head, appends}
+use Rattle.rc_model.specs.Model.{next_digest, loses, left_out, may_write, starts, closes_old, writes_on, stored, commit_noted, Master}
+use Rattle.rc_model.specs.Model.{with_log, ids_of, not_lost, place_of, appends_entry, dead_segments, places_head, close_marked}
+use Rattle.rc_model.specs.Model.{frees_segments, write_oks, new_durable, commits, reminds, master_takes, master_ticks, is_unclosed}
+use Rattle.rc_model.specs.Model.{with_closes_sent, with_entry, In}
 use Rattle.rc_model.proofs.Members.{In-left, In-right, In-append}
 use Rattle.rc_model.proofs.Walk.{Joined, Listed, Rolls, Taken, Ticked, Followed, kept-takes, kept-ticks}
 use Rattle.rc_model.proofs.Sending.{each-map, each-write_oks, each-reminds}
 use Rattle.rc_log_laws.specs.Freed.{IsLeftOut, GoodFrees, freed_by, freed_in}
 use Rattle.rc_log_laws.proofs.Silent.{Silent, Frees, silent-none, silent-ids, silent-all, freed-append, freed-segments}
-use Rattle.rc_log_laws.proofs.Stays.{Stays, fewer, stays-refl, stays-put, stays-stored, stays-commit_noted}
-use Rattle.rc_log_laws.proofs.Stays.{stays-loses, stays-starts, stays-closes, stays-first_opened, stays-rolled}
-use Rattle.rc_log_laws.proofs.Stays.{writes-leave_out}
+use Rattle.rc_log_laws.proofs.Stays.{Stays, fewer, stays-refl, stays-put, stays-stored, stays-commit_noted, stays-loses, stays-starts}
+use Rattle.rc_log_laws.proofs.Stays.{stays-closes, stays-first_opened, stays-rolled, writes-leave_out}
 use Rattle.rc_step_laws.proofs.Rolling.{writing-is}
 
 -- what holds of the freed segments holds with those that are freed in the step

@@ -1,21 +1,12 @@
 -- One part of a good world moves, and the world stays good.
 use Rattle.std.proofs.Common.{◌≡◌, ◌⊎◌, ℕ, Bool, true, List, ◌++◌, refl, sym, ◌∙◌, subst, inl, inr, arith}
-use Rattle.rc_types.specs.declared.ids.ServerId.{ServerId}
-use Rattle.rc_types.specs.declared.ids.Addr.{Addr}
-use Rattle.rc_types.specs.declared.ids.Addr.TheVariants.{Server, Coordinator as AtCoordinator}
-use Rattle.rc_types.specs.declared.messages.Message.{Message}
-use Rattle.rc_types.specs.declared.messages.Body.{Body}
+use Rattle.rc_model.specs.Model.{ServerId, Addr, Server, Message, Body, between, from_coordinator, is_up, Master, HostNode, server_of, In}
+use Rattle.rc_types.specs.declared.ids.Addr.TheVariants.{Coordinator as AtCoordinator}
 use Rattle.rc_types.specs.declared.messages.Body.TheVariants as body
-use Rattle.rc_model.specs.Messages.{between, from_coordinator}
-use Rattle.rc_model.specs.ServerList.{is_up}
-use Rattle.rc_model.specs.Master.{Master}
 use Rattle.rc_model.specs.Coordinator.{Coordinator}
-use Rattle.rc_model.specs.Nodes.{HostNode, server_of}
-use Rattle.rc_model.specs.Headline.{In}
 use Rattle.rc_model.proofs.Members.{In-left, In-append}
-use Rattle.rc_step_laws.specs.Facts.{GoodHost, GoodCoordinator, Good, body_fine, Fine}
-use Rattle.rc_step_laws.specs.Later.{HostLater}
-use Rattle.rc_step_laws.specs.Moves.{CoordinatorMoved, CoordinatorLater, coordinator_body_said}
+use Rattle.rc_step_laws.specs.All.{GoodHost, GoodCoordinator, Good, body_fine, Fine, HostLater, CoordinatorMoved, CoordinatorLater}
+use Rattle.rc_step_laws.specs.All.{coordinator_body_said}
 use Rattle.rc_step_laws.proofs.Copies.{More}
 use Rattle.rc_step_laws.proofs.Attempting.{kept-refl, attempt_later-refl}
 use Rattle.rc_step_laws.proofs.Storing.{held_later-refl}

@@ -1,20 +1,10 @@
 -- How members change, and what a roll opens.
-use Rattle.std.proofs.Common.{◌≡◌, ℕ, zero, suc, ◌+◌, Bool, true, false, not, ◌||◌, nat_eq, nat_lt, List, [], ◌∷◌}
-use Rattle.std.proofs.Common.{◌++◌, map, filter, Option, Some, None, Result, Ok, Err, slice_get, refl, sym, ap, ◌∙◌}
-use Rattle.std.proofs.Common.{subst}
+use Rattle.std.proofs.Common.{◌≡◌, ℕ, zero, suc, ◌+◌, Bool, true, false, not, ◌||◌, nat_eq, nat_lt, List, [], ◌∷◌, ◌++◌, map, filter}
+use Rattle.std.proofs.Common.{Option, Some, None, Result, Ok, Err, slice_get, refl, sym, ap, ◌∙◌, subst}
 use Rattle.std.specs.List.{list_any}
-use Rattle.rc_types.specs.declared.ids.ServerId.{ServerId}
-use Rattle.rc_types.specs.declared.faults.Fault.{Fault}
-use Rattle.rc_types.specs.declared.faults.Fault.TheVariants.{EpochsExhausted, LogFull}
-use Rattle.rc_types.specs.declared.kept.Member.{Member}
-use Rattle.rc_types.specs.declared.limits.TheConstants.{LAST_SEGMENT, LAST_EPOCH}
-use Rattle.rc_model.specs.ServerList.{ServerList}
-use Rattle.rc_model.specs.Config.{Config, new_member, changed, changes_to, replaced, with_lost, any_lost}
-use Rattle.rc_model.specs.Config.{substitutes_for, lose, noted, choose}
-use Rattle.rc_model.specs.Segment.{Segment, new_segment}
-use Rattle.rc_model.specs.Log.{Log, head_of}
-use Rattle.rc_model.specs.Heads.{next_digest, rolled, begin_roll}
-use Rattle.rc_model.specs.Master.{Master, dead_segments}
+use Rattle.rc_model.specs.Model.{ServerId, Fault, EpochsExhausted, LogFull, Member, LAST_SEGMENT, LAST_EPOCH, ServerList, Config}
+use Rattle.rc_model.specs.Model.{new_member, changed, changes_to, replaced, with_lost, any_lost, substitutes_for, lose, noted, choose}
+use Rattle.rc_model.specs.Model.{Segment, new_segment, Log, head_of, next_digest, rolled, begin_roll, Master, dead_segments}
 use Rattle.rc_model.proofs.Tests.{either, true_false}
 use Rattle.rc_model.proofs.Tables.{put-same}
 

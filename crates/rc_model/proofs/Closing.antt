@@ -1,32 +1,16 @@
 -- A whole step makes the phase Closing only where the new head is placed on all its members.
-use Rattle.std.proofs.Common.{◌≡◌, ◌⊎◌, inl, inr, ℕ, ◌-◌, Bool, true, false, cond, ◌&&◌, List, [], Result, Ok, Err, refl}
-use Rattle.std.proofs.Common.{sym, ap, ◌∙◌}
+use Rattle.std.proofs.Common.{◌≡◌, ◌⊎◌, inl, inr, ℕ, ◌-◌, Bool, true, false, cond, ◌&&◌, List, [], Result, Ok, Err, refl, sym, ap, ◌∙◌}
 use Rattle.std.proofs.lemmas.Bool.{and_parts}
-use Rattle.rc_types.specs.declared.ids.ServerId.{ServerId}
-use Rattle.rc_types.specs.declared.ids.Addr.{Addr}
-use Rattle.rc_types.specs.declared.faults.Fault.{Fault}
-use Rattle.rc_types.specs.declared.kept.Phase.{Phase}
-use Rattle.rc_types.specs.declared.kept.Phase.TheVariants.{Opening, Closing, Writing}
-use Rattle.rc_types.specs.declared.messages.Message.{Message}
-use Rattle.rc_types.specs.declared.messages.Body.{Body}
-use Rattle.rc_model.specs.Tables.{put}
-use Rattle.rc_model.specs.ServerList.{ServerList}
-use Rattle.rc_model.specs.Config.{Config, all_placed, lose, refill, noted, committed_at}
-use Rattle.rc_model.specs.Segment.{Segment, with_closes_sent}
-use Rattle.rc_model.specs.Log.{Log, head_of, with_segment, old_head_of, has_old_head, has_segment}
-use Rattle.rc_model.specs.Log.{is_opening, is_closing, is_writing}
-use Rattle.rc_model.specs.Heads.{left_out, writes_on, with_config, opens_change, refills, loses}
-use Rattle.rc_model.specs.Master.{Master}
-use Rattle.rc_model.specs.ListRules.{then_does}
-use Rattle.rc_model.specs.FollowUps.{goes_on}
-use Rattle.rc_model.specs.MasterTick.{ticks}
-use Rattle.rc_model.specs.MasterStep.{master_takes_first, deposed_takes, master_takes, master_ticks}
+use Rattle.rc_model.specs.Model.{ServerId, Addr, Fault, Phase, Opening, Closing, Writing, Message, Body, put, ServerList, Config}
+use Rattle.rc_model.specs.Model.{all_placed, lose, refill, noted, committed_at, Segment, with_closes_sent, Log, head_of, with_segment}
+use Rattle.rc_model.specs.Model.{old_head_of, has_old_head, has_segment, is_opening, is_closing, is_writing, left_out, writes_on}
+use Rattle.rc_model.specs.Model.{with_config, opens_change, refills, loses, Master, then_does, goes_on, ticks, master_takes_first}
+use Rattle.rc_model.specs.Model.{deposed_takes, master_takes, master_ticks}
 use Rattle.rc_model.proofs.Tests.{either, true_false}
 use Rattle.rc_model.proofs.Tables.{put_each}
 use Rattle.rc_model.proofs.Phases.{freed-phase}
 use Rattle.rc_model.proofs.Walk.{OfLog, LogJoined, LogListed, LogWritten, LogFollowed, of_log-joined, of_log-listed, same-deposed}
-use Rattle.rc_model.proofs.Walk.{of_log-taken, of_log-ticked, of_log-followed, kept-goes_on, kept-takes_first}
-use Rattle.rc_model.proofs.Walk.{kept-ticks_first}
+use Rattle.rc_model.proofs.Walk.{of_log-taken, of_log-ticked, of_log-followed, kept-goes_on, kept-takes_first, kept-ticks_first}
 
 -- where the phase is Closing, the head is placed on all its members
 abbrev LogPlaced : Log → Type 0

@@ -1,19 +1,10 @@
 -- What the coordinator commits and grants.
 use Rattle.std.proofs.Common.{◌≡◌, ℕ, true, false, cond, List, [], ◌∷◌, Some, None, refl, ap, ◌∙◌, arith}
 use Rattle.std.proofs.lemmas.Bool.Decides.{nat_tests}
-use Rattle.rc_types.specs.declared.ids.ServerId.{ServerId}
-use Rattle.rc_types.specs.declared.ids.Pair.{Pair}
-use Rattle.rc_types.specs.declared.faults.Fault.TheVariants.{Deposed, StaleAttempt}
-use Rattle.rc_types.specs.declared.messages.Message.{Message}
-use Rattle.rc_types.specs.declared.messages.Body.TheVariants.{CommitOk}
-use Rattle.rc_model.specs.Tables.{put_id}
-use Rattle.rc_model.specs.ServerList.{is_up}
-use Rattle.rc_model.specs.Pick.{is_below, greater_pair}
-use Rattle.rc_model.specs.Attempts.{Attempt}
-use Rattle.rc_model.specs.Messages.{from_coordinator}
-use Rattle.rc_model.specs.Coordinator.{Coordinator, refuses_server, attempt_at, commits_pair}
-use Rattle.rc_model.specs.Deciding.{is_current, grant_to, part_if_current, part_in, part_of_sender, grants_if_given}
-use Rattle.rc_model.specs.Deciding.{grants_or_repeats, takes_recovered}
+use Rattle.rc_model.specs.Model.{ServerId, Pair, Deposed, StaleAttempt, Message, CommitOk, put_id, is_up, is_below, greater_pair, Attempt}
+use Rattle.rc_model.specs.Model.{from_coordinator, refuses_server, attempt_at, commits_pair, is_current, grant_to, part_if_current}
+use Rattle.rc_model.specs.Model.{part_in, part_of_sender, grants_if_given, grants_or_repeats, takes_recovered}
+use Rattle.rc_model.specs.Coordinator.{Coordinator}
 use Rattle.rc_model.proofs.Tests.{either}
 use Rattle.rc_model.proofs.Tables.{put_id_each, put_id-same}
 

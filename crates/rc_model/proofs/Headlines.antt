@@ -1,34 +1,19 @@
 -- A list of messages holds no breach exactly where the headline is true of it.
-use Rattle.std.proofs.Common.{◌≡◌, ◌⊎◌, ℕ, zero, suc, ◌+◌, ◌-◌, ◌<◌, ◌≤◌, Bool, true, false, cond, not, ◌&&◌, ◌||◌}
-use Rattle.std.proofs.Common.{List, [], ◌∷◌, nat_eq, nat_lt, nat_le, slice_get, Option, Some, None, refl, sym, ap, ◌∙◌}
-use Rattle.std.proofs.Common.{subst, inl, inr, arith}
-use Rattle.std.proofs.lemmas.Bool.{eqb-true, eq-eqb, ltb-true, lt-ltb, leb-true, le-leb, and_parts, and_from, or_cases}
-use Rattle.std.proofs.lemmas.Bool.{or_left, or_right, or_from, or_parts, not-false, not_from_true, true_from_ne_false}
-use Rattle.std.proofs.lemmas.Bool.{false_from_ne_true}
-use Rattle.rc_types.specs.declared.ids.ServerId.{ServerId}
-use Rattle.rc_types.specs.declared.entries.Entry.{Entry}
-use Rattle.rc_types.specs.declared.rows.PlanRow.{PlanRow}
-use Rattle.rc_types.specs.declared.messages.Message.{Message}
-use Rattle.rc_types.specs.declared.messages.Body.{Body}
-use Rattle.rc_types.specs.declared.messages.Body.TheVariants.{Place, Append}
-use Rattle.rc_types.specs.declared.verdicts.Breach.{Breach}
-use Rattle.rc_types.specs.declared.verdicts.Breach.TheVariants.{Missing, Invented, Version}
-use Rattle.rc_model.specs.Ids.{is_server}
-use Rattle.rc_model.specs.Pick.{ascending}
-use Rattle.rc_model.specs.Made.{entry_at, made}
-use Rattle.rc_model.specs.Recovered.{Ack, acknowledged, all_acknowledged, Accepted, accepted, reach, is_recovered}
-use Rattle.rc_model.specs.Owners.{is_earlier, grants_of}
-use Rattle.rc_model.specs.Breach.{same_numbers, same_value, same_entry, is_of_ack, agrees, all_agree, is_greater}
-use Rattle.rc_model.specs.Breach.{has_greater, holds_greater, is_superseded, is_missing, first_missing, all_same}
-use Rattle.rc_model.specs.Breach.{is_one_entry, first_invented_from, or_else, first_invented, segments_of, falls}
-use Rattle.rc_model.specs.Breach.{first_fall, missing_of, invented_of, falls_of, breach}
-use Rattle.rc_model.specs.Headline.{In, IsHeld, IsOfAck, IsSuperseded, IsThere, IsOneEntry, RisesOver, Headline}
-use Rattle.rc_model.specs.Headline.{NothingDroppedIsNothingMissing, NoBreachIsTheHeadline}
+use Rattle.std.proofs.Common.{◌≡◌, ◌⊎◌, ℕ, zero, suc, ◌+◌, ◌-◌, ◌<◌, ◌≤◌, Bool, true, false, cond, not, ◌&&◌, ◌||◌, List, [], ◌∷◌, nat_eq}
+use Rattle.std.proofs.Common.{nat_lt, nat_le, slice_get, Option, Some, None, refl, sym, ap, ◌∙◌, subst, inl, inr, arith}
+use Rattle.std.proofs.lemmas.Bool.{eqb-true, eq-eqb, ltb-true, lt-ltb, leb-true, le-leb, and_parts, and_from, or_cases, or_left, or_right}
+use Rattle.std.proofs.lemmas.Bool.{or_from, or_parts, not-false, not_from_true, true_from_ne_false, false_from_ne_true}
+use Rattle.rc_model.specs.Model.{ServerId, Entry, PlanRow, Message, Body, Place, Append, Breach, Missing, Invented, Version, is_server}
+use Rattle.rc_model.specs.Model.{ascending, entry_at, made, Ack, acknowledged, all_acknowledged, Accepted, accepted, reach, is_recovered}
+use Rattle.rc_model.specs.Model.{is_earlier, grants_of, same_numbers, same_value, same_entry, is_of_ack, agrees, all_agree, is_greater}
+use Rattle.rc_model.specs.Model.{has_greater, holds_greater, is_superseded, is_missing, first_missing, all_same, is_one_entry}
+use Rattle.rc_model.specs.Model.{first_invented_from, or_else, first_invented, segments_of, falls, first_fall, missing_of, invented_of}
+use Rattle.rc_model.specs.Model.{falls_of, breach, In, IsHeld, IsOfAck, IsSuperseded, IsThere, IsOneEntry, RisesOver, Headline}
+use Rattle.rc_model.specs.Model.{NothingDroppedIsNothingMissing, NoBreachIsTheHeadline}
 use Rattle.rc_model.proofs.Befores.{is_before-finds, is_before-found}
 use Rattle.rc_model.proofs.Members.{In-ascending, is_recovered-held, held-is_recovered, held-reaches, held-from_reach, held-segment}
-use Rattle.rc_model.proofs.Said.{is_server-true, is_server-from, HasMade-from, HasMade-in, HasAcknowledged-from}
-use Rattle.rc_model.proofs.Said.{HasAcknowledged-in, WasAcknowledged-from, WasAcknowledged-in, WasAccepted-from}
-use Rattle.rc_model.proofs.Said.{WasAccepted-in}
+use Rattle.rc_model.proofs.Said.{is_server-true, is_server-from, HasMade-from, HasMade-in, HasAcknowledged-from, HasAcknowledged-in}
+use Rattle.rc_model.proofs.Said.{WasAcknowledged-from, WasAcknowledged-in, WasAccepted-from, WasAccepted-in}
 
 -- Of the acknowledged term, table and key
 

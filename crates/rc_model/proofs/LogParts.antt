@@ -1,12 +1,8 @@
 -- What of a log counts for the follow-ups: its entries, its configs and what was sent, each of which a change may leave.
 use Rattle.std.proofs.Common.{◌≡◌, ℕ, zero, suc, ◌+◌, ◌≤◌, Bool, true, List, [], ◌∷◌, ◌++◌, length, map, min, refl, ap, ◌∙◌, arith}
 use Rattle.std.proofs.lemmas.List.{length-append, map-append}
-use Rattle.rc_types.specs.declared.entries.Entry.{Entry}
-use Rattle.rc_model.specs.Tables.{put}
-use Rattle.rc_model.specs.Config.{durable_len}
-use Rattle.rc_model.specs.Segment.{Segment, durable_in}
-use Rattle.rc_model.specs.Log.{Log, places_in, places_to, numbers_to, durable_among, with_segment}
-use Rattle.rc_model.specs.Heads.{with_freed}
+use Rattle.rc_model.specs.Model.{Entry, put, durable_len, Segment, durable_in, Log, places_in, places_to, numbers_to, durable_among}
+use Rattle.rc_model.specs.Model.{with_segment, with_freed}
 use Rattle.rc_model.proofs.Tests.{either}
 use Rattle.rc_model.proofs.Tables.{put_each}
 

@@ -9,39 +9,24 @@ use Rattle.std.proofs.lemmas.Bool.Decides.{nat_tests}
 use Rattle.std.proofs.Math.Numerals.{add-one}
 use Rattle.std.proofs.Math.Path.{fun_ext}
 use Rattle.std.specs.List.{list_any}
-use Rattle.rc_types.specs.declared.ids.ServerId.{ServerId}
-use Rattle.rc_types.specs.declared.entries.Entry.{Entry}
-use Rattle.rc_types.specs.declared.kept.Member.{Member}
-use Rattle.rc_types.specs.declared.kept.Phase.{Phase}
-use Rattle.rc_types.specs.declared.kept.Phase.TheVariants.{Opening, Closing, Writing}
-use Rattle.rc_types.specs.declared.messages.Message.{Message}
-use Rattle.rc_types.specs.declared.messages.Body.TheVariants.{Ready}
-use Rattle.rc_types.specs.declared.faults.Fault.TheVariants.{LogFull}
-use Rattle.rc_model.specs.ServerList.{ServerList}
-use Rattle.rc_model.specs.Messages.{to_coordinator}
-use Rattle.rc_types.specs.declared.limits.TheConstants.{LAST_SEGMENT}
-use Rattle.rc_model.specs.Ids.{same_id, has_id}
-use Rattle.rc_model.specs.Tables.{put}
-use Rattle.rc_model.specs.Config.{Config, new_config, all_placed, choose, candidates}
-use Rattle.rc_model.specs.Segment.{Segment, new_segment, with_entry, is_ready, has_unclosed, with_closes_sent}
-use Rattle.rc_model.specs.Log.{Log, head_of, with_segment, old_head_of, has_old_head, places_to, places_in, places_of}
-use Rattle.rc_model.specs.Log.{numbers_to, durable_now, is_opening, is_closing, is_writing}
-use Rattle.rc_model.specs.Heads.{opens_head, next_digest, rolled, begin_roll, is_full, appends, shuts, with_shut}
-use Rattle.rc_model.specs.Heads.{may_start, may_close, may_write, left_out, starts, closes_old, writes_on}
-use Rattle.rc_model.specs.Ownership.{PartState, without_first, after_replay, is_to_answer, is_complete, answered_in}
-use Rattle.rc_model.specs.Master.{Master, ids_of, with_log, durable_entries, dead_segments, appends_entry}
-use Rattle.rc_model.specs.FollowUps.{when, follow_up, follows_start, follows_placed, close_is_due, close_marked}
-use Rattle.rc_model.specs.FollowUps.{follows_closing, follows_shut, first_open, wants_commit, commits, commits_open}
-use Rattle.rc_model.specs.FollowUps.{follows_change, follows_stored, rolls_for_replay, replays, follows_data}
-use Rattle.rc_model.specs.FollowUps.{answers_part, follows_replay, or_rule, marks_shut, further, followed, rank}
-use Rattle.rc_model.specs.FollowUps.{one_if, closes_unsent, commits_unsent, parts_unanswered, measure, goes_on}
+use Rattle.rc_model.specs.Model.{ServerId, Entry, Member, Phase, Opening, Closing, Writing, Message, Ready, LogFull, ServerList}
+use Rattle.rc_model.specs.Model.{to_coordinator, LAST_SEGMENT, same_id, has_id, put, Config, new_config, all_placed, choose, candidates}
+use Rattle.rc_model.specs.Model.{Segment, new_segment, with_entry, is_ready, has_unclosed, with_closes_sent, Log, head_of, with_segment}
+use Rattle.rc_model.specs.Model.{old_head_of, has_old_head, places_to, places_in, places_of, numbers_to, durable_now, is_opening}
+use Rattle.rc_model.specs.Model.{is_closing, is_writing, opens_head, next_digest, rolled, begin_roll, is_full, appends, shuts, with_shut}
+use Rattle.rc_model.specs.Model.{may_start, may_close, may_write, left_out, starts, closes_old, writes_on, PartState, without_first}
+use Rattle.rc_model.specs.Model.{after_replay, is_to_answer, is_complete, answered_in, Master, ids_of, with_log, durable_entries}
+use Rattle.rc_model.specs.Model.{dead_segments, appends_entry, when, follow_up, follows_start, follows_placed, close_is_due, close_marked}
+use Rattle.rc_model.specs.Model.{follows_closing, follows_shut, first_open, wants_commit, commits, commits_open, follows_change}
+use Rattle.rc_model.specs.Model.{follows_stored, rolls_for_replay, replays, follows_data, answers_part, follows_replay, or_rule}
+use Rattle.rc_model.specs.Model.{marks_shut, further, followed, rank, one_if, closes_unsent, commits_unsent, parts_unanswered, measure}
+use Rattle.rc_model.specs.Model.{goes_on}
 use Rattle.rc_model.proofs.Ids.{same_id-refl}
 use Rattle.rc_model.proofs.Tests.{either, true_false}
 use Rattle.rc_model.proofs.Tables.{put_each, put-same, put-other}
 use Rattle.rc_model.proofs.Counting.{Narrower, filter-lower, filter-agrees}
-use Rattle.rc_model.proofs.LogParts.{AllSameParts, same_parts-put, length-places_in, places_to-agrees, total}
-use Rattle.rc_model.proofs.LogParts.{total-places, durable-within, marked, with_freed-marked, MarkedAlone}
-use Rattle.rc_model.proofs.LogParts.{marked-alone}
+use Rattle.rc_model.proofs.LogParts.{AllSameParts, same_parts-put, length-places_in, places_to-agrees, total, total-places}
+use Rattle.rc_model.proofs.LogParts.{durable-within, marked, with_freed-marked, MarkedAlone, marked-alone}
 
 -- the later master has a lower measure, and as many replicas of each segment
 pub record Lowers (old new : Master) : Type 0 where

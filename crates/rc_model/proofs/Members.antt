@@ -3,11 +3,7 @@ use Rattle.std.proofs.Common.{◌≡◌, ◌⊎◌, ℕ, zero, suc, ◌<◌, Boo
 use Rattle.std.proofs.Common.{nat_lt, Option, Some, None, slice_get, refl, sym, ap, ◌∙◌, subst, inl, inr, arith}
 use Rattle.std.specs.Option.{option_to_list}
 use Rattle.std.proofs.lemmas.Bool.{eqb-true, eq-eqb, ltb-true, lt-ltb}
-use Rattle.rc_types.specs.declared.rows.PlanRow.{PlanRow}
-use Rattle.rc_model.specs.Pick.{insert_once, ascending}
-use Rattle.rc_model.specs.Recovered.{reach, is_recovered}
-use Rattle.rc_model.specs.Breach.{segments_of}
-use Rattle.rc_model.specs.Headline.{In, IsHeld}
+use Rattle.rc_model.specs.Model.{PlanRow, insert_once, ascending, reach, is_recovered, segments_of, In, IsHeld}
 use Rattle.rc_model.proofs.Tests.{either, true_false}
 
 pub In-left : {X : Type 0} (x : X) (xs ys : List X) → In x xs → In x (xs ++ ys)

@@ -3,17 +3,9 @@ use Rattle.std.proofs.Common.{◌≡◌, ℕ, zero, suc, ◌+◌, ◌<◌, ◌�
 use Rattle.std.proofs.Common.{length, Option, Some, slice_get, sym, ap, ◌∙◌, arith}
 use Rattle.std.proofs.lemmas.Bool.{ne_eqb}
 use Rattle.std.proofs.lemmas.List.{append_assoc}
-use Rattle.rc_types.specs.declared.entries.Entry.{Entry}
-use Rattle.rc_types.specs.declared.messages.Message.{Message}
-use Rattle.rc_types.specs.declared.faults.Fault.TheVariants.{Rolling, ValueTooLong}
-use Rattle.rc_model.specs.Tables.{put}
-use Rattle.rc_model.specs.Segment.{Segment, with_entry}
-use Rattle.rc_model.specs.Log.{LogPlace, places_in, places_to, places_of, entries_of, is_writing}
-use Rattle.rc_model.specs.Heads.{is_full, begin_roll}
-use Rattle.rc_model.specs.Ownership.{term_of}
-use Rattle.rc_model.specs.Versions.{is_of, greatest_version}
-use Rattle.rc_model.specs.Master.{Master, dead_segments, appends_entry}
-use Rattle.rc_model.specs.Writing.{is_too_long, written, writes, writes_if_owned, rolls_for_write, refused}
+use Rattle.rc_model.specs.Model.{Entry, Message, Rolling, ValueTooLong, put, Segment, with_entry, LogPlace, places_in, places_to}
+use Rattle.rc_model.specs.Model.{places_of, entries_of, is_writing, is_full, begin_roll, term_of, is_of, greatest_version, Master}
+use Rattle.rc_model.specs.Model.{dead_segments, appends_entry, is_too_long, written, writes, writes_if_owned, rolls_for_write, refused}
 use Rattle.rc_model.proofs.Tests.{either}
 use Rattle.rc_model.proofs.Tables.{put-same, put-other}
 use Rattle.rc_model.proofs.LogParts.{places_to-agrees}

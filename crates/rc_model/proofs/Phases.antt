@@ -2,21 +2,12 @@
 use Rattle.std.proofs.Common.{◌≡◌, ◌⊎◌, inl, inr, ℕ, ◌+◌, true, false, ◌&&◌, ◌||◌, nat_eq, nat_lt, List, [], ◌∷◌}
 use Rattle.std.proofs.Common.{Option, Some, None, Err, refl, sym, ap, ◌∙◌}
 use Rattle.std.proofs.lemmas.Bool.{and_parts, or_right}
-use Rattle.rc_types.specs.declared.ids.ServerId.{ServerId}
-use Rattle.rc_types.specs.declared.entries.Entry.{Entry}
-use Rattle.rc_types.specs.declared.faults.Fault.TheVariants.{LogFull}
-use Rattle.rc_types.specs.declared.kept.Phase.TheVariants.{Opening, Writing}
-use Rattle.rc_types.specs.declared.messages.Message.{Message}
-use Rattle.rc_types.specs.declared.limits.TheConstants.{LAST_SEGMENT}
-use Rattle.rc_model.specs.Config.{all_placed, choose}
-use Rattle.rc_model.specs.Segment.{is_ready}
-use Rattle.rc_model.specs.Log.{Log, head_of, old_head_of, has_old_head, is_opening, is_closing, is_writing}
-use Rattle.rc_model.specs.Heads.{rolled, begin_roll, is_full, may_start, may_close, may_write, left_out, with_freed, writes_on}
-use Rattle.rc_model.specs.Ownership.{after_replay, to_answer}
-use Rattle.rc_model.specs.Master.{Master, durable_entries, dead_segments, appends_entry}
-use Rattle.rc_model.specs.FollowUps.{follow_up, follows_start, follows_placed, close_is_due, follows_closing}
-use Rattle.rc_model.specs.FollowUps.{follows_shut, first_open, wants_commit, commits, commits_open, rolls_for_replay}
-use Rattle.rc_model.specs.FollowUps.{replays, follows_data, answers_part}
+use Rattle.rc_model.specs.Model.{ServerId, Entry, LogFull, Opening, Writing, Message, LAST_SEGMENT, all_placed, choose, is_ready, Log}
+use Rattle.rc_model.specs.Model.{head_of, old_head_of, has_old_head, is_opening, is_closing, is_writing, rolled, begin_roll, is_full}
+use Rattle.rc_model.specs.Model.{may_start, may_close, may_write, left_out, with_freed, writes_on, after_replay, to_answer, Master}
+use Rattle.rc_model.specs.Model.{durable_entries, dead_segments, appends_entry, follow_up, follows_start, follows_placed, close_is_due}
+use Rattle.rc_model.specs.Model.{follows_closing, follows_shut, first_open, wants_commit, commits, commits_open, rolls_for_replay}
+use Rattle.rc_model.specs.Model.{replays, follows_data, answers_part}
 use Rattle.rc_model.proofs.Tests.{either, true_false}
 use Rattle.rc_model.proofs.LogParts.{with_freed-marked}
 use Rattle.rc_model.proofs.Rules.{AllDone, done-or, done-when}

@@ -1,11 +1,7 @@
 -- A pickable plan is determined.
 use Rattle.std.proofs.Common.{◌≡◌, ℕ, List, [], ◌∷◌, Some, refl, sym, ap, ◌∙◌}
-use Rattle.rc_types.specs.declared.ids.ServerId.{ServerId}
-use Rattle.rc_types.specs.declared.ids.Pair.{Pair}
-use Rattle.rc_types.specs.declared.rows.Row.{Row}
+use Rattle.rc_model.specs.Model.{ServerId, Pair, Row, PlanRow, HeldRow, AreTaken, IsPickable, taken_row, plan_row, ascending}
 use Rattle.rc_types.specs.declared.rows.Plan.{Plan}
-use Rattle.rc_types.specs.declared.rows.PlanRow.{PlanRow}
-use Rattle.rc_model.specs.Pick.{HeldRow, AreTaken, IsPickable, taken_row, plan_row, ascending}
 
 -- the rows that are taken of these segments are determined
 pub taken_same : (min : Pair) (replies : List (ServerId × List Row)) (head : HeldRow) (segs : List ℕ) (rows others : List PlanRow) →

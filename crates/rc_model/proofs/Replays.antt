@@ -3,19 +3,13 @@ use Rattle.std.proofs.Common.{◌≡◌, ℕ, ◌≤◌, Bool, true, false, cond
 use Rattle.std.proofs.Common.{refl, sym, ap, ◌∙◌, arith}
 use Rattle.std.proofs.lemmas.Bool.{eqb-true}
 use Rattle.std.proofs.lemmas.List.{append-nil}
-use Rattle.rc_types.specs.declared.events.Event.{Event}
-use Rattle.rc_types.specs.declared.messages.Message.{Message}
-use Rattle.rc_model.specs.Ids.{is_server}
-use Rattle.rc_model.specs.Backup.{backup_takes}
-use Rattle.rc_model.specs.Master.{Master}
-use Rattle.rc_model.specs.MasterStep.{master_takes}
+use Rattle.rc_model.specs.Model.{Event, Message, is_server, backup_takes, Master, master_takes, Work, Take, Create, Split, HostNode}
+use Rattle.rc_model.specs.Model.{host_step, coordinator_step, is_for_backup, with_backup, with_master, server_takes, server_of}
+use Rattle.rc_model.specs.Model.{takes_if_running, ticks_if_running, World, NodeName, TheOutside, TheCoordinator, TheHost, Job, same_node}
+use Rattle.rc_model.specs.Model.{step, is_possible, is_possible_job, node_done, job_done, replay_from, work_of, work_if_for, work_in}
+use Rattle.rc_model.specs.Model.{works_of, host_after, coordinator_after}
 use Rattle.rc_model.specs.Coordinator.{Coordinator}
-use Rattle.rc_model.specs.Nodes.{Work, Ask, Take, Tick, Stop, Start, Suspect, Decide, Create, Split, HostNode}
-use Rattle.rc_model.specs.Nodes.{host_step, coordinator_step, is_for_backup, with_backup, with_master, server_takes}
-use Rattle.rc_model.specs.Nodes.{server_of, takes_if_running, ticks_if_running}
-use Rattle.rc_model.specs.World.{World, NodeName, TheOutside, TheCoordinator, TheHost, Job, same_node, step}
-use Rattle.rc_model.specs.World.{is_possible, is_possible_job, node_done, job_done, replay_from, work_of}
-use Rattle.rc_model.specs.Works.{work_if_for, work_in, works_of, host_after, coordinator_after}
+use Rattle.rc_model.specs.Nodes.{Ask, Tick, Stop, Start, Suspect, Decide}
 use Rattle.rc_model.proofs.Tests.{either, true_false}
 
 -- one more event at the end is one more step

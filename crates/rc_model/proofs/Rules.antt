@@ -1,8 +1,6 @@
 -- What holds of whatever a rule did.
 use Rattle.std.proofs.Common.{◌≡◌, Bool, true, false, List, Option, Some, None, refl}
-use Rattle.rc_types.specs.declared.messages.Message.{Message}
-use Rattle.rc_model.specs.Master.{Master}
-use Rattle.rc_model.specs.FollowUps.{when, or_rule}
+use Rattle.rc_model.specs.Model.{Message, Master, when, or_rule}
 
 -- it holds of what was done, if anything was
 abbrev pub AllDone : (Master × List Message → Type 0) → Option (Master × List Message) → Type 0

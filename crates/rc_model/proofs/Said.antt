@@ -1,18 +1,11 @@
 -- What is gathered from the messages is what they say.
 use Rattle.std.proofs.Common.{◌≡◌, ◌⊎◌, ℕ, true, List, [], ◌∷◌, Some, refl, sym, ap, ◌∙◌, subst, inl, inr}
 use Rattle.std.specs.Option.{option_to_list}
-use Rattle.rc_types.specs.declared.ids.ServerId.{ServerId}
-use Rattle.rc_types.specs.declared.ids.Addr.{Addr}
-use Rattle.rc_types.specs.declared.ids.Addr.TheVariants.{Coordinator, Server, Outside}
-use Rattle.rc_types.specs.declared.entries.Entry.{Entry}
-use Rattle.rc_types.specs.declared.rows.Part.{Part}
-use Rattle.rc_types.specs.declared.messages.Message.{Message}
-use Rattle.rc_types.specs.declared.messages.Body.{Body}
-use Rattle.rc_types.specs.declared.messages.Body.TheVariants.{WriteOk, Plan}
-use Rattle.rc_model.specs.Ids.{is_server}
-use Rattle.rc_model.specs.Made.{entry_at, made}
-use Rattle.rc_model.specs.Recovered.{Ack, ack_in, acknowledged, all_acknowledged, Accepted, plan_in, accepted}
-use Rattle.rc_model.specs.Headline.{In, HasMade, WasAcknowledged, HasAcknowledged, WasAccepted}
+use Rattle.rc_model.specs.Model.{ServerId, Addr, Server, Outside, Entry, Part, Message, Body, WriteOk, is_server, entry_at, made, Ack}
+use Rattle.rc_model.specs.Model.{ack_in, acknowledged, all_acknowledged, Accepted, plan_in, accepted, In, HasMade, WasAcknowledged}
+use Rattle.rc_model.specs.Model.{HasAcknowledged, WasAccepted}
+use Rattle.rc_types.specs.declared.ids.Addr.TheVariants.{Coordinator}
+use Rattle.rc_types.specs.declared.messages.Body.TheVariants.{Plan}
 use Rattle.rc_model.proofs.Members.{In-append, In-left, In-right, In-option, In-from_option, In-gathered}
 use Rattle.rc_model.proofs.Members.{In-gathered_rest, In-gathered_piece}
 use Rattle.rc_model.proofs.Ids.{same_id-true, same_id-refl}

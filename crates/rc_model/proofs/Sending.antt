@@ -4,23 +4,12 @@ use Rattle.std.proofs.Common.{filter, drop, length, Option, Some, None, is_some,
 use Rattle.std.specs.List.{All}
 use Rattle.std.proofs.lemmas.Bool.{and_parts, eqb-true}
 use Rattle.std.proofs.lemmas.List.Elements.{All-nil, All-cons}
-use Rattle.rc_types.specs.declared.ids.ServerId.{ServerId}
-use Rattle.rc_types.specs.declared.rows.PlanRow.{PlanRow}
-use Rattle.rc_types.specs.declared.kept.Member.{Member}
-use Rattle.rc_types.specs.declared.kept.Told.{Told}
-use Rattle.rc_types.specs.declared.messages.Message.{Message}
-use Rattle.rc_types.specs.declared.messages.Body.{Body}
-use Rattle.rc_types.specs.declared.messages.Body.TheVariants.{Append, Close, Commit, Free, Ready, Recovered, WriteOk}
-use Rattle.rc_model.specs.Messages.{between, to_coordinator, to_outside}
-use Rattle.rc_model.specs.Log.{Log, LogPlace, numbers_to, is_closing, is_writing}
-use Rattle.rc_model.specs.Ownership.{PartState}
-use Rattle.rc_model.specs.Master.{Master, Task, to_ids, to_unlost, place_of}
-use Rattle.rc_model.specs.FollowUps.{frees_segments, write_oks, attempt_of}
-use Rattle.rc_model.specs.MasterTick.{standing, to_remind, is_closing_old, lacking, reminds_member, reminds_members}
-use Rattle.rc_model.specs.MasterTick.{reminds_open, reminds_shut_members, reminds_shut, awaits_commit, commits_again}
-use Rattle.rc_model.specs.MasterTick.{has_not_come, fetch_of, fetches_again, awaits_grant, recovered_again, ready_again}
-use Rattle.rc_model.specs.MasterTick.{reminds}
-use Rattle.rc_model.specs.Headline.{In}
+use Rattle.rc_model.specs.Model.{ServerId, PlanRow, Member, Told, Message, Body, Append, Close, Commit, Free, Ready, Recovered, WriteOk}
+use Rattle.rc_model.specs.Model.{between, to_coordinator, to_outside, Log, LogPlace, numbers_to, is_closing, is_writing, PartState}
+use Rattle.rc_model.specs.Model.{Master, Task, to_ids, to_unlost, place_of, frees_segments, write_oks, attempt_of, standing, to_remind}
+use Rattle.rc_model.specs.Model.{is_closing_old, lacking, reminds_member, reminds_members, reminds_open, reminds_shut_members}
+use Rattle.rc_model.specs.Model.{reminds_shut, awaits_commit, commits_again, has_not_come, fetch_of, fetches_again, awaits_grant}
+use Rattle.rc_model.specs.Model.{recovered_again, ready_again, reminds, In}
 use Rattle.rc_model.proofs.Tests.{either}
 use Rattle.rc_model.proofs.Members.{In-append, In-filter, In-map}
 

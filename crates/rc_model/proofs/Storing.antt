@@ -4,16 +4,11 @@ use Rattle.std.proofs.Common.{◌∷◌, ◌++◌, length, drop, filter, Option,
 use Rattle.std.specs.List.{list_any}
 use Rattle.std.proofs.lemmas.Bool.{and_parts, eqb-true, eq-eqb, or_left}
 use Rattle.std.proofs.lemmas.List.{append-nil}
-use Rattle.rc_types.specs.declared.ids.ServerId.{ServerId}
-use Rattle.rc_types.specs.declared.ids.Addr.{Addr}
-use Rattle.rc_types.specs.declared.ids.Addr.TheVariants.{Server, Coordinator, Outside}
-use Rattle.rc_types.specs.declared.entries.Entry.{Entry}
-use Rattle.rc_types.specs.declared.messages.Body.{Body}
-use Rattle.rc_types.specs.declared.messages.Body.TheVariants.{Place, Append, Close, Free, Gather, Fetch}
-use Rattle.rc_model.specs.Replica.{Replica, grown, placed, placed_open, appended, closes, closed_at}
-use Rattle.rc_model.specs.Backup.{Backup, Held, with_held, put_replica, without_replica, insert_number, is_freed}
-use Rattle.rc_model.specs.Backup.{replica_of, replica_after, is_refused, keeps, stores, frees, backup_takes, stays}
-use Rattle.rc_model.specs.BackupClaims.{closing_length, is_closed_replica, is_storing}
+use Rattle.rc_model.specs.Model.{ServerId, Addr, Server, Outside, Entry, Body, Place, Append, Close, Free, Gather, Fetch, Replica, grown}
+use Rattle.rc_model.specs.Model.{placed, placed_open, appended, closes, closed_at, Backup, Held, with_held, put_replica, without_replica}
+use Rattle.rc_model.specs.Model.{insert_number, is_freed, replica_of, replica_after, is_refused, keeps, stores, frees, backup_takes}
+use Rattle.rc_model.specs.Model.{stays, closing_length, is_closed_replica, is_storing}
+use Rattle.rc_types.specs.declared.ids.Addr.TheVariants.{Coordinator}
 use Rattle.rc_model.proofs.Tests.{either, true_false}
 use Rattle.rc_model.proofs.Tables.{put_id_each, put_id-same}
 

@@ -1,9 +1,7 @@
 -- Tables: what stands in one after a change.
 use Rattle.std.proofs.Common.{◌≡◌, ℕ, false, cond, nat_eq, refl, ap, subst}
 use Rattle.std.proofs.lemmas.Bool.{eqb-true, eq-eqb}
-use Rattle.rc_types.specs.declared.ids.ServerId.{ServerId}
-use Rattle.rc_model.specs.Ids.{same_id}
-use Rattle.rc_model.specs.Tables.{put, put_id}
+use Rattle.rc_model.specs.Model.{ServerId, same_id, put, put_id}
 use Rattle.rc_model.proofs.Tests.{either}
 use Rattle.rc_model.proofs.Ids.{same_id-true, same_id-refl}
 

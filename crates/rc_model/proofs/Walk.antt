@@ -2,42 +2,22 @@
 use Rattle.std.proofs.Common.{◌≡◌, ℕ, zero, suc, ◌+◌, ◌-◌, ◌<◌, not, Bool, true, false, cond, nat_lt, nat_eq, ◌&&◌, List, [], ◌∷◌}
 use Rattle.std.proofs.Common.{◌++◌, map, filter, length, Option, Some, None, Result, Ok, Err, refl, inl, inr}
 use Rattle.std.proofs.lemmas.Bool.{and_parts, eqb-true, ltb-true}
-use Rattle.rc_types.specs.declared.ids.ServerId.{ServerId}
-use Rattle.rc_types.specs.declared.ids.Addr.{Addr}
-use Rattle.rc_types.specs.declared.ids.Addr.TheVariants.{Server, Coordinator}
-use Rattle.rc_types.specs.declared.entries.Entry.{Entry}
-use Rattle.rc_types.specs.declared.rows.Part.{Part}
-use Rattle.rc_types.specs.declared.rows.PlanRow.{PlanRow}
-use Rattle.rc_types.specs.declared.faults.Fault.{Fault}
-use Rattle.rc_types.specs.declared.faults.Fault.TheVariants.{NotOwner, Rolling, ValueTooLong, Deposed}
-use Rattle.rc_types.specs.declared.faults.Fault.TheVariants.{LogFull, NoBackups}
-use Rattle.rc_types.specs.declared.messages.Message.{Message}
-use Rattle.rc_types.specs.declared.messages.Body.{Body}
-use Rattle.rc_types.specs.declared.messages.Body.TheVariants.{Write, Read, Stored, CommitOk, Refused, Plan, Data, Own}
-use Rattle.rc_types.specs.declared.messages.Body.TheVariants.{List as ServersOf, Close, Ready, Enlist, Recovered}
-use Rattle.rc_types.specs.declared.limits.TheConstants.{LAST_SEGMENT}
-use Rattle.rc_model.specs.Messages.{to_coordinator}
-use Rattle.rc_model.specs.ServerList.{ServerList, newer_than, is_up, from_rows}
-use Rattle.rc_model.specs.Config.{choose}
-use Rattle.rc_model.specs.Segment.{is_unclosed}
-use Rattle.rc_model.specs.Log.{Log, with_segment, old_head_of, numbers_to, is_writing, durable_now}
-use Rattle.rc_model.specs.Heads.{opens_head, opened_first, open_first, is_full, appends, next_digest, rolled, begin_roll}
-use Rattle.rc_model.specs.Heads.{stored, commit_noted, loses, shuts, may_start, may_close, may_write, left_out}
-use Rattle.rc_model.specs.Heads.{starts, closes_old, writes_on}
-use Rattle.rc_model.specs.Ownership.{knows_term, term_of, begin_part, put_data, grant, after_replay, to_answer, after_answer}
-use Rattle.rc_model.specs.Master.{Master, Task, with_log, durable_entries, to_ids, ids_of, place_of, places_head}
-use Rattle.rc_model.specs.Master.{appends_entry, dead_segments}
-use Rattle.rc_model.specs.Writing.{refused, is_too_long, written, rolls_for_write, writes_under, writes_if_owned}
-use Rattle.rc_model.specs.Writing.{writes, reads_if_owned}
-use Rattle.rc_model.specs.ListRules.{then_does, places_segment, replaces_lost, replaces_lost_of, opens_first}
-use Rattle.rc_model.specs.ListRules.{tries_first, obeys_list, takes_list}
-use Rattle.rc_model.specs.FollowUps.{close_is_due, close_marked, frees_segments, first_open, wants_commit, commits}
-use Rattle.rc_model.specs.FollowUps.{commits_open, write_oks, new_durable, rolls_for_replay, replays}
-use Rattle.rc_model.specs.FollowUps.{attempt_of, answers_part, follow_up, marks_shut, further, followed, measure, goes_on}
-use Rattle.rc_model.specs.MasterTick.{fetch_of, reminds, ticks}
-use Rattle.rc_model.specs.MasterStep.{begins_task, task_of, takes_plan, says_deposed, master_takes_first}
-use Rattle.rc_model.specs.MasterStep.{deposed_takes, master_takes, master_ticks}
-use Rattle.rc_model.specs.Headline.{In}
+use Rattle.rc_model.specs.Model.{ServerId, Addr, Server, Entry, Part, PlanRow, Fault, NotOwner, Rolling, ValueTooLong, Deposed, LogFull}
+use Rattle.rc_model.specs.Model.{NoBackups, Message, Body, Write, Read, Stored, CommitOk, Refused, Data, Own, Close, Ready, Enlist}
+use Rattle.rc_model.specs.Model.{Recovered, LAST_SEGMENT, to_coordinator, ServerList, newer_than, is_up, from_rows, choose, is_unclosed}
+use Rattle.rc_model.specs.Model.{Log, with_segment, old_head_of, numbers_to, is_writing, durable_now, opens_head, opened_first}
+use Rattle.rc_model.specs.Model.{open_first, is_full, appends, next_digest, rolled, begin_roll, stored, commit_noted, loses, shuts}
+use Rattle.rc_model.specs.Model.{may_start, may_close, may_write, left_out, starts, closes_old, writes_on, knows_term, term_of}
+use Rattle.rc_model.specs.Model.{begin_part, put_data, grant, after_replay, to_answer, after_answer, Master, Task, with_log}
+use Rattle.rc_model.specs.Model.{durable_entries, to_ids, ids_of, place_of, places_head, appends_entry, dead_segments, refused}
+use Rattle.rc_model.specs.Model.{is_too_long, written, rolls_for_write, writes_under, writes_if_owned, writes, reads_if_owned, then_does}
+use Rattle.rc_model.specs.Model.{places_segment, replaces_lost, replaces_lost_of, opens_first, tries_first, obeys_list, takes_list}
+use Rattle.rc_model.specs.Model.{close_is_due, close_marked, frees_segments, first_open, wants_commit, commits, commits_open, write_oks}
+use Rattle.rc_model.specs.Model.{new_durable, rolls_for_replay, replays, attempt_of, answers_part, follow_up, marks_shut, further}
+use Rattle.rc_model.specs.Model.{followed, measure, goes_on, fetch_of, reminds, ticks, begins_task, task_of, takes_plan, says_deposed}
+use Rattle.rc_model.specs.Model.{master_takes_first, deposed_takes, master_takes, master_ticks, In}
+use Rattle.rc_types.specs.declared.ids.Addr.TheVariants.{Coordinator}
+use Rattle.rc_types.specs.declared.messages.Body.TheVariants.{Plan, List as ServersOf}
 use Rattle.rc_model.proofs.Tests.{either}
 use Rattle.rc_model.proofs.Rules.{AllDone, done-or, done-when}
 

@@ -39,3 +39,4 @@ pub mod BackupClaims
 pub mod MasterClaims
 pub mod HeadClaims
 pub mod CoordinatorClaims
+pub mod Model

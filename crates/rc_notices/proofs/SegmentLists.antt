@@ -4,15 +4,8 @@ use Rattle.std.proofs.Common.{true, false, not, ◌&&◌, ◌||◌, is_some, ap,
 use Rattle.std.specs.List.{list_all}
 use Rattle.std.proofs.lemmas.Bool.{cases_eq, and_parts, cond_both, cond-false, false≢true}
 use Rattle.std.proofs.lemmas.List.{append-nil}
-use Rattle.rc_types.specs.declared.kept.Member.{Member}
-use Rattle.rc_types.specs.declared.messages.Message.{Message}
-use Rattle.rc_types.specs.declared.messages.Body.TheVariants.{Commit}
-use Rattle.rc_model.specs.Messages.{between, to_coordinator}
-use Rattle.rc_model.specs.Config.{is_placed, all_placed}
-use Rattle.rc_model.specs.Segment.{Segment}
-use Rattle.rc_model.specs.Log.{Log, numbers_to}
-use Rattle.rc_model.specs.Master.{place_of}
-use Rattle.rc_model.specs.MasterTick.{stood, standing, reminds_shut_members, reminds_open, reminds_shut, awaits_commit}
+use Rattle.rc_model.specs.Model.{Member, Message, Commit, between, to_coordinator, is_placed, all_placed, Segment, Log, numbers_to}
+use Rattle.rc_model.specs.Model.{place_of, stood, standing, reminds_shut_members, reminds_open, reminds_shut, awaits_commit}
 use Rattle.rc_headroll.specs.Watching.{wants_nothing}
 use Rattle.rc_notices.specs.Reminders.{reminds_if_open, reminds_if_shut, commit_again}
 

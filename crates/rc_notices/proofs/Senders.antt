@@ -1,15 +1,9 @@
 -- What the timer's messages depend on: the log, the ownership and the tasks of a master.
 use Rattle.std.proofs.Common.{◌≡◌, List, [], ◌∷◌, ◌++◌, ◌&&◌, not, map, filter, take, ap, ◌∙◌, refl}
 use Rattle.std.proofs.lemmas.Simd.{map-map}
-use Rattle.rc_types.specs.declared.entries.Entry.{Entry}
-use Rattle.rc_types.specs.declared.messages.Body.TheVariants.{Recovered}
-use Rattle.rc_model.specs.Messages.{to_coordinator}
-use Rattle.rc_model.specs.Log.{Log, entries_of, numbers_to}
-use Rattle.rc_model.specs.Ownership.{Ownership, PartState, is_complete, owns_term}
-use Rattle.rc_model.specs.Master.{Master, Task}
-use Rattle.rc_model.specs.FollowUps.{attempt_of}
-use Rattle.rc_model.specs.MasterTick.{fetch_of, has_not_come, reminds_open, reminds_shut, commits_again, fetches_again}
-use Rattle.rc_model.specs.MasterTick.{recovered_again, ready_again, reminds}
+use Rattle.rc_model.specs.Model.{Entry, Recovered, to_coordinator, Log, entries_of, numbers_to, Ownership, PartState, is_complete}
+use Rattle.rc_model.specs.Model.{owns_term, Master, Task, attempt_of, fetch_of, has_not_come, reminds_open, reminds_shut, commits_again}
+use Rattle.rc_model.specs.Model.{fetches_again, recovered_again, ready_again, reminds}
 use Rattle.rc_ownership.specs.Parts.{awaiting_grant}
 use Rattle.rc_notices.specs.Reminders.{recovered_of}
 use Rattle.rc_notices.specs.Sender.{sender}

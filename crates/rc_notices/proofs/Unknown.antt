@@ -1,10 +1,7 @@
 -- Segments that a log doesn't have.
 use Rattle.std.proofs.Common.{◌≡◌, ℕ, zero, suc, Bool, true, false, cond, Some, None, [], arith, refl}
 use Rattle.std.proofs.lemmas.List.{get_or_past}
-use Rattle.rc_types.specs.declared.messages.Body.{Body}
-use Rattle.rc_model.specs.Segment.{no_segment}
-use Rattle.rc_model.specs.Log.{has_segment}
-use Rattle.rc_model.specs.Master.{to_unlost}
+use Rattle.rc_model.specs.Model.{Body, no_segment, has_segment, to_unlost}
 use Rattle.rc_headroll.specs.LogData.{LogData, log_of, segment_at}
 
 -- such a segment is as one that was never opened

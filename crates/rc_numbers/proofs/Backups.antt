@@ -3,19 +3,11 @@ use Rattle.std.proofs.Common.{ℕ, ◌-◌, ◌≤◌, not, Bool, true, false, c
 use Rattle.std.proofs.Common.{length, filter, take, drop, Option, Some, None}
 use Rattle.std.specs.List.{All}
 use Rattle.std.proofs.lemmas.List.Elements.{All-nil, All-cons, All-head, All-tail, All-append, All-take, All-drop, All-filter}
-use Rattle.rc_types.specs.declared.ids.ServerId.{ServerId}
-use Rattle.rc_types.specs.declared.ids.Addr.{Addr}
-use Rattle.rc_types.specs.declared.ids.Addr.TheVariants.{Server}
-use Rattle.rc_types.specs.declared.entries.Entry.{Entry}
-use Rattle.rc_types.specs.declared.rows.Part.{Part}
-use Rattle.rc_types.specs.declared.messages.Message.{Message}
-use Rattle.rc_types.specs.declared.messages.Body.{Body}
-use Rattle.rc_types.specs.declared.messages.Body.TheVariants.{Place, Append, Close, Free, Gather, Fetch, Data, Replicas}
-use Rattle.rc_model.specs.Messages.{between, to_coordinator}
-use Rattle.rc_model.specs.Replica.{Replica, grown, placed_open, placed, appended, closes, closed_at}
-use Rattle.rc_model.specs.Backup.{Held, Backup, with_held, replica_of, put_replica, without_replica, replica_after}
-use Rattle.rc_model.specs.Backup.{stored_of, is_refused, keeps, stores, insert_number, frees, rows_of_replicas}
-use Rattle.rc_model.specs.Backup.{is_in_part, data_of, answers_fetch, backup_takes, stays, restart}
+use Rattle.rc_model.specs.Model.{ServerId, Addr, Server, Entry, Part, Message, Body, Place, Append, Close, Free, Gather, Fetch, Data}
+use Rattle.rc_model.specs.Model.{Replicas, between, to_coordinator, Replica, grown, placed_open, placed, appended, closes, closed_at}
+use Rattle.rc_model.specs.Model.{Held, Backup, with_held, replica_of, put_replica, without_replica, replica_after, stored_of, is_refused}
+use Rattle.rc_model.specs.Model.{keeps, stores, insert_number, frees, rows_of_replicas, is_in_part, data_of, answers_fetch, backup_takes}
+use Rattle.rc_model.specs.Model.{stays, restart}
 use Rattle.rc_numbers.specs.Numbers.{VersionsUpTo, body_within, MessagesWithin, BackupWithin}
 use Rattle.rc_numbers.proofs.Entries.{versions-more, none-within, one-within, All-one}
 use Rattle.rc_model.proofs.Tests.{either}

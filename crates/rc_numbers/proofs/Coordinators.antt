@@ -1,41 +1,24 @@
 -- What each rule of the coordinator does to its numbers.
-use Rattle.std.proofs.Common.{ℕ, ◌≡◌, ◌+◌, ◌-◌, ◌*◌, ◌≤◌, not, cond, true, false, nat_eq, ◌&&◌, List, [], ◌∷◌, ◌++◌}
-use Rattle.std.proofs.Common.{length, filter, Option, Some, None, Result, Ok, Err, arith, leb-false, length-append}
-use Rattle.std.proofs.Common.{length-set, refl}
-use Rattle.rc_types.specs.declared.ids.ServerId.{ServerId}
-use Rattle.rc_types.specs.declared.ids.Pair.{Pair}
-use Rattle.rc_types.specs.declared.ids.Addr.{Addr}
-use Rattle.rc_types.specs.declared.ids.Addr.TheVariants.{Server}
-use Rattle.rc_types.specs.declared.rows.Row.{Row}
+use Rattle.std.proofs.Common.{ℕ, ◌≡◌, ◌+◌, ◌-◌, ◌*◌, ◌≤◌, not, cond, true, false, nat_eq, ◌&&◌, List, [], ◌∷◌, ◌++◌, length, filter}
+use Rattle.std.proofs.Common.{Option, Some, None, Result, Ok, Err, arith, leb-false, length-append, length-set, refl}
+use Rattle.rc_model.specs.Model.{ServerId, Pair, Addr, Server, Row, Part, Tablet, Grant, Fault, Deposed, StaleGeneration, StaleAttempt}
+use Rattle.rc_model.specs.Model.{NotReady, NoTable, BadSplit, TableExists, TooManyTablets, Recovering, Message, Body, Enlist, Ready}
+use Rattle.rc_model.specs.Model.{Commit, CommitOk, Replicas, Recovered, SplitOk, Gather, MAX_TABLETS, from_coordinator, to_each}
+use Rattle.rc_model.specs.Model.{coordinator_refuses, coordinator_tells, put_id, ServerList, is_up, has_crashed, is_newest, enlisted}
+use Rattle.rc_model.specs.Model.{crashed, id_crashed, up, has_table, whole_table, tablets_of, tablet_of, has_range, assigned}
+use Rattle.rc_model.specs.Model.{marked_crashed, pick, greater_pair, Attempt, Decision, has_answered, is_gathering, parts_of}
+use Rattle.rc_model.specs.Model.{plan_message, plan_messages, new_coordinator, refuses_server, list_body, spreads_list, begins_attempt}
+use Rattle.rc_model.specs.Model.{has_tablets, begins_if_needed, spreads_then_begins, attempt_at, with_attempt, up_of_host}
+use Rattle.rc_model.specs.Model.{follows_generation, enlists, notes_ready, with_crashed, suspects, commits_pair, is_current, with_answer}
+use Rattle.rc_model.specs.Model.{keeps_answer_in, ready_ids, decision_of, decides_on, decides_with, decides_attempt, own_body, range_of}
+use Rattle.rc_model.specs.Model.{grant_of, grant_to, part_of_sender, grants_part, grants_if_given, grants_or_repeats, takes_recovered}
+use Rattle.rc_model.specs.Model.{first_grant, has_open_part, asks_again, asks_again_of, coordinator_ticks, creates_table, is_too_many}
+use Rattle.rc_model.specs.Model.{creates, split_fault, splits_unless, splits, coordinator_takes, Work, Take, Create, Split}
+use Rattle.rc_model.specs.Model.{coordinator_step}
 use Rattle.rc_types.specs.declared.rows.Plan.{Plan}
-use Rattle.rc_types.specs.declared.rows.Part.{Part}
-use Rattle.rc_types.specs.declared.rows.Tablet.{Tablet}
-use Rattle.rc_types.specs.declared.kept.Grant.{Grant}
-use Rattle.rc_types.specs.declared.faults.Fault.{Fault}
-use Rattle.rc_types.specs.declared.faults.Fault.TheVariants.{Deposed, StaleGeneration, StaleAttempt, NotReady, NoTable}
-use Rattle.rc_types.specs.declared.faults.Fault.TheVariants.{BadSplit, TableExists, TooManyTablets, Recovering}
-use Rattle.rc_types.specs.declared.messages.Message.{Message}
-use Rattle.rc_types.specs.declared.messages.Body.{Body}
-use Rattle.rc_types.specs.declared.messages.Body.TheVariants.{Enlist, Ready, Commit, CommitOk, Replicas, Recovered}
-use Rattle.rc_types.specs.declared.messages.Body.TheVariants.{SplitOk, Gather, Plan as PlanBody}
-use Rattle.rc_types.specs.declared.limits.TheConstants.{MAX_TABLETS}
-use Rattle.rc_model.specs.Messages.{from_coordinator, to_each, coordinator_refuses, coordinator_tells}
-use Rattle.rc_model.specs.Tables.{put_id}
-use Rattle.rc_model.specs.ServerList.{ServerList, is_up, has_crashed, is_newest, enlisted, crashed, id_crashed, up}
-use Rattle.rc_model.specs.Tablets.{has_table, whole_table, tablets_of, tablet_of, has_range, assigned, marked_crashed}
-use Rattle.rc_model.specs.Pick.{pick, greater_pair}
-use Rattle.rc_model.specs.Attempts.{Attempt, Decision, has_answered, is_gathering, parts_of, plan_message, plan_messages}
-use Rattle.rc_model.specs.Coordinator.{Coordinator, new_coordinator, refuses_server, list_body, spreads_list}
-use Rattle.rc_model.specs.Coordinator.{begins_attempt, has_tablets, begins_if_needed, spreads_then_begins, attempt_at}
-use Rattle.rc_model.specs.Coordinator.{with_attempt, up_of_host, follows_generation, enlists, notes_ready}
-use Rattle.rc_model.specs.Coordinator.{with_crashed, suspects, commits_pair}
-use Rattle.rc_model.specs.Deciding.{is_current, with_answer, keeps_answer_in, ready_ids, decision_of, decides_on}
-use Rattle.rc_model.specs.Deciding.{decides_with, decides_attempt, own_body, range_of, grant_of, grant_to}
-use Rattle.rc_model.specs.Deciding.{part_of_sender, grants_part, grants_if_given, grants_or_repeats, takes_recovered}
-use Rattle.rc_model.specs.CoordinatorStep.{first_grant, has_open_part, asks_again, asks_again_of, coordinator_ticks}
-use Rattle.rc_model.specs.CoordinatorStep.{creates_table, is_too_many, creates, split_fault, splits_unless, splits}
-use Rattle.rc_model.specs.CoordinatorStep.{coordinator_takes}
-use Rattle.rc_model.specs.Nodes.{Work, Take, Tick, Suspect, Decide, Create, Split, coordinator_step}
+use Rattle.rc_types.specs.declared.messages.Body.TheVariants.{Plan as PlanBody}
+use Rattle.rc_model.specs.Coordinator.{Coordinator}
+use Rattle.rc_model.specs.Nodes.{Tick, Suspect, Decide}
 use Rattle.rc_numbers.specs.Numbers.{CoordinatorWithin, body_within, MessagesWithin}
 use Rattle.rc_numbers.proofs.Entries.{none-within, one-within, both-within}
 use Rattle.rc_numbers.proofs.Tablets.{length-marked, length-assigned, length-inserted, length-split, length-owned, length-parts}

@@ -2,14 +2,7 @@
 use Rattle.std.proofs.Common.{ℕ, zero, suc, ◌≡◌, ◌≤◌, max, Bool, List, [], ◌∷◌, ◌++◌, map, drop, slice_get, Some, sym, subst, arith}
 use Rattle.std.specs.List.{All}
 use Rattle.std.proofs.lemmas.List.Elements.{All-nil, All-cons, All-head, All-tail, All-push, All-append, All-map, All-weaker}
-use Rattle.rc_types.specs.declared.ids.ServerId.{ServerId}
-use Rattle.rc_types.specs.declared.entries.Entry.{Entry}
-use Rattle.rc_types.specs.declared.messages.Message.{Message}
-use Rattle.rc_types.specs.declared.messages.Body.{Body}
-use Rattle.rc_types.specs.declared.messages.Body.TheVariants.{Place, Append, Data}
-use Rattle.rc_model.specs.Messages.{between}
-use Rattle.rc_model.specs.Versions.{is_of, greatest_version}
-use Rattle.rc_model.specs.Master.{to_ids}
+use Rattle.rc_model.specs.Model.{ServerId, Entry, Message, Body, Place, Append, Data, between, is_of, greatest_version, to_ids}
 use Rattle.rc_step_laws.proofs.Lists.{map-append}
 use Rattle.rc_numbers.specs.Numbers.{VersionsUpTo, body_within, MessagesWithin}
 use Rattle.rc_model.proofs.Tests.{either}

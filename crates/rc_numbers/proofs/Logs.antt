@@ -2,16 +2,9 @@
 use Rattle.std.proofs.Common.{ℕ, zero, suc, ◌≡◌, ◌+◌, ◌-◌, ◌≤◌, Bool, true, false, List, [], ◌∷◌, map}
 use Rattle.std.proofs.Common.{Result, Ok, Err, refl, sym, ap, subst}
 use Rattle.std.proofs.lemmas.List.Elements.{All-nil, All-append}
-use Rattle.rc_types.specs.declared.ids.ServerId.{ServerId}
-use Rattle.rc_types.specs.declared.entries.Entry.{Entry}
-use Rattle.rc_types.specs.declared.faults.Fault.{Fault}
-use Rattle.rc_model.specs.ServerList.{ServerList}
-use Rattle.rc_model.specs.Config.{Config, noted, committed_at, lose, refill}
-use Rattle.rc_model.specs.Segment.{Segment, new_segment, with_entry}
-use Rattle.rc_model.specs.Log.{Log, LogPlace, places_in, places_to, entries_of, head_of, with_segment, has_segment}
-use Rattle.rc_model.specs.Heads.{opens_head, appends}
-use Rattle.rc_model.specs.Heads.{with_config, stored, commit_noted, opens_change, refills, loses}
-use Rattle.rc_model.specs.Heads.{with_freed}
+use Rattle.rc_model.specs.Model.{ServerId, Entry, Fault, ServerList, Config, noted, committed_at, lose, refill, Segment, new_segment}
+use Rattle.rc_model.specs.Model.{with_entry, Log, LogPlace, places_in, places_to, entries_of, head_of, with_segment, has_segment}
+use Rattle.rc_model.specs.Model.{opens_head, appends, with_config, stored, commit_noted, opens_change, refills, loses, with_freed}
 use Rattle.rc_step_laws.proofs.Lists.{map-append}
 use Rattle.rc_numbers.specs.Numbers.{VersionsUpTo, LogWithin}
 use Rattle.rc_numbers.proofs.Entries.{versions-push}

@@ -1,20 +1,10 @@
 -- What a master's rules do to the versions of the entries that it has, in a whole step.
-use Rattle.std.proofs.Common.{ℕ, ◌+◌, ◌-◌, ◌≤◌, Bool, true, false, List, [], ◌∷◌, map, Option, refl, sym, subst, ◌≡◌}
-use Rattle.std.proofs.Common.{arith}
+use Rattle.std.proofs.Common.{ℕ, ◌+◌, ◌-◌, ◌≤◌, Bool, true, false, List, [], ◌∷◌, map, Option, refl, sym, subst, ◌≡◌, arith}
 use Rattle.std.proofs.lemmas.List.Elements.{All-head}
-use Rattle.rc_types.specs.declared.ids.ServerId.{ServerId}
-use Rattle.rc_types.specs.declared.ids.Addr.{Addr}
-use Rattle.rc_types.specs.declared.entries.Entry.{Entry}
-use Rattle.rc_types.specs.declared.messages.Message.{Message}
-use Rattle.rc_types.specs.declared.messages.Body.{Body}
-use Rattle.rc_model.specs.Segment.{Segment, with_closes_sent}
-use Rattle.rc_model.specs.Log.{Log, entries_of, old_head_of, with_segment, durable_now}
-use Rattle.rc_model.specs.Heads.{opens_head, appends, next_digest, stored, commit_noted, loses, left_out, starts, closes_old}
-use Rattle.rc_model.specs.Ownership.{after_replay}
-use Rattle.rc_model.specs.Master.{Master, with_log, durable_entries, to_ids, appends_entry, dead_segments, places_head}
-use Rattle.rc_model.specs.Writing.{written}
-use Rattle.rc_model.specs.FollowUps.{new_durable}
-use Rattle.rc_model.specs.MasterStep.{master_takes, master_ticks}
+use Rattle.rc_model.specs.Model.{ServerId, Addr, Entry, Message, Body, Segment, with_closes_sent, Log, entries_of, old_head_of}
+use Rattle.rc_model.specs.Model.{with_segment, durable_now, opens_head, appends, next_digest, stored, commit_noted, loses, left_out}
+use Rattle.rc_model.specs.Model.{starts, closes_old, after_replay, Master, with_log, durable_entries, to_ids, appends_entry}
+use Rattle.rc_model.specs.Model.{dead_segments, places_head, written, new_durable, master_takes, master_ticks}
 use Rattle.rc_model.proofs.Walk.{Joined, Listed, Rolls, Taken, Ticked, Followed, kept-takes, kept-ticks}
 use Rattle.rc_model.proofs.Sending.{each-all, each-map, each-frees, each-write_oks, each-reminds}
 use Rattle.rc_numbers.specs.Numbers.{VersionsUpTo, body_within, MessagesWithin, LogWithin, MasterWithin}

@@ -2,14 +2,10 @@
 use Rattle.std.proofs.Common.{ℕ, ◌≤◌, true, nat_lt, List, [], ◌∷◌, ◌++◌, map, length, Some}
 use Rattle.std.specs.List.{All}
 use Rattle.std.proofs.lemmas.List.Elements.{All-nil, All-cons, All-head, All-tail, All-push, All-append, All-map}
-use Rattle.rc_types.specs.declared.ids.ServerId.{ServerId}
-use Rattle.rc_types.specs.declared.entries.Entry.{Entry}
-use Rattle.rc_types.specs.declared.rows.Part.{Part}
-use Rattle.rc_types.specs.declared.kept.GrantedRange.{GrantedRange}
-use Rattle.rc_model.specs.Ownership.{Ownership, PartState, PartRow, knows_term, owns_term, grant, insert_row}
-use Rattle.rc_model.specs.Ownership.{rows_in_order, awaited_row, new_part, begin_part, is_awaited, with_row, awaits}
-use Rattle.rc_model.specs.Ownership.{all_came, came_entries, entries_that_came, under_term, joined, joining}
-use Rattle.rc_model.specs.Ownership.{part_with_row, data_in, replay_in, put_data, without_first, is_to_answer, answered_in}
+use Rattle.rc_model.specs.Model.{ServerId, Entry, Part, GrantedRange, Ownership, PartState, PartRow, knows_term, owns_term, grant}
+use Rattle.rc_model.specs.Model.{insert_row, rows_in_order, awaited_row, new_part, begin_part, is_awaited, with_row, awaits, all_came}
+use Rattle.rc_model.specs.Model.{came_entries, entries_that_came, under_term, joined, joining, part_with_row, data_in, replay_in}
+use Rattle.rc_model.specs.Model.{put_data, without_first, is_to_answer, answered_in}
 use Rattle.rc_model.proofs.Tests.{either}
 use Rattle.rc_numbers.specs.Numbers.{VersionsUpTo, OwnershipWithin}
 use Rattle.rc_numbers.proofs.Entries.{All-one}

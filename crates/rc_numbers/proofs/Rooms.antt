@@ -1,13 +1,8 @@
 -- In a world of at most as many events as one takes, the numbers stay below the ends of their types.
 use Rattle.std.proofs.Common.{ℕ, ◌-◌, ◌^◌, ◌<◌, ◌≤◌, length, arith}
 use Rattle.std.proofs.lemmas.List.Elements.{All-weaker}
-use Rattle.rc_types.specs.declared.entries.Entry.{Entry}
-use Rattle.rc_types.specs.declared.limits.TheConstants.{MAX_EVENTS}
+use Rattle.rc_model.specs.Model.{Entry, MAX_EVENTS, entries_of, greatest_version, Master, replay}
 use Rattle.rc_model.specs.Coordinator.{Coordinator}
-use Rattle.rc_model.specs.Log.{entries_of}
-use Rattle.rc_model.specs.Versions.{greatest_version}
-use Rattle.rc_model.specs.Master.{Master}
-use Rattle.rc_model.specs.World.{replay}
 use Rattle.rc_numbers.specs.Numbers.{CoordinatorWithin, VersionsUpTo, MasterWithin}
 use Rattle.rc_numbers.specs.Claims.{HasRoom, CoordinatorHasRoom, GenerationsHaveRoom, VersionsHaveRoom, NextVersionsHaveRoom}
 use Rattle.rc_numbers.proofs.Entries.{greatest-within}

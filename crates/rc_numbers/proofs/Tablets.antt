@@ -1,11 +1,7 @@
 -- How long the lists of tablets and of parts get.
 use Rattle.std.proofs.Common.{◌≡◌, ℕ, ◌+◌, ◌-◌, ◌≤◌, ◌%◌, false, List, [], ◌∷◌, length, Option, Some, None, slice_get, refl, arith}
-use Rattle.rc_types.specs.declared.ids.ServerId.{ServerId}
-use Rattle.rc_types.specs.declared.rows.Tablet.{Tablet}
-use Rattle.rc_types.specs.declared.rows.KeyRange.{KeyRange}
-use Rattle.rc_model.specs.Ids.{same_id}
-use Rattle.rc_model.specs.Tablets.{holds, insert_tablet, tablets_of, marked_crashed, split_at, is_range, assigned}
-use Rattle.rc_model.specs.Attempts.{GivenPart, part_of, given_to, gives_parts}
+use Rattle.rc_model.specs.Model.{ServerId, Tablet, KeyRange, same_id, holds, insert_tablet, tablets_of, marked_crashed, split_at}
+use Rattle.rc_model.specs.Model.{is_range, assigned, GivenPart, part_of, given_to, gives_parts}
 use Rattle.rc_model.proofs.Tests.{either}
 
 -- marks change no length

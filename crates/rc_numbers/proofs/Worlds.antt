@@ -2,27 +2,15 @@
 use Rattle.std.proofs.lemmas.Bool.{and_parts}
 use Rattle.std.proofs.Common.{ℕ, nat_lt, ◌≡◌, ◌+◌, ◌≤◌, true, List, [], ◌∷◌, length, Option, Some, None, slice_get, refl, subst, arith}
 use Rattle.std.proofs.lemmas.List.Elements.{All-nil}
-use Rattle.rc_types.specs.declared.ids.ServerId.{ServerId}
-use Rattle.rc_types.specs.declared.ids.Addr.TheVariants.{Server, Outside}
-use Rattle.rc_types.specs.declared.limits.TheConstants.{MAX_HOSTS}
-use Rattle.rc_types.specs.declared.events.Setup.{Setup}
-use Rattle.rc_types.specs.declared.events.Event.{Event}
+use Rattle.rc_model.specs.Model.{ServerId, Server, Outside, MAX_HOSTS, Setup, Event, Message, Body, Place, Append, Data, Enlist}
+use Rattle.rc_model.specs.Model.{is_server, to_coordinator, Backup, backup_takes, Master, MasterSetup, new_master, master_takes}
+use Rattle.rc_model.specs.Model.{master_ticks, Work, Take, HostNode, new_host, master_setup, is_for_clients, outside_can, outside_sends}
+use Rattle.rc_model.specs.Model.{coordinator_step, server_of, host_step, is_for_backup, with_backup, with_master, server_takes}
+use Rattle.rc_model.specs.Model.{takes_if_running, ticks_if_running, starts_host, next_server, World, opening, NodeName, TheOutside}
+use Rattle.rc_model.specs.Model.{TheCoordinator, TheHost, Job, delivery, work_of, node_can, is_possible_job, is_possible, node_done}
+use Rattle.rc_model.specs.Model.{job_done, step, replay_from, replay}
 use Rattle.rc_types.specs.declared.events.Event.TheVariants as event
-use Rattle.rc_types.specs.declared.messages.Message.{Message}
-use Rattle.rc_types.specs.declared.messages.Body.{Body}
-use Rattle.rc_types.specs.declared.messages.Body.TheVariants.{Place, Append, Data, Enlist}
-use Rattle.rc_model.specs.Ids.{is_server}
-use Rattle.rc_model.specs.Messages.{to_coordinator}
-use Rattle.rc_model.specs.Backup.{Backup, backup_takes}
-use Rattle.rc_model.specs.Master.{Master, MasterSetup, new_master}
-use Rattle.rc_model.specs.MasterStep.{master_takes, master_ticks}
-use Rattle.rc_model.specs.Nodes.{Work, Ask, Take, Tick, Stop, Start, HostNode, new_host, master_setup, is_for_clients}
-use Rattle.rc_model.specs.Nodes.{outside_can, outside_sends, coordinator_step, server_of, host_step, is_for_backup}
-use Rattle.rc_model.specs.Nodes.{with_backup, with_master, server_takes, takes_if_running, ticks_if_running}
-use Rattle.rc_model.specs.Nodes.{starts_host, next_server}
-use Rattle.rc_model.specs.World.{World, opening, NodeName, TheOutside, TheCoordinator, TheHost, Job, delivery, work_of}
-use Rattle.rc_model.specs.World.{node_can, is_possible_job, is_possible, node_done, job_done, step, replay_from}
-use Rattle.rc_model.specs.World.{replay}
+use Rattle.rc_model.specs.Nodes.{Ask, Tick, Stop, Start}
 use Rattle.rc_numbers.specs.Numbers.{body_within, MessagesWithin, MasterWithin, HostWithin, WorldWithin}
 use Rattle.rc_numbers.specs.Claims.{NumbersGrowSlowly}
 use Rattle.rc_numbers.proofs.Entries.{All-get, body-more, messages-more, none-within, one-within, both-within}

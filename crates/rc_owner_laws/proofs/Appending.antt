@@ -1,18 +1,10 @@
 -- More places are durable, and an entry is appended: a client's, or the first that waits.
-use Rattle.std.proofs.Common.{◌≡◌, ◌⊎◌, ℕ, ◌+◌, ◌<◌, ◌≤◌, Bool, true, false, ◌&&◌, List, [], ◌∷◌, ◌++◌, length, map}
-use Rattle.std.proofs.Common.{take, nat_eq, find, Option, Some, None, option_map, refl, sym, ap, ◌∙◌, subst, inl, inr}
-use Rattle.std.proofs.Common.{arith}
+use Rattle.std.proofs.Common.{◌≡◌, ◌⊎◌, ℕ, ◌+◌, ◌<◌, ◌≤◌, Bool, true, false, ◌&&◌, List, [], ◌∷◌, ◌++◌, length, map, take, nat_eq, find}
+use Rattle.std.proofs.Common.{Option, Some, None, option_map, refl, sym, ap, ◌∙◌, subst, inl, inr, arith}
 use Rattle.std.proofs.lemmas.Bool.{eqb-true, eq-eqb, and_from}
 use Rattle.std.proofs.lemmas.List.{append_assoc, length-append, length-map}
-use Rattle.rc_types.specs.declared.ids.ServerId.{ServerId}
-use Rattle.rc_types.specs.declared.entries.Entry.{Entry}
-use Rattle.rc_types.specs.declared.kept.GrantedRange.{GrantedRange}
-use Rattle.rc_types.specs.declared.messages.Message.{Message}
-use Rattle.rc_model.specs.Log.{LogPlace}
-use Rattle.rc_model.specs.Ownership.{PartState, Ownership, in_range, term_of, owns_term, has_part, knows_term, under_term, count_under}
-use Rattle.rc_model.specs.Versions.{is_of, greatest_version, next_version}
-use Rattle.rc_model.specs.Master.{Task}
-use Rattle.rc_model.specs.Headline.{In}
+use Rattle.rc_model.specs.Model.{ServerId, Entry, GrantedRange, Message, LogPlace, PartState, Ownership, in_range, term_of, owns_term}
+use Rattle.rc_model.specs.Model.{has_part, knows_term, under_term, count_under, is_of, greatest_version, next_version, Task, In}
 use Rattle.rc_model.proofs.Members.{In-append, place_of}
 use Rattle.rc_model.proofs.Numbering.{greatest-above}
 use Rattle.rc_step_laws.specs.Words.{Begins}

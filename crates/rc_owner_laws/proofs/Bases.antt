@@ -2,24 +2,11 @@
 use Rattle.std.proofs.Common.{◌≡◌, ◌⊎◌, ℕ, ◌≤◌, Bool, true, false, List, ◌++◌, length, map, filter, take, drop}
 use Rattle.std.proofs.Common.{Some, refl, sym, ap, ◌∙◌, subst, inl, inr, arith}
 use Rattle.std.proofs.lemmas.List.{take-append-drop, length-map}
-use Rattle.rc_types.specs.declared.ids.ServerId.{ServerId}
-use Rattle.rc_types.specs.declared.ids.Addr.{Addr}
-use Rattle.rc_types.specs.declared.ids.Addr.TheVariants.{Server}
-use Rattle.rc_types.specs.declared.entries.Entry.{Entry}
-use Rattle.rc_types.specs.declared.rows.Part.{Part}
-use Rattle.rc_types.specs.declared.rows.PlanRow.{PlanRow}
-use Rattle.rc_types.specs.declared.kept.Grant.{Grant}
-use Rattle.rc_types.specs.declared.messages.Message.{Message}
+use Rattle.rc_model.specs.Model.{ServerId, Addr, Server, Entry, Part, PlanRow, Grant, Message, between, to_coordinator, is_in_part}
+use Rattle.rc_model.specs.Model.{LogPlace, places_of, PartState, owns_term, under_term, count_under, Master, Task, Attempt, Decision}
+use Rattle.rc_model.specs.Model.{GivenPart, HostNode, In, WasAccepted}
 use Rattle.rc_types.specs.declared.messages.Body.TheVariants as body
-use Rattle.rc_model.specs.Messages.{between, to_coordinator}
-use Rattle.rc_model.specs.Backup.{is_in_part}
-use Rattle.rc_model.specs.Log.{LogPlace, places_of}
-use Rattle.rc_model.specs.Ownership.{PartState, owns_term, under_term, count_under}
-use Rattle.rc_model.specs.Master.{Master, Task}
-use Rattle.rc_model.specs.Attempts.{Attempt, Decision, GivenPart}
 use Rattle.rc_model.specs.Coordinator.{Coordinator}
-use Rattle.rc_model.specs.Nodes.{HostNode}
-use Rattle.rc_model.specs.Headline.{In, WasAccepted}
 use Rattle.rc_model.proofs.Members.{In-left}
 use Rattle.rc_step_laws.specs.Words.{Begins, log_in}
 use Rattle.rc_step_laws.proofs.Tests.{In-take, get-map}

@@ -2,15 +2,8 @@
 use Rattle.std.proofs.Common.{◌≡◌, ◌⊎◌, ℕ, suc, ◌+◌, ◌%◌, ◌<◌, ◌≤◌, Bool, true, false, cond, List, [], ◌∷◌, ◌++◌}
 use Rattle.std.proofs.Common.{length, slice_get, Option, Some, None, refl, sym, ap, ◌∙◌, subst, inl, inr, arith}
 use native.Mathlib.Nat.{mod-lt}
-use Rattle.rc_types.specs.declared.ids.ServerId.{ServerId}
-use Rattle.rc_types.specs.declared.rows.Tablet.{Tablet}
-use Rattle.rc_types.specs.declared.kept.Grant.{Grant}
-use Rattle.rc_model.specs.Ids.{same_id}
-use Rattle.rc_model.specs.Tablets.{holds, tablet_of, tablets_of}
-use Rattle.rc_model.specs.Attempts.{GivenPart, part_of, given_to, gives_parts}
-use Rattle.rc_model.specs.Deciding.{range_of}
-use Rattle.rc_model.specs.Ownership.{in_range}
-use Rattle.rc_model.specs.Headline.{In}
+use Rattle.rc_model.specs.Model.{ServerId, Tablet, Grant, same_id, holds, tablet_of, tablets_of, GivenPart, part_of, given_to}
+use Rattle.rc_model.specs.Model.{gives_parts, range_of, in_range, In}
 use Rattle.rc_step_laws.proofs.Lists.{get-below}
 use Rattle.rc_owner_laws.specs.Grants.{TabletsApart, grants_at, IsChain, NoneTo, OwnersDiffer, PartsApart}
 use Rattle.rc_owner_laws.proofs.Tablets.{some-none}

@@ -3,12 +3,7 @@ use Rattle.std.proofs.Common.{◌≡◌, ◌⊎◌, ◌↔◌, ℕ, ◌≤◌, B
 use Rattle.std.proofs.Common.{take, drop, refl, sym, ap, ◌∙◌, subst, inl, inr, arith}
 use Rattle.std.proofs.lemmas.Bool.{leb-true, le-leb}
 use Rattle.std.proofs.lemmas.List.{take-append-drop, length-map}
-use Rattle.rc_types.specs.declared.ids.ServerId.{ServerId}
-use Rattle.rc_types.specs.declared.entries.Entry.{Entry}
-use Rattle.rc_types.specs.declared.messages.Message.{Message}
-use Rattle.rc_model.specs.Ownership.{PartRow, PartState, owns_term, under_term}
-use Rattle.rc_model.specs.Master.{Master, durable_entries}
-use Rattle.rc_model.specs.World.{replay}
+use Rattle.rc_model.specs.Model.{ServerId, Entry, Message, PartRow, PartState, owns_term, under_term, Master, durable_entries, replay}
 use Rattle.rc_step_laws.specs.Words.{Begins}
 use Rattle.rc_step_laws.proofs.Lists.{begins-length, begins-refl, begins-trans}
 use Rattle.rc_step_laws.proofs.Replicas.{begins-whole}

@@ -2,23 +2,12 @@
 use Rattle.std.proofs.Common.{◌≡◌, ◌⊎◌, ℕ, zero, suc, ◌≤◌, List, [], ◌∷◌, ◌++◌, length, filter, take, nat_le, Option}
 use Rattle.std.proofs.Common.{Some, None, refl, sym, ap, ◌∙◌, subst, inl, inr, arith}
 use Rattle.std.proofs.lemmas.Bool.{leb-true}
-use Rattle.rc_types.specs.declared.ids.ServerId.{ServerId}
-use Rattle.rc_types.specs.declared.ids.Addr.{Addr}
-use Rattle.rc_types.specs.declared.ids.Addr.TheVariants.{Server, Coordinator as AtCoordinator, Outside}
-use Rattle.rc_types.specs.declared.entries.Entry.{Entry}
-use Rattle.rc_types.specs.declared.rows.Part.{Part}
-use Rattle.rc_types.specs.declared.messages.Message.{Message}
-use Rattle.rc_types.specs.declared.messages.Body.{Body}
+use Rattle.rc_model.specs.Model.{ServerId, Addr, Server, Outside, Entry, Part, Message, Body, between, to_coordinator, Replica, Backup}
+use Rattle.rc_model.specs.Model.{replica_of, replica_after, is_refused, keeps, stores, stored_of, fences, rows_of_replicas, is_in_part}
+use Rattle.rc_model.specs.Model.{data_of, answers_fetch, backup_takes, Master, In}
+use Rattle.rc_types.specs.declared.ids.Addr.TheVariants.{Coordinator as AtCoordinator}
 use Rattle.rc_types.specs.declared.messages.Body.TheVariants as body
-use Rattle.rc_model.specs.Messages.{between, to_coordinator}
-use Rattle.rc_model.specs.Replica.{Replica}
-use Rattle.rc_model.specs.Backup.{Backup, replica_of, replica_after, is_refused, keeps, stores, stored_of, fences}
-use Rattle.rc_model.specs.Backup.{rows_of_replicas, is_in_part, data_of, answers_fetch, backup_takes}
-use Rattle.rc_model.specs.Master.{Master}
-use Rattle.rc_model.specs.Headline.{In}
-use Rattle.rc_step_laws.specs.Words.{Begins, log_in}
-use Rattle.rc_step_laws.specs.Facts.{GoodHeld, GoodReplica}
-use Rattle.rc_step_laws.specs.Later.{LogLater}
+use Rattle.rc_step_laws.specs.All.{Begins, log_in, GoodHeld, GoodReplica, LogLater}
 use Rattle.rc_step_laws.proofs.Lists.{begins-length}
 use Rattle.rc_step_laws.proofs.Copies.{More, grows-log}
 use Rattle.rc_owner_laws.specs.Data.{IsCut, data_between, data_fine}

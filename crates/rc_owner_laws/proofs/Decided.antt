@@ -1,24 +1,11 @@
 -- Attempts, answers and decisions: what is decided after one of them, and what the messages say that tell it.
-use Rattle.std.proofs.Common.{◌≡◌, ◌⊎◌, ℕ, ◌+◌, ◌-◌, ◌<◌, Bool, true, false, cond, List, [], ◌∷◌}
-use Rattle.std.proofs.Common.{◌++◌, length, find, slice_get, slice_set, Some, None}
-use Rattle.std.proofs.Common.{refl, sym, ap, ◌∙◌, subst, inl, inr, arith}
-use Rattle.rc_types.specs.declared.ids.ServerId.{ServerId}
-use Rattle.rc_types.specs.declared.ids.Addr.{Addr}
-use Rattle.rc_types.specs.declared.ids.Addr.TheVariants.{Server, Coordinator as AtCoordinator}
-use Rattle.rc_types.specs.declared.rows.Row.{Row}
-use Rattle.rc_types.specs.declared.rows.Part.{Part}
-use Rattle.rc_types.specs.declared.messages.Message.{Message}
-use Rattle.rc_types.specs.declared.messages.Body.{Body}
+use Rattle.std.proofs.Common.{◌≡◌, ◌⊎◌, ℕ, ◌+◌, ◌-◌, ◌<◌, Bool, true, false, cond, List, [], ◌∷◌, ◌++◌, length, find, slice_get}
+use Rattle.std.proofs.Common.{slice_set, Some, None, refl, sym, ap, ◌∙◌, subst, inl, inr, arith}
+use Rattle.rc_model.specs.Model.{ServerId, Addr, Server, Row, Part, Message, Body, put_id, to_each, same_id, Attempt, Decision, GivenPart}
+use Rattle.rc_model.specs.Model.{new_attempt, parts_of, plan_message, plan_messages, begins_attempt, with_answer, In}
+use Rattle.rc_types.specs.declared.ids.Addr.TheVariants.{Coordinator as AtCoordinator}
 use Rattle.rc_types.specs.declared.messages.Body.TheVariants.{Plan as PlanBody}
-use Rattle.rc_model.specs.Tables.{put_id}
-use Rattle.rc_model.specs.Messages.{to_each}
-use Rattle.rc_model.specs.Ids.{same_id}
-use Rattle.rc_model.specs.Attempts.{Attempt, Decision, GivenPart, new_attempt}
-use Rattle.rc_model.specs.Attempts.{parts_of, plan_message, plan_messages}
 use Rattle.rc_model.specs.Coordinator.{Coordinator}
-use Rattle.rc_model.specs.Coordinator.{begins_attempt}
-use Rattle.rc_model.specs.Deciding.{with_answer}
-use Rattle.rc_model.specs.Headline.{In}
 use Rattle.rc_model.proofs.Members.{In-append, In-get}
 use Rattle.rc_step_laws.proofs.Lists.{get-append, get-within, get-set}
 use Rattle.rc_owner_laws.specs.Grants.{IsDecided, GoodGrants, own_said}

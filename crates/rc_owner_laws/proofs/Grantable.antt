@@ -3,38 +3,19 @@ use Rattle.std.proofs.Common.{◌≡◌, ◌⊎◌, ℕ, ◌+◌, ◌-◌, true,
 use Rattle.std.proofs.Common.{Option, Some, None, refl, sym, ap, ◌∙◌, subst, inl, inr, arith}
 use Rattle.std.proofs.lemmas.Bool.{and_parts, eqb-true, eq-eqb}
 use Rattle.std.proofs.lemmas.Bool.Decides.{nat_tests}
-use Rattle.rc_types.specs.declared.ids.ServerId.{ServerId}
-use Rattle.rc_types.specs.declared.ids.Addr.{Addr}
-use Rattle.rc_types.specs.declared.ids.Addr.TheVariants.{Server}
-use Rattle.rc_types.specs.declared.events.Setup.{Setup}
-use Rattle.rc_types.specs.declared.events.Event.{Event}
-use Rattle.rc_types.specs.declared.faults.Fault.TheVariants.{NoTable, Deposed}
-use Rattle.rc_types.specs.declared.rows.Part.{Part}
-use Rattle.rc_types.specs.declared.kept.Grant.{Grant}
-use Rattle.rc_types.specs.declared.messages.Message.{Message}
-use Rattle.rc_types.specs.declared.messages.Body.TheVariants.{Own, Plan as PlanBody}
-use Rattle.rc_model.specs.Tables.{put}
-use Rattle.rc_model.specs.Ids.{same_id, is_server}
-use Rattle.rc_model.specs.Messages.{from_coordinator}
-use Rattle.rc_model.specs.ServerList.{is_up}
-use Rattle.rc_model.specs.Backup.{Backup, backup_takes}
-use Rattle.rc_model.specs.Tablets.{has_range, assigned}
-use Rattle.rc_model.specs.Master.{Master}
-use Rattle.rc_model.specs.MasterStep.{master_takes, master_ticks}
-use Rattle.rc_model.specs.Attempts.{Attempt, GivenPart, parts_of}
-use Rattle.rc_model.specs.Coordinator.{Coordinator, refuses_server, attempt_at}
-use Rattle.rc_model.specs.Deciding.{is_current, own_body, range_of, grant_of, is_grant_to, grant_to, part_in}
-use Rattle.rc_model.specs.Deciding.{part_if_current, part_of_sender, grants_if_given, grants_or_repeats}
-use Rattle.rc_model.specs.Deciding.{takes_recovered}
-use Rattle.rc_model.specs.Nodes.{Work, Ask, Take, Tick, Start, HostNode, coordinator_step, outside_sends, server_of}
-use Rattle.rc_model.specs.Nodes.{host_step, is_for_backup, with_backup, with_master, server_takes, takes_if_running}
-use Rattle.rc_model.specs.Nodes.{ticks_if_running, next_server}
-use Rattle.rc_model.specs.World.{World, opening, NodeName, TheOutside, TheCoordinator, TheHost, Job, work_of}
-use Rattle.rc_model.specs.World.{is_possible, node_done, job_done, step, replay_from, replay}
-use Rattle.rc_model.specs.Headline.{In}
+use Rattle.rc_model.specs.Model.{ServerId, Addr, Server, Setup, Event, NoTable, Deposed, Part, Grant, Message, Own, put, same_id}
+use Rattle.rc_model.specs.Model.{is_server, from_coordinator, is_up, Backup, backup_takes, has_range, assigned, Master, master_takes}
+use Rattle.rc_model.specs.Model.{master_ticks, Attempt, GivenPart, parts_of, refuses_server, attempt_at, is_current, own_body, range_of}
+use Rattle.rc_model.specs.Model.{grant_of, is_grant_to, grant_to, part_in, part_if_current, part_of_sender, grants_if_given}
+use Rattle.rc_model.specs.Model.{grants_or_repeats, takes_recovered, Work, Take, HostNode, coordinator_step, outside_sends, server_of}
+use Rattle.rc_model.specs.Model.{host_step, is_for_backup, with_backup, with_master, server_takes, takes_if_running, ticks_if_running}
+use Rattle.rc_model.specs.Model.{next_server, World, opening, NodeName, TheOutside, TheCoordinator, TheHost, Job, work_of, is_possible}
+use Rattle.rc_model.specs.Model.{node_done, job_done, step, replay_from, replay, In}
+use Rattle.rc_types.specs.declared.messages.Body.TheVariants.{Plan as PlanBody}
+use Rattle.rc_model.specs.Coordinator.{Coordinator}
+use Rattle.rc_model.specs.Nodes.{Ask, Tick, Start}
 use Rattle.rc_model.proofs.Members.{In-append}
-use Rattle.rc_step_laws.specs.Words.{IsNumbered}
-use Rattle.rc_step_laws.specs.Moves.{MasterMoved, BackupMoved}
+use Rattle.rc_step_laws.specs.All.{IsNumbered, MasterMoved, BackupMoved}
 use Rattle.rc_step_laws.proofs.Attempting.{numbered-at}
 use Rattle.rc_step_laws.proofs.MasterSteps.{master_takes_keeps, master_ticks_keeps}
 use Rattle.rc_step_laws.proofs.Backups.{moved-backup}

@@ -1,15 +1,8 @@
 -- What holds of tablets and grants stays so where no grant is made, and where one is.
 use Rattle.std.proofs.Common.{◌≡◌, ◌⊎◌, ℕ, ◌<◌, ◌≤◌, Bool, true, false, List, [], ◌∷◌, ◌++◌, Some, sym, ap, ◌∙◌, subst, inl, inr, arith}
-use Rattle.rc_types.specs.declared.ids.ServerId.{ServerId}
-use Rattle.rc_types.specs.declared.ids.Pair.{Pair}
-use Rattle.rc_types.specs.declared.rows.Tablet.{Tablet}
-use Rattle.rc_types.specs.declared.kept.Grant.{Grant}
-use Rattle.rc_model.specs.ServerList.{ServerList, has_crashed}
-use Rattle.rc_model.specs.Attempts.{Attempt, Decision, GivenPart}
+use Rattle.rc_model.specs.Model.{ServerId, Pair, Tablet, Grant, ServerList, has_crashed, Attempt, Decision, GivenPart, range_of, in_range}
+use Rattle.rc_model.specs.Model.{In}
 use Rattle.rc_model.specs.Coordinator.{Coordinator}
-use Rattle.rc_model.specs.Deciding.{range_of}
-use Rattle.rc_model.specs.Ownership.{in_range}
-use Rattle.rc_model.specs.Headline.{In}
 use Rattle.rc_model.proofs.Members.{In-left, In-append}
 use Rattle.rc_owner_laws.specs.Grants.{TabletsApart, owner_at, term_in, term_at, grants_at, IsChain, OwnersDiffer}
 use Rattle.rc_owner_laws.specs.Grants.{IsGiven, IsDecided, GoodGrants}

@@ -1,16 +1,8 @@
 -- Whatever was sent of a term is one and the same.
 use Rattle.std.proofs.Common.{◌≡◌, ◌⊎◌, ℕ, List, refl, sym, ap, ◌∙◌, subst, inl, inr}
-use Rattle.rc_types.specs.declared.ids.ServerId.{ServerId}
-use Rattle.rc_types.specs.declared.ids.Addr.{Addr}
-use Rattle.rc_types.specs.declared.ids.Addr.TheVariants.{Server}
-use Rattle.rc_types.specs.declared.kept.Grant.{Grant}
-use Rattle.rc_types.specs.declared.messages.Message.{Message}
-use Rattle.rc_types.specs.declared.messages.Body.{Body}
-use Rattle.rc_types.specs.declared.messages.Body.TheVariants.{Own, Plan as PlanBody}
-use Rattle.rc_model.specs.Attempts.{Decision, GivenPart}
+use Rattle.rc_model.specs.Model.{ServerId, Addr, Server, Grant, Message, Body, Own, Decision, GivenPart, replay, In}
+use Rattle.rc_types.specs.declared.messages.Body.TheVariants.{Plan as PlanBody}
 use Rattle.rc_model.specs.Coordinator.{Coordinator}
-use Rattle.rc_model.specs.World.{replay}
-use Rattle.rc_model.specs.Headline.{In}
 use Rattle.rc_owner_laws.specs.Grants.{IsDecided, own_said, GrantsKept}
 use Rattle.rc_owner_laws.proofs.OwnerReplays.{grants-world}
 use Rattle.rc_owner_laws.specs.Terms.{IsGivenBy, GoodTerms}

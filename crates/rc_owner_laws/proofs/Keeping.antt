@@ -1,24 +1,12 @@
 -- What holds of terms stays so where none is issued, where a grant is made, and where parts are given.
 use Rattle.std.proofs.Common.{◌≡◌, ◌⊎◌, ℕ, ◌+◌, ◌-◌, ◌<◌, ◌≤◌, true, false, ◌%◌, List, [], ◌∷◌, ◌++◌, length}
 use Rattle.std.proofs.Common.{slice_get, Option, Some, None, refl, sym, ap, ◌∙◌, subst, inl, inr, arith}
-use Rattle.rc_types.specs.declared.ids.ServerId.{ServerId}
-use Rattle.rc_types.specs.declared.rows.Part.{Part}
+use Rattle.rc_model.specs.Model.{ServerId, Part, Tablet, Grant, Message, Recovered, to_coordinator, tablets_of, Attempt, Decision}
+use Rattle.rc_model.specs.Model.{GivenPart, part_of, given_to, gives_parts, decision_of, decides_on, in_range, In}
 use Rattle.rc_types.specs.declared.rows.Plan.{Plan}
-use Rattle.rc_types.specs.declared.rows.Tablet.{Tablet}
-use Rattle.rc_types.specs.declared.kept.Grant.{Grant}
-use Rattle.rc_types.specs.declared.messages.Message.{Message}
-use Rattle.rc_types.specs.declared.messages.Body.TheVariants.{Recovered}
-use Rattle.rc_model.specs.Messages.{to_coordinator}
-use Rattle.rc_model.specs.Tablets.{tablets_of}
-use Rattle.rc_model.specs.Attempts.{Attempt, Decision, GivenPart, part_of, given_to, gives_parts}
 use Rattle.rc_model.specs.Coordinator.{Coordinator}
-use Rattle.rc_model.specs.Deciding.{decision_of, decides_on}
-use Rattle.rc_model.specs.Ownership.{in_range}
-use Rattle.rc_model.specs.Headline.{In}
 use Rattle.rc_model.proofs.Members.{In-left, In-right, In-append}
-use Rattle.rc_step_laws.specs.Words.{IsNumbered}
-use Rattle.rc_step_laws.specs.Later.{AttemptLater}
-use Rattle.rc_step_laws.specs.Moves.{CoordinatorLater}
+use Rattle.rc_step_laws.specs.All.{IsNumbered, AttemptLater, CoordinatorLater}
 use Rattle.rc_step_laws.proofs.Lists.{get-set}
 use Rattle.rc_step_laws.proofs.Copies.{More, split}
 use Rattle.rc_owner_laws.specs.Grants.{owner_at, IsDecided, GoodGrants}

@@ -2,30 +2,14 @@
 use Rattle.std.proofs.Common.{◌≡◌, ◌⊎◌, ℕ, zero, suc, ◌+◌, ◌<◌, ◌≤◌, Bool, true, false, ◌||◌, List, [], ◌∷◌, ◌++◌, map}
 use Rattle.std.proofs.Common.{nat_eq, slice_get, Some, refl, sym, ap, ◌∙◌, subst, inl, inr, arith}
 use Rattle.std.proofs.lemmas.Bool.{eqb-true}
-use Rattle.rc_types.specs.declared.ids.ServerId.{ServerId}
-use Rattle.rc_types.specs.declared.ids.Addr.{Addr}
-use Rattle.rc_types.specs.declared.ids.Addr.TheVariants.{Server}
-use Rattle.rc_types.specs.declared.entries.Entry.{Entry}
-use Rattle.rc_types.specs.declared.rows.Part.{Part}
-use Rattle.rc_types.specs.declared.kept.Grant.{Grant}
-use Rattle.rc_types.specs.declared.kept.GrantedRange.{GrantedRange}
-use Rattle.rc_types.specs.declared.messages.Message.{Message}
+use Rattle.rc_model.specs.Model.{ServerId, Addr, Server, Entry, Part, Grant, GrantedRange, Message, Ack, Granted, grant_in, granted}
+use Rattle.rc_model.specs.Model.{IsGranted, covers, grants_of, previous, IsEarlier, Segment, from_coordinator, places_in, places_to}
+use Rattle.rc_model.specs.Model.{places_of, PartState, in_range, has_part, owns_term, Master, GivenPart, own_body, HostNode, In}
+use Rattle.rc_model.specs.Model.{HasAcknowledged}
 use Rattle.rc_types.specs.declared.messages.Body.TheVariants as body
-use Rattle.rc_model.specs.Recovered.{Ack}
-use Rattle.rc_model.specs.Owners.{Granted, grant_in, granted, IsGranted, covers, grants_of, previous, IsEarlier}
-use Rattle.rc_model.specs.Segment.{Segment}
-use Rattle.rc_model.specs.Messages.{from_coordinator}
-use Rattle.rc_model.specs.Log.{places_in, places_to, places_of}
-use Rattle.rc_model.specs.Ownership.{PartState, in_range, has_part, owns_term}
-use Rattle.rc_model.specs.Master.{Master}
-use Rattle.rc_model.specs.Attempts.{GivenPart}
 use Rattle.rc_model.specs.Coordinator.{Coordinator}
-use Rattle.rc_model.specs.Deciding.{own_body}
-use Rattle.rc_model.specs.Nodes.{HostNode}
-use Rattle.rc_model.specs.Headline.{In, HasAcknowledged}
 use Rattle.rc_model.proofs.Members.{In-left, In-right, In-get, place_of, filter-In}
-use Rattle.rc_step_laws.specs.Words.{log_in}
-use Rattle.rc_step_laws.specs.Facts.{IsSafe, IsWriteOk}
+use Rattle.rc_step_laws.specs.All.{log_in, IsSafe, IsWriteOk}
 use Rattle.rc_step_laws.proofs.Tests.{any-one}
 use Rattle.rc_owner_laws.proofs.OwnersOrdered.{one-chain}
 use Rattle.rc_owner_laws.specs.Grants.{IsOwn, own_said}
@@ -36,9 +20,8 @@ use Rattle.rc_owner_laws.specs.Worlds.{AllHold}
 use Rattle.rc_owner_laws.specs.Words.{Keeps, IsCarriedOn}
 use Rattle.rc_owner_laws.specs.VersionClaims.{NoVersionTwice}
 use Rattle.rc_owner_laws.proofs.Bases.{IsTaskOf, task-of}
-use Rattle.rc_owner_laws.proofs.Rising.{granted_of, IsRemembered, remembered, Has, has-itself, Covers}
-use Rattle.rc_owner_laws.proofs.Rising.{starts-keeps, GoesTo, goes-on, acked, acknowledger, IsOwned, owner}
-use Rattle.rc_owner_laws.proofs.Rising.{versions-rise}
+use Rattle.rc_owner_laws.proofs.Rising.{granted_of, IsRemembered, remembered, Has, has-itself, Covers, starts-keeps, GoesTo, goes-on}
+use Rattle.rc_owner_laws.proofs.Rising.{acked, acknowledger, IsOwned, owner, versions-rise}
 use Rattle.rc_model.proofs.Tests.{true_false}
 
 -- What stands in a segment is among the entries of the log's places

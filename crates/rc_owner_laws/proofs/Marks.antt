@@ -3,17 +3,10 @@ use Rattle.std.proofs.Common.{◌≡◌, ◌⊎◌, ℕ, ◌+◌, ◌-◌, ◌�
 use Rattle.std.proofs.Common.{nat_lt, Option, Some, None, refl, sym, ap, ◌∙◌, subst, inl, inr, arith}
 use Rattle.std.proofs.lemmas.Bool.{eqb-true}
 use Rattle.std.proofs.lemmas.Bool.Decides.{nat_tests}
-use Rattle.rc_types.specs.declared.ids.ServerId.{ServerId}
-use Rattle.rc_types.specs.declared.rows.Tablet.{Tablet}
-use Rattle.rc_types.specs.declared.rows.Part.{Part}
-use Rattle.rc_types.specs.declared.rows.KeyRange.{KeyRange}
-use Rattle.rc_model.specs.Ids.{same_id, id_before, insert_id, ids_in_order}
-use Rattle.rc_model.specs.ServerList.{ServerList, marked_up, is_up, up_rows, up, index_crashed, enlisted, id_crashed, crashed}
-use Rattle.rc_model.specs.Tablets.{holds, tablet_of, mark_if_owned, marked_crashed, insert_tablet, split_at, is_range, has_range, assigned}
-use Rattle.rc_model.specs.Coordinator.{up_of_host}
-use Rattle.rc_model.specs.Deciding.{range_of}
-use Rattle.rc_model.specs.Ownership.{in_range}
-use Rattle.rc_model.specs.Headline.{In}
+use Rattle.rc_model.specs.Model.{ServerId, Tablet, Part, KeyRange, same_id, id_before, insert_id, ids_in_order, ServerList, marked_up}
+use Rattle.rc_model.specs.Model.{is_up, up_rows, up, index_crashed, enlisted, id_crashed, crashed, holds, tablet_of, mark_if_owned}
+use Rattle.rc_model.specs.Model.{marked_crashed, insert_tablet, split_at, is_range, has_range, assigned, up_of_host, range_of, in_range}
+use Rattle.rc_model.specs.Model.{In}
 use Rattle.rc_step_laws.specs.Words.{OnDifferentHosts}
 use Rattle.rc_step_laws.proofs.LogMoves.{apart-same}
 use Rattle.rc_owner_laws.specs.Waiting.{IsTablet}

@@ -1,28 +1,15 @@
 -- What holds of tablets and grants holds of every world that a list of events leads to.
 use Rattle.std.proofs.Common.{◌≡◌, ℕ, true, List, [], ◌∷◌, ◌++◌, Option, Some, None, refl, sym, ap, ◌∙◌, subst, inl, inr}
 use Rattle.std.proofs.lemmas.Bool.{and_parts}
-use Rattle.rc_types.specs.declared.ids.ServerId.{ServerId}
-use Rattle.rc_types.specs.declared.ids.Addr.{Addr}
-use Rattle.rc_types.specs.declared.ids.Addr.TheVariants.{Server}
-use Rattle.rc_types.specs.declared.events.Setup.{Setup}
-use Rattle.rc_types.specs.declared.events.Event.{Event}
-use Rattle.rc_types.specs.declared.messages.Message.{Message}
-use Rattle.rc_types.specs.declared.messages.Body.{Body}
+use Rattle.rc_model.specs.Model.{ServerId, Addr, Server, Setup, Event, Message, Body, put, is_server, Backup, backup_takes, Log, Master}
+use Rattle.rc_model.specs.Model.{master_takes, master_ticks, Work, Take, Create, Split, HostNode, is_for_clients, outside_can}
+use Rattle.rc_model.specs.Model.{outside_sends, coordinator_step, server_of, host_step, is_for_backup, with_backup, with_master}
+use Rattle.rc_model.specs.Model.{server_takes, takes_if_running, ticks_if_running, World, opening, NodeName, TheOutside, TheCoordinator}
+use Rattle.rc_model.specs.Model.{TheHost, Job, work_of, node_can, is_possible_job, is_possible, node_done, job_done, step, replay_from}
+use Rattle.rc_model.specs.Model.{replay, In}
 use Rattle.rc_types.specs.declared.messages.Body.TheVariants as body
-use Rattle.rc_model.specs.Tables.{put}
-use Rattle.rc_model.specs.Ids.{is_server}
-use Rattle.rc_model.specs.Backup.{Backup, backup_takes}
-use Rattle.rc_model.specs.Log.{Log}
-use Rattle.rc_model.specs.Master.{Master}
-use Rattle.rc_model.specs.MasterStep.{master_takes, master_ticks}
 use Rattle.rc_model.specs.Coordinator.{Coordinator}
-use Rattle.rc_model.specs.Nodes.{Work, Ask, Take, Tick, Start, Suspect, Decide, Create, Split, HostNode}
-use Rattle.rc_model.specs.Nodes.{is_for_clients, outside_can, outside_sends, coordinator_step, server_of, host_step}
-use Rattle.rc_model.specs.Nodes.{is_for_backup, with_backup, with_master, server_takes, takes_if_running}
-use Rattle.rc_model.specs.Nodes.{ticks_if_running}
-use Rattle.rc_model.specs.World.{World, opening, NodeName, TheOutside, TheCoordinator, TheHost, Job, work_of, node_can}
-use Rattle.rc_model.specs.World.{is_possible_job, is_possible, node_done, job_done, step, replay_from, replay}
-use Rattle.rc_model.specs.Headline.{In}
+use Rattle.rc_model.specs.Nodes.{Ask, Tick, Start, Suspect, Decide}
 use Rattle.rc_step_laws.specs.Moves.{MasterMoved, BackupMoved, CoordinatorLater, body_said, backup_body_said}
 use Rattle.rc_step_laws.proofs.MasterSteps.{master_takes_keeps, master_ticks_keeps}
 use Rattle.rc_step_laws.proofs.Backups.{moved-backup}

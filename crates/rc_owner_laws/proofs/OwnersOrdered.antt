@@ -1,23 +1,13 @@
 -- What was sent of the grants stays so, and the owners of a point form one chain.
-use Rattle.std.proofs.Common.{◌≡◌, ◌⊎◌, ℕ, ◌<◌, true, List, [], ◌∷◌, ◌++◌, slice_get, Some, refl}
-use Rattle.std.proofs.Common.{sym, ap, ◌∙◌, subst, inl, inr, arith}
-use Rattle.rc_types.specs.declared.ids.ServerId.{ServerId}
-use Rattle.rc_types.specs.declared.ids.Addr.{Addr}
-use Rattle.rc_types.specs.declared.kept.Grant.{Grant}
-use Rattle.rc_types.specs.declared.messages.Message.{Message}
-use Rattle.rc_types.specs.declared.messages.Body.{Body}
-use Rattle.rc_types.specs.declared.messages.Body.TheVariants.{Own, Plan as PlanBody}
-use Rattle.rc_model.specs.Messages.{from_coordinator}
-use Rattle.rc_model.specs.Coordinator.{Coordinator, new_coordinator}
-use Rattle.rc_model.specs.Deciding.{own_body}
-use Rattle.rc_model.specs.Ownership.{in_range}
-use Rattle.rc_model.specs.Owners.{Granted, grant_in, granted, IsGranted, covers, grants_of, IsBefore, previous, onward, IsEarlier}
-use Rattle.rc_model.specs.Headline.{In}
+use Rattle.std.proofs.Common.{◌≡◌, ◌⊎◌, ℕ, ◌<◌, true, List, [], ◌∷◌, ◌++◌, slice_get, Some, refl, sym, ap, ◌∙◌, subst, inl, inr, arith}
+use Rattle.rc_model.specs.Model.{ServerId, Addr, Grant, Message, Body, Own, from_coordinator, new_coordinator, own_body, in_range}
+use Rattle.rc_model.specs.Model.{Granted, grant_in, granted, IsGranted, covers, grants_of, IsBefore, previous, onward, IsEarlier, In}
+use Rattle.rc_types.specs.declared.messages.Body.TheVariants.{Plan as PlanBody}
+use Rattle.rc_model.specs.Coordinator.{Coordinator}
 use Rattle.rc_model.proofs.Members.{In-left, In-right, In-append, In-get, place_of, In-filter, filter-In}
 use Rattle.rc_model.proofs.Befores.{before-through}
 use Rattle.rc_step_laws.specs.Moves.{CoordinatorLater}
-use Rattle.rc_owner_laws.specs.Grants.{grants_at, term_at, IsChain, NoneTo, OwnersDiffer, own_said}
-use Rattle.rc_owner_laws.specs.Grants.{GoodGrants, GrantsMoved, GrantsKept}
+use Rattle.rc_owner_laws.specs.Grants.{grants_at, term_at, IsChain, NoneTo, OwnersDiffer, own_said, GoodGrants, GrantsMoved, GrantsKept}
 use Rattle.rc_model.proofs.Ids.{server-same}
 use Rattle.rc_owner_laws.proofs.Rising.{remembered, IsRemembered, granted_of}
 use Rattle.rc_owner_laws.proofs.Keeping.{decided-later}

@@ -3,10 +3,7 @@ use Rattle.std.proofs.Common.{◌≡◌, ◌⊎◌, ℕ, zero, suc, ◌+◌, ◌
 use Rattle.std.proofs.Common.{length, map, take, refl, sym, ap, ◌∙◌, subst, inl, inr, arith}
 use Rattle.std.proofs.lemmas.Bool.{eqb-true, eq-eqb, ne_eqb}
 use Rattle.std.proofs.lemmas.List.{append_assoc, length-append}
-use Rattle.rc_types.specs.declared.entries.Entry.{Entry}
-use Rattle.rc_model.specs.Log.{LogPlace}
-use Rattle.rc_model.specs.Ownership.{under_term, count_under}
-use Rattle.rc_model.specs.Headline.{In}
+use Rattle.rc_model.specs.Model.{Entry, LogPlace, under_term, count_under, In}
 use Rattle.rc_step_laws.specs.Words.{Begins}
 use Rattle.rc_owner_laws.specs.Parts.{logged, under}
 use Rattle.rc_model.proofs.Tests.{either}

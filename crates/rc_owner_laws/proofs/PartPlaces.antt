@@ -2,19 +2,11 @@
 use Rattle.std.proofs.Common.{◌≡◌, ℕ, suc, ◌+◌, ◌-◌, ◌<◌, Bool, true, false, List, [], ◌++◌, nat_eq, nat_lt, Option}
 use Rattle.std.proofs.Common.{Some, None, Ok, Err, refl, sym, ap, add-one, ◌∙◌, subst, arith}
 use Rattle.std.proofs.lemmas.Bool.{and_parts, eqb-true, ltb-true, ne_eqb}
-use Rattle.rc_types.specs.declared.ids.ServerId.{ServerId}
-use Rattle.rc_types.specs.declared.kept.Phase.TheVariants.{Writing}
-use Rattle.rc_types.specs.declared.faults.Fault.{Fault}
-use Rattle.rc_types.specs.declared.messages.Message.{Message}
-use Rattle.rc_model.specs.Tables.{put}
-use Rattle.rc_model.specs.ServerList.{ServerList}
-use Rattle.rc_model.specs.Config.{Config, lose, refill, with_lost, any_lost, changed, changes_to, substitutes_for, refills_with}
-use Rattle.rc_model.specs.Segment.{Segment, new_segment, under_new_epoch}
-use Rattle.rc_model.specs.Log.{Log, places_in, places_to, places_of, old_head_of, has_old_head, has_segment}
-use Rattle.rc_model.specs.Log.{with_segment, is_opening, is_closing}
-use Rattle.rc_model.specs.Heads.{opens_head, with_config, stored, commit_noted, opens_change, refills, loses, shuts}
-use Rattle.rc_model.specs.Heads.{with_shut, may_start, may_write, left_out, starts, closes_old, writes_on}
-use Rattle.rc_model.specs.Master.{Master, with_log}
+use Rattle.rc_model.specs.Model.{ServerId, Writing, Fault, Message, put, ServerList, Config, lose, refill, with_lost, any_lost, changed}
+use Rattle.rc_model.specs.Model.{changes_to, substitutes_for, refills_with, Segment, new_segment, under_new_epoch, Log, places_in}
+use Rattle.rc_model.specs.Model.{places_to, places_of, old_head_of, has_old_head, has_segment, with_segment, is_opening, is_closing}
+use Rattle.rc_model.specs.Model.{opens_head, with_config, stored, commit_noted, opens_change, refills, loses, shuts, with_shut, may_start}
+use Rattle.rc_model.specs.Model.{may_write, left_out, starts, closes_old, writes_on, Master, with_log}
 use Rattle.rc_model.proofs.Tables.{put_each, put-same, put-other}
 use Rattle.rc_model.proofs.LogParts.{places_to-agrees, marked, with_freed-marked, marked-alone}
 use Rattle.rc_owner_laws.specs.Parts.{part_view, GoodParts}

@@ -1,51 +1,28 @@
 -- Each step of a master keeps its parts.
-use Rattle.std.proofs.Common.{◌-◌, drop, take, ◌≡◌, ◌⊎◌, ℕ, zero, suc, ◌<◌, Bool, true, false, cond, not, List, [], ◌∷◌}
-use Rattle.std.proofs.Common.{◌++◌, length, map, filter, nat_lt, find, Option, Some, None, option_map, refl, sym, ap}
-use Rattle.std.proofs.Common.{◌∙◌, subst, inl, inr, arith}
+use Rattle.std.proofs.Common.{◌-◌, drop, take, ◌≡◌, ◌⊎◌, ℕ, zero, suc, ◌<◌, Bool, true, false, cond, not, List, [], ◌∷◌, ◌++◌, length}
+use Rattle.std.proofs.Common.{map, filter, nat_lt, find, Option, Some, None, option_map, refl, sym, ap, ◌∙◌, subst, inl, inr, arith}
 use Rattle.std.proofs.lemmas.Bool.{and_parts, ltb-true}
 use Rattle.std.proofs.lemmas.List.{append-nil}
-use Rattle.rc_types.specs.declared.ids.ServerId.{ServerId}
-use Rattle.rc_types.specs.declared.ids.Addr.{Addr}
-use Rattle.rc_types.specs.declared.ids.Addr.TheVariants.{Server, Coordinator, Outside}
-use Rattle.rc_types.specs.declared.entries.Entry.{Entry}
-use Rattle.rc_types.specs.declared.rows.Part.{Part}
-use Rattle.rc_types.specs.declared.rows.PlanRow.{PlanRow}
-use Rattle.rc_types.specs.declared.kept.GrantedRange.{GrantedRange}
-use Rattle.rc_types.specs.declared.faults.Fault.{Fault}
-use Rattle.rc_types.specs.declared.messages.Message.{Message}
-use Rattle.rc_types.specs.declared.messages.Body.{Body}
+use Rattle.rc_model.specs.Model.{ServerId, Addr, Server, Outside, Entry, Part, PlanRow, GrantedRange, Fault, Message, Body, between}
+use Rattle.rc_model.specs.Model.{to_coordinator, refuses, from_rows, Log, LogPlace, places_of, head_of, is_writing, durable_now, stored}
+use Rattle.rc_model.specs.Model.{commit_noted, PartState, Ownership, term_of, owns_term, knows_term, put_data, grant, is_to_answer}
+use Rattle.rc_model.specs.Model.{is_complete, to_answer, after_answer, after_replay, without_first, Master, Task, with_log}
+use Rattle.rc_model.specs.Model.{durable_entries, ids_of, not_lost, appends_entry, refused, written, writes, reads_if_owned, reads}
+use Rattle.rc_model.specs.Model.{write_oks, new_durable, replays, attempt_of, fetch_of, reminds, task_of, In, closes_old, left_out}
+use Rattle.rc_model.specs.Model.{starts, writes_on, old_head_of, with_segment, is_unclosed, with_closes_sent, close_marked}
+use Rattle.rc_model.specs.Model.{frees_segments}
+use Rattle.rc_types.specs.declared.ids.Addr.TheVariants.{Coordinator}
 use Rattle.rc_types.specs.declared.messages.Body.TheVariants as body
-use Rattle.rc_model.specs.Messages.{between, to_coordinator, refuses}
-use Rattle.rc_model.specs.ServerList.{from_rows}
-use Rattle.rc_model.specs.Log.{Log, LogPlace, places_of, head_of, is_writing, durable_now}
-use Rattle.rc_model.specs.Heads.{stored, commit_noted}
-use Rattle.rc_model.specs.Ownership.{PartState, Ownership, term_of, owns_term, knows_term, put_data, grant}
-use Rattle.rc_model.specs.Ownership.{is_to_answer, is_complete, to_answer, after_answer, after_replay, without_first}
-use Rattle.rc_model.specs.Master.{Master, Task, with_log, durable_entries, ids_of, not_lost, appends_entry}
-use Rattle.rc_model.specs.Writing.{refused, written}
-use Rattle.rc_model.specs.Writing.{writes, reads_if_owned, reads}
-use Rattle.rc_model.specs.FollowUps.{write_oks, new_durable, replays}
-use Rattle.rc_model.specs.FollowUps.{attempt_of}
-use Rattle.rc_model.specs.MasterTick.{fetch_of}
-use Rattle.rc_model.specs.MasterTick.{reminds}
-use Rattle.rc_model.specs.MasterStep.{task_of}
-use Rattle.rc_model.specs.Headline.{In}
 use Rattle.rc_model.proofs.Members.{In-left, In-right, In-get}
 use Rattle.rc_model.proofs.Numbering.{places-push}
 use Rattle.rc_step_laws.proofs.Tests.{In-take, find-one}
 use Rattle.rc_owner_laws.specs.Parts.{PartView, part_view, RangeWasGranted, WasPlanned, GoodParts}
 use Rattle.rc_owner_laws.specs.PartMoves.{HasHead, IsComplete, HasEnded, part_said, StateLater, PartsLater, PartsMoved, PartsHear}
 use Rattle.rc_owner_laws.specs.PartClaims.{TakesKeepParts, TicksKeepParts, NewHasGoodParts}
-use Rattle.rc_owner_laws.proofs.PartViews.{IsPlain, plain-says, plain-none, plain-one, plain-to_ids}
-use Rattle.rc_owner_laws.proofs.PartViews.{later-refl, quiet}
-use Rattle.rc_owner_laws.proofs.PartPlaces.{same-stored, same-committed, quiet-log}
-use Rattle.rc_model.specs.Heads.{closes_old, left_out, starts, writes_on}
-use Rattle.rc_model.specs.Log.{old_head_of, with_segment}
-use Rattle.rc_model.specs.Segment.{is_unclosed, with_closes_sent}
-use Rattle.rc_model.specs.FollowUps.{close_marked, frees_segments}
+use Rattle.rc_owner_laws.proofs.PartViews.{IsPlain, plain-says, plain-none, plain-one, plain-to_ids, later-refl, quiet}
+use Rattle.rc_owner_laws.proofs.PartPlaces.{same-stored, same-committed, quiet-log, same-segment, same-starts, same-closes, same-writes}
 use Rattle.rc_model.proofs.Walk.{Taken, Ticked, Followed, begun as begun_master, kept-takes, kept-ticks}
 use Rattle.rc_model.proofs.Sending.{each-map, each-frees, each-write_oks, each-reminds}
-use Rattle.rc_owner_laws.proofs.PartPlaces.{same-segment, same-starts, same-closes, same-writes}
 use Rattle.rc_owner_laws.proofs.Quiet.{Kept, parts-joined, parts-listed, parts-rolls}
 use Rattle.rc_owner_laws.proofs.Appending.{good-durable, with_place, owns-point, good-client, replayed, good-replayed}
 use Rattle.rc_owner_laws.proofs.States.{data-stays, SameState, was-answered}

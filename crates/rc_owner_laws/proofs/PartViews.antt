@@ -1,18 +1,8 @@
 -- Moves that leave what the facts read, and moves one after another.
 use Rattle.std.proofs.Common.{◌≡◌, ◌⊎◌, ℕ, ◌≤◌, List, [], ◌∷◌, ◌++◌, take, map, refl, sym, ap, ◌∙◌, subst, inl, inr, arith}
-use Rattle.rc_types.specs.declared.ids.ServerId.{ServerId}
-use Rattle.rc_types.specs.declared.ids.Addr.{Addr}
-use Rattle.rc_types.specs.declared.entries.Entry.{Entry}
-use Rattle.rc_types.specs.declared.rows.Part.{Part}
-use Rattle.rc_types.specs.declared.messages.Message.{Message}
-use Rattle.rc_types.specs.declared.messages.Body.{Body}
+use Rattle.rc_model.specs.Model.{ServerId, Addr, Entry, Part, Message, Body, between, PartRow, PartState, count_under, Master, Task}
+use Rattle.rc_model.specs.Model.{to_ids, attempt_of, then_does, In}
 use Rattle.rc_types.specs.declared.messages.Body.TheVariants as body
-use Rattle.rc_model.specs.Messages.{between}
-use Rattle.rc_model.specs.Ownership.{PartRow, PartState, count_under}
-use Rattle.rc_model.specs.Master.{Master, Task, to_ids}
-use Rattle.rc_model.specs.FollowUps.{attempt_of}
-use Rattle.rc_model.specs.ListRules.{then_does}
-use Rattle.rc_model.specs.Headline.{In}
 use Rattle.rc_model.proofs.Members.{In-left, In-append, In-map}
 use Rattle.rc_step_laws.proofs.Lists.{begins-refl, begins-trans}
 use Rattle.rc_step_laws.proofs.Copies.{More}

@@ -1,45 +1,27 @@
 -- What holds of each master's parts holds of every world that a list of events leads to.
-use Rattle.std.proofs.Common.{◌≡◌, ◌⊎◌, ℕ, ◌+◌, List, [], ◌∷◌, ◌++◌, refl, sym, ap, ◌∙◌, subst, inl, inr}
-use Rattle.rc_types.specs.declared.ids.ServerId.{ServerId}
-use Rattle.rc_types.specs.declared.ids.Addr.{Addr}
-use Rattle.rc_types.specs.declared.ids.Addr.TheVariants.{Server, Coordinator as AtCoordinator, Outside}
-use Rattle.rc_types.specs.declared.rows.Part.{Part}
-use Rattle.rc_types.specs.declared.kept.Grant.{Grant}
-use Rattle.rc_types.specs.declared.events.Setup.{Setup}
-use Rattle.rc_types.specs.declared.events.Event.{Event}
-use Rattle.rc_types.specs.declared.messages.Message.{Message}
-use Rattle.rc_types.specs.declared.messages.Body.{Body}
+use Rattle.std.proofs.Common.{◌≡◌, ◌⊎◌, ℕ, ◌+◌, List, [], ◌∷◌, ◌++◌, refl, sym, ap, ◌∙◌, subst, inl, inr, true}
+use Rattle.rc_model.specs.Model.{ServerId, Addr, Server, Outside, Part, Grant, Setup, Event, Message, Body, to_coordinator, PartState}
+use Rattle.rc_model.specs.Model.{Master, master_takes, master_ticks, own_body, master_setup, World, opening, step, replay_from, replay}
+use Rattle.rc_model.specs.Model.{In}
+use Rattle.rc_types.specs.declared.ids.Addr.TheVariants.{Coordinator as AtCoordinator}
 use Rattle.rc_types.specs.declared.messages.Body.TheVariants as body
-use Rattle.rc_model.specs.Messages.{to_coordinator}
-use Rattle.rc_model.specs.Ownership.{PartState}
-use Rattle.rc_model.specs.Master.{Master}
-use Rattle.rc_model.specs.MasterStep.{master_takes, master_ticks}
-use Rattle.rc_model.specs.Deciding.{own_body}
-use Rattle.rc_model.specs.Nodes.{master_setup}
-use Rattle.rc_model.specs.World.{World, opening}
-use Rattle.rc_model.specs.World.{step, replay_from, replay}
-use Rattle.rc_model.specs.Headline.{In}
 use Rattle.rc_model.proofs.Members.{In-append}
 use Rattle.rc_step_laws.specs.Facts.{GoodMaster}
 use Rattle.rc_step_laws.proofs.Rolling.{writing-is}
 use Rattle.rc_step_laws.proofs.CoordinatorSteps as coordinator
-use Rattle.rc_log_laws.proofs.Replays.{GoodWorld}
-use Rattle.rc_log_laws.proofs.Replays.{good-world}
+use Rattle.rc_log_laws.proofs.Replays.{GoodWorld, good-world}
 use Rattle.rc_log_laws.proofs.Since.{replay_from-append}
 use Rattle.rc_owner_laws.specs.Grants.{IsOwn, IsPlanOf}
 use Rattle.rc_owner_laws.proofs.OwnerReplays.{OfWorld, grants-world}
 use Rattle.rc_owner_laws.specs.Terms.{IsGivenBy, GoodTerms}
 use Rattle.rc_owner_laws.specs.Parts.{PartView, part_view, IsPart, WasPlanned, GoodParts}
-use Rattle.rc_owner_laws.specs.PartMoves.{HasHead, IsComplete, HasEnded, part_said, PartsMoved, PartsHear}
-use Rattle.rc_owner_laws.proofs.PartViews.{good-more, said-later}
+use Rattle.rc_owner_laws.specs.PartMoves.{HasHead, IsComplete, HasEnded, part_said, PartsMoved, PartsHear, PartsLater}
+use Rattle.rc_owner_laws.proofs.PartViews.{good-more, said-later, later-refl}
 use Rattle.rc_owner_laws.proofs.PartSteps.{takes-keep-parts, ticks-keep-parts, new-has-good-parts}
 use Rattle.rc_owner_laws.specs.Worlds.{parts_fine, PartsHold}
 use Rattle.rc_model.proofs.Tests.{true_false}
 use Rattle.rc_step_laws.proofs.LogMoves.{more-left}
 use Rattle.rc_log_laws.proofs.EachMaster.{is_others, IsLed, led-by}
-use Rattle.rc_owner_laws.specs.PartMoves.{PartsLater}
-use Rattle.rc_owner_laws.proofs.PartViews.{later-refl}
-use Rattle.std.proofs.Common.{true}
 
 -- all of the world's parts
 abbrev pub PartsOf : World → Type 0

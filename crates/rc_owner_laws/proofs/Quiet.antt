@@ -1,10 +1,7 @@
 -- Rules that leave what the facts read: the list rules, what the timer says again, and most of the rules that follow up.
 use Rattle.std.proofs.Common.{ℕ, false, List, [], ◌∷◌}
-use Rattle.rc_types.specs.declared.ids.ServerId.{ServerId}
-use Rattle.rc_types.specs.declared.messages.Message.{Message}
-use Rattle.rc_model.specs.Log.{head_of}
-use Rattle.rc_model.specs.Heads.{opens_head, next_digest, loses}
-use Rattle.rc_model.specs.Master.{Master, with_log, to_ids, ids_of, place_of, places_head, dead_segments}
+use Rattle.rc_model.specs.Model.{ServerId, Message, head_of, opens_head, next_digest, loses, Master, with_log, to_ids, ids_of, place_of}
+use Rattle.rc_model.specs.Model.{places_head, dead_segments}
 use Rattle.rc_model.proofs.Walk.{Joined, Listed, Rolls}
 use Rattle.rc_owner_laws.specs.Parts.{part_view, GoodParts}
 use Rattle.rc_owner_laws.specs.PartMoves.{HasHead, PartsMoved}

@@ -4,32 +4,21 @@ use Rattle.std.proofs.Common.{take, nat_eq, nat_le, Some, None, refl, sym, ap, �
 use Rattle.std.specs.List.{list_any}
 use Rattle.std.proofs.lemmas.Bool.{and_parts, eqb-true, eq-eqb, leb-true, or_right, or_left, or_parts}
 use Rattle.std.proofs.lemmas.List.{length-map}
-use Rattle.rc_types.specs.declared.ids.ServerId.{ServerId}
-use Rattle.rc_types.specs.declared.entries.Entry.{Entry}
-use Rattle.rc_types.specs.declared.rows.Part.{Part}
-use Rattle.rc_types.specs.declared.kept.GrantedRange.{GrantedRange}
-use Rattle.rc_types.specs.declared.messages.Message.{Message}
-use Rattle.rc_model.specs.Log.{LogPlace}
-use Rattle.rc_model.specs.Ownership.{PartRow, PartState, Ownership, owns_term, has_part, knows_term, awaited_row}
-use Rattle.rc_model.specs.Ownership.{rows_in_order, insert_row, awaits, all_came, entries_that_came, under_term}
-use Rattle.rc_model.specs.Ownership.{joined, joining, part_with_row, with_row, data_in, replay_in, put_data, new_part}
-use Rattle.rc_model.specs.Ownership.{count_under, is_complete, answered_in, after_answer}
-use Rattle.rc_model.specs.Master.{Task}
-use Rattle.rc_model.specs.FollowUps.{attempt_of}
-use Rattle.rc_model.specs.Headline.{In}
+use Rattle.rc_model.specs.Model.{ServerId, Entry, Part, GrantedRange, Message, LogPlace, PartRow, PartState, Ownership, owns_term}
+use Rattle.rc_model.specs.Model.{has_part, knows_term, awaited_row, rows_in_order, insert_row, awaits, all_came, entries_that_came}
+use Rattle.rc_model.specs.Model.{under_term, joined, joining, part_with_row, with_row, data_in, replay_in, put_data, new_part}
+use Rattle.rc_model.specs.Model.{count_under, is_complete, answered_in, after_answer, Task, attempt_of, In}
 use Rattle.rc_model.proofs.Members.{In-append, In-left, In-right}
 use Rattle.rc_step_laws.specs.Words.{Begins}
 use Rattle.rc_step_laws.proofs.Lists.{begins-refl}
-use Rattle.rc_owner_laws.specs.Parts.{PartView, logged, under, durable_under, RangeWasGranted, WasPlanned, HasSent}
-use Rattle.rc_owner_laws.specs.Parts.{rows_of_task, SomeCame, AllCame, IsWaiting, HasJoined, IsPart, IsClients}
-use Rattle.rc_owner_laws.specs.Parts.{IsReplayed, GoodParts}
+use Rattle.rc_owner_laws.specs.Parts.{PartView, logged, under, durable_under, RangeWasGranted, WasPlanned, HasSent, rows_of_task}
+use Rattle.rc_owner_laws.specs.Parts.{SomeCame, AllCame, IsWaiting, HasJoined, IsPart, IsClients, IsReplayed, GoodParts}
 use Rattle.rc_owner_laws.specs.PartMoves.{IsComplete}
 use Rattle.rc_owner_laws.proofs.PartLists.{append-nil, under-append, under-all, under-none, count-take, nothing-more}
 use Rattle.rc_owner_laws.proofs.Appending.{knows-part, owns-granted}
 use Rattle.rc_owner_laws.proofs.States.{has_term, has_term-same, differ-same, one-term, differ-append, awaits-some, joined-part}
-use Rattle.rc_owner_laws.proofs.States.{awaits-term, same-data, replay-term, IsOther, IsTaker, data-cases}
-use Rattle.rc_owner_laws.proofs.States.{some-with_row, rows-some, all-came, SameState, same-answered, answered-was}
-use Rattle.rc_owner_laws.proofs.States.{was-answered, data-stays}
+use Rattle.rc_owner_laws.proofs.States.{awaits-term, same-data, replay-term, IsOther, IsTaker, data-cases, some-with_row, rows-some}
+use Rattle.rc_owner_laws.proofs.States.{all-came, SameState, same-answered, answered-was, was-answered, data-stays}
 use Rattle.rc_model.proofs.Tests.{true_false, either}
 
 abbrev pub with_own : Ownership → PartView → PartView

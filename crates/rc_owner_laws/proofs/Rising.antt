@@ -3,30 +3,15 @@ use Rattle.std.proofs.Common.{◌≡◌, ◌⊎◌, ℕ, zero, suc, ◌<◌, ◌
 use Rattle.std.proofs.Common.{map, take, drop, nat_eq, slice_get, Some, refl, sym, ap, ◌∙◌, subst, inl, inr, arith}
 use Rattle.std.proofs.lemmas.Bool.{eqb-true, eq-eqb, and_from}
 use Rattle.std.proofs.lemmas.List.{take-append-drop, length-map}
-use Rattle.rc_types.specs.declared.ids.ServerId.{ServerId}
-use Rattle.rc_types.specs.declared.ids.Addr.{Addr}
-use Rattle.rc_types.specs.declared.ids.Addr.TheVariants.{Server, Coordinator as AtCoordinator, Outside}
-use Rattle.rc_types.specs.declared.entries.Entry.{Entry}
-use Rattle.rc_types.specs.declared.rows.Part.{Part}
-use Rattle.rc_types.specs.declared.rows.PlanRow.{PlanRow}
-use Rattle.rc_types.specs.declared.kept.Grant.{Grant}
-use Rattle.rc_types.specs.declared.kept.GrantedRange.{GrantedRange}
-use Rattle.rc_types.specs.declared.messages.Message.{Message}
-use Rattle.rc_types.specs.declared.messages.Body.{Body}
+use Rattle.rc_model.specs.Model.{ServerId, Addr, Server, Outside, Entry, Part, PlanRow, Grant, GrantedRange, Message, Body, Ack, Granted}
+use Rattle.rc_model.specs.Model.{grant_in, granted, covers, grants_of, IsBefore, previous, onward, IsEarlier, is_in_part, Log, LogPlace}
+use Rattle.rc_model.specs.Model.{places_of, in_range, under_term, count_under, Master, own_body, range_of, HostNode, In, WasAcknowledged}
+use Rattle.rc_model.specs.Model.{HasAcknowledged, VersionsRise}
+use Rattle.rc_types.specs.declared.ids.Addr.TheVariants.{Coordinator as AtCoordinator}
 use Rattle.rc_types.specs.declared.messages.Body.TheVariants as body
-use Rattle.rc_model.specs.Recovered.{Ack}
-use Rattle.rc_model.specs.Owners.{Granted, grant_in, granted, covers, grants_of, IsBefore, previous, onward, IsEarlier}
-use Rattle.rc_model.specs.Backup.{is_in_part}
-use Rattle.rc_model.specs.Log.{Log, LogPlace, places_of}
-use Rattle.rc_model.specs.Ownership.{in_range, under_term, count_under}
-use Rattle.rc_model.specs.Master.{Master}
 use Rattle.rc_model.specs.Coordinator.{Coordinator}
-use Rattle.rc_model.specs.Deciding.{own_body, range_of}
-use Rattle.rc_model.specs.Nodes.{HostNode}
-use Rattle.rc_model.specs.Headline.{In, WasAcknowledged, HasAcknowledged, VersionsRise}
 use Rattle.rc_model.proofs.Members.{In-append, In-get, In-left, In-map, map-In, In-filter, filter-In}
-use Rattle.rc_step_laws.specs.Words.{Begins, log_in}
-use Rattle.rc_step_laws.specs.Facts.{IsSafe, IsWriteOk, body_fine}
+use Rattle.rc_step_laws.specs.All.{Begins, log_in, IsSafe, IsWriteOk, body_fine}
 use Rattle.rc_log_laws.proofs.Clauses.{accepted-is, acknowledged-is}
 use Rattle.rc_log_laws.proofs.Covers.{IsCovered, PlanIs, covered}
 use Rattle.rc_owner_laws.specs.Grants.{IsOwn, own_said}

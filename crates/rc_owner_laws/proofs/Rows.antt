@@ -1,16 +1,9 @@
 -- The rows of a plan: one for a segment, in order.
 use Rattle.std.proofs.Common.{◌≡◌, ℕ, ◌<◌, List, [], ◌∷◌, map, nat_lt, Ok, refl, sym, ap, ◌∙◌, subst, inl, inr, arith}
 use Rattle.std.proofs.lemmas.Bool.{ltb-true}
-use Rattle.rc_types.specs.declared.ids.ServerId.{ServerId}
-use Rattle.rc_types.specs.declared.ids.Pair.{Pair}
-use Rattle.rc_types.specs.declared.entries.Entry.{Entry}
-use Rattle.rc_types.specs.declared.messages.Message.{Message}
-use Rattle.rc_types.specs.declared.rows.Row.{Row}
+use Rattle.rc_model.specs.Model.{ServerId, Pair, Entry, Message, Row, PlanRow, pick, IsPickable, ascending, PartRow, awaited_row}
+use Rattle.rc_model.specs.Model.{insert_row, rows_in_order, In}
 use Rattle.rc_types.specs.declared.rows.Plan.{Plan}
-use Rattle.rc_types.specs.declared.rows.PlanRow.{PlanRow}
-use Rattle.rc_model.specs.Pick.{pick, IsPickable, ascending}
-use Rattle.rc_model.specs.Ownership.{PartRow, awaited_row, insert_row, rows_in_order}
-use Rattle.rc_model.specs.Headline.{In}
 use Rattle.rc_model.proofs.Members.{In-left, In-right}
 use Rattle.rc_digestpick.proofs.Ascending.{IsBelow, IsAscending, IsAscending-ascending}
 use Rattle.rc_digestpick.proofs.Columns.{segs-taken}

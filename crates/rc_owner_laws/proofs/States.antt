@@ -3,14 +3,9 @@ use Rattle.std.proofs.Common.{◌≡◌, ◌⊎◌, ℕ, Bool, true, false, cond
 use Rattle.std.proofs.Common.{Option, Some, None, is_some, refl, sym, ap, ◌∙◌, subst, inl, inr}
 use Rattle.std.specs.List.{list_any}
 use Rattle.std.proofs.lemmas.Bool.{and_parts, eqb-true, eq-eqb, or_right}
-use Rattle.rc_types.specs.declared.ids.ServerId.{ServerId}
-use Rattle.rc_types.specs.declared.entries.Entry.{Entry}
-use Rattle.rc_types.specs.declared.messages.Message.{Message}
-use Rattle.rc_model.specs.Ids.{same_id}
-use Rattle.rc_model.specs.Ownership.{PartRow, PartState, is_awaited, with_row, awaits, all_came, came_entries}
-use Rattle.rc_model.specs.Ownership.{entries_that_came, under_term, joined, joining, part_with_row, data_in, replay_in}
-use Rattle.rc_model.specs.Ownership.{is_to_answer, answered_in}
-use Rattle.rc_model.specs.Headline.{In}
+use Rattle.rc_model.specs.Model.{ServerId, Entry, Message, same_id, PartRow, PartState, is_awaited, with_row, awaits, all_came}
+use Rattle.rc_model.specs.Model.{came_entries, entries_that_came, under_term, joined, joining, part_with_row, data_in, replay_in}
+use Rattle.rc_model.specs.Model.{is_to_answer, answered_in, In}
 use Rattle.rc_model.proofs.Members.{In-map}
 use Rattle.rc_owner_laws.specs.Parts.{NoneUnder, TermsDiffer, HasSent, SomeCame, AllCame}
 use Rattle.rc_model.proofs.Ids.{same_id-true}

@@ -3,13 +3,8 @@ use Rattle.std.proofs.Common.{◌≡◌, ℕ, ◌-◌, ◌<◌, Bool, true, fals
 use Rattle.std.proofs.Common.{nat_lt, nat_le, Option, Some, None, option_map, refl, sym, ap, ◌∙◌, subst, arith}
 use Rattle.std.proofs.lemmas.Bool.{eqb-true, and_parts}
 use Rattle.std.proofs.lemmas.Bool.Decides.{nat_tests}
-use Rattle.rc_types.specs.declared.ids.ServerId.{ServerId}
-use Rattle.rc_types.specs.declared.rows.Tablet.{Tablet}
-use Rattle.rc_types.specs.declared.rows.KeyRange.{KeyRange}
-use Rattle.rc_model.specs.Ids.{same_id}
-use Rattle.rc_model.specs.Tablets.{holds, tablet_of, has_table, insert_tablet, whole_table, with_table, mark_if_owned}
-use Rattle.rc_model.specs.Tablets.{marked_crashed, split_at, is_range, has_range, assigned}
-use Rattle.rc_model.specs.Ownership.{in_range}
+use Rattle.rc_model.specs.Model.{ServerId, Tablet, KeyRange, same_id, holds, tablet_of, has_table, insert_tablet, whole_table, with_table}
+use Rattle.rc_model.specs.Model.{mark_if_owned, marked_crashed, split_at, is_range, has_range, assigned, in_range}
 use Rattle.rc_owner_laws.specs.Grants.{TabletsApart, owner_of, owner_at}
 use Rattle.rc_model.proofs.Tests.{true_false, either}
 use Rattle.rc_step_laws.proofs.Copies.{split}

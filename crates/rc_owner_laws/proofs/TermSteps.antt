@@ -1,47 +1,26 @@
 -- Each step of the coordinator keeps what holds of terms.
-use Rattle.std.proofs.Common.{◌≡◌, ◌⊎◌, ℕ, ◌+◌, ◌-◌, ◌≤◌, true, false, cond, not, ◌&&◌, List, [], ◌∷◌, ◌++◌}
-use Rattle.std.proofs.Common.{length, nat_eq, slice_get, slice_set, Option, Some, None, option_map, Result, Ok}
-use Rattle.std.proofs.Common.{Err, refl, sym, ap, ◌∙◌, subst, inl, inr, arith}
+use Rattle.std.proofs.Common.{◌≡◌, ◌⊎◌, ℕ, ◌+◌, ◌-◌, ◌≤◌, true, false, cond, not, ◌&&◌, List, [], ◌∷◌, ◌++◌, length, nat_eq, slice_get}
+use Rattle.std.proofs.Common.{slice_set, Option, Some, None, option_map, Result, Ok, Err, refl, sym, ap, ◌∙◌, subst, inl, inr, arith}
 use Rattle.std.proofs.lemmas.Bool.{eqb-true, and_parts}
 use Rattle.std.proofs.lemmas.Bool.Decides.{nat_tests}
-use Rattle.rc_types.specs.declared.ids.ServerId.{ServerId}
-use Rattle.rc_types.specs.declared.ids.Pair.{Pair}
-use Rattle.rc_types.specs.declared.ids.Addr.{Addr}
-use Rattle.rc_types.specs.declared.ids.Addr.TheVariants.{Server, Coordinator as AtCoordinator}
-use Rattle.rc_types.specs.declared.rows.Row.{Row}
+use Rattle.rc_model.specs.Model.{ServerId, Pair, Addr, Server, Row, Part, Tablet, Grant, Fault, Deposed, StaleGeneration, StaleAttempt}
+use Rattle.rc_model.specs.Model.{NotReady, NoTable, TableExists, TooManyTablets, Message, Body, Enlist, Ready, Commit, CommitOk, Replicas}
+use Rattle.rc_model.specs.Model.{Recovered, put_id, from_coordinator, to_coordinator, coordinator_refuses, same_id, is_up, has_crashed}
+use Rattle.rc_model.specs.Model.{is_newest, enlisted, has_table, tablet_of, with_table, split_at, marked_crashed, has_range, assigned}
+use Rattle.rc_model.specs.Model.{pick, greater_pair, Attempt, Decision, GivenPart, new_attempt, has_answered, is_gathering, parts_of}
+use Rattle.rc_model.specs.Model.{new_coordinator, refuses_server, list_body, begins_attempt, has_tablets, begins_if_needed}
+use Rattle.rc_model.specs.Model.{spreads_then_begins, attempt_at, with_attempt, up_of_host, follows_generation, enlists, notes_ready}
+use Rattle.rc_model.specs.Model.{with_crashed, suspects, commits_pair, is_current, with_answer, keeps_answer_in, ready_ids, decision_of}
+use Rattle.rc_model.specs.Model.{decides_on, decides_with, decides_attempt, own_body, range_of, grant_of, is_grant_to, grant_to, part_in}
+use Rattle.rc_model.specs.Model.{part_if_current, part_of_sender, grants_part, grants_if_given, grants_or_repeats, takes_recovered}
+use Rattle.rc_model.specs.Model.{first_grant, creates_table, is_too_many, creates, split_fault, splits_unless, splits, coordinator_takes}
+use Rattle.rc_model.specs.Model.{Work, Take, Create, Split, coordinator_step, in_range, In}
+use Rattle.rc_types.specs.declared.ids.Addr.TheVariants.{Coordinator as AtCoordinator}
 use Rattle.rc_types.specs.declared.rows.Plan.{Plan}
-use Rattle.rc_types.specs.declared.rows.Part.{Part}
-use Rattle.rc_types.specs.declared.rows.Tablet.{Tablet}
-use Rattle.rc_types.specs.declared.kept.Grant.{Grant}
-use Rattle.rc_types.specs.declared.faults.Fault.{Fault}
-use Rattle.rc_types.specs.declared.faults.Fault.TheVariants.{Deposed, StaleGeneration, StaleAttempt, NotReady, NoTable}
-use Rattle.rc_types.specs.declared.faults.Fault.TheVariants.{TableExists, TooManyTablets}
-use Rattle.rc_types.specs.declared.messages.Message.{Message}
-use Rattle.rc_types.specs.declared.messages.Body.{Body}
-use Rattle.rc_types.specs.declared.messages.Body.TheVariants.{Enlist, Ready, Commit, CommitOk, Replicas, Recovered}
-use Rattle.rc_model.specs.Tables.{put_id}
-use Rattle.rc_model.specs.Messages.{from_coordinator, to_coordinator, coordinator_refuses}
-use Rattle.rc_model.specs.Ids.{same_id}
-use Rattle.rc_model.specs.ServerList.{is_up, has_crashed, is_newest, enlisted}
-use Rattle.rc_model.specs.Tablets.{has_table, tablet_of, with_table, split_at, marked_crashed, has_range, assigned}
-use Rattle.rc_model.specs.Pick.{pick, greater_pair}
-use Rattle.rc_model.specs.Attempts.{Attempt, Decision, GivenPart, new_attempt, has_answered, is_gathering, parts_of}
-use Rattle.rc_model.specs.Coordinator.{Coordinator, new_coordinator, refuses_server, list_body, begins_attempt}
-use Rattle.rc_model.specs.Coordinator.{has_tablets, begins_if_needed, spreads_then_begins, attempt_at, with_attempt}
-use Rattle.rc_model.specs.Coordinator.{up_of_host, follows_generation, enlists, notes_ready, with_crashed, suspects}
-use Rattle.rc_model.specs.Coordinator.{commits_pair}
-use Rattle.rc_model.specs.Deciding.{is_current, with_answer, keeps_answer_in, ready_ids, decision_of, decides_on}
-use Rattle.rc_model.specs.Deciding.{decides_with, decides_attempt, own_body, range_of, grant_of, is_grant_to, grant_to}
-use Rattle.rc_model.specs.Deciding.{part_in, part_if_current, part_of_sender, grants_part, grants_if_given}
-use Rattle.rc_model.specs.Deciding.{grants_or_repeats, takes_recovered}
-use Rattle.rc_model.specs.CoordinatorStep.{first_grant, creates_table, is_too_many, creates, split_fault}
-use Rattle.rc_model.specs.CoordinatorStep.{splits_unless, splits, coordinator_takes}
-use Rattle.rc_model.specs.Nodes.{Work, Take, Tick, Suspect, Decide, Create, Split, coordinator_step}
-use Rattle.rc_model.specs.Ownership.{in_range}
-use Rattle.rc_model.specs.Headline.{In}
+use Rattle.rc_model.specs.Coordinator.{Coordinator}
+use Rattle.rc_model.specs.Nodes.{Tick, Suspect, Decide}
 use Rattle.rc_model.proofs.Members.{In-get}
-use Rattle.rc_step_laws.specs.Words.{IsNumbered}
-use Rattle.rc_step_laws.specs.Moves.{CoordinatorLater}
+use Rattle.rc_step_laws.specs.All.{IsNumbered, CoordinatorLater}
 use Rattle.rc_step_laws.proofs.Lists.{get-append, get-set}
 use Rattle.rc_step_laws.proofs.Tests.{find-one}
 use Rattle.rc_step_laws.proofs.Attempting.{numbered-at, undecided-none}

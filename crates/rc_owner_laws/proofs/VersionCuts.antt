@@ -2,33 +2,15 @@
 use Rattle.std.proofs.Common.{◌≡◌, ℕ, zero, suc, ◌<◌, Bool, true, false, cond, ◌&&◌, List, [], ◌∷◌, ◌++◌, map, filter}
 use Rattle.std.proofs.Common.{take, nat_eq, nat_le, slice_get, Some, refl, sym, ap, ◌∙◌, subst, inl, inr, arith}
 use Rattle.std.proofs.lemmas.Bool.{eqb-true, eq-eqb}
-use Rattle.rc_types.specs.declared.ids.ServerId.{ServerId}
-use Rattle.rc_types.specs.declared.ids.Addr.{Addr}
-use Rattle.rc_types.specs.declared.ids.Addr.TheVariants.{Server, Coordinator as AtCoordinator, Outside}
-use Rattle.rc_types.specs.declared.entries.Entry.{Entry}
-use Rattle.rc_types.specs.declared.rows.Part.{Part}
+use Rattle.rc_model.specs.Model.{ServerId, Addr, Server, Outside, Entry, Part, PlanRow, Grant, Message, Body, between, made, one_of}
+use Rattle.rc_model.specs.Model.{made_below, recovered_entries, is_carried, base, is_in_part, places_of, under_term, Master, Task}
+use Rattle.rc_model.specs.Model.{Attempt, Decision, HostNode, range_of, Accepted, In, HasMade, WasAccepted}
+use Rattle.rc_types.specs.declared.ids.Addr.TheVariants.{Coordinator as AtCoordinator}
 use Rattle.rc_types.specs.declared.rows.Plan.{Plan}
-use Rattle.rc_types.specs.declared.rows.PlanRow.{PlanRow}
-use Rattle.rc_types.specs.declared.kept.Grant.{Grant}
-use Rattle.rc_types.specs.declared.messages.Message.{Message}
-use Rattle.rc_types.specs.declared.messages.Body.{Body}
 use Rattle.rc_types.specs.declared.messages.Body.TheVariants as body
-use Rattle.rc_model.specs.Messages.{between}
-use Rattle.rc_model.specs.Made.{made}
-use Rattle.rc_model.specs.Base.{one_of, made_below, recovered_entries, is_carried, base}
-use Rattle.rc_model.specs.Backup.{is_in_part}
-use Rattle.rc_model.specs.Log.{places_of}
-use Rattle.rc_model.specs.Ownership.{under_term}
-use Rattle.rc_model.specs.Master.{Master, Task}
-use Rattle.rc_model.specs.Attempts.{Attempt, Decision}
 use Rattle.rc_model.specs.Coordinator.{Coordinator}
-use Rattle.rc_model.specs.Nodes.{HostNode}
-use Rattle.rc_model.specs.Deciding.{range_of}
-use Rattle.rc_model.specs.Recovered.{Accepted}
-use Rattle.rc_model.specs.Headline.{In, HasMade, WasAccepted}
 use Rattle.rc_model.proofs.Said.{HasMade-from, HasMade-in}
-use Rattle.rc_step_laws.specs.Words.{Begins, log_in, IsNumbered}
-use Rattle.rc_step_laws.specs.Facts.{Good, IsPlan, body_fine}
+use Rattle.rc_step_laws.specs.All.{Begins, log_in, IsNumbered, Good, IsPlan, body_fine}
 use Rattle.rc_step_laws.proofs.Attempting.{numbered-same}
 use Rattle.rc_log_laws.proofs.Clauses.{made-is, accepted-is, held-made}
 use Rattle.rc_owner_laws.specs.Terms.{IsGivenBy}

@@ -1,12 +1,8 @@
 -- All facts hold of every world that a list of events leads to, and so does the headline.
 use Rattle.std.proofs.Common.{◌≡◌, ◌⊎◌, ◌<◌, Bool, true, false, List, take, Some, slice_get, refl, inl, inr}
-use Rattle.rc_types.specs.declared.events.Setup.{Setup}
-use Rattle.rc_types.specs.declared.events.Event.{Event}
-use Rattle.rc_types.specs.declared.entries.Entry.{Entry}
-use Rattle.rc_model.specs.World.{World, replay}
+use Rattle.rc_model.specs.Model.{Setup, Event, Entry, World, replay}
 use Rattle.rc_model.proofs.Headlines.{breach_is_headline}
-use Rattle.rc_step_laws.specs.Words.{log_in}
-use Rattle.rc_step_laws.specs.Facts.{IsSafe}
+use Rattle.rc_step_laws.specs.All.{log_in, IsSafe}
 use Rattle.rc_step_laws.proofs.Lists.{get-below}
 use Rattle.rc_log_laws.proofs.Replays.{good-world, nothing-is-missing, nothing-is-invented}
 use Rattle.rc_log_laws.proofs.Since.{since-take}
@@ -15,10 +11,9 @@ use Rattle.rc_log_laws.proofs.KeptWorlds.{safe-is-held}
 use Rattle.rc_owner_laws.proofs.OwnerReplays.{OfWorld, grants-world}
 use Rattle.rc_owner_laws.proofs.TermReplays.{terms-world}
 use Rattle.rc_owner_laws.proofs.DataReplays.{data-world}
-use Rattle.rc_owner_laws.specs.VersionClaims.{MayFree, Frees, AllFactsHold, DataIsThePlanCutToThePart}
-use Rattle.rc_owner_laws.specs.VersionClaims.{GrantsStartFromTheirBase, HandoversKeepWhatWasAcknowledged}
-use Rattle.rc_owner_laws.specs.VersionClaims.{HandoversKeepWhatIsDurable, PreviousIsEarlier, VersionsRiseOverOwners}
-use Rattle.rc_owner_laws.specs.VersionClaims.{VersionsAlwaysRiseWithThePlace, NoVersionIsAcknowledgedTwice}
+use Rattle.rc_owner_laws.specs.VersionClaims.{MayFree, Frees, AllFactsHold, DataIsThePlanCutToThePart, GrantsStartFromTheirBase}
+use Rattle.rc_owner_laws.specs.VersionClaims.{HandoversKeepWhatWasAcknowledged, HandoversKeepWhatIsDurable, PreviousIsEarlier}
+use Rattle.rc_owner_laws.specs.VersionClaims.{VersionsRiseOverOwners, VersionsAlwaysRiseWithThePlace, NoVersionIsAcknowledgedTwice}
 use Rattle.rc_owner_laws.specs.VersionClaims.{ThereIsNoBreach}
 use Rattle.rc_owner_laws.proofs.PartWorlds.{parts-world-by}
 use Rattle.rc_owner_laws.proofs.Rising.{IsKeptIn, Covers, covers-anyhow}

@@ -1,27 +1,14 @@
 -- Under one term a key's versions rise with the place, in every log.
-use Rattle.std.proofs.Common.{◌≡◌, ◌⊎◌, ℕ, zero, suc, ◌+◌, ◌<◌, ◌≤◌, Bool, true, false, ◌&&◌, List, [], ◌∷◌, ◌++◌}
-use Rattle.std.proofs.Common.{length, map, filter, take, nat_eq, slice_get, Some, refl, sym, ap, ◌∙◌, subst, inl, inr}
-use Rattle.std.proofs.Common.{arith}
+use Rattle.std.proofs.Common.{◌≡◌, ◌⊎◌, ℕ, zero, suc, ◌+◌, ◌<◌, ◌≤◌, Bool, true, false, ◌&&◌, List, [], ◌∷◌, ◌++◌, length, map, filter}
+use Rattle.std.proofs.Common.{take, nat_eq, slice_get, Some, refl, sym, ap, ◌∙◌, subst, inl, inr, arith}
 use Rattle.std.proofs.lemmas.Bool.{and_parts, eqb-true, and_from}
 use Rattle.std.proofs.lemmas.List.{append_assoc, length-append, length-map}
-use Rattle.rc_types.specs.declared.ids.ServerId.{ServerId}
-use Rattle.rc_types.specs.declared.entries.Entry.{Entry}
-use Rattle.rc_types.specs.declared.rows.Part.{Part}
-use Rattle.rc_types.specs.declared.rows.PlanRow.{PlanRow}
-use Rattle.rc_types.specs.declared.messages.Message.{Message}
-use Rattle.rc_model.specs.Base.{recovered_entries}
-use Rattle.rc_model.specs.Backup.{is_in_part}
-use Rattle.rc_model.specs.Segment.{Segment}
-use Rattle.rc_model.specs.Log.{LogPlace, places_in, places_to, places_of}
-use Rattle.rc_model.specs.Ownership.{PartState, in_range, owns_term, under_term, count_under}
-use Rattle.rc_model.specs.Deciding.{range_of}
-use Rattle.rc_model.specs.Master.{Master, Task}
+use Rattle.rc_model.specs.Model.{ServerId, Entry, Part, PlanRow, Message, recovered_entries, is_in_part, Segment, LogPlace, places_in}
+use Rattle.rc_model.specs.Model.{places_to, places_of, PartState, in_range, owns_term, under_term, count_under, range_of, Master, Task}
+use Rattle.rc_model.specs.Model.{HostNode, In}
 use Rattle.rc_model.specs.Coordinator.{Coordinator}
-use Rattle.rc_model.specs.Nodes.{HostNode}
-use Rattle.rc_model.specs.Headline.{In}
 use Rattle.rc_model.proofs.Members.{In-left, In-right, In-append, In-get, place_of, In-map, In-filter}
-use Rattle.rc_step_laws.specs.Words.{Begins, log_in}
-use Rattle.rc_step_laws.specs.Facts.{GoodMaster}
+use Rattle.rc_step_laws.specs.All.{Begins, log_in, GoodMaster}
 use Rattle.rc_step_laws.proofs.Lists.{get-take}
 use Rattle.rc_step_laws.proofs.Tests.{get-map}
 use Rattle.rc_digestpick.proofs.Ascending.{IsAscending}

@@ -1,49 +1,29 @@
 -- Each step of the coordinator keeps each part that waits for its grant a tablet of the list, and refuses nobody for want of one.
-use Rattle.std.proofs.Common.{◌≡◌, ◌⊎◌, ℕ, ◌+◌, ◌-◌, ◌≤◌, Bool, true, false, cond, not, ◌&&◌, List, [], ◌∷◌, ◌++◌}
-use Rattle.std.proofs.Common.{length, filter, nat_eq, slice_get, Option, Some, None, Result, Ok, Err, refl, sym, ap}
-use Rattle.std.proofs.Common.{◌∙◌, subst, inl, inr, arith}
+use Rattle.std.proofs.Common.{◌≡◌, ◌⊎◌, ℕ, ◌+◌, ◌-◌, ◌≤◌, Bool, true, false, cond, not, ◌&&◌, List, [], ◌∷◌, ◌++◌, length, filter, nat_eq}
+use Rattle.std.proofs.Common.{slice_get, Option, Some, None, Result, Ok, Err, refl, sym, ap, ◌∙◌, subst, inl, inr, arith}
 use Rattle.std.proofs.lemmas.Bool.{and_parts, not-false}
 use Rattle.std.proofs.lemmas.Bool.Decides.{nat_tests}
-use Rattle.rc_types.specs.declared.ids.ServerId.{ServerId}
-use Rattle.rc_types.specs.declared.ids.Pair.{Pair}
-use Rattle.rc_types.specs.declared.ids.Addr.{Addr}
-use Rattle.rc_types.specs.declared.ids.Addr.TheVariants.{Server, Coordinator as AtCoordinator, Outside}
-use Rattle.rc_types.specs.declared.rows.Row.{Row}
+use Rattle.rc_model.specs.Model.{ServerId, Pair, Addr, Server, Outside, Row, Part, Tablet, Grant, Fault, Deposed, StaleGeneration}
+use Rattle.rc_model.specs.Model.{StaleAttempt, NotReady, NoTable, BadSplit, TableExists, TooManyTablets, Recovering, Message, Body}
+use Rattle.rc_model.specs.Model.{Enlist, Ready, Commit, CommitOk, Replicas, Recovered, Gather, SplitOk, Refused, code_of, put_id, same_id}
+use Rattle.rc_model.specs.Model.{from_coordinator, to_each, coordinator_refuses, coordinator_tells, ServerList, is_up, has_crashed}
+use Rattle.rc_model.specs.Model.{is_newest, enlisted, crashed, up, holds, has_table, tablet_of, tablets_of, whole_table, split_at}
+use Rattle.rc_model.specs.Model.{marked_crashed, is_range, has_range, assigned, pick, greater_pair, Attempt, Decision, GivenPart}
+use Rattle.rc_model.specs.Model.{has_answered, is_gathering, parts_of, plan_message, plan_messages, new_coordinator, refuses_server}
+use Rattle.rc_model.specs.Model.{list_body, spreads_list, begins_attempt, has_tablets, begins_if_needed, spreads_then_begins, attempt_at}
+use Rattle.rc_model.specs.Model.{with_attempt, up_of_host, follows_generation, enlists, notes_ready, with_crashed, suspects, commits_pair}
+use Rattle.rc_model.specs.Model.{is_current, with_answer, keeps_answer_in, ready_ids, decision_of, decides_on, decides_with}
+use Rattle.rc_model.specs.Model.{decides_attempt, decides, own_body, range_of, grant_of, grant_to, part_of_sender, grants_part}
+use Rattle.rc_model.specs.Model.{grants_if_given, grants_or_repeats, takes_recovered, first_grant, creates_table, is_too_many, creates}
+use Rattle.rc_model.specs.Model.{split_fault, splits_unless, splits, has_open_part, asks_again, asks_again_of, coordinator_ticks}
+use Rattle.rc_model.specs.Model.{coordinator_takes, Work, Take, Create, Split, coordinator_step, In}
+use Rattle.rc_types.specs.declared.ids.Addr.TheVariants.{Coordinator as AtCoordinator}
 use Rattle.rc_types.specs.declared.rows.Plan.{Plan}
-use Rattle.rc_types.specs.declared.rows.Part.{Part}
-use Rattle.rc_types.specs.declared.rows.Tablet.{Tablet}
-use Rattle.rc_types.specs.declared.kept.Grant.{Grant}
-use Rattle.rc_types.specs.declared.faults.Fault.{Fault}
-use Rattle.rc_types.specs.declared.faults.Fault.TheVariants.{Deposed, StaleGeneration, StaleAttempt, NotReady, NoTable}
-use Rattle.rc_types.specs.declared.faults.Fault.TheVariants.{BadSplit, TableExists, TooManyTablets, Recovering}
-use Rattle.rc_types.specs.declared.messages.Message.{Message}
-use Rattle.rc_types.specs.declared.messages.Body.{Body}
-use Rattle.rc_types.specs.declared.messages.Body.TheVariants.{Enlist, Ready, Commit, CommitOk, Replicas, Recovered}
-use Rattle.rc_types.specs.declared.messages.Body.TheVariants.{Gather, SplitOk, Refused, Plan as PlanBody}
-use Rattle.rc_types.specs.Codes.{code_of}
-use Rattle.rc_model.specs.Tables.{put_id}
-use Rattle.rc_model.specs.Ids.{same_id}
-use Rattle.rc_model.specs.Messages.{from_coordinator, to_each, coordinator_refuses, coordinator_tells}
-use Rattle.rc_model.specs.ServerList.{ServerList, is_up, has_crashed, is_newest, enlisted, crashed, up}
-use Rattle.rc_model.specs.Tablets.{holds, has_table, tablet_of, tablets_of, whole_table, split_at, marked_crashed}
-use Rattle.rc_model.specs.Tablets.{is_range, has_range, assigned}
-use Rattle.rc_model.specs.Pick.{pick, greater_pair}
-use Rattle.rc_model.specs.Attempts.{Attempt, Decision, GivenPart, has_answered, is_gathering, parts_of, plan_message, plan_messages}
-use Rattle.rc_model.specs.Coordinator.{Coordinator, new_coordinator, refuses_server, list_body, spreads_list}
-use Rattle.rc_model.specs.Coordinator.{begins_attempt, has_tablets, begins_if_needed, spreads_then_begins, attempt_at}
-use Rattle.rc_model.specs.Coordinator.{with_attempt, up_of_host, follows_generation, enlists, notes_ready}
-use Rattle.rc_model.specs.Coordinator.{with_crashed, suspects, commits_pair}
-use Rattle.rc_model.specs.Deciding.{is_current, with_answer, keeps_answer_in, ready_ids, decision_of, decides_on}
-use Rattle.rc_model.specs.Deciding.{decides_with, decides_attempt, decides, own_body, range_of, grant_of, grant_to}
-use Rattle.rc_model.specs.Deciding.{part_of_sender, grants_part, grants_if_given, grants_or_repeats, takes_recovered}
-use Rattle.rc_model.specs.CoordinatorStep.{first_grant, creates_table, is_too_many, creates, split_fault}
-use Rattle.rc_model.specs.CoordinatorStep.{splits_unless, splits, has_open_part, asks_again, asks_again_of}
-use Rattle.rc_model.specs.CoordinatorStep.{coordinator_ticks, coordinator_takes}
-use Rattle.rc_model.specs.Nodes.{Work, Take, Tick, Suspect, Decide, Create, Split, coordinator_step}
-use Rattle.rc_model.specs.Headline.{In}
+use Rattle.rc_types.specs.declared.messages.Body.TheVariants.{Plan as PlanBody}
+use Rattle.rc_model.specs.Coordinator.{Coordinator}
+use Rattle.rc_model.specs.Nodes.{Tick, Suspect, Decide}
 use Rattle.rc_model.proofs.Members.{In-left, In-append}
-use Rattle.rc_step_laws.specs.Facts.{GoodCoordinator}
-use Rattle.rc_step_laws.specs.Words.{IsNumbered}
+use Rattle.rc_step_laws.specs.All.{GoodCoordinator, IsNumbered}
 use Rattle.rc_step_laws.proofs.Servers.{crashed-not-up}
 use Rattle.rc_step_laws.proofs.Attempting.{numbered-at, undecided-none}
 use Rattle.rc_owner_laws.specs.Grants.{IsGiven, IsDecided, GoodGrants}

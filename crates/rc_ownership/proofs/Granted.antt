@@ -8,9 +8,7 @@ use Rattle.std.specs.Option.{option_or}
 use Rattle.std.specs.Map.{lookup}
 use Rattle.indexmap.specs.IndexMap.{IndexMap, insert_entry}
 use Rattle.indexmap.proofs.CallerLemmas.{insert_entry-new}
-use Rattle.rc_types.specs.declared.kept.GrantedRange.{GrantedRange}
-use Rattle.rc_types.specs.declared.rows.KeyRange.{KeyRange}
-use Rattle.rc_model.specs.Ownership.{in_range, term_of, owns_term, grant}
+use Rattle.rc_model.specs.Model.{GrantedRange, KeyRange, in_range, term_of, owns_term, grant}
 use Rattle.rc_ownership.specs.Bounds.{key_count, point_of, terms_of, or_term, is_within}
 use Rattle.rc_ownership.specs.Grants.{granted_range, grants_in, owner_of}
 

@@ -5,11 +5,8 @@ use Rattle.std.proofs.Common.{zero, suc, sym, ap, subst, ◌∙◌, refl, arith,
 use Rattle.std.proofs.lemmas.Bool.Decides.{nat_tests}
 use Rattle.std.specs.Prelude.{slice_index_or, slice_set}
 use Rattle.std.specs.List.{list_any, position_or_len}
-use Rattle.rc_types.specs.declared.ids.ServerId.{ServerId}
-use Rattle.rc_types.specs.declared.rows.Part.{Part}
-use Rattle.rc_types.specs.declared.entries.Entry.{Entry}
-use Rattle.rc_model.specs.Ownership.{PartRow, PartState, part_with_row, is_awaited, awaited_row, with_row, insert_row}
-use Rattle.rc_model.specs.Ownership.{rows_in_order, all_came, came_entries, entries_that_came}
+use Rattle.rc_model.specs.Model.{ServerId, Part, Entry, PartRow, PartState, part_with_row, is_awaited, awaited_row, with_row, insert_row}
+use Rattle.rc_model.specs.Model.{rows_in_order, all_came, came_entries, entries_that_came}
 use Rattle.rc_ownership.specs.Rows.{count_missing, size_of, AreInOrder, AreCounted}
 use Rattle.rc_ownership.proofs.RowOrder.{ordered}
 

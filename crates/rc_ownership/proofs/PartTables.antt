@@ -8,11 +8,8 @@ use Rattle.std.specs.Map.{lookup, set_value}
 use Rattle.std.specs.Option.{option_map_or}
 use Rattle.indexmap.specs.IndexMap.{IndexMap, insert_entry}
 use Rattle.indexmap.proofs.CallerLemmas.{insert_entry-new}
-use Rattle.rc_types.specs.declared.ids.ServerId.{ServerId}
-use Rattle.rc_types.specs.declared.entries.Entry.{Entry}
-use Rattle.rc_model.specs.Ownership.{Ownership, PartState, put_data, is_awaited, awaits, awaits_data, joined, joining}
-use Rattle.rc_model.specs.Ownership.{part_with_row, data_in, replay_in, is_complete, is_to_answer, answered_in, all_came}
-use Rattle.rc_model.specs.Ownership.{entries_that_came}
+use Rattle.rc_model.specs.Model.{ServerId, Entry, Ownership, PartState, put_data, is_awaited, awaits, awaits_data, joined, joining}
+use Rattle.rc_model.specs.Model.{part_with_row, data_in, replay_in, is_complete, is_to_answer, answered_in, all_came, entries_that_came}
 use Rattle.rc_ownership.specs.Parts.{HasNone, AreUnderTheirTerms, parts_in}
 
 flip : (one other : ℕ) → nat_eq one other ≡ nat_eq other one

@@ -1,12 +1,10 @@
 -- The places of the parts whose end may not have been told.
-use Rattle.std.proofs.Common.{◌≡◌, ℕ, ◌+◌, inl, inr, Bool, true, false, cond, not, ◌&&◌, find, filter, Option}
-use Rattle.std.proofs.Common.{Some, None, option_map, List, [], ◌∷◌, ◌++◌, length, suc, sym, ap, subst, ◌∙◌, refl, arith}
-use Rattle.std.proofs.Common.{true≢false}
+use Rattle.std.proofs.Common.{◌≡◌, ℕ, ◌+◌, inl, inr, Bool, true, false, cond, not, ◌&&◌, find, filter, Option, Some, None, option_map}
+use Rattle.std.proofs.Common.{List, [], ◌∷◌, ◌++◌, length, suc, sym, ap, subst, ◌∙◌, refl, arith, true≢false}
 use Rattle.std.specs.Prelude.{slice_get}
 use Rattle.std.specs.Option.{option_map_or}
 use Rattle.std.specs.Map.{lookup, set_value}
-use Rattle.rc_types.specs.declared.entries.Entry.{Entry}
-use Rattle.rc_model.specs.Ownership.{PartState, is_complete, is_to_answer}
+use Rattle.rc_model.specs.Model.{Entry, PartState, is_complete, is_to_answer}
 use Rattle.rc_ownership.specs.Parts.{parts_in}
 use Rattle.rc_ownership.specs.Unanswered.{HoldUnanswered, is_unanswered, is_due}
 

@@ -1,12 +1,10 @@
 -- What a read finds is the last record high; what is outdated is below it.
-use Rattle.std.proofs.Common.{◌≡◌, ℕ, ◌+◌, ◌-◌, Bool, true, false, cond, ◌&&◌, ◌||◌, nat_lt, List, [], ◌∷◌, ◌++◌}
-use Rattle.std.proofs.Common.{length, slice_get, Option, Some, None, max, sym, ap, ◌∙◌, refl, arith, length-append}
-use Rattle.std.proofs.Common.{append_assoc, zero, suc}
+use Rattle.std.proofs.Common.{◌≡◌, ℕ, ◌+◌, ◌-◌, Bool, true, false, cond, ◌&&◌, ◌||◌, nat_lt, List, [], ◌∷◌, ◌++◌, length, slice_get}
+use Rattle.std.proofs.Common.{Option, Some, None, max, sym, ap, ◌∙◌, refl, arith, length-append, append_assoc, zero, suc}
 use Rattle.std.proofs.lemmas.Bool.Decides.{nat_tests}
 use Rattle.std.specs.List.{list_any}
 use Rattle.std.specs.Option.{option_map_or}
-use Rattle.rc_types.specs.declared.entries.Entry.{Entry}
-use Rattle.rc_model.specs.Versions.{is_of, greatest_version, Found, read_from, read_of}
+use Rattle.rc_model.specs.Model.{Entry, is_of, greatest_version, Found, read_from, read_of}
 use Rattle.rc_ownership.specs.Highs.{highs_from, highs_of}
 use Rattle.rc_ownership.proofs.RecordHighs.{highs_after}
 

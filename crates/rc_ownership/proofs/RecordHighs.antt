@@ -4,8 +4,7 @@ use Rattle.std.proofs.Common.{length, take, filter, slice_get, Some, max, sym, a
 use Rattle.std.proofs.lemmas.Bool.Decides.{nat_tests}
 use Rattle.std.specs.Prelude.{slice_index_or}
 use Rattle.std.specs.List.Sorted.{IsNonDecreasingBy, IsPartitionPoint}
-use Rattle.rc_types.specs.declared.entries.Entry.{Entry}
-use Rattle.rc_model.specs.Versions.{is_of, greatest_version}
+use Rattle.rc_model.specs.Model.{Entry, is_of, greatest_version}
 use Rattle.rc_ownership.specs.Highs.{highs_from, highs_of, last_or, last_version, with_high}
 
 -- the last high is the one at the last place of the list

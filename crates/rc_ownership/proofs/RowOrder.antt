@@ -9,9 +9,7 @@ use Rattle.std.proofs.lemmas.List.Sorted.{IsNonDecreasingBy-short, IsNonDecreasi
 use Rattle.std.specs.Prelude.{slice_index_or}
 use Rattle.std.specs.List.{insert, position_or_len}
 use Rattle.std.specs.List.Sorted.{IsPartitionPoint}
-use Rattle.rc_types.specs.declared.ids.ServerId.{ServerId}
-use Rattle.rc_model.specs.Ids.{same_id}
-use Rattle.rc_model.specs.Ownership.{PartRow, insert_row, rows_in_order, is_awaited}
+use Rattle.rc_model.specs.Model.{ServerId, same_id, PartRow, insert_row, rows_in_order, is_awaited}
 use Rattle.rc_ownership.specs.Rows.{AreInOrder}
 
 -- whether a row of this segment goes before the row

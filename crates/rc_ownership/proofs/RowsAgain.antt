@@ -3,10 +3,7 @@ use Rattle.std.proofs.Common.{◌≡◌, ℕ, ◌+◌, ◌-◌, ◌<◌, ◌≤�
 use Rattle.std.proofs.Common.{Option, List, [], ◌∷◌, ◌++◌, length, length-append, filter, zero, suc, sym, ap, ◌∙◌, refl, arith}
 use Rattle.std.specs.Prelude.{slice_index_or, slice_set}
 use Rattle.std.specs.List.{list_any, position_or_len}
-use Rattle.rc_types.specs.declared.ids.ServerId.{ServerId}
-use Rattle.rc_types.specs.declared.rows.Part.{Part}
-use Rattle.rc_types.specs.declared.entries.Entry.{Entry}
-use Rattle.rc_model.specs.Ownership.{PartRow, PartState, is_awaited, with_row, came_entries, entries_that_came}
+use Rattle.rc_model.specs.Model.{ServerId, Part, Entry, PartRow, PartState, is_awaited, with_row, came_entries, entries_that_came}
 use Rattle.rc_ownership.specs.Rows.{count_missing, size_of, AreInOrder, AreCounted, awaited_again}
 use Rattle.rc_ownership.proofs.PartRows.{awaited-none, size_of-some, some-length, length-with_row}
 

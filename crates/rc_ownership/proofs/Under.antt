@@ -2,8 +2,7 @@
 use Rattle.std.proofs.Common.{◌≡◌, ℕ, ◌+◌, ◌≤◌, Bool, true, false, cond, nat_eq, List, [], ◌∷◌, ◌++◌, length, take}
 use Rattle.std.proofs.Common.{filter, ap, ◌∙◌, arith, zero, suc, length-append}
 use Rattle.std.proofs.lemmas.List.Elements.{filter-append}
-use Rattle.rc_types.specs.declared.entries.Entry.{Entry}
-use Rattle.rc_model.specs.Ownership.{count_under}
+use Rattle.rc_model.specs.Model.{Entry, count_under}
 
 cond_le : (b : Bool) (entry : Entry) (entries : List Entry) (n : ℕ) → length entries ≤ n → length (cond b (entry ∷ entries) entries) ≤ n + 1
 cond_le true entry entries n h = omega arith

@@ -6,8 +6,7 @@ use Rattle.std.proofs.lemmas.List.{append-nil, map-append, length-drop, drop-dro
 use Rattle.std.proofs.lemmas.List.{take-take, length-take-le}
 use Rattle.std.proofs.Math.Seq.{drop-append_seam}
 use Rattle.std.specs.Prelude.{slice_get, slice_index_or}
-use Rattle.rc_types.specs.declared.entries.Entry.{Entry}
-use Rattle.rc_model.specs.Ownership.{PartRow, under_term, came_entries, entries_that_came, without_first}
+use Rattle.rc_model.specs.Model.{Entry, PartRow, under_term, came_entries, entries_that_came, without_first}
 use Rattle.rc_ownership.specs.Replay.{all_waiting, waiting_from, NoneIsEmpty, IsPlace, IsReplay}
 
 -- Lists none of which is empty

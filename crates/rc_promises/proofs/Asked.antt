@@ -1,18 +1,7 @@
 -- Each client's place of a log was asked, and its version is above 0.
 use Rattle.std.proofs.Common.{◌≡◌, ℕ, ◌<◌, true, List, ◌++◌, Option, refl, subst, arith}
-use Rattle.rc_types.specs.declared.ids.ServerId.{ServerId}
-use Rattle.rc_types.specs.declared.ids.Addr.TheVariants.{Server, Outside}
-use Rattle.rc_types.specs.declared.entries.Entry.{Entry}
-use Rattle.rc_types.specs.declared.events.Setup.{Setup}
-use Rattle.rc_types.specs.declared.events.Event.{Event}
-use Rattle.rc_types.specs.declared.messages.Message.{Message}
-use Rattle.rc_types.specs.declared.messages.Body.TheVariants.{Write}
-use Rattle.rc_model.specs.Log.{LogPlace, places_of}
-use Rattle.rc_model.specs.Master.{Master}
-use Rattle.rc_model.specs.MasterStep.{master_takes, master_ticks}
-use Rattle.rc_model.specs.World.{replay}
-use Rattle.rc_model.specs.Recovered.{Ack}
-use Rattle.rc_model.specs.Headline.{In, HasAcknowledged}
+use Rattle.rc_model.specs.Model.{ServerId, Server, Outside, Entry, Setup, Event, Message, Write, LogPlace, places_of, Master}
+use Rattle.rc_model.specs.Model.{master_takes, master_ticks, replay, Ack, In, HasAcknowledged}
 use Rattle.rc_model.proofs.Members.{In-left}
 use Rattle.rc_log_laws.specs.WordClaims.{sent_after}
 use Rattle.rc_write_laws.specs.AckClaims.{WasToldToWrite}

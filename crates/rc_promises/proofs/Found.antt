@@ -2,9 +2,7 @@
 use Rattle.std.proofs.Common.{◌≡◌, ◌⊎◌, ℕ, ◌<◌, ◌≤◌, true, false, ◌&&◌, nat_eq, nat_lt, List, [], ◌∷◌, None}
 use Rattle.std.proofs.Common.{refl, sym, ap, ◌∙◌, subst, inl, inr, arith}
 use Rattle.std.proofs.lemmas.Bool.{and_parts, eqb-true, ltb-true, and_from}
-use Rattle.rc_types.specs.declared.entries.Entry.{Entry}
-use Rattle.rc_model.specs.Versions.{is_of, Found, or_greater, read_from, read_of}
-use Rattle.rc_model.specs.Headline.{In}
+use Rattle.rc_model.specs.Model.{Entry, is_of, Found, or_greater, read_from, read_of, In}
 use Rattle.rc_model.proofs.Tests.{true_false, either}
 use Rattle.rc_owner_laws.proofs.Appending.{is-of-true}
 

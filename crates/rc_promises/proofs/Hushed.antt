@@ -1,21 +1,11 @@
 -- A master answers a read by a ReadOk, and sends none besides.
 use Rattle.std.proofs.Common.{◌≡◌, Bool, true, false, List, [], ◌∷◌, refl, subst}
-use Rattle.rc_types.specs.declared.ids.ServerId.{ServerId}
-use Rattle.rc_types.specs.declared.ids.Addr.{Addr}
-use Rattle.rc_types.specs.declared.messages.Message.{Message}
-use Rattle.rc_types.specs.declared.messages.Body.{Body}
-use Rattle.rc_types.specs.declared.messages.Body.TheVariants.{Read, ReadOk}
-use Rattle.rc_model.specs.Heads.{left_out}
-use Rattle.rc_model.specs.Master.{Master, to_ids}
-use Rattle.rc_model.specs.ListRules.{then_does}
-use Rattle.rc_model.specs.FollowUps.{goes_on, new_durable}
-use Rattle.rc_model.specs.MasterTick.{reminds}
-use Rattle.rc_model.specs.MasterStep.{master_takes_first, deposed_takes, master_ticks}
+use Rattle.rc_model.specs.Model.{ServerId, Addr, Message, Body, Read, ReadOk, left_out, Master, to_ids, then_does, goes_on, new_durable}
+use Rattle.rc_model.specs.Model.{reminds, master_takes_first, deposed_takes, master_ticks}
 use Rattle.rc_model.proofs.Tests.{true_false}
 use Rattle.rc_model.proofs.Walk.{Joined, Listed, Taken, Ticked, Followed, kept-then, kept-takes_first, kept-deposed}
 use Rattle.rc_model.proofs.Walk.{kept-goes_on, kept-ticks}
-use Rattle.rc_model.proofs.Sending.{Each, each-none, each-one, each-both, each-map, each-to_ids, each-frees}
-use Rattle.rc_model.proofs.Sending.{each-write_oks, each-reminds}
+use Rattle.rc_model.proofs.Sending.{Each, each-none, each-one, each-both, each-map, each-to_ids, each-frees, each-write_oks, each-reminds}
 
 -- the message answers a read
 abbrev pub is_read_ok : Body → Bool

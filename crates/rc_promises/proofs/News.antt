@@ -1,32 +1,16 @@
 -- What each event newly sends: a Write is sent by the outside alone, and a ReadOk is what its master read just then.
 use Rattle.std.proofs.Common.{◌≡◌, ◌⊎◌, ℕ, false, List, [], ◌∷◌, ◌++◌, Option, Some, None, refl, sym, ap, ◌∙◌, subst, inl, inr}
 use Rattle.std.proofs.lemmas.List.{append-nil, append_assoc}
-use Rattle.rc_types.specs.declared.ids.ServerId.{ServerId}
-use Rattle.rc_types.specs.declared.ids.Addr.{Addr}
-use Rattle.rc_types.specs.declared.ids.Addr.TheVariants.{Server, Coordinator as AtCoordinator, Outside}
-use Rattle.rc_types.specs.declared.events.Setup.{Setup}
-use Rattle.rc_types.specs.declared.events.Event.{Event}
-use Rattle.rc_types.specs.declared.messages.Message.{Message}
-use Rattle.rc_types.specs.declared.messages.Body.{Body}
-use Rattle.rc_types.specs.declared.messages.Body.TheVariants.{Write, Read, ReadOk, Enlist}
-use Rattle.rc_model.specs.Ids.{is_server}
-use Rattle.rc_model.specs.Tables.{put}
-use Rattle.rc_model.specs.Messages.{to_coordinator, to_outside}
-use Rattle.rc_model.specs.Versions.{Found, read_of}
-use Rattle.rc_model.specs.Backup.{Backup, backup_takes}
-use Rattle.rc_model.specs.Ownership.{term_of}
-use Rattle.rc_model.specs.Master.{Master, durable_entries}
+use Rattle.rc_model.specs.Model.{ServerId, Addr, Server, Outside, Setup, Event, Message, Body, Write, Read, ReadOk, Enlist, is_server}
+use Rattle.rc_model.specs.Model.{put, to_coordinator, to_outside, Found, read_of, Backup, backup_takes, term_of, Master, durable_entries}
+use Rattle.rc_model.specs.Model.{then_does, reads_if_owned, goes_on, master_takes_first, deposed_takes, master_takes, master_ticks, Work}
+use Rattle.rc_model.specs.Model.{Take, Create, Split, HostNode, outside_sends, coordinator_step, server_of, host_step, is_for_backup}
+use Rattle.rc_model.specs.Model.{with_backup, with_master, server_takes, takes_if_running, ticks_if_running, starts_host, next_server}
+use Rattle.rc_model.specs.Model.{World, opening, NodeName, TheOutside, TheCoordinator, TheHost, Job, work_of, is_possible, node_done}
+use Rattle.rc_model.specs.Model.{job_done, step, replay, In}
+use Rattle.rc_types.specs.declared.ids.Addr.TheVariants.{Coordinator as AtCoordinator}
 use Rattle.rc_model.specs.Coordinator.{Coordinator}
-use Rattle.rc_model.specs.ListRules.{then_does}
-use Rattle.rc_model.specs.Writing.{reads_if_owned}
-use Rattle.rc_model.specs.FollowUps.{goes_on}
-use Rattle.rc_model.specs.MasterStep.{master_takes_first, deposed_takes, master_takes, master_ticks}
-use Rattle.rc_model.specs.Nodes.{Work, Ask, Take, Tick, Start, Suspect, Decide, Create, Split, HostNode, outside_sends}
-use Rattle.rc_model.specs.Nodes.{coordinator_step, server_of, host_step, is_for_backup, with_backup, with_master}
-use Rattle.rc_model.specs.Nodes.{server_takes, takes_if_running, ticks_if_running, starts_host, next_server}
-use Rattle.rc_model.specs.World.{World, opening, NodeName, TheOutside, TheCoordinator, TheHost, Job, work_of}
-use Rattle.rc_model.specs.World.{is_possible, node_done, job_done, step, replay}
-use Rattle.rc_model.specs.Headline.{In}
+use Rattle.rc_model.specs.Nodes.{Ask, Tick, Start, Suspect, Decide}
 use Rattle.rc_model.proofs.Members.{In-right, In-append}
 use Rattle.rc_step_laws.specs.Moves.{MasterMoved, body_said, BackupMoved, backup_body_said, CoordinatorMoved, coordinator_body_said}
 use Rattle.rc_step_laws.proofs.MasterSteps.{master_takes_keeps, master_ticks_keeps}

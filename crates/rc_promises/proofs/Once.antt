@@ -2,19 +2,10 @@
 use Rattle.std.proofs.Common.{◌≡◌, ◌⊎◌, ℕ, ◌<◌, Bool, true, false, nat_eq, List, Some, slice_get, refl, sym, ap, ◌∙◌}
 use Rattle.std.proofs.Common.{subst, inl, inr, arith}
 use Rattle.std.proofs.lemmas.Bool.{eqb-true, eq-eqb}
-use Rattle.rc_types.specs.declared.ids.ServerId.{ServerId}
-use Rattle.rc_types.specs.declared.ids.Addr.TheVariants.{Server}
-use Rattle.rc_types.specs.declared.entries.Entry.{Entry}
-use Rattle.rc_types.specs.declared.kept.Grant.{Grant}
-use Rattle.rc_types.specs.declared.messages.Message.{Message}
-use Rattle.rc_model.specs.Recovered.{Ack}
-use Rattle.rc_model.specs.Master.{Master}
+use Rattle.rc_model.specs.Model.{ServerId, Server, Entry, Grant, Message, Ack, Master, HostNode, replay, HasAcknowledged, WasAcknowledged}
+use Rattle.rc_model.specs.Model.{HasMade}
 use Rattle.rc_model.specs.Coordinator.{Coordinator}
-use Rattle.rc_model.specs.Nodes.{HostNode}
-use Rattle.rc_model.specs.World.{replay}
-use Rattle.rc_model.specs.Headline.{HasAcknowledged, WasAcknowledged, HasMade}
-use Rattle.rc_step_laws.specs.Words.{log_in}
-use Rattle.rc_step_laws.specs.Facts.{IsWriteOk}
+use Rattle.rc_step_laws.specs.All.{log_in, IsWriteOk}
 use Rattle.rc_log_laws.proofs.Clauses.{made-is}
 use Rattle.rc_log_laws.proofs.Replays.{good-world}
 use Rattle.rc_write_laws.specs.AckClaims.{IsAsked}

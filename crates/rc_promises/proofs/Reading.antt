@@ -1,35 +1,14 @@
 -- A read misses no write that was acknowledged under an earlier term, or before it under its own.
-use Rattle.std.proofs.Common.{◌≡◌, ◌⊎◌, ◌≢◌, ℕ, zero, suc, ◌<◌, ◌≤◌, Bool, true, false, cond, ◌&&◌, IsTrue, List, []}
-use Rattle.std.proofs.Common.{◌∷◌, ◌++◌, length, map, filter, take, Option, Some, slice_get, refl, sym, ap, ◌∙◌, subst}
-use Rattle.std.proofs.Common.{inl, inr, arith}
+use Rattle.std.proofs.Common.{◌≡◌, ◌⊎◌, ◌≢◌, ℕ, zero, suc, ◌<◌, ◌≤◌, Bool, true, false, cond, ◌&&◌, IsTrue, List, [], ◌∷◌, ◌++◌, length}
+use Rattle.std.proofs.Common.{map, filter, take, Option, Some, slice_get, refl, sym, ap, ◌∙◌, subst, inl, inr, arith}
 use Rattle.std.proofs.lemmas.List.{take-append-le, length-append}
-use Rattle.rc_types.specs.declared.ids.ServerId.{ServerId}
-use Rattle.rc_types.specs.declared.ids.Addr.{Addr}
-use Rattle.rc_types.specs.declared.ids.Addr.TheVariants.{Server}
-use Rattle.rc_types.specs.declared.entries.Entry.{Entry}
-use Rattle.rc_types.specs.declared.rows.PlanRow.{PlanRow}
-use Rattle.rc_types.specs.declared.events.Setup.{Setup}
-use Rattle.rc_types.specs.declared.events.Event.{Event}
-use Rattle.rc_types.specs.declared.kept.Grant.{Grant}
-use Rattle.rc_types.specs.declared.messages.Message.{Message}
-use Rattle.rc_types.specs.declared.messages.Body.{Body}
-use Rattle.rc_types.specs.declared.messages.Body.TheVariants.{WriteOk}
-use Rattle.rc_model.specs.Made.{made}
-use Rattle.rc_model.specs.Recovered.{Ack, Accepted}
-use Rattle.rc_model.specs.Owners.{Granted, granted, covers, grants_of, IsBefore, previous, onward, IsEarlier}
-use Rattle.rc_model.specs.Base.{one_of, made_below, recovered_entries, base, is_carried}
-use Rattle.rc_model.specs.Durable.{is_stored_on_all, IsDurable}
-use Rattle.rc_model.specs.Log.{Log, LogPlace, places_of, entries_of}
-use Rattle.rc_model.specs.Versions.{Found, read_of}
-use Rattle.rc_model.specs.Ownership.{in_range, term_of, under_term}
-use Rattle.rc_model.specs.Master.{Master, durable_entries}
-use Rattle.rc_model.specs.FollowUps.{write_oks}
-use Rattle.rc_model.specs.Nodes.{factor_of}
-use Rattle.rc_model.specs.World.{World, replay, master_of}
-use Rattle.rc_model.specs.Headline.{In, HasMade, HasAcknowledged, WasAccepted, IsHeld}
+use Rattle.rc_model.specs.Model.{ServerId, Addr, Server, Entry, PlanRow, Setup, Event, Grant, Message, Body, WriteOk, made, Ack, Accepted}
+use Rattle.rc_model.specs.Model.{Granted, granted, covers, grants_of, IsBefore, previous, onward, IsEarlier, one_of, made_below}
+use Rattle.rc_model.specs.Model.{recovered_entries, base, is_carried, is_stored_on_all, IsDurable, Log, LogPlace, places_of, entries_of}
+use Rattle.rc_model.specs.Model.{Found, read_of, in_range, term_of, under_term, Master, durable_entries, write_oks, factor_of, World}
+use Rattle.rc_model.specs.Model.{replay, master_of, In, HasMade, HasAcknowledged, WasAccepted, IsHeld}
 use Rattle.rc_model.proofs.Members.{In-left, In-get, place_of, filter-In}
-use Rattle.rc_step_laws.specs.Words.{Begins, log_in}
-use Rattle.rc_step_laws.specs.Facts.{IsSafe, IsWriteOk}
+use Rattle.rc_step_laws.specs.All.{Begins, log_in, IsSafe, IsWriteOk}
 use Rattle.rc_step_laws.proofs.Logs.{get-log}
 use Rattle.rc_step_laws.proofs.Places.{IsOf, places_to-are, place-logged}
 use Rattle.rc_step_laws.proofs.Tests.{In-take, get-map}

@@ -1,8 +1,6 @@
 -- A run whose test names a sentence refutes it, and no run does.
 use Rattle.std.proofs.Common.{◌≡◌, ◌⊎◌, Bool, true, false, List, [], ◌++◌, refl, sym, ap, ◌∙◌, subst, inl, inr}
-use Rattle.rc_types.specs.declared.events.Event.{Event}
-use Rattle.rc_model.specs.Headline.{In}
-use Rattle.rc_model.specs.World.{World, opening, replay}
+use Rattle.rc_model.specs.Model.{Event, In, World, opening, replay}
 use Rattle.rc_model.proofs.Members.{In-append}
 use Rattle.rc_model.proofs.Tests.{true_false}
 use Rattle.rc_worked.specs.Sentences.{Run, Sentence, OneVersionOneWrite, WritesInTime, ReadsSeeWrites, unless, broken}

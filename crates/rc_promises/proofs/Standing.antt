@@ -1,18 +1,8 @@
 -- What stands in logs under the terms of a key: one entry for a version, and each later owner's writes above it.
 use Rattle.std.proofs.Common.{◌≡◌, ◌⊎◌, ℕ, ◌<◌, List, ◌∷◌, ◌++◌, Some, slice_get, refl, sym, ap, ◌∙◌, subst, inl, inr, arith}
-use Rattle.rc_types.specs.declared.ids.ServerId.{ServerId}
-use Rattle.rc_types.specs.declared.entries.Entry.{Entry}
-use Rattle.rc_types.specs.declared.kept.Grant.{Grant}
-use Rattle.rc_types.specs.declared.messages.Message.{Message}
-use Rattle.rc_model.specs.Recovered.{Ack}
-use Rattle.rc_model.specs.Owners.{IsEarlier}
-use Rattle.rc_model.specs.Log.{places_of}
-use Rattle.rc_model.specs.Master.{Master}
+use Rattle.rc_model.specs.Model.{ServerId, Entry, Grant, Message, Ack, IsEarlier, places_of, Master, HostNode, In, HasAcknowledged}
 use Rattle.rc_model.specs.Coordinator.{Coordinator}
-use Rattle.rc_model.specs.Nodes.{HostNode}
-use Rattle.rc_model.specs.Headline.{In, HasAcknowledged}
-use Rattle.rc_step_laws.specs.Words.{log_in}
-use Rattle.rc_step_laws.specs.Facts.{IsSafe}
+use Rattle.rc_step_laws.specs.All.{log_in, IsSafe}
 use Rattle.rc_owner_laws.specs.Parts.{logged}
 use Rattle.rc_owner_laws.specs.Worlds.{AllHold}
 use Rattle.rc_owner_laws.specs.VersionClaims.{MayFree}

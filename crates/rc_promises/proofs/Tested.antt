@@ -3,21 +3,9 @@ use Rattle.std.proofs.Common.{◌≡◌, ◌⊎◌, ℕ, ◌<◌, ◌≤◌, Boo
 use Rattle.std.proofs.Common.{List, [], ◌∷◌, ◌++◌, Option, refl, sym, ap, ◌∙◌, subst, inl, inr, append_assoc}
 use Rattle.std.specs.List.{list_any, list_all}
 use Rattle.std.proofs.lemmas.Bool.{eq-eqb, eqb-true, lt-ltb, le-leb, and_parts, and_from, or_left, or_right}
-use Rattle.rc_types.specs.declared.ids.ServerId.{ServerId}
-use Rattle.rc_types.specs.declared.ids.Addr.{Addr}
-use Rattle.rc_types.specs.declared.ids.Addr.TheVariants.{Server, Outside}
-use Rattle.rc_types.specs.declared.entries.Entry.{Entry}
-use Rattle.rc_types.specs.declared.events.Setup.{Setup}
-use Rattle.rc_types.specs.declared.events.Event.{Event}
-use Rattle.rc_types.specs.declared.messages.Message.{Message}
-use Rattle.rc_types.specs.declared.messages.Body.{Body}
-use Rattle.rc_types.specs.declared.messages.Body.TheVariants.{Write, WriteOk, ReadOk}
-use Rattle.rc_model.specs.Ids.{same_id, is_server}
-use Rattle.rc_model.specs.Made.{made}
-use Rattle.rc_model.specs.Recovered.{Ack}
-use Rattle.rc_model.specs.Owners.{granted, covers, grants_of, IsEarlier, is_earlier}
-use Rattle.rc_model.specs.Breach.{same_value}
-use Rattle.rc_model.specs.Headline.{In, HasMade, HasAcknowledged}
+use Rattle.rc_model.specs.Model.{ServerId, Addr, Server, Outside, Entry, Setup, Event, Message, Body, Write, WriteOk, ReadOk, same_id}
+use Rattle.rc_model.specs.Model.{is_server, made, Ack, granted, covers, grants_of, IsEarlier, is_earlier, same_value, In, HasMade}
+use Rattle.rc_model.specs.Model.{HasAcknowledged}
 use Rattle.rc_model.proofs.Befores.{is_before-finds, is_before-found}
 use Rattle.rc_model.proofs.Members.{In-append, In-left, In-right, In-get}
 use Rattle.rc_model.proofs.Said.{is_server-from, HasMade-from}

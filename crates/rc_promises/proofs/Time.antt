@@ -1,23 +1,10 @@
 -- Writes are ordered as time orders them.
 use Rattle.std.proofs.Common.{◌≡◌, ◌⊎◌, ℕ, ◌<◌, true, List, [], ◌∷◌, ◌++◌, Some, slice_get, refl, sym, ap, ◌∙◌, subst, inl, inr, arith}
-use Rattle.rc_types.specs.declared.ids.ServerId.{ServerId}
-use Rattle.rc_types.specs.declared.ids.Addr.{Addr}
-use Rattle.rc_types.specs.declared.ids.Addr.TheVariants.{Server}
-use Rattle.rc_types.specs.declared.entries.Entry.{Entry}
-use Rattle.rc_types.specs.declared.events.Setup.{Setup}
-use Rattle.rc_types.specs.declared.events.Event.{Event}
-use Rattle.rc_types.specs.declared.kept.Grant.{Grant}
-use Rattle.rc_model.specs.Recovered.{Ack, Accepted}
-use Rattle.rc_model.specs.Owners.{Granted, grants_of, IsBefore, previous, onward, IsEarlier}
-use Rattle.rc_model.specs.Messages.{from_coordinator}
-use Rattle.rc_model.specs.Log.{places_of}
-use Rattle.rc_model.specs.Ownership.{in_range}
-use Rattle.rc_model.specs.Deciding.{own_body}
-use Rattle.rc_model.specs.World.{World, replay}
-use Rattle.rc_model.specs.Headline.{In, HasAcknowledged, WasAccepted}
+use Rattle.rc_model.specs.Model.{ServerId, Addr, Server, Entry, Setup, Event, Grant, Ack, Accepted, Granted, grants_of, IsBefore}
+use Rattle.rc_model.specs.Model.{previous, onward, IsEarlier, from_coordinator, places_of, in_range, own_body, World, replay, In}
+use Rattle.rc_model.specs.Model.{HasAcknowledged, WasAccepted}
 use Rattle.rc_model.proofs.Members.{In-left, In-get, place_of}
-use Rattle.rc_step_laws.specs.Words.{Begins, log_in}
-use Rattle.rc_step_laws.specs.Facts.{IsWriteOk}
+use Rattle.rc_step_laws.specs.All.{Begins, log_in, IsWriteOk}
 use Rattle.rc_step_laws.proofs.Logs.{get-log}
 use Rattle.rc_step_laws.proofs.Places.{IsOf, places_to-are, place-logged, places-later}
 use Rattle.rc_log_laws.proofs.Clauses.{made-is, accepted-is}

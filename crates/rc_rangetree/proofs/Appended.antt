@@ -4,12 +4,8 @@ use Rattle.std.proofs.Common.{length, nat_eq, nat_lt, Option, Some, None, refl, 
 use Rattle.std.proofs.Math.Bool.{or_assoc}
 use Rattle.std.proofs.lemmas.Bool.{or_from, lt-ltb, le-ltb}
 use Rattle.std.proofs.lemmas.Bool.Decides.{nat_tests}
-use Rattle.rc_types.specs.declared.ids.ServerId.{ServerId}
-use Rattle.rc_types.specs.declared.rows.Tablet.{Tablet}
-use Rattle.rc_types.specs.declared.rows.KeyRange.{KeyRange}
-use Rattle.rc_model.specs.Ids.{same_id}
-use Rattle.rc_model.specs.Tablets.{holds, tablet_of, has_table, tablets_of, insert_tablet, mark_if_owned}
-use Rattle.rc_model.specs.Tablets.{marked_crashed, count_to_mark, split_at, is_range, has_range, assigned}
+use Rattle.rc_model.specs.Model.{ServerId, Tablet, KeyRange, same_id, holds, tablet_of, has_table, tablets_of, insert_tablet}
+use Rattle.rc_model.specs.Model.{mark_if_owned, marked_crashed, count_to_mark, split_at, is_range, has_range, assigned}
 use Rattle.rc_rangetree.specs.declared.points.Point.{Point}
 use Rattle.rc_rangetree.specs.Points.{BeginsAt}
 use Rattle.rc_rangetree.specs.Ranges.{LiesBefore, AreInOrder}

@@ -1,10 +1,7 @@
 -- Each change of a tree's root leaves a tree.
 use Rattle.std.proofs.Common.{◌≡◌, ℕ, ◌+◌, ◌<◌, ◌≤◌, false, List, length, Some, sym, ap, ◌∙◌, subst, arith}
-use Rattle.rc_types.specs.declared.ids.ServerId.{ServerId}
-use Rattle.rc_types.specs.declared.rows.Tablet.{Tablet}
-use Rattle.rc_types.specs.declared.rows.KeyRange.{KeyRange}
-use Rattle.rc_model.specs.Tablets.{tablet_of, has_table, whole_table, with_table, marked_crashed, split_at, assigned}
-use Rattle.rc_types.specs.declared.limits.TheConstants.{MAX_TABLETS}
+use Rattle.rc_model.specs.Model.{ServerId, Tablet, KeyRange, tablet_of, has_table, whole_table, with_table, marked_crashed, split_at}
+use Rattle.rc_model.specs.Model.{assigned, MAX_TABLETS}
 use Rattle.rc_rangetree.specs.declared.limits.TheConstants.{MAX_FORKS}
 use Rattle.rc_rangetree.specs.declared.nodes.Node.{Node}
 use Rattle.rc_rangetree.specs.Ranges.{AreInOrder, CoverTables}

@@ -4,12 +4,8 @@ use Rattle.std.proofs.Common.{nat_lt, Option, Some, None, refl, sym, ◌∙◌, 
 use Rattle.std.specs.Prelude.{is_some}
 use Rattle.std.proofs.lemmas.Bool.{cases_lt, cases_eq, eq-eqb, ne_eqb, or_parts, or_left, eqb-false, lt-ltb, le-ltb}
 use Rattle.std.proofs.lemmas.Bool.Decides.{nat_tests}
-use Rattle.rc_types.specs.declared.ids.ServerId.{ServerId}
-use Rattle.rc_types.specs.declared.rows.Tablet.{Tablet}
-use Rattle.rc_types.specs.declared.rows.KeyRange.{KeyRange}
-use Rattle.rc_model.specs.Ids.{same_id}
-use Rattle.rc_model.specs.Tablets.{holds, tablet_of, has_table, insert_tablet, whole_table, with_table, marked_crashed}
-use Rattle.rc_model.specs.Tablets.{split_at, is_range, assigned}
+use Rattle.rc_model.specs.Model.{ServerId, Tablet, KeyRange, same_id, holds, tablet_of, has_table, insert_tablet, whole_table, with_table}
+use Rattle.rc_model.specs.Model.{marked_crashed, split_at, is_range, assigned}
 use Rattle.rc_rangetree.specs.Ranges.{Follows, CoversFrom, CoverTables, LiesBefore, LiesBeforeAll, AreInOrder}
 
 lies_before : (x y : Tablet) → Follows x y → LiesBefore x y

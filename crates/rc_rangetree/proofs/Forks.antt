@@ -3,10 +3,8 @@ use Rattle.std.proofs.Common.{◌≡◌, ℕ, ◌+◌, ◌<◌, ◌≤◌, Bool,
 use Rattle.std.proofs.Common.{ap, ◌∙◌, subst, arith, append_assoc, length-append}
 use Rattle.std.proofs.lemmas.Bool.{or_parts}
 use Rattle.std.proofs.Math.Bool.{or-false}
-use Rattle.rc_types.specs.declared.ids.ServerId.{ServerId}
-use Rattle.rc_types.specs.declared.rows.Tablet.{Tablet}
-use Rattle.rc_types.specs.declared.rows.KeyRange.{KeyRange}
-use Rattle.rc_model.specs.Tablets.{tablet_of, tablets_of, has_table, insert_tablet, count_to_mark, split_at, has_range, assigned}
+use Rattle.rc_model.specs.Model.{ServerId, Tablet, KeyRange, tablet_of, tablets_of, has_table, insert_tablet, count_to_mark, split_at}
+use Rattle.rc_model.specs.Model.{has_range, assigned}
 use Rattle.rc_rangetree.specs.declared.points.Point.{Point}
 use Rattle.rc_rangetree.specs.declared.nodes.Node.{Node}
 use Rattle.rc_rangetree.specs.declared.nodes.Node.TheVariants.{Fork}

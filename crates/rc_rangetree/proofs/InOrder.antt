@@ -1,8 +1,7 @@
 -- Tablets in order, round a point at which some of them begin.
 use Rattle.std.proofs.Common.{◌≡◌, ℕ, ◌≤◌, Bool, true, false, cond, List, [], ◌∷◌, ◌++◌, Option, Some, None, refl, subst, arith}
 use Rattle.std.proofs.lemmas.Bool.Decides.{nat_tests}
-use Rattle.rc_types.specs.declared.rows.Tablet.{Tablet}
-use Rattle.rc_model.specs.Tablets.{holds, tablet_of}
+use Rattle.rc_model.specs.Model.{Tablet, holds, tablet_of}
 use Rattle.rc_rangetree.specs.declared.points.Point.{Point}
 use Rattle.rc_rangetree.specs.Points.{IsBefore, IsAtOrAfter, BeginsAt}
 use Rattle.rc_rangetree.specs.Ranges.{LiesBefore, LiesBeforeAll, AreInOrder}

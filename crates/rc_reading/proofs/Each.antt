@@ -3,10 +3,7 @@ use Rattle.std.proofs.Common.{◌≡◌, ℕ, ◌+◌, List, [], ◌∷◌, ◌+
 use Rattle.std.proofs.Common.{◌∙◌, sym, arith, append_assoc, append-nil, length-append}
 use Rattle.serde_json.specs.Data.{Data, Items}
 use Rattle.rc_reading.specs.declared.scenarios.ScenarioEvent.{ScenarioEvent}
-use Rattle.rc_reading.specs.Values.{each, listed}
-use Rattle.rc_reading.specs.Scenario.{event_of, events_of, one_event_more}
-use Rattle.rc_reading.specs.Whole.{event_added}
-use Rattle.rc_reading.specs.Ahead.{taken_from}
+use Rattle.rc_reading.specs.All.{each, listed, event_of, events_of, one_event_more, event_added, taken_from}
 
 abbrev Events : Type 0
 Events = Result (List ScenarioEvent) ℕ

@@ -6,11 +6,10 @@ use Rattle.json.proofs.Grammar.{left_some}
 use Rattle.serde_json.specs.Data.{Num, Data, number, array, object, Items, Members, no_members}
 use Rattle.serde_json.specs.Read.{number_of}
 use Rattle.serde_json.specs.Find.{as_u64, as_object}
-use Rattle.rc_reading.specs.Values.{listed, list_of, addr_of, id_in}
+use Rattle.rc_reading.specs.All.{listed, list_of, addr_of, id_in, Said, said_of, both_of, begins_object, data_at, items_at, members_at}
+use Rattle.rc_reading.specs.All.{told, says, rest}
 use Rattle.rc_types.specs.declared.ids.ServerId.{ServerId}
 use Rattle.rc_types.specs.declared.ids.Addr.TheVariants.{Server}
-use Rattle.rc_reading.specs.Said.{Said, said_of, both_of, begins_object}
-use Rattle.rc_reading.specs.Ahead.{data_at, items_at, members_at, told, says, rest}
 use Rattle.rc_reading.proofs.Turns.{opened_list, opened_object}
 use Rattle.rc_reading.proofs.Passing.{at_string, at_bool, at_null, at_number, at_end_object, at_end_array, at_key}
 use Rattle.rc_reading.proofs.Passing.{at_bad, too_deep_list, too_deep_object}

@@ -11,15 +11,10 @@ use Rattle.rc_reading.specs.declared.fields.Fields.{Fields}
 use Rattle.rc_reading.specs.declared.names.EventName.{EventName}
 use Rattle.rc_reading.specs.declared.names.EventName.TheVariants as event
 use Rattle.rc_reading.specs.declared.scenarios.ScenarioEvent.TheVariants.{Stop, Suspect, Decide}
-use Rattle.rc_reading.specs.Kinds.{no_kinds}
-use Rattle.rc_reading.specs.Hosts.{no_hosts}
-use Rattle.rc_reading.specs.Names.{start_members, id_members, write_members, read_members, deliver_members}
-use Rattle.rc_reading.specs.Names.{settle_members, create_members, split_members}
-use Rattle.rc_reading.specs.Values.{is_one_of, only, field, host_of, table_of, key_of, message_of, id_of, addr_of}
-use Rattle.rc_reading.specs.Values.{kept_of, kinds_of, hosts_of, written, event_name}
-use Rattle.rc_reading.specs.Scenario.{event_of, event_by}
-use Rattle.rc_reading.specs.Fields.{member_named, noted, fields_of, server_in, event_from, event_in}
-use Rattle.rc_reading.specs.Ahead.{told, says, members_at}
+use Rattle.rc_reading.specs.All.{no_kinds, no_hosts, start_members, id_members, write_members, read_members, deliver_members}
+use Rattle.rc_reading.specs.All.{settle_members, create_members, split_members, is_one_of, only, field, host_of, table_of, key_of}
+use Rattle.rc_reading.specs.All.{message_of, id_of, addr_of, kept_of, kinds_of, hosts_of, written, event_name, event_of, event_by}
+use Rattle.rc_reading.specs.All.{member_named, noted, fields_of, server_in, event_from, event_in, told, says, members_at}
 use Rattle.rc_reading.proofs.Turns.{told_of, says_some, opened_object}
 use Rattle.rc_reading.proofs.Puts.{field_put, optional_put, only_put, either}
 

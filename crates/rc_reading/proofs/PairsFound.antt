@@ -2,9 +2,8 @@
 use Rattle.std.proofs.Common.{◌≡◌, List, [], ◌∷◌, Option, Some, None, refl}
 use Rattle.serde_json.specs.Data.{Data, Items}
 use Rattle.rc_reading.specs.declared.pairs.Pair.TheVariants.{Nothing, More}
-use Rattle.rc_reading.specs.Values.{each, listed, id_in, name_in, host_of, id_of}
-use Rattle.rc_reading.specs.Pairs.{generation_of, kept_segment_of, paired, both_in, server_id, replica_name, id_item, name_item}
-use Rattle.rc_reading.specs.Ahead.{taken_from}
+use Rattle.rc_reading.specs.All.{each, listed, id_in, name_in, host_of, id_of, generation_of, kept_segment_of, paired, both_in, server_id}
+use Rattle.rc_reading.specs.All.{replica_name, id_item, name_item, taken_from}
 
 more_stays : {A B : Type 0} (first : Data → A) (second : Data → B) (ds : List Data) →
     each (λ pair d. Some (paired first second pair d)) More ds ≡ Some More

@@ -7,9 +7,7 @@ use Rattle.rc_types.specs.declared.limits.TheConstants.{MAX_HOSTS}
 use Rattle.rc_reading.specs.declared.hosts.Hosts.{Hosts}
 use Rattle.rc_reading.specs.declared.kinds.Kind.{Kind}
 use Rattle.rc_reading.specs.declared.kinds.Kind.TheVariants as kind
-use Rattle.rc_reading.specs.Bits.{with_bit, has_bit}
-use Rattle.rc_reading.specs.Hosts.{has_host, with_host}
-use Rattle.rc_reading.specs.Kinds.{kind_place, all_kinds}
+use Rattle.rc_reading.specs.All.{with_bit, has_bit, has_host, with_host, kind_place, all_kinds}
 use Rattle.rc_reading.proofs.Puts.{either}
 
 one_bit : (n : ℕ) → max (n % 2) 1 ≡ 1

@@ -7,8 +7,7 @@ use Rattle.json.specs.Json.{if_last, value}
 use Rattle.serde_json.specs.Data.{Data}
 use Rattle.serde_json.specs.Read.{of_json, converted, read}
 use Rattle.rc_reading.specs.declared.scenarios.Scenario.{Scenario}
-use Rattle.rc_reading.specs.Scenario.{of_value, of_text, scenario_of}
-use Rattle.rc_reading.specs.Ahead.{data_at, says}
+use Rattle.rc_reading.specs.All.{of_value, of_text, scenario_of, data_at, says}
 use Rattle.rc_reading.proofs.Turns.{converted_some, refused, says_some}
 
 abbrev whole : Option (json.Json × List Token) → Option Data

@@ -7,11 +7,9 @@ use Rattle.rc_types.specs.declared.events.Setup.{Setup}
 use Rattle.serde_json.specs.Data.{Data, null, boolean, number, string, array, object, Members, no_members, put}
 use Rattle.serde_json.specs.Find.{get, as_bool, as_object}
 use Rattle.rc_reading.specs.declared.whole.Top.{Top}
-use Rattle.rc_reading.specs.Names.{first_members, second_members}
-use Rattle.rc_reading.specs.Values.{is_one_of, field, whole, list_of, factor_of, factors_of}
-use Rattle.rc_reading.specs.Scenario.{segment_of, events_of, setup_by, setup_of, scenario_in, scenario_of}
-use Rattle.rc_reading.specs.Whole.{top_named, top_noted, top_of, events_list, first_in, second_in, scenario_from, scenario_by}
-use Rattle.rc_reading.specs.Ahead.{told, says, members_at}
+use Rattle.rc_reading.specs.All.{first_members, second_members, is_one_of, field, whole, list_of, factor_of, factors_of, segment_of}
+use Rattle.rc_reading.specs.All.{events_of, setup_by, setup_of, scenario_in, scenario_of, top_named, top_noted, top_of, events_list}
+use Rattle.rc_reading.specs.All.{first_in, second_in, scenario_from, scenario_by, told, says, members_at}
 use Rattle.rc_reading.proofs.Turns.{told_of, says_some, opened_object}
 use Rattle.rc_reading.proofs.Puts.{field_put, only_put, either}
 

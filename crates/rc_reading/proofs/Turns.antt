@@ -8,8 +8,7 @@ use Rattle.json.proofs.Grammar.{left, value-begin_array, value-begin_object, ite
 use Rattle.json.proofs.Grammar.{members_end, members_no_key, members_more, Takes, skip_value-shorter, read_key-shorter}
 use Rattle.serde_json.specs.Data.{Data, array, object, Items, no_items, item, Members, no_members, put}
 use Rattle.serde_json.specs.Read.{of_json, of_items, of_members, converted}
-use Rattle.rc_reading.specs.Values.{listed}
-use Rattle.rc_reading.specs.Ahead.{data_at, items_at, members_at, told, says, taken_from, folds}
+use Rattle.rc_reading.specs.All.{listed, data_at, items_at, members_at, told, says, taken_from, folds}
 
 -- ---- the bound on the turns plays no part
 

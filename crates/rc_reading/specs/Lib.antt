@@ -11,3 +11,4 @@ pub mod Lists
 pub mod Fields
 pub mod Whole
 pub mod Claims
+pub mod All

@@ -1,7 +1,6 @@
 -- That a replica's new entries begin with its old ones.
 use Rattle.std.proofs.Common.{ℕ, ◌-◌, Bool, true, false, cond, not, nat_lt, nat_le, ◌&&◌, List, [], length, drop, refl, rules}
-use Rattle.rc_types.specs.declared.entries.Entry.{Entry}
-use Rattle.rc_model.specs.Replica.{Replica, placed, placed_open, appended, grown}
+use Rattle.rc_model.specs.Model.{Entry, Replica, placed, placed_open, appended, grown}
 use Rattle.rc_replica.specs.Laws.{IsBeginning}
 
 -- a list is its own beginning

@@ -3,15 +3,10 @@ use Rattle.std.proofs.Common.{◌≡◌, ◌⊎◌, inl, inr, ◌≤◌, ◌<◌
 use Rattle.std.proofs.Common.{List, [], ◌∷◌, length, Some, None, Ok, Err, refl, sym, ap, ◌∙◌, arith, true≢false}
 use Rattle.std.proofs.Common.{length-append, drop, is_some, slice_get, drop_of_length-le, unwrap_or, if◌then◌else◌}
 use Rattle.std.proofs.lemmas.List.{length-drop}
-use Rattle.rc_types.specs.declared.events.Event.{Event}
-use Rattle.rc_types.specs.declared.events.Event.TheVariants.{Deliver}
-use Rattle.rc_types.specs.declared.faults.Fault.{Fault}
+use Rattle.rc_model.specs.Model.{Event, Deliver, Fault, MAX_EVENTS, Message, World, delivery, is_possible_job, step, is_possible, Addr}
+use Rattle.rc_model.specs.Model.{Server, Outside}
 use Rattle.rc_types.specs.declared.faults.Fault.TheVariants.{OutOfMemory, BadEvent}
-use Rattle.rc_types.specs.declared.limits.TheConstants.{MAX_EVENTS}
-use Rattle.rc_types.specs.declared.messages.Message.{Message}
-use Rattle.rc_model.specs.World.{World, delivery, is_possible_job, step, is_possible}
-use Rattle.rc_types.specs.declared.ids.Addr.{Addr}
-use Rattle.rc_types.specs.declared.ids.Addr.TheVariants.{Server, Coordinator, Outside}
+use Rattle.rc_types.specs.declared.ids.Addr.TheVariants.{Coordinator}
 use Rattle.rc_scenes.specs.declared.passing.Passing.{Passing}
 use Rattle.rc_scenes.specs.Settling.{events_left, is_due, next_due, due_from, pass}
 use Rattle.rc_world.specs.Happened.{Happened, replayed, with_events, can_happen}

@@ -1,12 +1,9 @@
 -- The events of a scenario, one after another.
-use Rattle.std.proofs.Common.{◌≡◌, ◌⊎◌, inl, inr, ◌<◌, ℕ, ◌+◌, Bool, true, false, nat_lt, ◌&&◌, if◌then◌else◌, List}
-use Rattle.std.proofs.Common.{[], ◌∷◌, length, Some, Result, Ok, Err, OnOk, IfErr, OnErr, drop, refl, sym, ap}
-use Rattle.std.proofs.Common.{◌∙◌, suc, slice_index_or, arith}
+use Rattle.std.proofs.Common.{◌≡◌, ◌⊎◌, inl, inr, ◌<◌, ℕ, ◌+◌, Bool, true, false, nat_lt, ◌&&◌, if◌then◌else◌, List, [], ◌∷◌, length}
+use Rattle.std.proofs.Common.{Some, Result, Ok, Err, OnOk, IfErr, OnErr, drop, refl, sym, ap, ◌∙◌, suc, slice_index_or, arith}
 use Rattle.std.proofs.Math.Seq.{drop-cons}
-use Rattle.rc_types.specs.declared.events.Event.{Event}
-use Rattle.rc_types.specs.declared.faults.Fault.{Fault}
+use Rattle.rc_model.specs.Model.{Event, Fault, World, step, is_possible}
 use Rattle.rc_types.specs.declared.faults.Fault.TheVariants.{OutOfMemory, BadEvent}
-use Rattle.rc_model.specs.World.{World, step, is_possible}
 use Rattle.rc_reading.specs.declared.scenarios.ScenarioEvent.{ScenarioEvent}
 use Rattle.rc_reading.specs.declared.scenarios.ScenarioEvent.TheVariants as scene
 use Rattle.rc_reading.specs.declared.hosts.Hosts.{Hosts}

@@ -1,13 +1,9 @@
 -- One event more: the mail still fits the world.
-use Rattle.std.proofs.Common.{◌≡◌, ◌≤◌, ◌<◌, ℕ, Bool, true, false, nat_lt, ◌&&◌, cond, List, [], ◌∷◌, ◌++◌, length}
-use Rattle.std.proofs.Common.{Option, Some, None, slice_get, refl, sym, ap, subst, ◌∙◌, arith, true≢false}
-use Rattle.std.proofs.Common.{length-append}
+use Rattle.std.proofs.Common.{◌≡◌, ◌≤◌, ◌<◌, ℕ, Bool, true, false, nat_lt, ◌&&◌, cond, List, [], ◌∷◌, ◌++◌, length, Option, Some, None}
+use Rattle.std.proofs.Common.{slice_get, refl, sym, ap, subst, ◌∙◌, arith, true≢false, length-append}
 use Rattle.std.proofs.lemmas.Option.{slice_get_within}
-use Rattle.rc_types.specs.declared.events.Event.{Event}
+use Rattle.rc_model.specs.Model.{Event, MAX_EVENTS, Message, World, opening, step, is_possible}
 use Rattle.rc_types.specs.declared.events.Event.TheVariants as event
-use Rattle.rc_types.specs.declared.limits.TheConstants.{MAX_EVENTS}
-use Rattle.rc_types.specs.declared.messages.Message.{Message}
-use Rattle.rc_model.specs.World.{World, opening, step, is_possible}
 use Rattle.rc_model.proofs.Replays.{replay_from-push, noted, sent_more-step}
 use Rattle.rc_scenes.specs.Delivered.{delivers}
 use Rattle.rc_scenes.specs.Letters.{Letters, Waits, HasNoted}

@@ -1,10 +1,6 @@
 -- A coordinator's book is read back, and nothing else is.
 use Rattle.std.proofs.Common.{ℕ, Bool, List, ◌++◌, refl}
-use Rattle.rc_types.specs.declared.ids.Pair.{Pair}
-use Rattle.rc_types.specs.declared.ids.ServerId.{ServerId}
-use Rattle.rc_types.specs.declared.kept.Grant.{Grant}
-use Rattle.rc_types.specs.declared.rows.Tablet.{Tablet}
-use Rattle.rc_model.specs.Attempts.{Attempt}
+use Rattle.rc_model.specs.Model.{Pair, ServerId, Grant, Tablet, Attempt}
 use Rattle.rc_codec.specs.Parts.{four_bytes, listed}
 use Rattle.rc_codec.specs.Reading.{◌⊗◌}
 use Rattle.rc_codec.specs.Spelling.{id_code, row_code, plan_row_code, part_code, pair_code, tablet_code, range_code, grant_code, up_code}

@@ -7,8 +7,7 @@ use Rattle.std.specs.Map.{keys_of}
 use Rattle.std.specs.Ordering.{nat_cmp, is_lt}
 use Rattle.std.proofs.lemmas.Bool.{ltb-false}
 use Rattle.std.proofs.lemmas.Map.Keys.{sorted_head, sorted_tail, below_from_sorted}
-use Rattle.rc_types.specs.declared.ids.ServerId.{ServerId}
-use Rattle.rc_model.specs.Backup.{Held}
+use Rattle.rc_model.specs.Model.{ServerId, Held}
 use Rattle.rc_backup.specs.BackupView.{id_order}
 use Rattle.rc_saves.specs.Order.{IsHeldInOrder, AreHeldInOrder, IsInOrder, goes_first, goes_lowest}
 

@@ -3,8 +3,7 @@
 use Rattle.std.proofs.Common.{◌≡◌, ◌<◌, ◌≤◌, Bool, true, false, cond, Some, None, List, [], ◌∷◌}
 use Rattle.std.proofs.Common.{◌++◌, drop, ℕ, refl, sym, ap, ◌∙◌, subst, arith}
 use Rattle.std.proofs.lemmas.List.{drop_at}
-use Rattle.rc_model.specs.Master.{Master, new_master}
-use Rattle.rc_model.specs.Nodes.{is_some_master, runs}
+use Rattle.rc_model.specs.Model.{Master, new_master, is_some_master, runs}
 use Rattle.rc_history.specs.Remade.{SameButMaster}
 use Rattle.rc_coordinator.specs.Book.{Book, coordinator_of}
 use Rattle.rc_world.specs.HostView.{HostData, host_of}

@@ -2,12 +2,7 @@
 use Rattle.std.proofs.Common.{◌≡◌, ℕ, ◌+◌, ◌<◌, List, [], ◌∷◌, ◌++◌, length, get_or, take, Option, sym, ap, ◌∙◌, append_assoc}
 use Rattle.std.specs.List.{flat_map}
 use Rattle.std.proofs.lemmas.List.{take_more, flat_map_more}
-use Rattle.rc_types.specs.declared.ids.Pair.{Pair}
-use Rattle.rc_types.specs.declared.ids.ServerId.{ServerId}
-use Rattle.rc_types.specs.declared.kept.Grant.{Grant}
-use Rattle.rc_types.specs.declared.rows.Row.{Row}
-use Rattle.rc_model.specs.Attempts.{Decision, Attempt}
-use Rattle.rc_model.specs.ServerList.{ServerList}
+use Rattle.rc_model.specs.Model.{Pair, ServerId, Grant, Row, Decision, Attempt, ServerList}
 use Rattle.rc_codec.specs.Parts.{four_bytes, eight_bytes, optional, listed}
 use Rattle.rc_codec.specs.Spelling.{id_code, tablet_code, grant_code, up_code}
 use Rattle.rc_coordinator.specs.Book.{Book}

@@ -1,8 +1,7 @@
 -- Lanes of numbers, and the least number in them that is due.
-use Rattle.std.proofs.Common.{◌≡◌, ◌⊎◌, inl, inr, ◌≤◌, ◌<◌, ℕ, ◌+◌, zero, suc, Bool, true, false, not, nat_lt, cond}
-use Rattle.std.proofs.Common.{List, [], ◌∷◌, ◌++◌, length, drop, take, filter, Option, Some, None, slice_get, slice_set, refl}
-use Rattle.std.proofs.Common.{sym, ap, ◌∙◌, arith, true≢false, subst}
-use Rattle.std.proofs.Common.{◌-◌, length-drop}
+use Rattle.std.proofs.Common.{◌≡◌, ◌⊎◌, inl, inr, ◌≤◌, ◌<◌, ℕ, ◌+◌, zero, suc, Bool, true, false, not, nat_lt, cond, List, [], ◌∷◌, ◌++◌}
+use Rattle.std.proofs.Common.{length, drop, take, filter, Option, Some, None, slice_get, slice_set, refl, sym, ap, ◌∙◌, arith, true≢false}
+use Rattle.std.proofs.Common.{subst, ◌-◌, length-drop}
 use Rattle.std.proofs.lemmas.List.{take_all}
 use Rattle.std.specs.List.{find}
 use Rattle.rc_types.specs.declared.ids.Addr.{Addr}

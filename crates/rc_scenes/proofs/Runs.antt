@@ -1,11 +1,7 @@
 -- A scenario's run is a run of the world.
-use Rattle.std.proofs.Common.{◌≡◌, ℕ, ◌+◌, ◌<◌, ◌≤◌, zero, suc, Bool, true, false, nat_lt, ◌&&◌, if◌then◌else◌, cond}
-use Rattle.std.proofs.Common.{◌++◌, List, [], ◌∷◌, length, Option, Some, None, Result, Ok, Err, refl, sym, ap, ◌∙◌}
-use Rattle.std.proofs.Common.{arith, length-append}
-use Rattle.rc_types.specs.declared.events.Setup.{Setup}
-use Rattle.rc_types.specs.declared.events.Event.{Event}
-use Rattle.rc_types.specs.declared.events.Event.TheVariants.{Deliver}
-use Rattle.rc_model.specs.World.{World, opening, step, is_possible, job_done, work_of, replay}
+use Rattle.std.proofs.Common.{◌≡◌, ℕ, ◌+◌, ◌<◌, ◌≤◌, zero, suc, Bool, true, false, nat_lt, ◌&&◌, if◌then◌else◌, cond, ◌++◌, List, [], ◌∷◌}
+use Rattle.std.proofs.Common.{length, Option, Some, None, Result, Ok, Err, refl, sym, ap, ◌∙◌, arith, length-append}
+use Rattle.rc_model.specs.Model.{Setup, Event, Deliver, World, opening, step, is_possible, job_done, work_of, replay}
 use Rattle.rc_model.proofs.Replays.{replay_from-push, noted}
 use Rattle.rc_scenes.specs.declared.passing.Passing.{Passing}
 use Rattle.rc_scenes.specs.Settling.{events_left, due_from, none_left, one_left, pass}

@@ -1,16 +1,13 @@
 -- Which messages are due, by the marks and the numbers that wait.
-use Rattle.std.proofs.Common.{◌≡◌, ◌≢◌, ◌⊎◌, inl, inr, ◌≤◌, ◌<◌, ℕ, ◌+◌, ◌-◌, zero, suc, Bool, true, false, not}
-use Rattle.std.proofs.Common.{nat_eq, nat_lt, max, ◌||◌, if◌then◌else◌, List, [], ◌∷◌, ◌++◌, length, drop}
-use Rattle.std.proofs.Common.{filter, Option, Some, None, slice_get, refl, sym, ap, ◌∙◌, arith, true≢false}
-use Rattle.std.proofs.Common.{slice_index_or, slice_set, is_some, subst, length-append}
+use Rattle.std.proofs.Common.{◌≡◌, ◌≢◌, ◌⊎◌, inl, inr, ◌≤◌, ◌<◌, ℕ, ◌+◌, ◌-◌, zero, suc, Bool, true, false, not, nat_eq, nat_lt, max}
+use Rattle.std.proofs.Common.{◌||◌, if◌then◌else◌, List, [], ◌∷◌, ◌++◌, length, drop, filter, Option, Some, None, slice_get, refl, sym}
+use Rattle.std.proofs.Common.{ap, ◌∙◌, arith, true≢false, slice_index_or, slice_set, is_some, subst, length-append}
 use Rattle.std.specs.Bool.{⊤}
 use Rattle.std.specs.List.{items_where_true, AllWithin}
 use Rattle.std.specs.List.Sorted.{IsPartitionedBy}
 use Rattle.std.specs.List.Retain.{ReturnsInTurn}
 use Rattle.std.proofs.lemmas.Option.{slice_get_within}
-use Rattle.rc_types.specs.declared.ids.Addr.TheVariants.{Outside}
-use Rattle.rc_types.specs.declared.messages.Message.{Message}
-use Rattle.rc_types.specs.declared.events.Event.{Event}
+use Rattle.rc_model.specs.Model.{Outside, Message, Event}
 use Rattle.rc_scenes.specs.declared.passing.Passing.{Passing}
 use Rattle.rc_scenes.specs.Delivered.{is_delivered}
 use Rattle.rc_scenes.specs.Settling.{next_due, due_from}

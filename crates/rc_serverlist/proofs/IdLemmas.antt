@@ -4,8 +4,7 @@ use Rattle.std.proofs.Common.{position, unwrap_or, refl, ap, ◌∙◌, arith}
 use Rattle.std.proofs.lemmas.Bool.Decides.{nat_tests}
 use Rattle.std.proofs.lemmas.List.Sums.{prefix_len-le-length}
 use Rattle.std.specs.List.{insert, position_or_len}
-use Rattle.rc_types.specs.declared.ids.ServerId.{ServerId}
-use Rattle.rc_model.specs.Ids.{same_id, id_before, insert_id}
+use Rattle.rc_model.specs.Model.{ServerId, same_id, id_before, insert_id}
 
 -- ids with the same parts are one
 same_parts : (a b : ServerId) → a.index ≡ b.index → a.generation ≡ b.generation → a ≡ b

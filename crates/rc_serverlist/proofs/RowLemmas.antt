@@ -9,9 +9,7 @@ use Rattle.std.specs.Map.{keys_of, lookup, set_value}
 use Rattle.std.proofs.lemmas.List.{take_at, drop_at}
 use Rattle.std.proofs.lemmas.Map.Keys.{IsDistinct-head, IsDistinct-tail}
 use Rattle.indexmap.specs.IndexMap.{insert_entry, insert_all, set_value_at}
-use Rattle.rc_types.specs.declared.ids.ServerId.{ServerId}
-use Rattle.rc_model.specs.Ids.{same_id}
-use Rattle.rc_model.specs.ServerList.{knows, marked_up, is_newest, index_crashed, id_crashed, first_rows}
+use Rattle.rc_model.specs.Model.{ServerId, same_id, knows, marked_up, is_newest, index_crashed, id_crashed, first_rows}
 use Rattle.rc_serverlist.proofs.IdLemmas.{same_id-true, same_id-sym}
 
 abbrev pub Rows : Type 0

@@ -1,16 +1,12 @@
 -- What comes of a scenario's run, as it ended or stopped.
-use Rattle.std.proofs.Common.{◌≡◌, ◌⊎◌, inl, inr, ◌≤◌, ℕ, Bool, List, [], ◌++◌, length}
-use Rattle.std.proofs.Common.{Option, Some, None, Result, Ok, Err, IfOk, sym, ap, subst, ◌∙◌, ◌<◌, take}
-use Rattle.std.proofs.Common.{string_bytes}
+use Rattle.std.proofs.Common.{◌≡◌, ◌⊎◌, inl, inr, ◌≤◌, ℕ, Bool, List, [], ◌++◌, length, Option, Some, None, Result, Ok, Err, IfOk, sym}
+use Rattle.std.proofs.Common.{ap, subst, ◌∙◌, ◌<◌, take, string_bytes}
 use Rattle.std.specs.Option.{IfSome}
 use Rattle.std.specs.Io.KnownBytes.{Appends}
 use Rattle.std.proofs.lemmas.List.{append-nil}
-use Rattle.rc_types.specs.Codes.{code_of}
-use Rattle.rc_types.specs.declared.faults.Fault.{Fault}
+use Rattle.rc_model.specs.Model.{code_of, Fault, Code, MAX_EVENTS}
 use Rattle.rc_types.specs.declared.faults.Fault.TheVariants as fault
-use Rattle.rc_types.specs.declared.faults.Code.{Code}
 use Rattle.rc_types.specs.declared.faults.Code.TheVariants.{BadEvent, OutOfMemory}
-use Rattle.rc_types.specs.declared.limits.TheConstants.{MAX_EVENTS}
 use Rattle.rc_reading.specs.declared.scenarios.Scenario.{Scenario}
 use Rattle.rc_reading.specs.declared.scenarios.ScenarioEvent.{ScenarioEvent}
 use Rattle.rc_reading.specs.Scenario.{of_value, value_in}

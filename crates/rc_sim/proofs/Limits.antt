@@ -4,16 +4,14 @@ use Rattle.std.proofs.Common.{List, [], ◌∷◌, ◌++◌, length, Option, Som
 use Rattle.std.proofs.Common.{option_map, refl, arith, All, codes, subst}
 use Rattle.std.specs.Option.{IfSome}
 use Rattle.std.proofs.lemmas.List.Elements.{All-push}
-use Rattle.rc_types.specs.declared.events.Setup.{Setup}
-use Rattle.rc_types.specs.declared.limits.TheConstants.{MAX_FACTOR, MAX_SEGMENT, MAX_HOSTS}
+use Rattle.rc_model.specs.Model.{Setup, MAX_FACTOR, MAX_SEGMENT, MAX_HOSTS}
 use Rattle.serde_json.specs.Data.{Data}
 use Rattle.serde_json.specs.Find.{as_u64, as_number, as_bool, get}
 use Rattle.rc_reading.specs.declared.scenarios.Scenario.{Scenario}
 use Rattle.rc_reading.specs.declared.scenarios.ScenarioEvent.{ScenarioEvent}
-use Rattle.rc_reading.specs.Names.{first_members, second_members}
-use Rattle.rc_reading.specs.Values.{has_only, within, whole, only, field, given2, given4, each, list_of, factor_of, take_factor, factors_of}
-use Rattle.rc_reading.specs.Scenario.{segment_of, first_setup, second_setup, setup_by, setup_of, with_events}
-use Rattle.rc_reading.specs.Scenario.{scenario_in, of_value, value_in, reading}
+use Rattle.rc_reading.specs.All.{first_members, second_members, has_only, within, whole, only, field, given2, given4, each, list_of}
+use Rattle.rc_reading.specs.All.{factor_of, take_factor, factors_of, segment_of, first_setup, second_setup, setup_by, setup_of}
+use Rattle.rc_reading.specs.All.{with_events, scenario_in, of_value, value_in, reading}
 use Rattle.rc_world.specs.HostView.{IsFactor, IsWithinLimits}
 
 and_then_if : {A B : Type 0} (P : B → Type 0) (f : A → Option B) (o : Option A) → ((a : A) → IfSome (f a) P) →

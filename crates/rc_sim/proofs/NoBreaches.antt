@@ -1,10 +1,8 @@
 -- No run, no drawing and no story is told as a breach: a trace alone that was given can have one.
 use Rattle.std.proofs.Common.{◌≡◌, ◌≢◌, inl, inr, ℕ, Bool, true, false, true≢false, List, Option, Some, None, Result, Ok}
 use Rattle.std.proofs.Common.{Err, IfOk, refl, sym, ap, ◌∙◌}
-use Rattle.rc_types.specs.declared.faults.Code.{Code}
+use Rattle.rc_model.specs.Model.{Code, MAX_EVENTS, breach}
 use Rattle.rc_types.specs.declared.faults.Code.TheVariants.{BadEvent, OutOfMemory}
-use Rattle.rc_types.specs.declared.limits.TheConstants.{MAX_EVENTS}
-use Rattle.rc_model.specs.Breach.{breach}
 use Rattle.rc_owner_laws.proofs.VersionReplays.{there-is-no-breach}
 use Rattle.rc_reading.specs.declared.scenarios.Scenario.{Scenario}
 use Rattle.rc_scenes.specs.Runs.{run_within}

@@ -3,27 +3,14 @@ use Rattle.std.proofs.Common.{Option, ◌≡◌, ◌⊎◌, ℕ, zero, suc, ◌+
 use Rattle.std.proofs.Common.{nat_eq, slice_get, slice_set, Some, None, Ok, refl, sym, ap, ◌∙◌, subst, inl, inr, arith}
 use Rattle.std.proofs.lemmas.Bool.{eqb-false}
 use Rattle.std.proofs.lemmas.Bool.Decides.{nat_tests}
-use Rattle.rc_types.specs.declared.ids.ServerId.{ServerId}
-use Rattle.rc_types.specs.declared.ids.Pair.{Pair}
-use Rattle.rc_types.specs.declared.ids.Addr.{Addr}
+use Rattle.rc_model.specs.Model.{ServerId, Pair, Addr, Row, Message, Body, Replicas, put_id, from_coordinator, to_each, to_coordinator}
+use Rattle.rc_model.specs.Model.{has_crashed, up_rows, is_below, pick, Attempt, Decision, is_undecided, new_coordinator, attempt_at, In}
 use Rattle.rc_types.specs.declared.ids.Addr.TheVariants.{Coordinator as AtCoordinator}
-use Rattle.rc_types.specs.declared.rows.Row.{Row}
-use Rattle.rc_types.specs.declared.messages.Message.{Message}
-use Rattle.rc_types.specs.declared.messages.Body.{Body}
-use Rattle.rc_types.specs.declared.messages.Body.TheVariants.{Replicas}
 use Rattle.std.proofs.lemmas.List.{length-append, length-set}
-use Rattle.rc_model.specs.Tables.{put_id}
-use Rattle.rc_model.specs.Messages.{from_coordinator, to_each, to_coordinator}
-use Rattle.rc_model.specs.ServerList.{has_crashed, up_rows}
-use Rattle.rc_model.specs.Pick.{is_below, pick}
-use Rattle.rc_model.specs.Attempts.{Attempt, Decision, is_undecided}
-use Rattle.rc_model.specs.Coordinator.{Coordinator, new_coordinator, attempt_at}
-use Rattle.rc_model.specs.Headline.{In}
+use Rattle.rc_model.specs.Coordinator.{Coordinator}
 use Rattle.rc_model.proofs.Members.{In-left}
-use Rattle.rc_step_laws.specs.Words.{OnDifferentHosts, IsNumbered, IsOf}
-use Rattle.rc_step_laws.specs.Facts.{GoodAttempt, GoodCoordinator}
-use Rattle.rc_step_laws.specs.Later.{AttemptLater}
-use Rattle.rc_step_laws.specs.Moves.{CoordinatorMoved, coordinator_body_said}
+use Rattle.rc_step_laws.specs.All.{OnDifferentHosts, IsNumbered, IsOf, GoodAttempt, GoodCoordinator, AttemptLater, CoordinatorMoved}
+use Rattle.rc_step_laws.specs.All.{coordinator_body_said}
 use Rattle.rc_step_laws.proofs.Lists.{get-left, get-end, get-append, get-within, get-set, set-get}
 use Rattle.rc_model.proofs.Tests.{either}
 use Rattle.rc_model.proofs.Tables.{put_id_each}

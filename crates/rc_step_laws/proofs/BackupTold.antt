@@ -1,18 +1,8 @@
 -- What holds of a host's replicas holds of them when more was sent, also what the host itself has told of one.
 use Rattle.std.proofs.Common.{◌≡◌, ◌⊎◌, ℕ, ◌<◌, ◌≤◌, Bool, true, false, List, [], ◌∷◌, ◌++◌, length, refl, ap, inl, inr, arith}
-use Rattle.rc_types.specs.declared.ids.ServerId.{ServerId}
-use Rattle.rc_types.specs.declared.ids.Addr.TheVariants.{Server}
-use Rattle.rc_types.specs.declared.entries.Entry.{Entry}
-use Rattle.rc_types.specs.declared.messages.Message.{Message}
-use Rattle.rc_types.specs.declared.messages.Body.TheVariants.{Place, Stored}
-use Rattle.rc_model.specs.Messages.{between}
-use Rattle.rc_model.specs.Replica.{Replica}
-use Rattle.rc_model.specs.Backup.{Held}
-use Rattle.rc_model.specs.Log.{Log}
-use Rattle.rc_model.specs.Headline.{In}
+use Rattle.rc_model.specs.Model.{ServerId, Server, Entry, Message, Place, Stored, between, Replica, Held, Log, In}
 use Rattle.rc_model.proofs.Members.{In-append}
-use Rattle.rc_step_laws.specs.Words.{HasTold, HasToldClosed, IsMember}
-use Rattle.rc_step_laws.specs.Facts.{IsCopy, GoodReplica, GoodHeld}
+use Rattle.rc_step_laws.specs.All.{HasTold, HasToldClosed, IsMember, IsCopy, GoodReplica, GoodHeld}
 use Rattle.rc_step_laws.proofs.Copies.{More, made-more, placed-more, opened_at-more}
 
 -- no Place is new

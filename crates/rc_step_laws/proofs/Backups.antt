@@ -1,33 +1,17 @@
 -- Each step of a backup keeps what holds of it, and says only what it may say.
-use Rattle.std.proofs.Common.{◌≡◌, ◌⊎◌, ℕ, ◌≤◌, Bool, true, false, cond, ◌||◌, List, [], ◌∷◌, ◌++◌, length, take}
-use Rattle.std.proofs.Common.{filter, nat_eq, nat_lt, nat_le, Option, Some, None, refl, sym, ap, ◌∙◌, subst, inl, inr}
-use Rattle.std.proofs.Common.{arith}
+use Rattle.std.proofs.Common.{◌≡◌, ◌⊎◌, ℕ, ◌≤◌, Bool, true, false, cond, ◌||◌, List, [], ◌∷◌, ◌++◌, length, take, filter, nat_eq, nat_lt}
+use Rattle.std.proofs.Common.{nat_le, Option, Some, None, refl, sym, ap, ◌∙◌, subst, inl, inr, arith}
 use Rattle.std.proofs.lemmas.Bool.{cases_eq, eq-eqb, or_cases, or_right, or_parts}
 use Rattle.std.specs.List.{list_any}
-use Rattle.rc_types.specs.declared.ids.ServerId.{ServerId}
-use Rattle.rc_types.specs.declared.ids.Addr.{Addr}
-use Rattle.rc_types.specs.declared.ids.Addr.TheVariants.{Server}
-use Rattle.rc_types.specs.declared.entries.Entry.{Entry}
-use Rattle.rc_types.specs.declared.rows.Row.{Row}
-use Rattle.rc_types.specs.declared.rows.Part.{Part}
-use Rattle.rc_types.specs.declared.messages.Message.{Message}
-use Rattle.rc_types.specs.declared.messages.Body.{Body}
-use Rattle.rc_types.specs.declared.messages.Body.TheVariants.{Place, Append, Close, Free, Gather, Fetch, Stored, Replicas, Data}
-use Rattle.rc_model.specs.Ids.{same_id}
-use Rattle.rc_model.specs.Messages.{between, to_coordinator}
-use Rattle.rc_model.specs.Replica.{Replica}
-use Rattle.rc_model.specs.Backup.{Backup, Held, replica_of, without_replica, replica_after, with_held, is_freed}
-use Rattle.rc_model.specs.Backup.{is_refused, keeps, stores, insert_number, frees, row_of_replica, rows_of_replicas}
-use Rattle.rc_model.specs.Backup.{fences, is_in_part, data_of, answers_fetch, backup_takes, restarted}
-use Rattle.rc_model.specs.Master.{Master}
+use Rattle.rc_model.specs.Model.{ServerId, Addr, Server, Entry, Row, Part, Message, Body, Place, Append, Close, Free, Gather, Fetch}
+use Rattle.rc_model.specs.Model.{Stored, Replicas, Data, same_id, between, to_coordinator, Replica, Backup, Held, replica_of}
+use Rattle.rc_model.specs.Model.{without_replica, replica_after, with_held, is_freed, is_refused, keeps, stores, insert_number, frees}
+use Rattle.rc_model.specs.Model.{row_of_replica, rows_of_replicas, fences, is_in_part, data_of, answers_fetch, backup_takes, restarted}
+use Rattle.rc_model.specs.Model.{Master, HostNode, server_of, In}
 use Rattle.rc_model.specs.Coordinator.{Coordinator}
-use Rattle.rc_model.specs.Nodes.{HostNode, server_of}
-use Rattle.rc_model.specs.Headline.{In}
 use Rattle.rc_model.proofs.Members.{In-left, In-append}
-use Rattle.rc_step_laws.specs.Words.{IsOf, held_at}
-use Rattle.rc_step_laws.specs.Facts.{IsCopy, IsAnswer, IsStored, StillStands, GoodHeld, GoodReplica, GoodHost, Good}
-use Rattle.rc_step_laws.specs.Later.{HeldLater}
-use Rattle.rc_step_laws.specs.Moves.{OwnFine, BackupMoved, backup_body_said}
+use Rattle.rc_step_laws.specs.All.{IsOf, held_at, IsCopy, IsAnswer, IsStored, StillStands, GoodHeld, GoodReplica, GoodHost, Good}
+use Rattle.rc_step_laws.specs.All.{HeldLater, OwnFine, BackupMoved, backup_body_said}
 use Rattle.rc_step_laws.proofs.ReplicaLists.{replica_of-row, Ascending-filter, replica_of-filter, replica_of-without}
 use Rattle.rc_step_laws.proofs.Replicas.{Changed, Stood, AllStood}
 use Rattle.rc_step_laws.proofs.Changes.{changed-place, changed-append, changed-close}

@@ -3,18 +3,9 @@ use Rattle.std.proofs.Common.{◌≡◌, ℕ, ◌+◌, ◌-◌, ◌<◌, ◌≤�
 use Rattle.std.proofs.Common.{slice_get, nat_eq, nat_lt, nat_le, Option, Some, None, refl, sym, ap, ◌∙◌, subst, arith}
 use Rattle.std.proofs.lemmas.Bool.{eqb-true, eq-eqb, ltb-false, leb-true, and_parts, not-true}
 use Rattle.std.proofs.lemmas.List.{length-append, length-drop}
-use Rattle.rc_types.specs.declared.ids.ServerId.{ServerId}
-use Rattle.rc_types.specs.declared.entries.Entry.{Entry}
-use Rattle.rc_types.specs.declared.messages.Message.{Message}
-use Rattle.rc_types.specs.declared.messages.Body.TheVariants.{Place, Append, Close}
-use Rattle.rc_model.specs.Messages.{between}
-use Rattle.rc_model.specs.Replica.{Replica, grown, placed, placed_open, appended, closes, closed_at}
-use Rattle.rc_model.specs.Backup.{replica_after}
-use Rattle.rc_model.specs.Master.{Master}
-use Rattle.rc_model.specs.Headline.{In, HasMade}
-use Rattle.rc_step_laws.specs.Words.{Begins, log_in, Stands, IsOpenedAt}
-use Rattle.rc_step_laws.specs.Facts.{GoodMaster, IsPlace, IsAppend, IsClose, GoodReplica}
-use Rattle.rc_step_laws.specs.Moves.{OwnFine}
+use Rattle.rc_model.specs.Model.{ServerId, Entry, Message, Place, Append, Close, between, Replica, grown, placed, placed_open, appended}
+use Rattle.rc_model.specs.Model.{closes, closed_at, replica_after, Master, In, HasMade}
+use Rattle.rc_step_laws.specs.All.{Begins, log_in, Stands, IsOpenedAt, GoodMaster, IsPlace, IsAppend, IsClose, GoodReplica, OwnFine}
 use Rattle.rc_step_laws.proofs.Lists.{get-within, get-below, begins-length, get-begins}
 use Rattle.rc_step_laws.proofs.Copies.{split}
 use Rattle.rc_step_laws.proofs.Replicas.{begins-places, grown-places, grown-made, grown-longer, place-made}

@@ -1,52 +1,30 @@
 -- Each step of the coordinator keeps what holds of it, and says only what it may say.
-use Rattle.std.proofs.Common.{◌≡◌, ◌⊎◌, ℕ, ◌+◌, true, false, cond, not, ◌&&◌, List, [], ◌∷◌, ◌++◌, length, filter}
-use Rattle.std.proofs.Common.{slice_get, Option, Some, None, Result, Ok, Err, refl, sym, ap, ◌∙◌, subst, inl, inr, suc}
-use Rattle.std.proofs.Common.{arith}
+use Rattle.std.proofs.Common.{◌≡◌, ◌⊎◌, ℕ, ◌+◌, true, false, cond, not, ◌&&◌, List, [], ◌∷◌, ◌++◌, length, filter, slice_get, Option}
+use Rattle.std.proofs.Common.{Some, None, Result, Ok, Err, refl, sym, ap, ◌∙◌, subst, inl, inr, suc, arith}
 use Rattle.std.proofs.lemmas.Bool.{and_parts}
-use Rattle.rc_types.specs.declared.ids.ServerId.{ServerId}
-use Rattle.rc_types.specs.declared.ids.Pair.{Pair}
-use Rattle.rc_types.specs.declared.ids.Addr.{Addr}
-use Rattle.rc_types.specs.declared.ids.Addr.TheVariants.{Server, Coordinator as AtCoordinator, Outside}
-use Rattle.rc_types.specs.declared.rows.Row.{Row}
+use Rattle.rc_model.specs.Model.{ServerId, Pair, Addr, Server, Outside, Row, Part, Grant, Fault, Deposed, StaleGeneration, StaleAttempt}
+use Rattle.rc_model.specs.Model.{NotReady, NoTable, TableExists, TooManyTablets, Message, Body, Enlist, Ready, Commit, CommitOk, Replicas}
+use Rattle.rc_model.specs.Model.{Recovered, Gather, SplitOk, Refused, code_of, put_id, from_coordinator, to_each, to_coordinator}
+use Rattle.rc_model.specs.Model.{coordinator_refuses, coordinator_tells, ServerList, is_up, has_crashed, is_newest, enlisted, crashed, up}
+use Rattle.rc_model.specs.Model.{up_rows, has_table, tablet_of, split_at, marked_crashed, has_range, assigned, is_below, pick}
+use Rattle.rc_model.specs.Model.{greater_pair, Attempt, Decision, new_attempt, has_answered, is_gathering, parts_of, plan_message}
+use Rattle.rc_model.specs.Model.{plan_messages, refuses_server, list_body, spreads_list, begins_attempt, has_tablets, begins_if_needed}
+use Rattle.rc_model.specs.Model.{spreads_then_begins, attempt_at, with_attempt, up_of_host, follows_generation, enlists, notes_ready}
+use Rattle.rc_model.specs.Model.{with_crashed, suspects, commits_pair, is_current, with_answer, keeps_answer_in, keeps_answer, ready_ids}
+use Rattle.rc_model.specs.Model.{decision_of, decides_on, decides_with, decides_attempt, decides, own_body, range_of, grant_of, grant_to}
+use Rattle.rc_model.specs.Model.{part_of_sender, grants_part, grants_if_given, grants_or_repeats, takes_recovered, creates_table}
+use Rattle.rc_model.specs.Model.{is_too_many, creates, split_fault, splits_unless, splits, has_open_part, asks_again, asks_again_of}
+use Rattle.rc_model.specs.Model.{coordinator_ticks, coordinator_takes, In}
+use Rattle.rc_types.specs.declared.ids.Addr.TheVariants.{Coordinator as AtCoordinator}
 use Rattle.rc_types.specs.declared.rows.Plan.{Plan}
-use Rattle.rc_types.specs.declared.rows.Part.{Part}
-use Rattle.rc_types.specs.declared.kept.Grant.{Grant}
-use Rattle.rc_types.specs.declared.faults.Fault.{Fault}
-use Rattle.rc_types.specs.declared.faults.Fault.TheVariants.{Deposed, StaleGeneration, StaleAttempt, NotReady, NoTable}
-use Rattle.rc_types.specs.declared.faults.Fault.TheVariants.{TableExists, TooManyTablets}
-use Rattle.rc_types.specs.declared.messages.Message.{Message}
-use Rattle.rc_types.specs.declared.messages.Body.{Body}
-use Rattle.rc_types.specs.declared.messages.Body.TheVariants.{Enlist, Ready, Commit, CommitOk, Replicas, Recovered}
-use Rattle.rc_types.specs.declared.messages.Body.TheVariants.{Gather, SplitOk, Refused, Plan as PlanBody}
-use Rattle.rc_types.specs.Codes.{code_of}
-use Rattle.rc_model.specs.Tables.{put_id}
-use Rattle.rc_model.specs.Messages.{from_coordinator, to_each, to_coordinator, coordinator_refuses, coordinator_tells}
-use Rattle.rc_model.specs.ServerList.{ServerList, is_up, has_crashed, is_newest, enlisted, crashed, up, up_rows}
-use Rattle.rc_model.specs.Tablets.{has_table, tablet_of, split_at, marked_crashed, has_range, assigned}
-use Rattle.rc_model.specs.Pick.{is_below, pick, greater_pair}
-use Rattle.rc_model.specs.Attempts.{Attempt, Decision, new_attempt, has_answered, is_gathering, parts_of}
-use Rattle.rc_model.specs.Attempts.{plan_message, plan_messages}
-use Rattle.rc_model.specs.Coordinator.{Coordinator, refuses_server, list_body, spreads_list, begins_attempt}
-use Rattle.rc_model.specs.Coordinator.{has_tablets, begins_if_needed, spreads_then_begins, attempt_at, with_attempt}
-use Rattle.rc_model.specs.Coordinator.{up_of_host, follows_generation, enlists, notes_ready, with_crashed, suspects}
-use Rattle.rc_model.specs.Coordinator.{commits_pair}
-use Rattle.rc_model.specs.Deciding.{is_current, with_answer, keeps_answer_in, keeps_answer, ready_ids, decision_of}
-use Rattle.rc_model.specs.Deciding.{decides_on, decides_with, decides_attempt, decides, own_body, range_of, grant_of}
-use Rattle.rc_model.specs.Deciding.{grant_to, part_of_sender, grants_part, grants_if_given, grants_or_repeats}
-use Rattle.rc_model.specs.Deciding.{takes_recovered}
-use Rattle.rc_model.specs.CoordinatorStep.{creates_table, is_too_many, creates, split_fault, splits_unless, splits}
-use Rattle.rc_model.specs.CoordinatorStep.{has_open_part, asks_again, asks_again_of, coordinator_ticks}
-use Rattle.rc_model.specs.CoordinatorStep.{coordinator_takes}
-use Rattle.rc_model.specs.Headline.{In}
+use Rattle.rc_types.specs.declared.messages.Body.TheVariants.{Plan as PlanBody}
+use Rattle.rc_model.specs.Coordinator.{Coordinator}
 use Rattle.rc_model.proofs.Members.{In-left, In-append}
-use Rattle.rc_step_laws.specs.Words.{OnDifferentHosts, IsNumbered}
-use Rattle.rc_step_laws.specs.Facts.{IsPlan, GoodAttempt, GoodCoordinator}
-use Rattle.rc_step_laws.specs.Moves.{CoordinatorMoved, CoordinatorMayHear, coordinator_body_said}
-use Rattle.rc_step_laws.proofs.Servers.{crashed-not-up, crashed-stays-crashed, crashed-stays-enlisted}
-use Rattle.rc_step_laws.proofs.Servers.{apart-crashed, apart-enlisted}
-use Rattle.rc_step_laws.proofs.Attempting.{below-refl, numbered-at, Kept, Says, undecided-none}
-use Rattle.rc_step_laws.proofs.Attempting.{says-none, says-one, says-each, moved-kept, moved-added, of-added}
-use Rattle.rc_step_laws.proofs.Attempting.{moved-changed, numbered-set}
+use Rattle.rc_step_laws.specs.All.{OnDifferentHosts, IsNumbered, IsPlan, GoodAttempt, GoodCoordinator, CoordinatorMoved}
+use Rattle.rc_step_laws.specs.All.{CoordinatorMayHear, coordinator_body_said}
+use Rattle.rc_step_laws.proofs.Servers.{crashed-not-up, crashed-stays-crashed, crashed-stays-enlisted, apart-crashed, apart-enlisted}
+use Rattle.rc_step_laws.proofs.Attempting.{below-refl, numbered-at, Kept, Says, undecided-none, says-none, says-one, says-each}
+use Rattle.rc_step_laws.proofs.Attempting.{moved-kept, moved-added, of-added, moved-changed, numbered-set}
 use Rattle.rc_model.proofs.Tables.{put_id-same, put_id_each}
 use Rattle.rc_model.proofs.Tests.{true_false, either}
 use Rattle.rc_model.proofs.Granting.{greater-left, greater-right}

@@ -1,17 +1,9 @@
 -- What holds of a copy, a replica or a row of an answer, holds of it later.
 use Rattle.std.proofs.Common.{◌≡◌, ◌⊎◌, ℕ, ◌<◌, ◌≤◌, Bool, true, false, List, length, map, slice_get, Some, refl, sym}
 use Rattle.std.proofs.Common.{ap, ◌∙◌, subst, inl, inr, arith}
-use Rattle.rc_types.specs.declared.ids.ServerId.{ServerId}
-use Rattle.rc_types.specs.declared.entries.Entry.{Entry}
-use Rattle.rc_types.specs.declared.messages.Message.{Message}
-use Rattle.rc_types.specs.declared.messages.Body.TheVariants.{Place, Stored}
-use Rattle.rc_model.specs.Messages.{between}
-use Rattle.rc_model.specs.Log.{Log}
-use Rattle.rc_model.specs.Headline.{In, HasMade}
-use Rattle.rc_step_laws.specs.Words.{Begins, log_in, IsOpened, HasTold, HasToldClosed, IsMember, IsPlacedAt, IsOpenedAt}
-use Rattle.rc_step_laws.specs.Facts.{IsPlace, IsTold, IsCopy}
-use Rattle.rc_step_laws.specs.Later.{LogLater, IsNewPlace}
-use Rattle.rc_step_laws.specs.Moves.{OwnFine}
+use Rattle.rc_model.specs.Model.{ServerId, Entry, Message, Place, Stored, between, Log, In, HasMade}
+use Rattle.rc_step_laws.specs.All.{Begins, log_in, IsOpened, HasTold, HasToldClosed, IsMember, IsPlacedAt, IsOpenedAt, IsPlace, IsTold}
+use Rattle.rc_step_laws.specs.All.{IsCopy, LogLater, IsNewPlace, OwnFine}
 use Rattle.rc_step_laws.proofs.Lists.{begins-length, get-begins, begins-map}
 
 -- either value of a test

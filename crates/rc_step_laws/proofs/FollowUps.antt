@@ -1,39 +1,19 @@
 -- The rules that follow up an input, one by one, and then until none applies.
-use Rattle.std.proofs.Common.{◌≡◌, ◌⊎◌, ℕ, ◌+◌, ◌-◌, ◌<◌, Bool, true, false, not, nat_eq, ◌&&◌}
-use Rattle.std.proofs.Common.{List, [], ◌∷◌, ◌++◌, length, take, map, filter, slice_get, Some, refl, sym}
-use Rattle.std.proofs.Common.{ap, ◌∙◌, subst, inl, inr, arith}
+use Rattle.std.proofs.Common.{◌≡◌, ◌⊎◌, ℕ, ◌+◌, ◌-◌, ◌<◌, Bool, true, false, not, nat_eq, ◌&&◌, List, [], ◌∷◌, ◌++◌, length, take, map}
+use Rattle.std.proofs.Common.{filter, slice_get, Some, refl, sym, ap, ◌∙◌, subst, inl, inr, arith}
 use Rattle.std.proofs.lemmas.Bool.{and_parts, eqb-true, ltb-true}
 use Rattle.std.specs.List.{list_any}
 use Rattle.std.proofs.lemmas.List.{length-map}
-use Rattle.rc_types.specs.declared.ids.ServerId.{ServerId}
-use Rattle.rc_types.specs.declared.ids.Addr.TheVariants.{Server}
-use Rattle.rc_types.specs.declared.entries.Entry.{Entry}
-use Rattle.rc_types.specs.declared.kept.Member.{Member}
-use Rattle.rc_types.specs.declared.kept.Phase.{Phase}
-use Rattle.rc_types.specs.declared.kept.Phase.TheVariants.{Opening, Closing, Writing}
-use Rattle.rc_types.specs.declared.messages.Message.{Message}
-use Rattle.rc_types.specs.declared.messages.Body.{Body}
-use Rattle.rc_types.specs.declared.messages.Body.TheVariants.{Place, WriteOk, Close, Commit, Ready, Recovered}
-use Rattle.rc_model.specs.Messages.{between, to_coordinator}
-use Rattle.rc_model.specs.Config.{told_closed, is_closed, all_placed, all_closed}
-use Rattle.rc_model.specs.Segment.{Segment, is_ready, is_all_closed, is_unclosed, has_unclosed, with_closes_sent}
-use Rattle.rc_model.specs.Log.{Log, LogPlace, places_of, head_of, old_head_of, has_old_head, with_segment, numbers_to}
-use Rattle.rc_model.specs.Log.{is_opening, is_closing, durable_now}
-use Rattle.rc_model.specs.Heads.{shuts, may_start, may_close, may_write, left_out, with_freed}
-use Rattle.rc_model.specs.Heads.{starts, closes_old, writes_on}
-use Rattle.rc_model.specs.Ownership.{after_replay, after_answer}
-use Rattle.rc_model.specs.Master.{Master, with_log, durable_entries, to_ids, ids_of, appends_entry}
-use Rattle.rc_model.specs.FollowUps.{close_is_due, close_marked}
-use Rattle.rc_model.specs.FollowUps.{frees_segments, first_open, commits}
-use Rattle.rc_model.specs.FollowUps.{write_oks, new_durable, replays}
-use Rattle.rc_model.specs.FollowUps.{attempt_of}
-use Rattle.rc_model.specs.FollowUps.{goes_on}
-use Rattle.rc_model.specs.Headline.{In}
+use Rattle.rc_model.specs.Model.{ServerId, Server, Entry, Member, Phase, Opening, Closing, Writing, Message, Body, Place, WriteOk, Close}
+use Rattle.rc_model.specs.Model.{Commit, Ready, Recovered, between, to_coordinator, told_closed, is_closed, all_placed, all_closed}
+use Rattle.rc_model.specs.Model.{Segment, is_ready, is_all_closed, is_unclosed, has_unclosed, with_closes_sent, Log, LogPlace, places_of}
+use Rattle.rc_model.specs.Model.{head_of, old_head_of, has_old_head, with_segment, numbers_to, is_opening, is_closing, durable_now, shuts}
+use Rattle.rc_model.specs.Model.{may_start, may_close, may_write, left_out, with_freed, starts, closes_old, writes_on, after_replay}
+use Rattle.rc_model.specs.Model.{after_answer, Master, with_log, durable_entries, to_ids, ids_of, appends_entry, close_is_due}
+use Rattle.rc_model.specs.Model.{close_marked, frees_segments, first_open, commits, write_oks, new_durable, replays, attempt_of, goes_on}
+use Rattle.rc_model.specs.Model.{In}
 use Rattle.rc_model.proofs.Members.{In-append, In-map, In-filter}
-use Rattle.rc_step_laws.specs.Words.{log_in, IsOpened, HasToldClosed}
-use Rattle.rc_step_laws.specs.Facts.{IsSafe}
-use Rattle.rc_step_laws.specs.Later.{LogLater}
-use Rattle.rc_step_laws.specs.Moves.{OwnFine, MasterSays}
+use Rattle.rc_step_laws.specs.All.{log_in, IsOpened, HasToldClosed, IsSafe, LogLater, OwnFine, MasterSays}
 use Rattle.rc_step_laws.proofs.Lists.{begins-refl, get-drop, get-take}
 use Rattle.rc_step_laws.proofs.Logs.{Grown, safe-grown, told_closed-more}
 use Rattle.rc_step_laws.proofs.Tests.{all-each, find-one}
@@ -41,12 +21,10 @@ use Rattle.rc_step_laws.proofs.LogMoves.{GoodSegment, GoodLog, LogMoved, more-le
 use Rattle.rc_step_laws.proofs.Places.{numbers-In, places_to-are, place-logged, durable-within}
 use Rattle.rc_step_laws.proofs.Safe.{durable-safe}
 use Rattle.rc_step_laws.proofs.Segments.{log-later, later-refl, counted-still, within-still, put-moved, marked-moved}
-use Rattle.rc_step_laws.proofs.Views.{GoodView, Moved, moved-quiet, AllQuiet}
-use Rattle.rc_step_laws.proofs.Views.{IsQuietOf, quiet-none, quiet-one, quiet-says, quiet-no_place}
-use Rattle.rc_step_laws.proofs.Views.{quiet-moved}
+use Rattle.rc_step_laws.proofs.Views.{GoodView, Moved, moved-quiet, AllQuiet, IsQuietOf, quiet-none, quiet-one, quiet-says}
+use Rattle.rc_step_laws.proofs.Views.{quiet-no_place, quiet-moved, Kept, joined}
 use Rattle.rc_step_laws.proofs.Rolling.{writing-is}
 use Rattle.rc_model.proofs.Walk.{Followed, kept-goes_on}
-use Rattle.rc_step_laws.proofs.Views.{Kept, joined}
 use Rattle.rc_model.proofs.Sending.{each-frees, each-write_oks, each-to_ids}
 use Rattle.rc_step_laws.proofs.Writing.{moved-appends, moved-opens_roll}
 use Rattle.rc_model.proofs.Tables.{put-same}

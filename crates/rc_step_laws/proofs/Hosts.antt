@@ -1,19 +1,13 @@
 -- Members on different hosts: those that are chosen, and those after lost ones were replaced.
-use Rattle.std.proofs.Common.{◌≡◌, ◌⊎◌, ℕ, zero, suc, ◌-◌, ◌%◌, Bool, true, false, cond, not, nat_eq, nat_lt, List, []}
-use Rattle.std.proofs.Common.{◌∷◌, ◌++◌, length, take, drop, map, filter, Option, Some, None, refl, sym, ap, ◌∙◌}
-use Rattle.std.proofs.Common.{subst, inl, inr}
+use Rattle.std.proofs.Common.{◌≡◌, ◌⊎◌, ℕ, zero, suc, ◌-◌, ◌%◌, Bool, true, false, cond, not, nat_eq, nat_lt, List, [], ◌∷◌, ◌++◌, length}
+use Rattle.std.proofs.Common.{take, drop, map, filter, Option, Some, None, refl, sym, ap, ◌∙◌, subst, inl, inr}
 use Rattle.std.proofs.lemmas.Bool.{eq-eqb}
 use Rattle.std.proofs.lemmas.List.{append-nil, append_assoc}
 use Rattle.std.specs.List.{list_any}
 use Rattle.std.specs.Option.{option_map}
-use Rattle.rc_types.specs.declared.ids.ServerId.{ServerId}
-use Rattle.rc_types.specs.declared.kept.Member.{Member}
-use Rattle.rc_model.specs.Ids.{id_before, insert_id, ids_in_order}
-use Rattle.rc_model.specs.ServerList.{ServerList, knows, first_rows, up_rows, up}
-use Rattle.rc_model.specs.Config.{new_member, of_other_hosts, counted_from, candidates, choose, staying, first_free}
-use Rattle.rc_model.specs.Config.{and_then, substitutes, replaced}
-use Rattle.rc_model.specs.Master.{ids_of}
-use Rattle.rc_model.specs.Headline.{In}
+use Rattle.rc_model.specs.Model.{ServerId, Member, id_before, insert_id, ids_in_order, ServerList, knows, first_rows, up_rows, up}
+use Rattle.rc_model.specs.Model.{new_member, of_other_hosts, counted_from, candidates, choose, staying, first_free, and_then, substitutes}
+use Rattle.rc_model.specs.Model.{replaced, ids_of, In}
 use Rattle.rc_model.proofs.Members.{In-left, In-right, In-append, In-map, map-In, In-filter}
 use Rattle.rc_step_laws.specs.Words.{NotOnHostOf, OnDifferentHosts}
 use Rattle.rc_step_laws.proofs.Tests.{any-here, find-one}

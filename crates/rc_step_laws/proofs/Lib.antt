@@ -26,3 +26,4 @@ pub mod Backups
 pub mod Servers
 pub mod Attempting
 pub mod CoordinatorSteps
+pub mod Membership

@@ -2,28 +2,14 @@
 use Rattle.std.proofs.Common.{◌≡◌, ◌⊎◌, ℕ, ◌+◌, ◌<◌, ◌≤◌, Bool, true, false, nat_eq, nat_lt, ◌&&◌, List, [], ◌∷◌, ◌++◌}
 use Rattle.std.proofs.Common.{length, map, Option, Some, None, Ok, Err, refl, sym, ap, ◌∙◌, subst, inl, inr, arith}
 use Rattle.std.proofs.lemmas.Bool.{and_parts, eqb-true}
-use Rattle.rc_types.specs.declared.ids.ServerId.{ServerId}
-use Rattle.rc_types.specs.declared.ids.Addr.TheVariants.{Server}
-use Rattle.rc_types.specs.declared.entries.Entry.{Entry}
-use Rattle.rc_types.specs.declared.kept.Member.{Member}
-use Rattle.rc_types.specs.declared.faults.Fault.TheVariants.{EpochsExhausted}
-use Rattle.rc_types.specs.declared.limits.TheConstants.{LAST_EPOCH}
-use Rattle.rc_types.specs.declared.messages.Message.{Message}
-use Rattle.rc_types.specs.declared.messages.Body.TheVariants.{Place}
-use Rattle.rc_model.specs.Messages.{between}
-use Rattle.rc_model.specs.ServerList.{ServerList, from_rows, newer_than, is_up, up_rows}
-use Rattle.rc_model.specs.Config.{Config, candidates, choose, lost_if_crashed, with_lost, any_lost, substitutes_for}
-use Rattle.rc_model.specs.Config.{replaced, changed, changes_to, lose, refills_with, refill}
-use Rattle.rc_model.specs.Segment.{Segment, under_new_epoch}
-use Rattle.rc_model.specs.Log.{Log, with_segment, numbers_to}
-use Rattle.rc_model.specs.Heads.{opened_first, open_first, with_config, opens_change, refills, loses}
-use Rattle.rc_model.specs.Master.{Master, with_log, to_ids, ids_of, place_of}
-use Rattle.rc_model.specs.ListRules.{places_segment, replaces_lost, replaces_lost_of, opens_first, tries_first, obeys_list, takes_list}
-use Rattle.rc_model.specs.Headline.{In}
+use Rattle.rc_model.specs.Model.{ServerId, Server, Entry, Member, EpochsExhausted, LAST_EPOCH, Message, Place, between, ServerList}
+use Rattle.rc_model.specs.Model.{from_rows, newer_than, is_up, up_rows, Config, candidates, choose, lost_if_crashed, with_lost, any_lost}
+use Rattle.rc_model.specs.Model.{substitutes_for, replaced, changed, changes_to, lose, refills_with, refill, Segment, under_new_epoch}
+use Rattle.rc_model.specs.Model.{Log, with_segment, numbers_to, opened_first, open_first, with_config, opens_change, refills, loses}
+use Rattle.rc_model.specs.Model.{Master, with_log, to_ids, ids_of, place_of, places_segment, replaces_lost, replaces_lost_of, opens_first}
+use Rattle.rc_model.specs.Model.{tries_first, obeys_list, takes_list, In}
 use Rattle.rc_model.proofs.Members.{In-right, map-In}
-use Rattle.rc_step_laws.specs.Words.{log_in, IsOpened, OnDifferentHosts}
-use Rattle.rc_step_laws.specs.Facts.{IsPlace}
-use Rattle.rc_step_laws.specs.Moves.{OwnFine, MasterSays}
+use Rattle.rc_step_laws.specs.All.{log_in, IsOpened, OnDifferentHosts, IsPlace, OwnFine, MasterSays}
 use Rattle.rc_step_laws.proofs.Lists.{begins-refl}
 use Rattle.rc_step_laws.proofs.LogMoves.{GoodLog, LogMoved, IsFresh}
 use Rattle.rc_step_laws.proofs.Places.{numbers-In}

@@ -2,31 +2,16 @@
 use Rattle.std.proofs.Common.{◌≡◌, ◌⊎◌, ℕ, ◌+◌, ◌<◌, ◌≤◌, Bool, true, false, List, [], ◌∷◌, ◌++◌, length, slice_get}
 use Rattle.std.proofs.Common.{Some, refl, sym, ap, ◌∙◌, subst, inl, inr, arith}
 use Rattle.std.proofs.lemmas.List.{append_assoc}
-use Rattle.rc_types.specs.declared.ids.ServerId.{ServerId}
-use Rattle.rc_types.specs.declared.ids.Addr.{Addr}
-use Rattle.rc_types.specs.declared.ids.Addr.TheVariants.{Server, Coordinator, Outside}
-use Rattle.rc_types.specs.declared.entries.Entry.{Entry}
-use Rattle.rc_types.specs.declared.kept.Member.{Member}
-use Rattle.rc_types.specs.declared.kept.Phase.{Phase}
-use Rattle.rc_types.specs.declared.kept.Phase.TheVariants.{Writing}
-use Rattle.rc_types.specs.declared.messages.Message.{Message}
-use Rattle.rc_types.specs.declared.messages.Body.{Body}
-use Rattle.rc_types.specs.declared.messages.Body.TheVariants.{Place, Append, Close, WriteOk, Stored}
-use Rattle.rc_model.specs.Messages.{between}
-use Rattle.rc_model.specs.Config.{told_len, told_closed}
-use Rattle.rc_model.specs.Segment.{Segment, no_segment}
-use Rattle.rc_model.specs.Log.{Log, LogPlace, places_of}
-use Rattle.rc_model.specs.Master.{ids_of}
-use Rattle.rc_model.specs.Headline.{In}
+use Rattle.rc_model.specs.Model.{ServerId, Addr, Server, Outside, Entry, Member, Phase, Writing, Message, Body, Place, Append, Close}
+use Rattle.rc_model.specs.Model.{WriteOk, Stored, between, told_len, told_closed, Segment, no_segment, Log, LogPlace, places_of, ids_of}
+use Rattle.rc_model.specs.Model.{In}
+use Rattle.rc_types.specs.declared.ids.Addr.TheVariants.{Coordinator}
 use Rattle.rc_model.proofs.Members.{In-left, In-append}
-use Rattle.rc_step_laws.specs.Words.{log_in, IsOpened, HasTold, HasToldClosed, IsMember, IsCommitted, OnDifferentHosts}
-use Rattle.rc_step_laws.specs.Facts.{IsSafe, IsDigest, IsPlace}
-use Rattle.rc_step_laws.specs.Later.{LogLater, IsNewPlace}
-use Rattle.rc_step_laws.specs.Moves.{OwnFine, MasterSays, body_said}
+use Rattle.rc_step_laws.specs.All.{log_in, IsOpened, HasTold, HasToldClosed, IsMember, IsCommitted, OnDifferentHosts, IsSafe, IsDigest}
+use Rattle.rc_step_laws.specs.All.{IsPlace, LogLater, IsNewPlace, OwnFine, MasterSays, body_said}
 use Rattle.rc_step_laws.proofs.Copies.{More}
-use Rattle.rc_step_laws.proofs.Logs.{Grown, member-more, told-more, told_closed-more, committed-more, length-log}
-use Rattle.rc_step_laws.proofs.Logs.{log_later-trans, safe-grown, digest-grown, place-grown, append-grown}
-use Rattle.rc_step_laws.proofs.Logs.{close-grown, write_ok-grown, own_fine-grown}
+use Rattle.rc_step_laws.proofs.Logs.{Grown, member-more, told-more, told_closed-more, committed-more, length-log, log_later-trans}
+use Rattle.rc_step_laws.proofs.Logs.{safe-grown, digest-grown, place-grown, append-grown, close-grown, write_ok-grown, own_fine-grown}
 
 -- What holds of a log
 

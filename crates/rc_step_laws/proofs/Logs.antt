@@ -1,17 +1,9 @@
 -- From one view of a master's log to a later one: what holds of the old one holds of the new.
 use Rattle.std.proofs.Common.{◌≡◌, ◌⊎◌, ℕ, ◌+◌, ◌<◌, ◌≤◌, Bool, true, false, List, length, slice_get, Some, refl, sym}
 use Rattle.std.proofs.Common.{ap, ◌∙◌, subst, inl, inr, arith}
-use Rattle.rc_types.specs.declared.ids.ServerId.{ServerId}
-use Rattle.rc_types.specs.declared.entries.Entry.{Entry}
-use Rattle.rc_types.specs.declared.messages.Message.{Message}
-use Rattle.rc_types.specs.declared.messages.Body.TheVariants.{Place, Stored}
-use Rattle.rc_model.specs.Messages.{between}
-use Rattle.rc_model.specs.Log.{Log}
-use Rattle.rc_model.specs.Headline.{In}
-use Rattle.rc_step_laws.specs.Words.{log_in, IsOpened, HasTold, HasToldClosed, IsMember, IsPlacedAt, IsCommitted}
-use Rattle.rc_step_laws.specs.Facts.{IsSafe, IsOutdated, IsDead, IsDigest, IsPlace, IsAppend, IsClose, IsWriteOk, IsTold}
-use Rattle.rc_step_laws.specs.Later.{LogLater, IsNewPlace}
-use Rattle.rc_step_laws.specs.Moves.{OwnFine}
+use Rattle.rc_model.specs.Model.{ServerId, Entry, Message, Place, Stored, between, Log, In}
+use Rattle.rc_step_laws.specs.All.{log_in, IsOpened, HasTold, HasToldClosed, IsMember, IsPlacedAt, IsCommitted, IsSafe, IsOutdated}
+use Rattle.rc_step_laws.specs.All.{IsDead, IsDigest, IsPlace, IsAppend, IsClose, IsWriteOk, IsTold, LogLater, IsNewPlace, OwnFine}
 use Rattle.rc_step_laws.proofs.Copies.{split, More, grows-log, final-log}
 use Rattle.rc_step_laws.proofs.Lists.{begins-length, get-begins, begins-refl, begins-trans}
 use Rattle.rc_model.proofs.Tests.{true_false}

@@ -1,29 +1,13 @@
 -- Each step of a master: what a message does, what its timer does, and its start.
 use Rattle.std.proofs.Common.{◌≡◌, ℕ, Bool, true, cond, List, [], ◌++◌, map, refl, sym, inl, arith}
-use Rattle.rc_types.specs.declared.ids.ServerId.{ServerId}
-use Rattle.rc_types.specs.declared.ids.Addr.{Addr}
-use Rattle.rc_types.specs.declared.ids.Addr.TheVariants.{Server, Coordinator, Outside}
-use Rattle.rc_types.specs.declared.rows.Part.{Part}
-use Rattle.rc_types.specs.declared.rows.PlanRow.{PlanRow}
-use Rattle.rc_types.specs.declared.faults.Fault.TheVariants.{Deposed}
-use Rattle.rc_types.specs.declared.kept.Phase.TheVariants.{Opening, Writing}
-use Rattle.rc_types.specs.declared.messages.Message.{Message}
-use Rattle.rc_types.specs.declared.messages.Body.{Body}
-use Rattle.rc_types.specs.declared.messages.Body.TheVariants.{Write, Read, Stored, CommitOk, Refused, Plan, Data, Own, List as ServersOf}
-use Rattle.rc_model.specs.Messages.{from_coordinator}
-use Rattle.rc_model.specs.ServerList.{up_rows}
-use Rattle.rc_model.specs.Ownership.{put_data, grant}
-use Rattle.rc_model.specs.Master.{Master}
-use Rattle.rc_model.specs.ListRules.{then_does}
-use Rattle.rc_model.specs.FollowUps.{goes_on}
-use Rattle.rc_model.specs.MasterTick.{fetch_of, ticks}
-use Rattle.rc_model.specs.MasterStep.{task_of, takes_plan, says_deposed, master_takes_first}
-use Rattle.rc_model.specs.MasterStep.{deposed_takes, master_takes, master_ticks}
-use Rattle.rc_model.specs.Headline.{In}
-use Rattle.rc_step_laws.specs.Words.{OnDifferentHosts}
-use Rattle.rc_step_laws.specs.Facts.{GoodMaster}
-use Rattle.rc_step_laws.specs.Moves.{OwnFine, MasterMoved, MayHear}
-use Rattle.rc_step_laws.specs.MasterClaims.{MasterTakesKeeps, MasterTicksKeeps, NewMasterIsGood}
+use Rattle.rc_model.specs.Model.{ServerId, Addr, Server, Outside, Part, PlanRow, Deposed, Opening, Writing, Message, Body, Write, Read}
+use Rattle.rc_model.specs.Model.{Stored, CommitOk, Refused, Data, Own, from_coordinator, up_rows, put_data, grant, Master, then_does}
+use Rattle.rc_model.specs.Model.{goes_on, fetch_of, ticks, task_of, takes_plan, says_deposed, master_takes_first, deposed_takes}
+use Rattle.rc_model.specs.Model.{master_takes, master_ticks, In}
+use Rattle.rc_types.specs.declared.ids.Addr.TheVariants.{Coordinator}
+use Rattle.rc_types.specs.declared.messages.Body.TheVariants.{Plan, List as ServersOf}
+use Rattle.rc_step_laws.specs.All.{OnDifferentHosts, GoodMaster, OwnFine, MasterMoved, MayHear, MasterTakesKeeps, MasterTicksKeeps}
+use Rattle.rc_step_laws.specs.All.{NewMasterIsGood}
 use Rattle.rc_step_laws.proofs.LogMoves.{GoodLog}
 use Rattle.rc_model.proofs.Walk.{begun, kept-plan}
 use Rattle.rc_step_laws.proofs.Views.{Kept, joined, GoodView, Moved, moved-then_does, moved-quiet, quiet-none, still}

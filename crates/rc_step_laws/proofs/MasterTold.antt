@@ -1,20 +1,10 @@
 -- What members tell and the coordinator grants is noted.
 use Rattle.std.proofs.Common.{◌≡◌, ℕ, Bool, true, false, nat_eq, nat_lt, nat_le, List, [], map, refl, subst, inr}
 use Rattle.std.proofs.lemmas.Bool.{and_parts, eqb-true, ltb-true, leb-true}
-use Rattle.rc_types.specs.declared.ids.ServerId.{ServerId}
-use Rattle.rc_types.specs.declared.kept.Member.{Member}
-use Rattle.rc_types.specs.declared.kept.Phase.{Phase}
-use Rattle.rc_types.specs.declared.messages.Message.{Message}
-use Rattle.rc_types.specs.declared.messages.Body.TheVariants.{Stored, CommitOk}
-use Rattle.rc_model.specs.Messages.{between, from_coordinator}
-use Rattle.rc_model.specs.Config.{Config, told_if_heard, noted, committed_at}
-use Rattle.rc_model.specs.Segment.{Segment}
-use Rattle.rc_model.specs.Log.{Log, has_segment}
-use Rattle.rc_model.specs.Heads.{with_config, stored, commit_noted}
-use Rattle.rc_model.specs.Master.{Master, with_log, ids_of}
-use Rattle.rc_model.specs.Headline.{In}
-use Rattle.rc_step_laws.specs.Words.{IsOpened}
-use Rattle.rc_step_laws.specs.Moves.{OwnFine}
+use Rattle.rc_model.specs.Model.{ServerId, Member, Phase, Message, Stored, CommitOk, between, from_coordinator, Config, told_if_heard}
+use Rattle.rc_model.specs.Model.{noted, committed_at, Segment, Log, has_segment, with_config, stored, commit_noted, Master, with_log}
+use Rattle.rc_model.specs.Model.{ids_of, In}
+use Rattle.rc_step_laws.specs.All.{IsOpened, OwnFine}
 use Rattle.rc_step_laws.proofs.LogMoves.{GoodSegment, GoodLog, LogMoved}
 use Rattle.rc_step_laws.proofs.Segments.{SegmentSteady, steady-moved, marked-steady}
 use Rattle.rc_step_laws.proofs.Members.{EachNoted, each-told, ids-told}

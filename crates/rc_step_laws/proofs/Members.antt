@@ -2,17 +2,8 @@
 use Rattle.std.proofs.Common.{◌≡◌, ◌⊎◌, ℕ, ◌<◌, max, Bool, true, false, not, ◌||◌, List, [], ◌∷◌, map, Option, Some}
 use Rattle.std.proofs.Common.{None, refl, sym, ap, ◌∙◌, subst, inl, inr, arith}
 use Rattle.std.proofs.lemmas.Bool.{and_parts}
-use Rattle.rc_types.specs.declared.ids.ServerId.{ServerId}
-use Rattle.rc_types.specs.declared.kept.Member.{Member}
-use Rattle.rc_types.specs.declared.kept.Told.{Told}
-use Rattle.rc_types.specs.declared.messages.Message.{Message}
-use Rattle.rc_types.specs.declared.messages.Body.TheVariants.{Stored}
-use Rattle.rc_model.specs.Ids.{same_id}
-use Rattle.rc_model.specs.Messages.{between}
-use Rattle.rc_model.specs.ServerList.{ServerList, has_crashed}
-use Rattle.rc_model.specs.Config.{new_member, told_with, is_heard, told_if_heard, told_len, told_closed, lost_if_crashed, replaced}
-use Rattle.rc_model.specs.Master.{ids_of}
-use Rattle.rc_model.specs.Headline.{In}
+use Rattle.rc_model.specs.Model.{ServerId, Member, Told, Message, Stored, same_id, between, ServerList, has_crashed, new_member}
+use Rattle.rc_model.specs.Model.{told_with, is_heard, told_if_heard, told_len, told_closed, lost_if_crashed, replaced, ids_of, In}
 use Rattle.rc_model.proofs.Members.{In-map}
 use Rattle.rc_step_laws.specs.Words.{HasTold, HasToldClosed}
 use Rattle.rc_model.proofs.Ids.{same_id-true}

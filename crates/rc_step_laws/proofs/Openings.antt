@@ -1,23 +1,10 @@
 -- A head is opened.
 use Rattle.std.proofs.Common.{◌≡◌, ◌⊎◌, ℕ, ◌+◌, ◌<◌, ◌≤◌, Bool, true, false, List, [], ◌∷◌, ◌++◌, length, map, refl}
 use Rattle.std.proofs.Common.{sym, ap, ◌∙◌, subst, inl, inr, arith}
-use Rattle.rc_types.specs.declared.ids.ServerId.{ServerId}
-use Rattle.rc_types.specs.declared.entries.Entry.{Entry}
-use Rattle.rc_types.specs.declared.kept.Phase.TheVariants.{Opening, Writing}
-use Rattle.rc_types.specs.declared.messages.Message.{Message}
-use Rattle.rc_types.specs.declared.messages.Body.TheVariants.{Place}
-use Rattle.rc_model.specs.Messages.{between}
-use Rattle.rc_model.specs.Config.{new_member}
-use Rattle.rc_model.specs.Segment.{Segment, no_segment, new_segment}
-use Rattle.rc_model.specs.Log.{Log}
-use Rattle.rc_model.specs.Heads.{opens_head}
-use Rattle.rc_model.specs.Master.{to_ids, ids_of, places_head}
-use Rattle.rc_model.specs.Headline.{In}
+use Rattle.rc_model.specs.Model.{ServerId, Entry, Opening, Writing, Message, Place, between, new_member, Segment, no_segment, new_segment}
+use Rattle.rc_model.specs.Model.{Log, opens_head, to_ids, ids_of, places_head, In}
 use Rattle.rc_model.proofs.Members.{In-right, In-map, map-In}
-use Rattle.rc_step_laws.specs.Words.{log_in, IsMember, OnDifferentHosts}
-use Rattle.rc_step_laws.specs.Facts.{IsDead, IsDigest}
-use Rattle.rc_step_laws.specs.Later.{LogLater}
-use Rattle.rc_step_laws.specs.Moves.{OwnFine, MasterSays}
+use Rattle.rc_step_laws.specs.All.{log_in, IsMember, OnDifferentHosts, IsDead, IsDigest, LogLater, OwnFine, MasterSays}
 use Rattle.rc_step_laws.proofs.Lists.{begins-refl}
 use Rattle.rc_step_laws.proofs.Logs.{dead-grown, member-more, told-more, told_closed-more, committed-more}
 use Rattle.rc_step_laws.proofs.LogMoves.{GoodLog, GoodSegment, LogMoved, IsFresh, more-left, new_places, moved-log}

@@ -2,16 +2,10 @@
 use Rattle.std.proofs.Common.{◌≡◌, ◌⊎◌, ℕ, zero, suc, ◌+◌, ◌-◌, ◌<◌, ◌≤◌, min, Bool, true, false, cond, List, [], ◌∷◌}
 use Rattle.std.proofs.Common.{◌++◌, length, map, slice_get, Some, refl, sym, ap, ◌∙◌, subst, inl, inr, arith}
 use Rattle.std.proofs.lemmas.List.{append_assoc, map-append, length-append}
-use Rattle.rc_types.specs.declared.ids.ServerId.{ServerId}
-use Rattle.rc_types.specs.declared.entries.Entry.{Entry}
-use Rattle.rc_types.specs.declared.messages.Message.{Message}
-use Rattle.rc_model.specs.Config.{durable_len}
-use Rattle.rc_model.specs.Segment.{Segment, durable_in}
-use Rattle.rc_model.specs.Log.{Log, LogPlace, places_in, places_to, places_of, numbers_to, durable_among, durable_now}
-use Rattle.rc_model.specs.Headline.{In}
+use Rattle.rc_model.specs.Model.{ServerId, Entry, Message, durable_len, Segment, durable_in, Log, LogPlace, places_in, places_to}
+use Rattle.rc_model.specs.Model.{places_of, numbers_to, durable_among, durable_now, In}
 use Rattle.rc_model.proofs.Members.{In-left, In-right, In-append, map-In}
-use Rattle.rc_step_laws.specs.Words.{Begins, log_in}
-use Rattle.rc_step_laws.specs.Later.{LogLater}
+use Rattle.rc_step_laws.specs.All.{Begins, log_in, LogLater}
 use Rattle.rc_step_laws.proofs.Lists.{get-append, get-within, begins-refl, begins-trans}
 use Rattle.rc_step_laws.proofs.Tests.{begins-cons, map-get}
 use Rattle.rc_model.proofs.LogParts.{length-places_in}

@@ -2,10 +2,7 @@
 use Rattle.std.proofs.Common.{◌≡◌, ℕ, ◌<◌, ◌≤◌, Bool, true, false, cond, not, List, [], ◌∷◌, filter, nat_eq, nat_lt}
 use Rattle.std.proofs.Common.{Some, None, refl, sym, ap, ◌∙◌, subst, inl, inr, arith}
 use Rattle.std.proofs.lemmas.Bool.{eqb-true, eqb-false, eq-eqb, ne_eqb, ltb-true, ltb-false}
-use Rattle.rc_types.specs.declared.rows.Row.{Row}
-use Rattle.rc_model.specs.Replica.{Replica}
-use Rattle.rc_model.specs.Backup.{replica_of, put_replica, without_replica, row_of_replica, rows_of_replicas}
-use Rattle.rc_model.specs.Headline.{In}
+use Rattle.rc_model.specs.Model.{Row, Replica, replica_of, put_replica, without_replica, row_of_replica, rows_of_replicas, In}
 use Rattle.rc_step_laws.specs.Facts.{AllAbove, Ascending}
 use Rattle.rc_model.proofs.Tests.{either}
 

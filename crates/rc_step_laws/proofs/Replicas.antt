@@ -1,21 +1,11 @@
 -- What a Place, an Append and a Close make of one replica.
-use Rattle.std.proofs.Common.{◌≡◌, ◌⊎◌, ℕ, suc, ◌+◌, ◌-◌, ◌<◌, ◌≤◌, Bool, true, false, cond, ◌&&◌, List, [], ◌∷◌, ◌++◌}
-use Rattle.std.proofs.Common.{length, drop, slice_get, nat_le, Option, Some, None, refl, sym, ap, ◌∙◌, subst, inl, inr}
-use Rattle.std.proofs.Common.{arith}
+use Rattle.std.proofs.Common.{◌≡◌, ◌⊎◌, ℕ, suc, ◌+◌, ◌-◌, ◌<◌, ◌≤◌, Bool, true, false, cond, ◌&&◌, List, [], ◌∷◌, ◌++◌, length, drop}
+use Rattle.std.proofs.Common.{slice_get, nat_le, Option, Some, None, refl, sym, ap, ◌∙◌, subst, inl, inr, arith}
 use Rattle.std.proofs.lemmas.Bool.{eq-eqb, le-leb}
 use Rattle.std.proofs.lemmas.List.{length-append, append-nil}
-use Rattle.rc_types.specs.declared.ids.ServerId.{ServerId}
-use Rattle.rc_types.specs.declared.entries.Entry.{Entry}
-use Rattle.rc_types.specs.declared.messages.Message.{Message}
-use Rattle.rc_types.specs.declared.messages.Body.TheVariants.{Place, Append, Stored}
-use Rattle.rc_model.specs.Messages.{between}
-use Rattle.rc_model.specs.Replica.{Replica, grown}
-use Rattle.rc_model.specs.Log.{Log}
-use Rattle.rc_model.specs.Master.{Master}
-use Rattle.rc_model.specs.Headline.{In, HasMade}
-use Rattle.rc_step_laws.specs.Words.{Begins, log_in, Stands, HasTold, HasToldClosed, IsMember}
-use Rattle.rc_step_laws.specs.Facts.{GoodMaster, IsPlace, IsCopy, GoodReplica}
-use Rattle.rc_step_laws.specs.Moves.{OwnFine}
+use Rattle.rc_model.specs.Model.{ServerId, Entry, Message, Place, Append, Stored, between, Replica, grown, Log, Master, In, HasMade}
+use Rattle.rc_step_laws.specs.All.{Begins, log_in, Stands, HasTold, HasToldClosed, IsMember, GoodMaster, IsPlace, IsCopy, GoodReplica}
+use Rattle.rc_step_laws.specs.All.{OwnFine}
 use Rattle.rc_step_laws.proofs.Lists.{get-append, get-drop, get-below, begins-length, get-begins}
 
 -- Lists

@@ -1,27 +1,14 @@
 -- Dead segments, the digest that leaves them out, and a roll.
-use Rattle.std.proofs.Common.{◌≡◌, ◌⊎◌, ℕ, ◌+◌, ◌<◌, ◌≤◌, Bool, true, false, cond, not, nat_eq, nat_lt, ◌&&◌, ◌||◌}
-use Rattle.std.proofs.Common.{List, [], ◌∷◌, ◌++◌, filter, Option, Some, None, Result, Ok, Err, refl, sym, ap, ◌∙◌}
-use Rattle.std.proofs.Common.{subst, inl, inr, arith}
+use Rattle.std.proofs.Common.{◌≡◌, ◌⊎◌, ℕ, ◌+◌, ◌<◌, ◌≤◌, Bool, true, false, cond, not, nat_eq, nat_lt, ◌&&◌, ◌||◌, List, [], ◌∷◌, ◌++◌}
+use Rattle.std.proofs.Common.{filter, Option, Some, None, Result, Ok, Err, refl, sym, ap, ◌∙◌, subst, inl, inr, arith}
 use Rattle.std.proofs.lemmas.Bool.{and_parts, eqb-true, eq-eqb, ltb-true, or_left}
 use Rattle.std.specs.List.{list_any}
-use Rattle.rc_types.specs.declared.ids.ServerId.{ServerId}
-use Rattle.rc_types.specs.declared.entries.Entry.{Entry}
-use Rattle.rc_types.specs.declared.faults.Fault.{Fault}
-use Rattle.rc_types.specs.declared.faults.Fault.TheVariants.{NoBackups, LogFull}
-use Rattle.rc_types.specs.declared.limits.TheConstants.{LAST_SEGMENT}
-use Rattle.rc_types.specs.declared.kept.Phase.{Phase}
-use Rattle.rc_types.specs.declared.kept.Phase.TheVariants.{Opening, Closing, Writing}
-use Rattle.rc_types.specs.declared.messages.Message.{Message}
-use Rattle.rc_model.specs.ServerList.{ServerList}
-use Rattle.rc_model.specs.Config.{choose}
-use Rattle.rc_model.specs.Log.{Log, LogPlace, head_of, places_of, entries_of, is_writing}
-use Rattle.rc_model.specs.Heads.{opens_head, next_digest, rolled, begin_roll}
-use Rattle.rc_model.specs.Versions.{is_of, is_outdated, is_dead}
-use Rattle.rc_model.specs.Master.{Master, durable_entries, is_dead_segment, dead_segments}
-use Rattle.rc_model.specs.Headline.{In}
+use Rattle.rc_model.specs.Model.{ServerId, Entry, Fault, NoBackups, LogFull, LAST_SEGMENT, Phase, Opening, Closing, Writing, Message}
+use Rattle.rc_model.specs.Model.{ServerList, choose, Log, LogPlace, head_of, places_of, entries_of, is_writing, opens_head, next_digest}
+use Rattle.rc_model.specs.Model.{rolled, begin_roll, is_of, is_outdated, is_dead, Master, durable_entries, is_dead_segment, dead_segments}
+use Rattle.rc_model.specs.Model.{In}
 use Rattle.rc_model.proofs.Members.{In-get, In-left, In-right, In-append, In-filter, filter-In}
-use Rattle.rc_step_laws.specs.Words.{log_in}
-use Rattle.rc_step_laws.specs.Facts.{IsOutdated, IsDead, IsDigest}
+use Rattle.rc_step_laws.specs.All.{log_in, IsOutdated, IsDead, IsDigest}
 use Rattle.rc_step_laws.proofs.Copies.{split}
 use Rattle.rc_step_laws.proofs.Tests.{all-each, any-one, get-map, In-take}
 use Rattle.rc_step_laws.proofs.LogMoves.{GoodLog}

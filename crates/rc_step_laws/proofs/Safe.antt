@@ -2,17 +2,10 @@
 use Rattle.std.proofs.Common.{◌≡◌, ◌⊎◌, ℕ, ◌<◌, min, true, false, not, ◌&&◌, List, [], ◌∷◌, length, slice_get, Some}
 use Rattle.std.proofs.Common.{refl, sym, ◌∙◌, subst, inl, inr, arith}
 use Rattle.std.proofs.lemmas.Bool.{and_parts}
-use Rattle.rc_types.specs.declared.ids.ServerId.{ServerId}
-use Rattle.rc_types.specs.declared.kept.Member.{Member}
-use Rattle.rc_types.specs.declared.messages.Message.{Message}
-use Rattle.rc_model.specs.Config.{Config, told_len, any_lost, least_told, durable_len}
-use Rattle.rc_model.specs.Segment.{Segment, durable_in}
-use Rattle.rc_model.specs.Log.{Log, LogPlace, places_of, durable_now}
-use Rattle.rc_model.specs.Headline.{In}
+use Rattle.rc_model.specs.Model.{ServerId, Member, Message, Config, told_len, any_lost, least_told, durable_len, Segment, durable_in, Log}
+use Rattle.rc_model.specs.Model.{LogPlace, places_of, durable_now, In}
 use Rattle.rc_model.proofs.Members.{In-map}
-use Rattle.rc_step_laws.specs.Words.{log_in, HasTold, IsMember}
-use Rattle.rc_step_laws.specs.Facts.{IsSafe}
-use Rattle.rc_step_laws.specs.Moves.{OwnFine}
+use Rattle.rc_step_laws.specs.All.{log_in, HasTold, IsMember, IsSafe, OwnFine}
 use Rattle.rc_step_laws.proofs.Lists.{get-within}
 use Rattle.rc_step_laws.proofs.Copies.{split}
 use Rattle.rc_step_laws.proofs.LogMoves.{GoodLog}

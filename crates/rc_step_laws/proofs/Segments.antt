@@ -1,23 +1,10 @@
 -- A move that changes one segment of the log.
 use Rattle.std.proofs.Common.{◌≡◌, ◌⊎◌, ℕ, ◌<◌, ◌≤◌, Bool, true, false, List, ◌++◌, length, map, slice_get, Some, refl}
 use Rattle.std.proofs.Common.{sym, ap, ◌∙◌, subst, arith}
-use Rattle.rc_types.specs.declared.ids.ServerId.{ServerId}
-use Rattle.rc_types.specs.declared.entries.Entry.{Entry}
-use Rattle.rc_types.specs.declared.kept.Member.{Member}
-use Rattle.rc_types.specs.declared.kept.Phase.{Phase}
-use Rattle.rc_types.specs.declared.kept.Phase.TheVariants.{Writing}
-use Rattle.rc_types.specs.declared.messages.Message.{Message}
-use Rattle.rc_types.specs.declared.messages.Body.TheVariants.{Place}
-use Rattle.rc_model.specs.Messages.{between}
-use Rattle.rc_model.specs.Config.{Config, told_len, told_closed}
-use Rattle.rc_model.specs.Segment.{Segment, no_segment}
-use Rattle.rc_model.specs.Log.{Log, LogPlace, places_of, with_segment}
-use Rattle.rc_model.specs.Master.{ids_of}
-use Rattle.rc_model.specs.Headline.{In}
-use Rattle.rc_step_laws.specs.Words.{Begins, log_in, IsOpened, HasTold, HasToldClosed, IsMember, IsCommitted, OnDifferentHosts}
-use Rattle.rc_step_laws.specs.Facts.{IsSafe}
-use Rattle.rc_step_laws.specs.Later.{LogLater}
-use Rattle.rc_step_laws.specs.Moves.{OwnFine, MasterSays}
+use Rattle.rc_model.specs.Model.{ServerId, Entry, Member, Phase, Writing, Message, Place, between, Config, told_len, told_closed, Segment}
+use Rattle.rc_model.specs.Model.{no_segment, Log, LogPlace, places_of, with_segment, ids_of, In}
+use Rattle.rc_step_laws.specs.All.{Begins, log_in, IsOpened, HasTold, HasToldClosed, IsMember, IsCommitted, OnDifferentHosts, IsSafe}
+use Rattle.rc_step_laws.specs.All.{LogLater, OwnFine, MasterSays}
 use Rattle.rc_step_laws.proofs.Lists.{begins-refl, begins-length}
 use Rattle.rc_step_laws.proofs.Tests.{get-begins_back}
 use Rattle.rc_step_laws.proofs.Copies.{More}

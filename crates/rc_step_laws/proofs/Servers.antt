@@ -1,10 +1,8 @@
 -- Server lists: crashed is for good, and of each host at most one id is up.
 use Rattle.std.proofs.Common.{◌≡◌, ℕ, ◌+◌, Bool, true, false, cond, nat_eq, ◌&&◌, ◌||◌, List, [], ◌∷◌, ◌++◌, refl, sym, ap, ◌∙◌}
 use Rattle.std.proofs.lemmas.Bool.{eq-eqb}
-use Rattle.rc_types.specs.declared.ids.ServerId.{ServerId}
-use Rattle.rc_model.specs.Ids.{same_id}
-use Rattle.rc_model.specs.ServerList.{ServerList, knows, marked_up, is_up, has_crashed, up_rows, index_crashed}
-use Rattle.rc_model.specs.ServerList.{enlisted, id_crashed, crashed}
+use Rattle.rc_model.specs.Model.{ServerId, same_id, ServerList, knows, marked_up, is_up, has_crashed, up_rows, index_crashed, enlisted}
+use Rattle.rc_model.specs.Model.{id_crashed, crashed}
 use Rattle.rc_step_laws.specs.Words.{NotOnHostOf, OnDifferentHosts}
 use Rattle.rc_model.proofs.Tests.{true_false, either}
 

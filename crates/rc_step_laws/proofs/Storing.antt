@@ -2,24 +2,11 @@
 use Rattle.std.proofs.Common.{◌≡◌, ◌⊎◌, ℕ, ◌≤◌, Bool, true, false, List, [], ◌∷◌, ◌++◌, length, Some, refl, sym, ap}
 use Rattle.std.proofs.Common.{◌∙◌, subst, inl, inr, arith}
 use Rattle.std.proofs.lemmas.Bool.{cases_eq}
-use Rattle.rc_types.specs.declared.ids.ServerId.{ServerId}
-use Rattle.rc_types.specs.declared.ids.Addr.TheVariants.{Server}
-use Rattle.rc_types.specs.declared.entries.Entry.{Entry}
-use Rattle.rc_types.specs.declared.messages.Message.{Message}
-use Rattle.rc_types.specs.declared.messages.Body.TheVariants.{Place, Stored}
-use Rattle.rc_model.specs.Ids.{same_id}
-use Rattle.rc_model.specs.Tables.{put_id}
-use Rattle.rc_model.specs.Messages.{between}
-use Rattle.rc_model.specs.Replica.{Replica}
-use Rattle.rc_model.specs.Backup.{Held, replica_of, put_replica, keeps}
-use Rattle.rc_model.specs.Master.{Master}
+use Rattle.rc_model.specs.Model.{ServerId, Server, Entry, Message, Place, Stored, same_id, put_id, between, Replica, Held, replica_of}
+use Rattle.rc_model.specs.Model.{put_replica, keeps, Master, HostNode, server_of, In}
 use Rattle.rc_model.specs.Coordinator.{Coordinator}
-use Rattle.rc_model.specs.Nodes.{HostNode, server_of}
-use Rattle.rc_model.specs.Headline.{In}
 use Rattle.rc_model.proofs.Members.{In-left}
-use Rattle.rc_step_laws.specs.Facts.{IsTold, StillStands, GoodHeld, GoodReplica}
-use Rattle.rc_step_laws.specs.Later.{HeldLater}
-use Rattle.rc_step_laws.specs.Moves.{BackupMoved, backup_body_said}
+use Rattle.rc_step_laws.specs.All.{IsTold, StillStands, GoodHeld, GoodReplica, HeldLater, BackupMoved, backup_body_said}
 use Rattle.rc_step_laws.proofs.Copies.{More, placed-more}
 use Rattle.rc_step_laws.proofs.ReplicaLists.{replica_of-put, replica_of-other, Ascending-put}
 use Rattle.rc_step_laws.proofs.Replicas.{Changed}

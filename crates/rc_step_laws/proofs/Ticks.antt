@@ -1,28 +1,12 @@
 -- A master's timer: what it says again was right before and is now.
-use Rattle.std.proofs.Common.{◌≡◌, ℕ, ◌+◌, Bool, true, false, List, [], ◌∷◌}
-use Rattle.std.proofs.Common.{◌++◌, length, drop, map, Some, refl, sym, ap, ◌∙◌, subst}
+use Rattle.std.proofs.Common.{◌≡◌, ℕ, ◌+◌, Bool, true, false, List, [], ◌∷◌, ◌++◌, length, drop, map, Some, refl, sym, ap, ◌∙◌, subst}
 use Rattle.std.proofs.Common.{arith}
 use Rattle.std.proofs.lemmas.List.{length-map}
-use Rattle.rc_types.specs.declared.ids.ServerId.{ServerId}
-use Rattle.rc_types.specs.declared.ids.Addr.{Addr}
-use Rattle.rc_types.specs.declared.ids.Addr.TheVariants.{Server}
-use Rattle.rc_types.specs.declared.entries.Entry.{Entry}
-use Rattle.rc_types.specs.declared.rows.PlanRow.{PlanRow}
-use Rattle.rc_types.specs.declared.kept.Member.{Member}
-use Rattle.rc_types.specs.declared.messages.Message.{Message}
-use Rattle.rc_types.specs.declared.messages.Body.{Body}
-use Rattle.rc_types.specs.declared.messages.Body.TheVariants.{Place, Append, Close, Enlist}
-use Rattle.rc_model.specs.Messages.{between, to_coordinator}
-use Rattle.rc_model.specs.ServerList.{is_up}
-use Rattle.rc_model.specs.Log.{Log, numbers_to}
-use Rattle.rc_model.specs.Master.{Master, Task, ids_of, place_of}
-use Rattle.rc_model.specs.ListRules.{then_does, obeys_list}
-use Rattle.rc_model.specs.MasterTick.{fetch_of}
-use Rattle.rc_model.specs.MasterTick.{reminds, ticks}
-use Rattle.rc_model.specs.Headline.{In}
+use Rattle.rc_model.specs.Model.{ServerId, Addr, Server, Entry, PlanRow, Member, Message, Body, Place, Append, Close, Enlist, between}
+use Rattle.rc_model.specs.Model.{to_coordinator, is_up, Log, numbers_to, Master, Task, ids_of, place_of, then_does, obeys_list, fetch_of}
+use Rattle.rc_model.specs.Model.{reminds, ticks, In}
 use Rattle.rc_model.proofs.Members.{map-In}
-use Rattle.rc_step_laws.specs.Words.{Stands, IsOpened, IsMember}
-use Rattle.rc_step_laws.specs.Moves.{MasterSays, body_said}
+use Rattle.rc_step_laws.specs.All.{Stands, IsOpened, IsMember, MasterSays, body_said}
 use Rattle.rc_model.proofs.Sending.{Each, Copied, each-map, each-reminds}
 use Rattle.rc_step_laws.proofs.Lists.{get-drop}
 use Rattle.rc_step_laws.proofs.Tests.{get-map, map-get}

@@ -1,21 +1,9 @@
 -- A master's view and its moves; messages that claim nothing.
 use Rattle.std.proofs.Common.{◌≡◌, ◌⊎◌, ℕ, Bool, false, List, [], ◌∷◌, ◌++◌, refl, sym, ap, subst, inl, inr, arith}
-use Rattle.rc_types.specs.declared.ids.ServerId.{ServerId}
-use Rattle.rc_types.specs.declared.ids.Addr.{Addr}
-use Rattle.rc_types.specs.declared.ids.Addr.TheVariants.{Server}
-use Rattle.rc_types.specs.declared.entries.Entry.{Entry}
-use Rattle.rc_types.specs.declared.messages.Message.{Message}
-use Rattle.rc_types.specs.declared.messages.Body.{Body}
-use Rattle.rc_types.specs.declared.messages.Body.TheVariants.{Place, ReadOk, Refused, Commit, Enlist, Ready, Fetch, Recovered, Free}
-use Rattle.rc_model.specs.Messages.{between}
-use Rattle.rc_model.specs.ServerList.{up_rows}
-use Rattle.rc_model.specs.Log.{Log}
-use Rattle.rc_model.specs.Master.{Master, to_ids}
-use Rattle.rc_model.specs.ListRules.{then_does}
-use Rattle.rc_model.specs.Headline.{In}
+use Rattle.rc_model.specs.Model.{ServerId, Addr, Server, Entry, Message, Body, Place, ReadOk, Refused, Commit, Enlist, Ready, Fetch}
+use Rattle.rc_model.specs.Model.{Recovered, Free, between, up_rows, Log, Master, to_ids, then_does, In}
 use Rattle.rc_model.proofs.Members.{In-append, In-map}
-use Rattle.rc_step_laws.specs.Words.{IsMember, OnDifferentHosts}
-use Rattle.rc_step_laws.specs.Moves.{OwnFine, MasterSays, body_said}
+use Rattle.rc_step_laws.specs.All.{IsMember, OnDifferentHosts, OwnFine, MasterSays, body_said}
 use Rattle.rc_step_laws.proofs.Logs.{log_later-refl}
 use Rattle.rc_model.proofs.Walk.{Joined}
 use Rattle.rc_step_laws.proofs.LogMoves.{GoodLog, LogMoved, more-left, segment-more, moved-log, log_moved-then}

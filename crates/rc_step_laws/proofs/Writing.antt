@@ -2,28 +2,12 @@
 use Rattle.std.proofs.Common.{◌≡◌, ℕ, zero, suc, ◌+◌, Bool, true, false, List, [], ◌∷◌, ◌++◌, length, map}
 use Rattle.std.proofs.Common.{slice_get, Option, Some, refl, sym, ap, ◌∙◌, subst, arith}
 use Rattle.std.proofs.lemmas.List.{map-append, length-map}
-use Rattle.rc_types.specs.declared.ids.ServerId.{ServerId}
-use Rattle.rc_types.specs.declared.ids.Addr.TheVariants.{Server}
-use Rattle.rc_types.specs.declared.entries.Entry.{Entry}
-use Rattle.rc_types.specs.declared.faults.Fault.{Fault}
-use Rattle.rc_types.specs.declared.kept.Phase.{Phase}
-use Rattle.rc_types.specs.declared.kept.Phase.TheVariants.{Writing}
-use Rattle.rc_types.specs.declared.messages.Message.{Message}
-use Rattle.rc_types.specs.declared.messages.Body.{Body}
-use Rattle.rc_types.specs.declared.messages.Body.TheVariants.{Place, Append, ReadOk}
-use Rattle.rc_model.specs.Messages.{between, to_outside, refuses}
-use Rattle.rc_model.specs.Segment.{Segment, with_entry}
-use Rattle.rc_model.specs.Log.{Log, head_of}
-use Rattle.rc_model.specs.Heads.{appends, opens_head, next_digest}
-use Rattle.rc_model.specs.Ownership.{term_of}
-use Rattle.rc_model.specs.Versions.{Found, read_of}
-use Rattle.rc_model.specs.Master.{Master, with_log, durable_entries, to_ids, ids_of, not_lost, places_head, appends_entry, dead_segments}
-use Rattle.rc_model.specs.Writing.{refused, written}
-use Rattle.rc_model.specs.Writing.{writes, reads}
-use Rattle.rc_model.specs.Headline.{In}
+use Rattle.rc_model.specs.Model.{ServerId, Server, Entry, Fault, Phase, Writing, Message, Body, Place, Append, ReadOk, between}
+use Rattle.rc_model.specs.Model.{to_outside, refuses, Segment, with_entry, Log, head_of, appends, opens_head, next_digest, term_of, Found}
+use Rattle.rc_model.specs.Model.{read_of, Master, with_log, durable_entries, to_ids, ids_of, not_lost, places_head, appends_entry}
+use Rattle.rc_model.specs.Model.{dead_segments, refused, written, writes, reads, In}
 use Rattle.rc_model.proofs.Members.{In-map}
-use Rattle.rc_step_laws.specs.Words.{Stands}
-use Rattle.rc_step_laws.specs.Moves.{OwnFine, MasterSays}
+use Rattle.rc_step_laws.specs.All.{Stands, OwnFine, MasterSays}
 use Rattle.rc_step_laws.proofs.Lists.{get-end}
 use Rattle.rc_step_laws.proofs.LogMoves.{GoodSegment, GoodLog, LogMoved, more-left, segment-more}
 use Rattle.rc_step_laws.proofs.Segments.{put-moved}

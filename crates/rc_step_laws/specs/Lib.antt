@@ -5,3 +5,5 @@ pub mod Moves
 pub mod MasterClaims
 pub mod BackupClaims
 pub mod CoordinatorClaims
+pub mod MemberClaims
+pub mod All

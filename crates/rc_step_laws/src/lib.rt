@@ -12,3 +12,4 @@
 pub mod backup_laws;
 pub mod coordinator_laws;
 pub mod master_laws;
+pub mod member_laws;

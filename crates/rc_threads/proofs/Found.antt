@@ -2,8 +2,7 @@
 use Rattle.std.proofs.Common.{◌≡◌, ◌⊎◌, inl, inr, ℕ, zero, suc, ◌+◌, ◌<◌, ◌≤◌, nat_le, Bool, true, false, cond, List, [], ◌∷◌, length}
 use Rattle.std.proofs.Common.{Some, None, slice_get, refl, sym, ap, ◌∙◌, arith}
 use Rattle.std.specs.List.{find}
-use Rattle.rc_types.specs.declared.messages.Message.{Message}
-use Rattle.rc_model.specs.World.{NodeName, same_node, node_of}
+use Rattle.rc_model.specs.Model.{Message, NodeName, same_node, node_of}
 use Rattle.rc_journal.specs.Numbers.{numbers_from}
 
 at-most : (from x : ℕ) → from ≤ x → nat_le from x ≡ true

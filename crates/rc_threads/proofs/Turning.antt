@@ -7,11 +7,8 @@ use Rattle.std.specs.Option.{IfSome}
 use Rattle.std.proofs.lemmas.Bool.{and_parts, eq-eqb}
 use Rattle.std.proofs.lemmas.List.{append-nil}
 use Rattle.std.proofs.lemmas.List.Folds.{list_any-append}
-use Rattle.rc_types.specs.declared.events.Setup.{Setup}
-use Rattle.rc_types.specs.declared.events.Event.{Event}
+use Rattle.rc_model.specs.Model.{Setup, Event, Message, same_node, node_of}
 use Rattle.rc_types.specs.declared.events.Event.TheVariants as event
-use Rattle.rc_types.specs.declared.messages.Message.{Message}
-use Rattle.rc_model.specs.World.{same_node, node_of}
 use Rattle.rc_history.specs.Nodes.{Node}
 use Rattle.rc_history.specs.Events.{StartsWith}
 use Rattle.rc_history.proofs.Lists.{starts-same, starts-through}

@@ -3,10 +3,9 @@ use Rattle.std.proofs.Common.{◌≡◌, ℕ, ◌+◌, List, [], ◌∷◌, ◌+
 use Rattle.std.proofs.Common.{◌∙◌, sym, arith, append_assoc, append-nil, length-append}
 use Rattle.serde_json.specs.Data.{Data, Items}
 use Rattle.rc_types.specs.declared.messages.Message.{Message}
-use Rattle.rc_reading.specs.Values.{each, listed}
+use Rattle.rc_reading.specs.All.{each, listed, taken_from}
 use Rattle.rc_traces.specs.Trace.{message_of, messages_of, one_message_more}
 use Rattle.rc_traces.specs.Whole.{message_added}
-use Rattle.rc_reading.specs.Ahead.{taken_from}
 
 abbrev Messages : Type 0
 Messages = Result (List Message) ℕ

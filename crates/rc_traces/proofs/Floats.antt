@@ -7,10 +7,9 @@ use Rattle.rc_types.specs.declared.entries.Entry.{Entry}
 use Rattle.rc_types.specs.declared.rows.PlanRow.{PlanRow}
 use Rattle.rc_types.specs.declared.messages.Message.{Message}
 use Rattle.rc_types.specs.declared.messages.Body.{Body}
-use Rattle.rc_types.specs.declared.messages.Body.TheVariants.{Write, Read, WriteOk, ReadOk, Refused, Place, Append}
-use Rattle.rc_types.specs.declared.messages.Body.TheVariants.{Close, Stored, Commit, CommitOk, Enlist, Ready}
-use Rattle.rc_types.specs.declared.messages.Body.TheVariants.{List as ServersOf, Gather, Replicas, Plan, Fetch, Data}
-use Rattle.rc_types.specs.declared.messages.Body.TheVariants.{Recovered, Own, SplitOk, Free}
+use Rattle.rc_types.specs.declared.messages.Body.TheVariants.{Write, Read, WriteOk, ReadOk, Refused, Place, Append, Close, Stored, Commit}
+use Rattle.rc_types.specs.declared.messages.Body.TheVariants.{CommitOk, Enlist, Ready, List as ServersOf, Gather, Replicas, Plan, Fetch}
+use Rattle.rc_types.specs.declared.messages.Body.TheVariants.{Data, Recovered, Own, SplitOk, Free}
 use Rattle.serde_json.specs.Data.{Data as Json}
 use Rattle.std.specs.Option.{option_to_list}
 use Rattle.serde_json.specs.View.{items_of}

@@ -5,8 +5,7 @@ use Rattle.std.proofs.lemmas.Slice.Eq.{bytes_eq-Decides}
 use Rattle.json.specs.Token.{Token}
 use Rattle.serde_json.specs.Data.{Data, null, boolean, number, string, array, object, Members, no_members, put}
 use Rattle.serde_json.specs.Find.{as_object}
-use Rattle.rc_reading.specs.Values.{is_one_of, field, id_of, table_of, key_of}
-use Rattle.rc_reading.specs.Ahead.{told, says, members_at}
+use Rattle.rc_reading.specs.All.{is_one_of, field, id_of, table_of, key_of, told, says, members_at}
 use Rattle.rc_reading.proofs.Turns.{told_of, says_some, opened_object}
 use Rattle.rc_reading.proofs.Puts.{field_put, only_put, either}
 use Rattle.rc_traces.specs.declared.fields.Fields.{Fields}

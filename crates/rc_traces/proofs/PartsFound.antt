@@ -1,8 +1,7 @@
 -- Entries and rows, an item at a time: what is found at their end.
 use Rattle.std.proofs.Common.{◌≡◌, List, [], ◌∷◌, Option, Some, refl}
 use Rattle.serde_json.specs.Data.{Data, Items}
-use Rattle.rc_reading.specs.Values.{each, listed}
-use Rattle.rc_reading.specs.Ahead.{taken_from}
+use Rattle.rc_reading.specs.All.{each, listed, taken_from}
 use Rattle.rc_reading.proofs.PairsFound.{found_by}
 use Rattle.rc_traces.specs.declared.lists.EntryParts.{EntryParts}
 use Rattle.rc_traces.specs.declared.lists.RowParts.{RowParts}

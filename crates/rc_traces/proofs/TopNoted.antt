@@ -6,8 +6,7 @@ use Rattle.json.specs.Token.{Token}
 use Rattle.rc_types.specs.declared.messages.Message.{Message}
 use Rattle.serde_json.specs.Data.{Data, null, boolean, number, string, array, object, Members, no_members, put}
 use Rattle.serde_json.specs.Find.{get, as_object}
-use Rattle.rc_reading.specs.Values.{is_one_of, field, whole, list_of}
-use Rattle.rc_reading.specs.Ahead.{told, says, members_at}
+use Rattle.rc_reading.specs.All.{is_one_of, field, whole, list_of, told, says, members_at}
 use Rattle.rc_reading.proofs.Turns.{told_of, says_some, opened_object}
 use Rattle.rc_reading.proofs.Puts.{field_put, only_put, either}
 use Rattle.rc_traces.specs.declared.whole.Top.{Top}

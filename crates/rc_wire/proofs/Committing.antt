@@ -2,11 +2,7 @@
 use Rattle.std.proofs.Common.{◌≡◌, ℕ, ◌≤◌, List, [], ◌∷◌, ◌++◌, length, Option, Some, None, sym, ap, ◌∙◌, subst}
 use Rattle.std.proofs.lemmas.Bool.{and_parts}
 use Rattle.std.proofs.lemmas.List.{append-nil}
-use Rattle.rc_types.specs.declared.limits.TheConstants.{MAX_EVENTS}
-use Rattle.rc_types.specs.declared.events.Setup.{Setup}
-use Rattle.rc_types.specs.declared.events.Event.{Event}
-use Rattle.rc_types.specs.declared.messages.Message.{Message}
-use Rattle.rc_model.specs.World.{World, NodeName, opening, replay, is_possible, step, work_of}
+use Rattle.rc_model.specs.Model.{MAX_EVENTS, Setup, Event, Message, World, NodeName, opening, replay, is_possible, step, work_of}
 use Rattle.rc_model.proofs.Replays.{replay_from-push}
 use Rattle.rc_history.specs.Nodes.{Node, node_in}
 use Rattle.rc_history.specs.Events.{events_of, is_for}

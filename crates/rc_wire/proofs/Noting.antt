@@ -3,8 +3,7 @@ use Rattle.std.proofs.Common.{◌≡◌, ℕ, Bool, true, false, ◌||◌, nat_e
 use Rattle.std.specs.List.{list_any}
 use Rattle.std.proofs.lemmas.List.{append-nil}
 use Rattle.std.proofs.lemmas.List.Folds.{list_any-append}
-use Rattle.rc_types.specs.declared.events.Event.{Event}
-use Rattle.rc_types.specs.declared.events.Event.TheVariants.{Deliver}
+use Rattle.rc_model.specs.Model.{Event, Deliver}
 use Rattle.rc_history.specs.Nodes.{Node}
 use Rattle.rc_world.specs.NodeCalls.{event_of}
 use Rattle.rc_world.specs.declared.work.NodeWork.{NodeWork}

@@ -1,7 +1,6 @@
 -- A step that a node has taken is an event of the world that its seat has seen.
 use Rattle.std.proofs.Common.{◌≡◌, ℕ, Bool, true, ◌&&◌, List, ◌++◌, Some, refl, sym, ap, ◌∙◌}
-use Rattle.rc_types.specs.declared.messages.Message.{Message}
-use Rattle.rc_model.specs.World.{World, NodeName, Job, work_of, is_possible, step}
+use Rattle.rc_model.specs.Model.{Message, World, NodeName, Job, work_of, is_possible, step}
 use Rattle.rc_history.specs.Nodes.{Node, name_of, node_in}
 use Rattle.rc_history.specs.Events.{is_for, takes}
 use Rattle.rc_history.specs.Claims.{NodeTakes}

@@ -5,10 +5,7 @@ use Rattle.std.specs.Option.{IfSome}
 use Rattle.std.proofs.lemmas.Bool.{and_parts}
 use Rattle.std.proofs.lemmas.List.{length-take-le}
 use Rattle.std.proofs.lemmas.Option.{slice_get_within}
-use Rattle.rc_types.specs.declared.events.Event.{Event}
-use Rattle.rc_types.specs.declared.events.Setup.{Setup}
-use Rattle.rc_types.specs.declared.limits.TheConstants.{MAX_EVENTS}
-use Rattle.rc_model.specs.World.{World, opening, replay_from, replay, is_possible, step}
+use Rattle.rc_model.specs.Model.{Event, Setup, MAX_EVENTS, World, opening, replay_from, replay, is_possible, step}
 use Rattle.rc_model.proofs.Tests.{true_false}
 use Rattle.rc_history.specs.Events.{is_legal_from, is_legal}
 use Rattle.rc_world.specs.Happened.{Happened, opened, with_events, can_happen}

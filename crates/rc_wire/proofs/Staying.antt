@@ -1,11 +1,7 @@
 -- What is true of a seat stays true when it sees more of the history.
 use Rattle.std.proofs.Common.{◌≡◌, ℕ, ◌≤◌, List, length, Option, Some, None, slice_get, refl, sym, ap, ◌∙◌, subst}
-use Rattle.rc_types.specs.declared.limits.TheConstants.{MAX_EVENTS}
-use Rattle.rc_types.specs.declared.events.Setup.{Setup}
-use Rattle.rc_types.specs.declared.events.Event.{Event}
+use Rattle.rc_model.specs.Model.{MAX_EVENTS, Setup, Event, Message, NodeName, Job, delivery, work_of, replay}
 use Rattle.rc_types.specs.declared.events.Event.TheVariants as event
-use Rattle.rc_types.specs.declared.messages.Message.{Message}
-use Rattle.rc_model.specs.World.{NodeName, Job, delivery, work_of, replay}
 use Rattle.rc_history.specs.Nodes.{Node, node_in}
 use Rattle.rc_history.specs.Events.{events_of, StartsWith}
 use Rattle.rc_history.proofs.Lists.{starts-get}

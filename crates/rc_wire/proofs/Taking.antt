@@ -2,9 +2,7 @@
 use Rattle.std.proofs.Common.{◌≡◌, ℕ, Bool, true, false, ◌&&◌, nat_eq, refl, sym, ap, ◌∙◌, subst}
 use Rattle.std.proofs.lemmas.Bool.{eq-eqb}
 use Rattle.rc_types.specs.declared.events.Event.TheVariants as event
-use Rattle.rc_model.specs.Nodes.{Work, host_can}
-use Rattle.rc_model.specs.World.{World, NodeName, TheOutside, TheCoordinator, TheHost}
-use Rattle.rc_model.specs.World.{is_possible}
+use Rattle.rc_model.specs.Model.{Work, host_can, World, NodeName, TheOutside, TheCoordinator, TheHost, is_possible}
 use Rattle.rc_history.specs.Nodes.{name_of, node_in}
 use Rattle.rc_history.specs.Nodes as apart
 use Rattle.rc_history.specs.Events.{takes}

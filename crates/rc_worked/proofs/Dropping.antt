@@ -1,8 +1,6 @@
 -- A plan that leaves out the place of an acknowledged write.
 use Rattle.std.proofs.Common.{◌≡◌, List, [], ◌∷◌, refl, sym, subst, inl}
-use Rattle.rc_types.specs.declared.messages.Message.{Message}
-use Rattle.rc_model.specs.Recovered.{acknowledged, accepted}
-use Rattle.rc_model.specs.Headline.{In, IsThereItself, NothingIsDropped}
+use Rattle.rc_model.specs.Model.{Message, acknowledged, accepted, In, IsThereItself, NothingIsDropped}
 use Rattle.rc_model.proofs.Members.{held-is_recovered}
 use Rattle.rc_model.proofs.Said.{HasAcknowledged-from, WasAccepted-from}
 use Rattle.rc_model.proofs.Tests.{true_false}

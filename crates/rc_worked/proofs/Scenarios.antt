@@ -1,11 +1,8 @@
 -- A scenario is what its events lead to.
 use Rattle.std.proofs.Common.{◌≡◌, ℕ, ◌+◌, Bool, true, false, cond, List, [], ◌∷◌, ◌++◌, ◌||◌, Option, Some, None}
 use Rattle.std.proofs.Common.{slice_get, refl, sym, ap, ◌∙◌, zero, suc, append_assoc, append-nil}
-use Rattle.rc_types.specs.declared.events.Setup.{Setup}
-use Rattle.rc_types.specs.declared.events.Event.{Event}
+use Rattle.rc_model.specs.Model.{Setup, Event, Message, World, opening, step, is_possible, replay}
 use Rattle.rc_types.specs.declared.events.Event.TheVariants as event
-use Rattle.rc_types.specs.declared.messages.Message.{Message}
-use Rattle.rc_model.specs.World.{World, opening, step, is_possible, replay}
 use Rattle.rc_model.proofs.Replays.{replay_from-push, step-impossible, noted}
 use Rattle.rc_worked.specs.Settling.{Line, Once, Settle, is_delivered, is_to_outside, deliver_unless, until_end, settles, many, runs}
 use Rattle.rc_worked.specs.Happening.{ScenariosAreReplays}

@@ -3,16 +3,10 @@ use Rattle.std.proofs.Common.{◌≡◌, ℕ, ◌<◌, true, false, true≢false
 use Rattle.std.proofs.Common.{Option, Some, slice_get, Result, Ok, Err, OnOk, sym, ap, subst, ◌∙◌}
 use Rattle.std.proofs.lemmas.List.{append-nil}
 use Rattle.std.proofs.lemmas.Option.{slice_get-get_or, slice_get_cases}
-use Rattle.rc_types.specs.declared.ids.ServerId.{ServerId}
-use Rattle.rc_types.specs.declared.ids.Addr.{Addr}
-use Rattle.rc_types.specs.declared.ids.Addr.TheVariants.{Server, Coordinator, Outside}
-use Rattle.rc_types.specs.declared.events.Event.TheVariants.{Deliver}
-use Rattle.rc_types.specs.declared.messages.Message.{Message}
+use Rattle.rc_model.specs.Model.{ServerId, Addr, Server, Outside, Deliver, Message, coordinator_takes, HostNode, Take, host_step, World}
+use Rattle.rc_model.specs.Model.{Job, is_possible, is_possible_job, delivery, work_of, node_of, job_done, coordinator_done, host_done}
+use Rattle.rc_types.specs.declared.ids.Addr.TheVariants.{Coordinator}
 use Rattle.rc_model.specs.Coordinator.{Coordinator as CoordinatorModel}
-use Rattle.rc_model.specs.CoordinatorStep.{coordinator_takes}
-use Rattle.rc_model.specs.Nodes.{HostNode, Take, host_step}
-use Rattle.rc_model.specs.World.{World, Job, is_possible, is_possible_job, delivery, work_of, node_of, job_done}
-use Rattle.rc_model.specs.World.{coordinator_done, host_done}
 use Rattle.rc_world.specs.Lending.{nothing, message_at}
 
 -- the node that the message is for takes it

@@ -2,11 +2,7 @@
 use Rattle.std.proofs.Common.{◌≡◌, ℕ, ◌<◌, ◌≤◌, Bool, true, ◌&&◌, nat_lt, List, [], ◌∷◌, ◌++◌, length, refl, sym}
 use Rattle.std.proofs.Common.{subst, ◌∙◌, length-append, arith}
 use Rattle.std.proofs.lemmas.Bool.Decides.{nat_tests}
-use Rattle.rc_types.specs.declared.limits.TheConstants.{MAX_EVENTS}
-use Rattle.rc_types.specs.declared.events.Setup.{Setup}
-use Rattle.rc_types.specs.declared.events.Event.{Event}
-use Rattle.rc_types.specs.declared.messages.Message.{Message}
-use Rattle.rc_model.specs.World.{World, is_possible, job_done, work_of, replay}
+use Rattle.rc_model.specs.Model.{MAX_EVENTS, Setup, Event, Message, World, is_possible, job_done, work_of, replay}
 use Rattle.rc_coordinator.specs.Book.{coordinator_of}
 use Rattle.rc_world.specs.HostView.{IsWithinLimits}
 use Rattle.rc_world.specs.WorldView.{hosts_of, world_of, IsSame}

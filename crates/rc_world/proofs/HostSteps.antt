@@ -1,9 +1,7 @@
 -- What a host's master does is what the host does.
 use Rattle.std.proofs.Common.{◌≡◌, ◌∙◌, ◌↔◌, ◌-◌, ◌^◌, ◌<◌, Bool, true, subst, unwrap_or, Option, Some, None}
 use Rattle.std.proofs.Common.{Result, Ok, Err, OnOk, OnErr, refl, sym, ap, option_map}
-use Rattle.rc_model.specs.Nodes.{ticks_if_running}
-use Rattle.rc_model.specs.Master.{Master}
-use Rattle.rc_model.specs.MasterStep.{master_ticks}
+use Rattle.rc_model.specs.Model.{ticks_if_running, Master, master_ticks}
 use Rattle.rc_master.specs.Data.{MasterData, master_of}
 use Rattle.rc_master.specs.Numbers.{HasVersions}
 use Rattle.rc_world.specs.HostView.{HostData, HostHasRoom, host_of}

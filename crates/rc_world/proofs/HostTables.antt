@@ -4,9 +4,7 @@ use Rattle.std.proofs.Common.{OnErr, refl, ap, ◌∙◌, arith}
 use Rattle.std.proofs.Math.Path.{fun_ext}
 use Rattle.std.proofs.lemmas.Bool.Decides.{nat_tests}
 use Rattle.indexmap.specs.IndexMap.{get, UpdatesBy}
-use Rattle.rc_types.specs.declared.events.Setup.{Setup}
-use Rattle.rc_model.specs.Tables.{put}
-use Rattle.rc_model.specs.Nodes.{HostNode}
+use Rattle.rc_model.specs.Model.{Setup, put, HostNode}
 use Rattle.rc_world.specs.HostView.{HostData, host_of}
 use Rattle.rc_world.specs.WorldView.{Hosts, host_at, hosts_of}
 

@@ -1,8 +1,6 @@
 -- A call of a node that runs apart is a step of a history.
 use Rattle.std.proofs.Common.{◌≡◌, ℕ, true, List, Some, refl, ap, ◌∙◌}
-use Rattle.rc_types.specs.declared.messages.Message.{Message}
-use Rattle.rc_model.specs.Nodes.{Take}
-use Rattle.rc_model.specs.World.{NodeName, Job, delivery, work_of}
+use Rattle.rc_model.specs.Model.{Message, Take, NodeName, Job, delivery, work_of}
 use Rattle.rc_history.specs.Nodes.{Node, TheOutside, TheCoordinator, TheHost, name_of}
 use Rattle.rc_history.specs.Apart.{sent_by}
 use Rattle.rc_world.specs.NodeView.{work_at, may_take}

@@ -1,14 +1,9 @@
 -- The numbers of a node that runs apart, work by work.
 use Rattle.std.proofs.Common.{ℕ, ◌+◌, ◌-◌, ◌^◌, ◌<◌, ◌≤◌, arith}
 use Rattle.std.proofs.lemmas.List.Elements.{All-weaker}
-use Rattle.rc_types.specs.declared.entries.Entry.{Entry}
-use Rattle.rc_types.specs.declared.events.Setup.{Setup}
-use Rattle.rc_types.specs.declared.ids.Addr.TheVariants.{Server, Outside}
-use Rattle.rc_types.specs.declared.limits.TheConstants.{MAX_EVENTS}
-use Rattle.rc_model.specs.Log.{entries_of}
+use Rattle.rc_model.specs.Model.{Entry, Setup, Server, Outside, MAX_EVENTS, entries_of, Master, HostNode, coordinator_step, host_step}
+use Rattle.rc_model.specs.Model.{master_setup}
 use Rattle.rc_model.specs.Coordinator.{Coordinator}
-use Rattle.rc_model.specs.Master.{Master}
-use Rattle.rc_model.specs.Nodes.{HostNode, coordinator_step, host_step, master_setup}
 use Rattle.rc_numbers.specs.Numbers.{HostWithin}
 use Rattle.rc_numbers.proofs.Entries.{body-more, none-within, one-within}
 use Rattle.rc_numbers.proofs.Coordinators.{After, within-more, coordinator-within, new-within}

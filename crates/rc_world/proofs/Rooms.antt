@@ -1,11 +1,7 @@
 -- The numbers of a world's nodes suffice for one more step.
 use Rattle.std.proofs.Common.{ℕ, ◌≤◌, List, length, sym, subst}
-use Rattle.rc_types.specs.declared.limits.TheConstants.{MAX_EVENTS}
-use Rattle.rc_types.specs.declared.events.Setup.{Setup}
-use Rattle.rc_types.specs.declared.events.Event.{Event}
+use Rattle.rc_model.specs.Model.{MAX_EVENTS, Setup, Event, HostNode, World, NodeName, TheOutside, TheCoordinator, TheHost, replay}
 use Rattle.rc_model.specs.Coordinator.{Coordinator}
-use Rattle.rc_model.specs.Nodes.{HostNode}
-use Rattle.rc_model.specs.World.{World, NodeName, TheOutside, TheCoordinator, TheHost, replay}
 use Rattle.rc_numbers.specs.Claims.{HasRoom}
 use Rattle.rc_numbers.proofs.Rooms.{coordinator-has-room, generations-have-room, versions-have-room}
 use Rattle.rc_coordinator.specs.Steps.{HasNumbers}

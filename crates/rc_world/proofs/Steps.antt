@@ -1,13 +1,9 @@
 -- A step depends on the nodes and on what was sent, and on nothing else of a world.
 use Rattle.std.proofs.Common.{◌≡◌, ℕ, true, List, [], ◌∷◌, ◌++◌, Option, Some, None, refl, sym, ap, subst, ◌∙◌}
-use Rattle.rc_types.specs.declared.events.Setup.{Setup}
-use Rattle.rc_types.specs.declared.events.Event.{Event}
-use Rattle.rc_types.specs.declared.messages.Message.{Message}
-use Rattle.rc_model.specs.Tables.{put}
+use Rattle.rc_model.specs.Model.{Setup, Event, Message, put, HostNode, Work, outside_sends, coordinator_step, host_can, host_step, World}
+use Rattle.rc_model.specs.Model.{NodeName, TheOutside, TheCoordinator, TheHost, Job, work_of, node_can, is_possible, is_possible_job}
+use Rattle.rc_model.specs.Model.{node_done, job_done, step, replay, opening}
 use Rattle.rc_model.specs.Coordinator.{Coordinator}
-use Rattle.rc_model.specs.Nodes.{HostNode, Work, outside_sends, coordinator_step, host_can, host_step}
-use Rattle.rc_model.specs.World.{World, NodeName, TheOutside, TheCoordinator, TheHost, Job, work_of, node_can}
-use Rattle.rc_model.specs.World.{is_possible, is_possible_job, node_done, job_done, step, replay, opening}
 use Rattle.rc_model.proofs.Replays.{replay_from-push}
 use Rattle.rc_world.specs.WorldView.{IsSame}
 

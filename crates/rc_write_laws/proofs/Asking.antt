@@ -2,25 +2,9 @@
 use Rattle.std.proofs.Common.{◌≡◌, ◌⊎◌, ℕ, zero, suc, Bool, true, false, cond, nat_eq, ◌&&◌, List, [], ◌∷◌, ◌++◌}
 use Rattle.std.proofs.Common.{length, take, Option, slice_get, refl, sym, ap, ◌∙◌, subst, inl, inr}
 use Rattle.std.proofs.lemmas.Bool.{eqb-true}
-use Rattle.rc_types.specs.declared.ids.ServerId.{ServerId}
-use Rattle.rc_types.specs.declared.ids.Addr.{Addr}
-use Rattle.rc_types.specs.declared.ids.Addr.TheVariants.{Server}
-use Rattle.rc_types.specs.declared.entries.Entry.{Entry}
-use Rattle.rc_types.specs.declared.messages.Message.{Message}
-use Rattle.rc_types.specs.declared.messages.Body.{Body}
-use Rattle.rc_types.specs.declared.messages.Body.TheVariants.{WriteOk, Write}
-use Rattle.rc_types.specs.declared.events.Setup.{Setup}
-use Rattle.rc_model.specs.Recovered.{Ack}
-use Rattle.rc_model.specs.Segment.{Segment}
-use Rattle.rc_model.specs.Log.{Log, LogPlace, places_of}
-use Rattle.rc_model.specs.Master.{Master, with_log, appends_entry}
-use Rattle.rc_model.specs.FollowUps.{write_oks, new_durable, commits}
-use Rattle.rc_model.specs.Log.{durable_now}
-use Rattle.rc_model.specs.Writing.{written}
-use Rattle.rc_model.specs.MasterStep.{master_takes, master_ticks}
-use Rattle.rc_model.specs.MasterTick.{commits_again}
-use Rattle.rc_model.specs.World.{replay}
-use Rattle.rc_model.specs.Headline.{In}
+use Rattle.rc_model.specs.Model.{ServerId, Addr, Server, Entry, Message, Body, WriteOk, Write, Setup, Ack, Segment, Log, LogPlace}
+use Rattle.rc_model.specs.Model.{places_of, Master, with_log, appends_entry, write_oks, new_durable, commits, durable_now, written}
+use Rattle.rc_model.specs.Model.{master_takes, master_ticks, commits_again, replay, In}
 use Rattle.rc_model.proofs.Members.{In-left, In-append, place_of}
 use Rattle.rc_step_laws.specs.Words.{log_in}
 use Rattle.rc_step_laws.proofs.Places.{IsOf, places_to-are, place-logged, places_to-same}

@@ -5,24 +5,10 @@ use Rattle.std.specs.List.{All}
 use Rattle.std.proofs.lemmas.Bool.{eqb-true}
 use Rattle.std.proofs.lemmas.List.{append-nil, append_assoc, take-append-drop, take-append-le, length-append}
 use Rattle.std.proofs.lemmas.List.Elements.{All-nil, All-cons, All-head, All-tail, All-map, filter-append}
-use Rattle.rc_types.specs.declared.ids.ServerId.{ServerId}
-use Rattle.rc_types.specs.declared.ids.Addr.{Addr}
-use Rattle.rc_types.specs.declared.ids.Addr.TheVariants.{Server}
-use Rattle.rc_types.specs.declared.entries.Entry.{Entry}
-use Rattle.rc_types.specs.declared.messages.Message.{Message}
-use Rattle.rc_types.specs.declared.messages.Body.{Body}
-use Rattle.rc_types.specs.declared.messages.Body.TheVariants.{Append, WriteOk, Commit}
-use Rattle.rc_types.specs.declared.events.Setup.{Setup}
-use Rattle.rc_model.specs.Ids.{is_server}
-use Rattle.rc_model.specs.Messages.{to_outside, to_coordinator}
-use Rattle.rc_model.specs.Segment.{Segment, with_entry}
-use Rattle.rc_model.specs.Log.{Log, LogPlace, places_in, places_to, places_of, head_of, numbers_to, durable_now}
-use Rattle.rc_model.specs.Heads.{appends}
-use Rattle.rc_model.specs.Master.{Master, with_log, ids_of, not_lost, appends_entry}
-use Rattle.rc_model.specs.FollowUps.{write_oks, new_durable, commits}
-use Rattle.rc_model.specs.MasterStep.{master_takes, master_ticks}
-use Rattle.rc_model.specs.MasterTick.{commits_again, awaits_commit}
-use Rattle.rc_model.specs.Headline.{In}
+use Rattle.rc_model.specs.Model.{ServerId, Addr, Server, Entry, Message, Body, Append, WriteOk, Commit, Setup, is_server, to_outside}
+use Rattle.rc_model.specs.Model.{to_coordinator, Segment, with_entry, Log, LogPlace, places_in, places_to, places_of, head_of, numbers_to}
+use Rattle.rc_model.specs.Model.{durable_now, appends, Master, with_log, ids_of, not_lost, appends_entry, write_oks, new_durable, commits}
+use Rattle.rc_model.specs.Model.{master_takes, master_ticks, commits_again, awaits_commit, In}
 use Rattle.rc_step_laws.specs.Facts.{GoodMaster}
 use Rattle.rc_step_laws.proofs.Places.{durable-within, places_to-same}
 use Rattle.rc_write_laws.specs.AckClaims.{is_write_ok, is_ack_of, acks_in, counted_places, CountedIsAcknowledged}

@@ -1,26 +1,14 @@
 -- A step of a master keeps what its members have told, and shuts only what is closed on all of them.
 use Rattle.std.proofs.Common.{◌≡◌, ◌⊎◌, ℕ, ◌+◌, ◌-◌, true, List, [], ◌∷◌, refl, sym, ap, subst, inl, inr}
-use Rattle.rc_types.specs.declared.ids.Addr.{Addr}
-use Rattle.rc_types.specs.declared.ids.Addr.TheVariants.{Server}
-use Rattle.rc_types.specs.declared.messages.Message.{Message}
-use Rattle.rc_types.specs.declared.messages.Body.{Body}
-use Rattle.rc_types.specs.declared.messages.Body.TheVariants.{Stored}
-use Rattle.rc_model.specs.Segment.{is_all_closed, with_closes_sent}
-use Rattle.rc_model.specs.Log.{Log, old_head_of, durable_now}
-use Rattle.rc_model.specs.Heads.{left_out, starts, closes_old, writes_on}
-use Rattle.rc_model.specs.Master.{Master}
-use Rattle.rc_model.specs.ListRules.{then_does}
-use Rattle.rc_model.specs.FollowUps.{goes_on}
-use Rattle.rc_model.specs.MasterTick.{ticks}
-use Rattle.rc_model.specs.MasterStep.{master_takes_first, deposed_takes, master_takes, master_ticks}
+use Rattle.rc_model.specs.Model.{Addr, Server, Message, Body, Stored, is_all_closed, with_closes_sent, Log, old_head_of, durable_now}
+use Rattle.rc_model.specs.Model.{left_out, starts, closes_old, writes_on, Master, then_does, goes_on, ticks, master_takes_first}
+use Rattle.rc_model.specs.Model.{deposed_takes, master_takes, master_ticks}
 use Rattle.rc_model.proofs.Tests.{either}
-use Rattle.rc_model.proofs.Walk.{OfLog, LogJoined, LogListed, LogWritten, LogFollowed, of_log-joined, of_log-listed}
-use Rattle.rc_model.proofs.Walk.{of_log-taken, of_log-ticked, of_log-followed, kept-takes_first, kept-ticks_first}
-use Rattle.rc_model.proofs.Walk.{kept-goes_on, same-deposed}
-use Rattle.rc_write_laws.proofs.Told.{Told, InputOk, input-refl, input-trans, input-commit_noted, IsWholeTold}
-use Rattle.rc_write_laws.proofs.Told.{input-stored, input-loses, input-chosen, input-appends, FollowOk, follow-refl}
-use Rattle.rc_write_laws.proofs.Told.{follow-trans, follow-alike, follow-appends, follow-marks, follow-freed}
-use Rattle.rc_write_laws.proofs.Told.{follow-same, follow-chosen}
+use Rattle.rc_model.proofs.Walk.{OfLog, LogJoined, LogListed, LogWritten, LogFollowed, of_log-joined, of_log-listed, of_log-taken}
+use Rattle.rc_model.proofs.Walk.{of_log-ticked, of_log-followed, kept-takes_first, kept-ticks_first, kept-goes_on, same-deposed}
+use Rattle.rc_write_laws.proofs.Told.{Told, InputOk, input-refl, input-trans, input-commit_noted, IsWholeTold, input-stored, input-loses}
+use Rattle.rc_write_laws.proofs.Told.{input-chosen, input-appends, FollowOk, follow-refl, follow-trans, follow-alike, follow-appends}
+use Rattle.rc_write_laws.proofs.Told.{follow-marks, follow-freed, follow-same, follow-chosen}
 
 -- Inputs
 

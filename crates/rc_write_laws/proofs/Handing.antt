@@ -1,18 +1,8 @@
 -- What is durable was sent, and each later owner keeps it at a durable place.
 use Rattle.std.proofs.Common.{◌≡◌, ◌≢◌, ℕ, ◌-◌, ◌<◌, ◌&&◌, nat_lt, true, List, take, Some, slice_get, subst}
 use Rattle.std.proofs.lemmas.Bool.{and_parts, ltb-true}
-use Rattle.rc_types.specs.declared.ids.ServerId.{ServerId}
-use Rattle.rc_types.specs.declared.ids.Addr.TheVariants.{Server}
-use Rattle.rc_types.specs.declared.entries.Entry.{Entry}
-use Rattle.rc_types.specs.declared.events.Setup.{Setup}
-use Rattle.rc_types.specs.declared.events.Event.{Event}
-use Rattle.rc_model.specs.Config.{durable_len}
-use Rattle.rc_model.specs.Log.{Log, has_segment}
-use Rattle.rc_model.specs.Durable.{all_shut_to, IsDurable}
-use Rattle.rc_model.specs.Nodes.{factor_of}
-use Rattle.rc_model.specs.Owners.{Granted, IsGranted, IsEarlier}
-use Rattle.rc_model.specs.World.{World, replay}
-use Rattle.rc_model.specs.Headline.{HasMade}
+use Rattle.rc_model.specs.Model.{ServerId, Server, Entry, Setup, Event, durable_len, Log, has_segment, all_shut_to, IsDurable, factor_of}
+use Rattle.rc_model.specs.Model.{Granted, IsGranted, IsEarlier, World, replay, HasMade}
 use Rattle.rc_step_laws.specs.Words.{log_in, HasTold}
 use Rattle.rc_log_laws.proofs.Clauses.{made-is}
 use Rattle.rc_log_laws.proofs.Replays.{good-world}

@@ -1,15 +1,8 @@
 -- The numbers of a log stay within their limits.
 use Rattle.std.proofs.Common.{◌≡◌, Bool, true, false, List, ◌++◌, length, refl, ◌∙◌, arith, leb-false}
 use Rattle.std.proofs.lemmas.List.{length_push}
-use Rattle.rc_types.specs.declared.ids.ServerId.{ServerId}
-use Rattle.rc_types.specs.declared.entries.Entry.{Entry}
-use Rattle.rc_types.specs.declared.messages.Message.{Message}
-use Rattle.rc_types.specs.declared.events.Setup.{Setup}
-use Rattle.rc_model.specs.Segment.{with_entry}
-use Rattle.rc_model.specs.Log.{head_of}
-use Rattle.rc_model.specs.Heads.{is_full}
-use Rattle.rc_model.specs.Master.{Master, appends_entry}
-use Rattle.rc_model.specs.MasterStep.{master_takes, master_ticks}
+use Rattle.rc_model.specs.Model.{ServerId, Entry, Message, Setup, with_entry, head_of, is_full, Master, appends_entry, master_takes}
+use Rattle.rc_model.specs.Model.{master_ticks}
 use Rattle.rc_write_laws.specs.LimitClaims.{LogIsWithinLimits, LogsStayWithinLimits, SegmentsTakeWhatIsSetUp}
 use Rattle.rc_write_laws.proofs.Quiet.{limits-put}
 use Rattle.rc_write_laws.proofs.Walk.{IsKept, takes-kept, tick-kept}

@@ -1,27 +1,13 @@
 -- A place is counted as durable in the event in which it becomes stored on all.
-use Rattle.std.proofs.Common.{◌≡◌, ℕ, zero, suc, ◌+◌, ◌-◌, ◌<◌, ◌≤◌, max, Bool, true, false, cond, List, []}
-use Rattle.std.proofs.Common.{◌∷◌, ◌++◌, length, map, refl, sym, ap, ◌∙◌, subst}
-use Rattle.std.proofs.Common.{inl, inr, arith}
+use Rattle.std.proofs.Common.{◌≡◌, ℕ, zero, suc, ◌+◌, ◌-◌, ◌<◌, ◌≤◌, max, Bool, true, false, cond, List, [], ◌∷◌, ◌++◌, length, map, refl}
+use Rattle.std.proofs.Common.{sym, ap, ◌∙◌, subst, inl, inr, arith}
 use Rattle.std.proofs.lemmas.Bool.{ltb-true}
 use Rattle.std.proofs.lemmas.List.{append_assoc, append-nil, map-append, length_push}
-use Rattle.rc_types.specs.declared.ids.ServerId.{ServerId}
-use Rattle.rc_types.specs.declared.events.Event.{Event}
-use Rattle.rc_types.specs.declared.ids.Addr.{Addr}
-use Rattle.rc_types.specs.declared.entries.Entry.{Entry}
-use Rattle.rc_types.specs.declared.messages.Message.{Message}
-use Rattle.rc_types.specs.declared.messages.Body.{Body}
-use Rattle.rc_model.specs.Segment.{Segment, new_segment, with_entry, durable_in, with_closes_sent}
-use Rattle.rc_model.specs.Log.{Log, head_of, old_head_of, with_segment, numbers_to, durable_among, durable_now}
-use Rattle.rc_model.specs.Heads.{opens_head, appends, shuts}
-use Rattle.rc_model.specs.Heads.{left_out, with_freed, starts, closes_old, writes_on}
-use Rattle.rc_model.specs.Master.{Master}
-use Rattle.rc_model.specs.ListRules.{then_does}
-use Rattle.rc_model.specs.FollowUps.{commits}
-use Rattle.rc_model.specs.FollowUps.{goes_on}
-use Rattle.rc_model.specs.MasterTick.{ticks}
-use Rattle.rc_model.specs.MasterStep.{master_takes_first, deposed_takes, master_takes, master_ticks}
-use Rattle.rc_model.specs.World.{World, opening, step, replay}
-use Rattle.rc_model.specs.Headline.{In}
+use Rattle.rc_model.specs.Model.{ServerId, Event, Addr, Entry, Message, Body, Segment, new_segment, with_entry, durable_in}
+use Rattle.rc_model.specs.Model.{with_closes_sent, Log, head_of, old_head_of, with_segment, numbers_to, durable_among, durable_now}
+use Rattle.rc_model.specs.Model.{opens_head, appends, shuts, left_out, with_freed, starts, closes_old, writes_on, Master, then_does}
+use Rattle.rc_model.specs.Model.{commits, goes_on, ticks, master_takes_first, deposed_takes, master_takes, master_ticks, World, opening}
+use Rattle.rc_model.specs.Model.{step, replay, In}
 use Rattle.rc_model.proofs.Replays.{replay_from-push}
 use Rattle.rc_model.proofs.Walk.{OfLog, LogJoined, LogFollowed, of_log-joined, of_log-followed, kept-goes_on, same-deposed}
 use Rattle.rc_step_laws.proofs.Places.{numbers-In}

@@ -4,16 +4,8 @@ use Rattle.std.proofs.Common.{◌++◌, length, drop, filter, refl, sym, ap, ◌
 use Rattle.std.proofs.lemmas.Bool.{and_parts, eqb-true}
 use Rattle.std.proofs.lemmas.List.{take-append-drop, length-append}
 use Rattle.std.proofs.lemmas.List.Elements.{filter-append}
-use Rattle.rc_types.specs.declared.ids.ServerId.{ServerId}
-use Rattle.rc_types.specs.declared.entries.Entry.{Entry}
-use Rattle.rc_types.specs.declared.messages.Message.{Message}
-use Rattle.rc_types.specs.declared.messages.Body.{Body}
-use Rattle.rc_types.specs.declared.messages.Body.TheVariants.{WriteOk}
-use Rattle.rc_model.specs.Ids.{is_server}
-use Rattle.rc_model.specs.Segment.{Segment}
-use Rattle.rc_model.specs.Log.{Log, LogPlace, places_in, places_to, places_of}
-use Rattle.rc_model.specs.FollowUps.{write_oks}
-use Rattle.rc_model.specs.World.{replay}
+use Rattle.rc_model.specs.Model.{ServerId, Entry, Message, Body, WriteOk, is_server, Segment, Log, LogPlace, places_in, places_to}
+use Rattle.rc_model.specs.Model.{places_of, write_oks, replay}
 use Rattle.rc_write_laws.specs.AckClaims.{is_write_ok, is_ack_of, counted_places, names_place, acks_place, AcknowledgedOnce}
 use Rattle.rc_write_laws.proofs.Counting.{and-false, oks-append, server-own, counted-is-acknowledged}
 use Rattle.rc_write_laws.proofs.Settling.{ok_of, place_at}

@@ -4,28 +4,16 @@ use Rattle.std.proofs.Common.{length, filter, find, Some, refl, sym, ap, ◌∙�
 use Rattle.std.specs.List.{All}
 use Rattle.std.proofs.lemmas.Bool.{and_parts, not-false}
 use Rattle.std.proofs.lemmas.List.Elements.{All-nil, All-cons}
-use Rattle.rc_types.specs.declared.ids.ServerId.{ServerId}
-use Rattle.rc_types.specs.declared.entries.Entry.{Entry}
-use Rattle.rc_types.specs.declared.messages.Message.{Message}
-use Rattle.rc_types.specs.declared.messages.Body.{Body}
-use Rattle.rc_types.specs.declared.messages.Body.TheVariants.{Append, Commit}
-use Rattle.rc_types.specs.declared.events.Setup.{Setup}
-use Rattle.rc_model.specs.Messages.{to_coordinator}
-use Rattle.rc_model.specs.Segment.{Segment, with_entry}
-use Rattle.rc_model.specs.Log.{Log, LogPlace, head_of, numbers_to, durable_now}
-use Rattle.rc_model.specs.Master.{Master, with_log, ids_of, not_lost, appends_entry}
-use Rattle.rc_model.specs.FollowUps.{write_oks, new_durable, first_open, commits}
-use Rattle.rc_model.specs.MasterStep.{master_takes, master_ticks}
-use Rattle.rc_model.specs.MasterTick.{commits_again, awaits_commit}
-use Rattle.rc_model.specs.Headline.{In}
+use Rattle.rc_model.specs.Model.{ServerId, Entry, Message, Body, Append, Commit, Setup, to_coordinator, Segment, with_entry, Log}
+use Rattle.rc_model.specs.Model.{LogPlace, head_of, numbers_to, durable_now, Master, with_log, ids_of, not_lost, appends_entry, write_oks}
+use Rattle.rc_model.specs.Model.{new_durable, first_open, commits, master_takes, master_ticks, commits_again, awaits_commit, In}
 use Rattle.rc_model.proofs.Members.{In-append, In-map, In-filter}
 use Rattle.rc_step_laws.specs.Facts.{GoodMaster}
 use Rattle.rc_step_laws.proofs.Tests.{find-one}
 use Rattle.rc_step_laws.proofs.Places.{In-numbers}
 use Rattle.rc_write_laws.specs.CommitClaims.{CommitsAreAskedInOrder}
-use Rattle.rc_write_laws.proofs.Quiet.{is_loud, AllSoft, soft-ids, QuietLog}
+use Rattle.rc_write_laws.proofs.Quiet.{is_loud, AllSoft, soft-ids, QuietLog, All-In}
 use Rattle.rc_write_laws.proofs.Walk.{IsKept, takes-kept, tick-kept}
-use Rattle.rc_write_laws.proofs.Quiet.{All-In}
 use Rattle.rc_log_laws.proofs.EachMaster.{OthersSay, IsKeptByAll, kept-replay}
 use Rattle.rc_write_laws.proofs.Settling.{ok_of}
 use Rattle.rc_model.proofs.Tests.{true_false, either}

@@ -1,36 +1,20 @@
 -- What changes neither the places of a log nor what is counted of them, and asks for no commit.
-use Rattle.std.proofs.Common.{◌≡◌, ℕ, suc, ◌+◌, ◌-◌, ◌≤◌, Bool, true, false, cond, nat_lt, nat_eq, List, [], ◌∷◌}
-use Rattle.std.proofs.Common.{◌++◌, Option, Some, None, Result, Ok, Err, refl, sym, ap, ◌∙◌, subst, arith, length, map}
-use Rattle.std.proofs.Common.{◌<◌}
+use Rattle.std.proofs.Common.{◌≡◌, ℕ, suc, ◌+◌, ◌-◌, ◌≤◌, Bool, true, false, cond, nat_lt, nat_eq, List, [], ◌∷◌, ◌++◌, Option, Some}
+use Rattle.std.proofs.Common.{None, Result, Ok, Err, refl, sym, ap, ◌∙◌, subst, arith, length, map, ◌<◌, inl, inr}
 use Rattle.std.specs.List.{All}
-use Rattle.std.proofs.lemmas.List.Elements.{All-nil, All-cons, All-map}
+use Rattle.std.proofs.lemmas.List.Elements.{All-nil, All-cons, All-map, All-head, All-tail}
 use Rattle.std.proofs.lemmas.List.{append-nil}
 use Rattle.std.proofs.lemmas.Bool.{eqb-true, eq-eqb, ltb-true}
-use Rattle.rc_types.specs.declared.ids.ServerId.{ServerId}
-use Rattle.rc_types.specs.declared.faults.Fault.{Fault}
-use Rattle.rc_types.specs.declared.faults.Fault.TheVariants.{EpochsExhausted}
-use Rattle.rc_types.specs.declared.limits.TheConstants.{LAST_SEGMENT, LAST_EPOCH}
-use Rattle.rc_types.specs.declared.kept.Phase.{Phase}
-use Rattle.rc_types.specs.declared.messages.Message.{Message}
-use Rattle.rc_types.specs.declared.messages.Body.{Body}
-use Rattle.rc_types.specs.declared.messages.Body.TheVariants.{WriteOk, Commit}
-use Rattle.rc_model.specs.Messages.{between}
-use Rattle.rc_model.specs.ServerList.{ServerList}
-use Rattle.rc_model.specs.Config.{Config, told_if_heard, noted, committed_at, any_lost, with_lost}
-use Rattle.rc_model.specs.Config.{substitutes_for, changed, changes_to, lose, refills_with, refill}
-use Rattle.rc_model.specs.Segment.{Segment, new_segment, under_new_epoch}
-use Rattle.rc_model.specs.Log.{Log, places_in, places_to, places_of, with_segment, has_segment}
-use Rattle.rc_model.specs.Heads.{opens_head, with_config}
-use Rattle.rc_model.specs.Heads.{stored, commit_noted, opens_change, refills, loses, with_freed}
-use Rattle.rc_model.specs.Master.{to_ids}
+use Rattle.rc_model.specs.Model.{ServerId, Fault, EpochsExhausted, LAST_SEGMENT, LAST_EPOCH, Phase, Message, Body, WriteOk, Commit}
+use Rattle.rc_model.specs.Model.{between, ServerList, Config, told_if_heard, noted, committed_at, any_lost, with_lost, substitutes_for}
+use Rattle.rc_model.specs.Model.{changed, changes_to, lose, refills_with, refill, Segment, new_segment, under_new_epoch, Log, places_in}
+use Rattle.rc_model.specs.Model.{places_to, places_of, with_segment, has_segment, opens_head, with_config, stored, commit_noted}
+use Rattle.rc_model.specs.Model.{opens_change, refills, loses, with_freed, to_ids, In}
 use Rattle.rc_write_laws.specs.LimitClaims.{LogIsWithinLimits}
 use Rattle.rc_model.proofs.Tests.{true_false, either}
 use Rattle.rc_model.proofs.Tables.{put_each}
 use Rattle.rc_model.proofs.Sending.{Each, each-all}
 use Rattle.rc_log_laws.proofs.EachMaster.{is_others}
-use Rattle.rc_model.specs.Headline.{In}
-use Rattle.std.proofs.Common.{inl, inr}
-use Rattle.std.proofs.lemmas.List.Elements.{All-head, All-tail}
 use Rattle.rc_step_laws.proofs.Places.{places_to-same}
 
 -- Messages

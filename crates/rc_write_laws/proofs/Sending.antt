@@ -1,31 +1,16 @@
 -- What a backup has told, its master has sent it: each place below the length of a Stored is made.
 use Rattle.std.proofs.Common.{◌≡◌, ◌⊎◌, ℕ, ◌<◌, Bool, List, [], ◌∷◌, ◌++◌, Option, Some, None, refl, ap, ◌∙◌, subst, inl, inr, arith}
-use Rattle.rc_types.specs.declared.ids.ServerId.{ServerId}
-use Rattle.rc_types.specs.declared.ids.Addr.{Addr}
-use Rattle.rc_types.specs.declared.ids.Addr.TheVariants.{Server, Coordinator as AtCoordinator, Outside}
-use Rattle.rc_types.specs.declared.entries.Entry.{Entry}
-use Rattle.rc_types.specs.declared.events.Setup.{Setup}
-use Rattle.rc_types.specs.declared.events.Event.{Event}
-use Rattle.rc_types.specs.declared.messages.Message.{Message}
-use Rattle.rc_types.specs.declared.messages.Body.TheVariants.{Stored, Enlist}
-use Rattle.rc_model.specs.Ids.{is_server}
-use Rattle.rc_model.specs.Tables.{put}
-use Rattle.rc_model.specs.Messages.{between, to_coordinator}
-use Rattle.rc_model.specs.Backup.{Backup, backup_takes}
-use Rattle.rc_model.specs.Master.{Master}
-use Rattle.rc_model.specs.MasterStep.{master_takes, master_ticks}
-use Rattle.rc_model.specs.Coordinator.{Coordinator, suspects}
-use Rattle.rc_model.specs.Deciding.{decides}
-use Rattle.rc_model.specs.CoordinatorStep.{creates, splits, coordinator_ticks, coordinator_takes}
-use Rattle.rc_model.specs.Nodes.{Work, Ask, Take, Tick, Stop, Start, Suspect, Decide, Create, Split, HostNode}
-use Rattle.rc_model.specs.Nodes.{outside_sends, coordinator_step, is_for_backup, with_backup, with_master, server_of}
-use Rattle.rc_model.specs.Nodes.{next_server, server_takes, takes_if_running, ticks_if_running, host_step}
-use Rattle.rc_model.specs.World.{World, opening, NodeName, TheOutside, TheCoordinator, TheHost, Job, is_possible}
-use Rattle.rc_model.specs.World.{work_of, node_done, job_done, step, replay_from, replay}
-use Rattle.rc_model.specs.Headline.{In, HasMade}
+use Rattle.rc_model.specs.Model.{ServerId, Addr, Server, Outside, Entry, Setup, Event, Message, Stored, Enlist, is_server, put, between}
+use Rattle.rc_model.specs.Model.{to_coordinator, Backup, backup_takes, Master, master_takes, master_ticks, suspects, decides, creates}
+use Rattle.rc_model.specs.Model.{splits, coordinator_ticks, coordinator_takes, Work, Take, Create, Split, HostNode, outside_sends}
+use Rattle.rc_model.specs.Model.{coordinator_step, is_for_backup, with_backup, with_master, server_of, next_server, server_takes}
+use Rattle.rc_model.specs.Model.{takes_if_running, ticks_if_running, host_step, World, opening, NodeName, TheOutside, TheCoordinator}
+use Rattle.rc_model.specs.Model.{TheHost, Job, is_possible, work_of, node_done, job_done, step, replay_from, replay, In, HasMade}
+use Rattle.rc_types.specs.declared.ids.Addr.TheVariants.{Coordinator as AtCoordinator}
+use Rattle.rc_model.specs.Coordinator.{Coordinator}
+use Rattle.rc_model.specs.Nodes.{Ask, Tick, Stop, Start, Suspect, Decide}
 use Rattle.rc_model.proofs.Members.{In-append, In-left}
-use Rattle.rc_step_laws.specs.Facts.{StillStands}
-use Rattle.rc_step_laws.specs.Moves.{MasterMoved, CoordinatorMoved, BackupMoved, stored_said}
+use Rattle.rc_step_laws.specs.All.{StillStands, MasterMoved, CoordinatorMoved, BackupMoved, stored_said}
 use Rattle.rc_step_laws.proofs.MasterSteps.{master_takes_keeps, master_ticks_keeps}
 use Rattle.rc_step_laws.proofs.CoordinatorSteps.{moved-takes, moved-suspects, moved-decides, moved-creates, moved-splits, moved-ticks}
 use Rattle.rc_step_laws.proofs.Backups.{moved-backup}

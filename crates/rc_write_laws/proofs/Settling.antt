@@ -1,32 +1,15 @@
 -- What is stored on all members of a segment, with each earlier segment shut, is acknowledged in that very step.
-use Rattle.std.proofs.Common.{◌≡◌, ◌≢◌, ℕ, zero, suc, ◌+◌, ◌-◌, ◌<◌, ◌≤◌, Bool, true, false, cond, nat_lt, nat_le}
-use Rattle.std.proofs.Common.{◌&&◌, List, [], ◌∷◌, ◌++◌, length, map, take, slice_get, Option, Some, None, refl, sym}
-use Rattle.std.proofs.Common.{ap, ◌∙◌, subst, inl, inr, arith}
+use Rattle.std.proofs.Common.{◌≡◌, ◌≢◌, ℕ, zero, suc, ◌+◌, ◌-◌, ◌<◌, ◌≤◌, Bool, true, false, cond, nat_lt, nat_le, ◌&&◌, List, [], ◌∷◌}
+use Rattle.std.proofs.Common.{◌++◌, length, map, take, slice_get, Option, Some, None, refl, sym, ap, ◌∙◌, subst, inl, inr, arith}
 use Rattle.std.proofs.lemmas.Bool.{and_parts, ltb-true, leb-true}
 use Rattle.std.proofs.lemmas.Bool.Decides.{nat_tests}
 use Rattle.std.proofs.lemmas.List.{append-nil, append_assoc, length-append, map-append}
-use Rattle.rc_types.specs.declared.ids.ServerId.{ServerId}
-use Rattle.rc_types.specs.declared.ids.Addr.{Addr}
-use Rattle.rc_types.specs.declared.entries.Entry.{Entry}
-use Rattle.rc_types.specs.declared.messages.Message.{Message}
-use Rattle.rc_types.specs.declared.messages.Body.{Body}
-use Rattle.rc_types.specs.declared.messages.Body.TheVariants.{WriteOk}
-use Rattle.rc_types.specs.declared.events.Setup.{Setup}
-use Rattle.rc_model.specs.Messages.{to_outside}
-use Rattle.rc_model.specs.Config.{durable_len}
-use Rattle.rc_model.specs.Segment.{Segment, durable_in}
-use Rattle.rc_model.specs.Log.{Log, LogPlace, places_in, places_to, places_of, numbers_to, durable_among, durable_now, has_segment}
-use Rattle.rc_model.specs.Master.{Master}
-use Rattle.rc_model.specs.ListRules.{then_does}
-use Rattle.rc_model.specs.FollowUps.{when, follows_start, follows_placed, follows_closing, follows_shut}
-use Rattle.rc_model.specs.FollowUps.{follows_change, follows_stored, follows_data, follows_replay, or_rule, follow_up}
-use Rattle.rc_model.specs.FollowUps.{write_oks, followed, measure, goes_on}
-use Rattle.rc_model.specs.MasterTick.{ticks}
-use Rattle.rc_model.specs.MasterStep.{master_takes_first, deposed_takes, master_takes, master_ticks}
-use Rattle.rc_model.specs.Nodes.{factor_of}
-use Rattle.rc_model.specs.World.{replay}
-use Rattle.rc_model.specs.Durable.{all_shut_to, is_stored_on_all}
-use Rattle.rc_model.specs.Headline.{In}
+use Rattle.rc_model.specs.Model.{ServerId, Addr, Entry, Message, Body, WriteOk, Setup, to_outside, durable_len, Segment, durable_in, Log}
+use Rattle.rc_model.specs.Model.{LogPlace, places_in, places_to, places_of, numbers_to, durable_among, durable_now, has_segment, Master}
+use Rattle.rc_model.specs.Model.{then_does, when, follows_start, follows_placed, follows_closing, follows_shut, follows_change}
+use Rattle.rc_model.specs.Model.{follows_stored, follows_data, follows_replay, or_rule, follow_up, write_oks, followed, measure, goes_on}
+use Rattle.rc_model.specs.Model.{ticks, master_takes_first, deposed_takes, master_takes, master_ticks, factor_of, replay, all_shut_to}
+use Rattle.rc_model.specs.Model.{is_stored_on_all, In}
 use Rattle.rc_model.proofs.Measures.{goes_on-up, goes_on-settles}
 use Rattle.rc_step_laws.proofs.Lists.{get-left, get-within}
 use Rattle.rc_write_laws.specs.AckClaims.{is_ack_of, counted_places, StoredIsAcknowledged}

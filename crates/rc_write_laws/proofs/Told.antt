@@ -1,27 +1,15 @@
 -- A member that has told its replica closed has told all of the segment; and what is shut is closed on all its members.
-use Rattle.std.proofs.Common.{◌≡◌, ◌≢◌, ◌⊎◌, ℕ, zero, suc, ◌+◌, ◌-◌, ◌<◌, ◌≤◌, max, Bool, true, false, ◌&&◌, ◌||◌}
-use Rattle.std.proofs.Common.{nat_eq, nat_lt, List, [], ◌∷◌, map, length, take, Option, Some, None, Result, Ok, Err}
-use Rattle.std.proofs.Common.{refl, sym, ap, ◌∙◌, subst, inl, inr, arith}
+use Rattle.std.proofs.Common.{◌≡◌, ◌≢◌, ◌⊎◌, ℕ, zero, suc, ◌+◌, ◌-◌, ◌<◌, ◌≤◌, max, Bool, true, false, ◌&&◌, ◌||◌, nat_eq, nat_lt, List}
+use Rattle.std.proofs.Common.{[], ◌∷◌, map, length, take, Option, Some, None, Result, Ok, Err, refl, sym, ap, ◌∙◌, subst, inl, inr, arith}
 use Rattle.std.proofs.lemmas.Bool.{and_parts, ltb-true}
 use Rattle.std.proofs.lemmas.Bool.Decides.{nat_tests}
-use Rattle.rc_types.specs.declared.ids.ServerId.{ServerId}
-use Rattle.rc_types.specs.declared.entries.Entry.{Entry}
-use Rattle.rc_types.specs.declared.kept.Member.{Member}
+use Rattle.rc_model.specs.Model.{ServerId, Entry, Member, Fault, EpochsExhausted, LAST_EPOCH, ServerList, has_crashed, Config, new_member}
+use Rattle.rc_model.specs.Model.{candidates, choose, told_with, is_heard, told_if_heard, noted, committed_at, all_closed, told_closed}
+use Rattle.rc_model.specs.Model.{told_len, any_lost, lost_if_crashed, with_lost, substitutes_for, replaced, changed, changes_to, lose}
+use Rattle.rc_model.specs.Model.{refills_with, refill, Segment, new_segment, with_entry, under_new_epoch, is_all_closed, Log, head_of}
+use Rattle.rc_model.specs.Model.{old_head_of, has_old_head, with_segment, has_segment, opens_head, appends, with_config, stored}
+use Rattle.rc_model.specs.Model.{commit_noted, opens_change, refills, loses, shuts, with_freed, In}
 use Rattle.rc_types.specs.declared.kept.Told.{Told as ToldIt}
-use Rattle.rc_types.specs.declared.faults.Fault.{Fault}
-use Rattle.rc_types.specs.declared.faults.Fault.TheVariants.{EpochsExhausted}
-use Rattle.rc_types.specs.declared.limits.TheConstants.{LAST_EPOCH}
-use Rattle.rc_model.specs.ServerList.{ServerList, has_crashed}
-use Rattle.rc_model.specs.Config.{Config, new_member, candidates, choose, told_with, is_heard, told_if_heard, noted}
-use Rattle.rc_model.specs.Config.{committed_at, all_closed, told_closed, told_len, any_lost, lost_if_crashed}
-use Rattle.rc_model.specs.Config.{with_lost, substitutes_for, replaced, changed, changes_to, lose, refills_with}
-use Rattle.rc_model.specs.Config.{refill}
-use Rattle.rc_model.specs.Segment.{Segment, new_segment, with_entry, under_new_epoch, is_all_closed}
-use Rattle.rc_model.specs.Log.{Log, head_of, old_head_of, has_old_head, with_segment, has_segment}
-use Rattle.rc_model.specs.Heads.{opens_head, appends}
-use Rattle.rc_model.specs.Heads.{with_config, stored, commit_noted, opens_change, refills, loses, shuts}
-use Rattle.rc_model.specs.Heads.{with_freed}
-use Rattle.rc_model.specs.Headline.{In}
 use Rattle.rc_log_laws.proofs.MasterWorlds.{put-cases}
 use Rattle.rc_model.proofs.Tests.{true_false, either}
 use Rattle.rc_model.proofs.Tables.{put_each}

@@ -2,24 +2,12 @@
 use Rattle.std.proofs.Common.{◌≡◌, ℕ, ◌-◌, ◌<◌, Bool, true, false, List, [], ◌∷◌, ◌++◌, filter, length, Option, Some, refl}
 use Rattle.std.proofs.Common.{sym, subst, arith}
 use Rattle.std.proofs.lemmas.Bool.{ltb-true}
-use Rattle.rc_types.specs.declared.ids.ServerId.{ServerId}
-use Rattle.rc_types.specs.declared.ids.Addr.{Addr}
-use Rattle.rc_types.specs.declared.entries.Entry.{Entry}
-use Rattle.rc_types.specs.declared.kept.Phase.TheVariants.{Closing, Writing}
-use Rattle.rc_types.specs.declared.messages.Message.{Message}
-use Rattle.rc_types.specs.declared.messages.Body.{Body}
-use Rattle.rc_types.specs.declared.messages.Body.TheVariants.{Write, Close}
-use Rattle.rc_types.specs.declared.limits.TheConstants.{LAST_SEGMENT}
-use Rattle.rc_model.specs.Log.{Log, head_of, old_head_of, numbers_to, durable_now}
-use Rattle.rc_model.specs.Heads.{opens_head, is_full, next_digest, stored, commit_noted, loses, left_out, starts, closes_old, writes_on}
-use Rattle.rc_model.specs.Ownership.{after_replay}
-use Rattle.rc_model.specs.Master.{Master, with_log, ids_of, place_of, places_head, appends_entry, dead_segments}
-use Rattle.rc_model.specs.Writing.{written}
-use Rattle.rc_model.specs.Segment.{is_unclosed, with_closes_sent}
-use Rattle.rc_model.specs.FollowUps.{close_marked, frees_segments, first_open, commits, write_oks, new_durable}
-use Rattle.rc_model.specs.MasterTick.{reminds_open, reminds_shut, commits_again, fetches_again, recovered_again}
-use Rattle.rc_model.specs.MasterTick.{ready_again, reminds, ticks}
-use Rattle.rc_model.specs.MasterStep.{master_takes_first, master_takes, master_ticks}
+use Rattle.rc_model.specs.Model.{ServerId, Addr, Entry, Closing, Writing, Message, Body, Write, Close, LAST_SEGMENT, Log, head_of}
+use Rattle.rc_model.specs.Model.{old_head_of, numbers_to, durable_now, opens_head, is_full, next_digest, stored, commit_noted, loses}
+use Rattle.rc_model.specs.Model.{left_out, starts, closes_old, writes_on, after_replay, Master, with_log, ids_of, place_of, places_head}
+use Rattle.rc_model.specs.Model.{appends_entry, dead_segments, written, is_unclosed, with_closes_sent, close_marked, frees_segments}
+use Rattle.rc_model.specs.Model.{first_open, commits, write_oks, new_durable, reminds_open, reminds_shut, commits_again, fetches_again}
+use Rattle.rc_model.specs.Model.{recovered_again, ready_again, reminds, ticks, master_takes_first, master_takes, master_ticks}
 use Rattle.rc_model.proofs.Walk.{Joined, Listed, Rolls, Taken, Ticked, Followed, kept-takes_first, kept-ticks_first}
 use Rattle.rc_model.proofs.Walk.{kept-takes, kept-ticks}
 use Rattle.rc_model.proofs.Sending.{each-map, each-frees, each-copies, each-fetches_again, each-recovered, each-ready, Each}

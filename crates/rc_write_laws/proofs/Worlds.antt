@@ -1,38 +1,18 @@
 -- What is shut, and what is counted, was stored on all members at some moment, so it is durable; and so is what was acknowledged.
-use Rattle.std.proofs.Common.{◌≡◌, ◌≢◌, ◌⊎◌, ℕ, zero, suc, ◌+◌, ◌-◌, ◌<◌, ◌≤◌, min, max, Bool, true, false, not, ◌&&◌}
-use Rattle.std.proofs.Common.{List, [], ◌∷◌, ◌++◌, length, take, nat_lt, ◌||◌, slice_get, Some, refl, sym, ap, ◌∙◌}
-use Rattle.std.proofs.Common.{subst, inl, inr, arith}
+use Rattle.std.proofs.Common.{◌≡◌, ◌≢◌, ◌⊎◌, ℕ, zero, suc, ◌+◌, ◌-◌, ◌<◌, ◌≤◌, min, max, Bool, true, false, not, ◌&&◌, List, [], ◌∷◌}
+use Rattle.std.proofs.Common.{◌++◌, length, take, nat_lt, ◌||◌, slice_get, Some, refl, sym, ap, ◌∙◌, subst, inl, inr, arith}
 use Rattle.std.specs.List.{list_all}
 use Rattle.std.proofs.lemmas.Bool.{and_parts, cases_order}
 use Rattle.std.proofs.lemmas.Bool.Decides.{nat_tests}
 use Rattle.std.proofs.lemmas.List.{length-map, length-append, append-nil, append_assoc, take_all, take-take, take-append-le}
-use Rattle.rc_types.specs.declared.ids.ServerId.{ServerId}
-use Rattle.rc_types.specs.declared.ids.Addr.{Addr}
-use Rattle.rc_types.specs.declared.ids.Addr.TheVariants.{Server}
-use Rattle.rc_types.specs.declared.entries.Entry.{Entry}
-use Rattle.rc_types.specs.declared.events.Setup.{Setup}
-use Rattle.rc_types.specs.declared.events.Event.{Event}
-use Rattle.rc_types.specs.declared.kept.Member.{Member}
-use Rattle.rc_types.specs.declared.messages.Message.{Message}
-use Rattle.rc_types.specs.declared.messages.Body.{Body}
+use Rattle.rc_model.specs.Model.{ServerId, Addr, Server, Entry, Setup, Event, Member, Message, Body, WriteOk, is_server, between}
+use Rattle.rc_model.specs.Model.{to_outside, all_closed, is_closed, told_closed, told_len, any_lost, least_told, durable_len, Segment}
+use Rattle.rc_model.specs.Model.{is_all_closed, durable_in, Log, LogPlace, has_segment, places_of, durable_now, all_shut_to}
+use Rattle.rc_model.specs.Model.{is_stored_on_all, WasStored, EarlierWereStored, IsDurable, Master, master_takes, master_ticks, write_oks}
+use Rattle.rc_model.specs.Model.{factor_of, World, opening, step, replay, In}
 use Rattle.rc_types.specs.declared.messages.Body.TheVariants as body
-use Rattle.rc_types.specs.declared.messages.Body.TheVariants.{WriteOk}
-use Rattle.rc_model.specs.Ids.{is_server}
-use Rattle.rc_model.specs.Messages.{between, to_outside}
-use Rattle.rc_model.specs.Config.{all_closed, is_closed, told_closed, told_len, any_lost, least_told, durable_len}
-use Rattle.rc_model.specs.Segment.{Segment, is_all_closed, durable_in}
-use Rattle.rc_model.specs.Log.{Log, LogPlace, has_segment, places_of, durable_now}
-use Rattle.rc_model.specs.Durable.{all_shut_to, is_stored_on_all, WasStored, EarlierWereStored, IsDurable}
-use Rattle.rc_model.specs.Master.{Master}
-use Rattle.rc_model.specs.MasterStep.{master_takes, master_ticks}
-use Rattle.rc_model.specs.FollowUps.{write_oks}
-use Rattle.rc_model.specs.Nodes.{factor_of}
-use Rattle.rc_model.specs.World.{World, opening, step, replay}
-use Rattle.rc_model.specs.Headline.{In}
 use Rattle.rc_model.proofs.Replays.{replay_from-push}
-use Rattle.rc_step_laws.specs.Words.{log_in}
-use Rattle.rc_step_laws.specs.Facts.{IsStored, GoodMaster}
-use Rattle.rc_step_laws.specs.Later.{LogLater}
+use Rattle.rc_step_laws.specs.All.{log_in, IsStored, GoodMaster, LogLater}
 use Rattle.rc_step_laws.proofs.Lists.{get-below, get-begins, get-within}
 use Rattle.rc_step_laws.proofs.Places.{IsOf, places_to-are, places-later, IsCovered, durable-covered}
 use Rattle.rc_step_laws.proofs.Tests.{all-each, In-take}

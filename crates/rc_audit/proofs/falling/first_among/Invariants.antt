@@ -1,6 +1,5 @@
 use Rattle.std.proofs.Common.{◌≡◌, drop}
-use Rattle.rc_model.specs.Recovered.{all_acknowledged}
-use Rattle.rc_model.specs.Breach.{first_fall}
+use Rattle.rc_model.specs.Model.{all_acknowledged, first_fall}
 use Rattle.rc_evidence.specs.Writes.{ack_of}
 use Rattle.rc_audit.proofs.falling.first_among.Given as goal
 

@@ -1,7 +1,5 @@
 use Rattle.std.proofs.Common.{◌≡◌, List}
-use Rattle.rc_types.specs.declared.messages.Message.{Message}
-use Rattle.rc_model.specs.Pick.{ascending}
-use Rattle.rc_model.specs.Breach.{first_invented, segments_of}
+use Rattle.rc_model.specs.Model.{Message, ascending, first_invented, segments_of}
 use Rattle.rc_evidence.specs.Recoveries.{accepted_of}
 use Rattle.rc_evidence.specs.Runs.{AreRuns}
 use Rattle.rc_audit.proofs.invented.invented_in.Given as goal

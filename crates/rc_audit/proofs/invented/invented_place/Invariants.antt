@@ -1,6 +1,5 @@
 use Rattle.std.proofs.Common.{◌≡◌, drop}
-use Rattle.rc_model.specs.Recovered.{accepted}
-use Rattle.rc_model.specs.Breach.{invented_of}
+use Rattle.rc_model.specs.Model.{accepted, invented_of}
 use Rattle.rc_audit.proofs.invented.invented_place.Given as goal
 
 -- no recovery so far has an invented place

@@ -1,6 +1,5 @@
 use Rattle.std.proofs.Common.{◌≡◌, drop}
-use Rattle.rc_model.specs.Recovered.{all_acknowledged}
-use Rattle.rc_model.specs.Breach.{first_missing}
+use Rattle.rc_model.specs.Model.{all_acknowledged, first_missing}
 use Rattle.rc_evidence.specs.Recoveries.{accepted_of}
 use Rattle.rc_evidence.specs.Senders.{messages_in}
 use Rattle.rc_audit.proofs.missing.first_missing.Given as goal

@@ -1,6 +1,5 @@
 use Rattle.std.proofs.Common.{◌≡◌, drop}
-use Rattle.rc_model.specs.Recovered.{accepted}
-use Rattle.rc_model.specs.Breach.{missing_of}
+use Rattle.rc_model.specs.Model.{accepted, missing_of}
 use Rattle.rc_audit.specs.Clean.{AreClean}
 use Rattle.rc_audit.proofs.missing.missing_write.Given as goal
 

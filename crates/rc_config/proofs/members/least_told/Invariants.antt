@@ -1,6 +1,5 @@
 use Rattle.std.proofs.Common.{◌≡◌, ◌∷◌, take}
-use Rattle.rc_types.specs.declared.kept.Member.{Member}
-use Rattle.rc_model.specs.Config.{least_told}
+use Rattle.rc_model.specs.Model.{Member, least_told}
 use Rattle.rc_config.proofs.members.least_told.Given as goal
 
 -- the least of the first member and the others so far

@@ -2,8 +2,7 @@ use Rattle.std.proofs.Common.{◌<◌, inl, inr, length, arith}
 use Rattle.std.proofs.lemmas.List.{set-get_or}
 use Rattle.rc_config.proofs.MemberLemmas.{replaces_lost, replaces_no_more, no_member}
 use Rattle.rc_config.proofs.replacing.replace.Goals as goal
-use Rattle.rc_config.proofs.replacing.replace.Goals.{then-member+then-next-ids, else-member}
-use Rattle.rc_config.proofs.replacing.replace.Goals.{else-member-via-then-member+else-next-ids}
+use Rattle.rc_config.proofs.replacing.replace.Goals.{then-member+then-next-ids, else-member, else-member-via-then-member+else-next-ids}
 use Rattle.rc_config.proofs.replacing.replace.Goals.{else-member-via-else-member}
 
 pub loop-member-preserved : goal.loop-member-preserved

@@ -1,7 +1,6 @@
 use Rattle.std.proofs.Common.{◌≡◌, ◌≤◌, ◌∙◌, ap, subst, sym, length, List}
 use Rattle.std.proofs.lemmas.Result.{IfOk-weaker}
-use Rattle.rc_types.specs.declared.events.Event.{Event}
-use Rattle.rc_types.specs.declared.limits.TheConstants.{MAX_EVENTS}
+use Rattle.rc_model.specs.Model.{Event, MAX_EVENTS}
 use Rattle.rc_draw.specs.Draw.{drawn}
 use Rattle.rc_draw.proofs.drawing.draw.Goals as goal
 

@@ -1,6 +1,5 @@
 use Rattle.std.proofs.Common.{◌≡◌, ℕ, ◌<◌, true}
-use Rattle.rc_model.specs.Made.{made}
-use Rattle.rc_model.specs.Breach.{is_one_entry}
+use Rattle.rc_model.specs.Model.{made, is_one_entry}
 use Rattle.rc_evidence.proofs.runs.count_run.Given as goal
 
 -- each place so far was made one way

@@ -1,6 +1,5 @@
 use Rattle.std.proofs.Common.{◌≡◌, ◌++◌, ◌∷◌, [], drop}
-use Rattle.rc_types.specs.declared.messages.Body.TheVariants.{Append}
-use Rattle.rc_model.specs.Master.{to_ids, ids_of, not_lost}
+use Rattle.rc_model.specs.Model.{Append, to_ids, ids_of, not_lost}
 use Rattle.rc_notices.specs.Beginnings.{IsBeginning}
 use Rattle.rc_notices.proofs.appending.add_to_members.Given as goal
 

@@ -1,7 +1,5 @@
 use Rattle.std.proofs.Common.{◌≡◌, ◌++◌, drop, filter}
-use Rattle.rc_types.specs.declared.messages.Body.TheVariants.{Close}
-use Rattle.rc_model.specs.Master.{to_ids, ids_of}
-use Rattle.rc_model.specs.Segment.{is_unclosed}
+use Rattle.rc_model.specs.Model.{Close, to_ids, ids_of, is_unclosed}
 use Rattle.rc_notices.specs.Beginnings.{IsBeginning}
 use Rattle.rc_notices.proofs.closing.add_closes_of.Given as goal
 

@@ -1,9 +1,6 @@
 use Rattle.std.proofs.Common.{◌≡◌, [], sym}
 use Rattle.std.proofs.lemmas.List.{append-nil}
-use Rattle.rc_types.specs.declared.messages.Body.TheVariants.{Free}
-use Rattle.rc_model.specs.Segment.{Segment}
-use Rattle.rc_model.specs.Log.{Log, has_segment}
-use Rattle.rc_model.specs.Master.{to_unlost}
+use Rattle.rc_model.specs.Model.{Free, Segment, Log, has_segment, to_unlost}
 use Rattle.rc_headroll.specs.LogData.{log_of}
 use Rattle.rc_notices.proofs.Unknown.{unknown-members, nothing-found}
 use Rattle.rc_notices.proofs.closing.add_frees_of.Goals as goal

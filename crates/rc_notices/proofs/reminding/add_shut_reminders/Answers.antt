@@ -1,7 +1,6 @@
 use Rattle.std.proofs.Common.{◌≤◌, ◌++◌, sym, ap, ◌∙◌, arith}
 use Rattle.std.proofs.lemmas.Grind.{common_steps}
-use Rattle.rc_model.specs.Log.{Log, numbers_to}
-use Rattle.rc_model.specs.MasterTick.{reminds_shut}
+use Rattle.rc_model.specs.Model.{Log, numbers_to, reminds_shut}
 use Rattle.rc_headroll.specs.LogData.{log_of, before_of}
 use Rattle.rc_notices.specs.Reminders.{reminds_if_shut}
 use Rattle.rc_headroll.proofs.SegmentTables.{has-parts}

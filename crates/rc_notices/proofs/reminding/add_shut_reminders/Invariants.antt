@@ -1,6 +1,5 @@
 use Rattle.std.proofs.Common.{◌≡◌, ◌≤◌, ◌-◌, ◌++◌}
-use Rattle.rc_model.specs.Log.{numbers_to}
-use Rattle.rc_model.specs.MasterTick.{reminds_shut}
+use Rattle.rc_model.specs.Model.{numbers_to, reminds_shut}
 use Rattle.rc_headroll.specs.LogData.{log_of, before_of}
 use Rattle.rc_notices.specs.Beginnings.{IsBeginning}
 use Rattle.rc_notices.proofs.reminding.add_shut_reminders.Given as goal

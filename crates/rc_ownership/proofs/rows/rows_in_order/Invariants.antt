@@ -1,6 +1,5 @@
 use Rattle.std.proofs.Common.{◌≡◌, ℕ, List, ◌++◌, map, length}
-use Rattle.rc_types.specs.declared.ids.ServerId.{ServerId}
-use Rattle.rc_model.specs.Ownership.{awaited_row, rows_in_order}
+use Rattle.rc_model.specs.Model.{ServerId, awaited_row, rows_in_order}
 use Rattle.rc_ownership.proofs.rows.rows_in_order.Given as goal
 
 -- the last rows, which were gone over, are in order

@@ -2,8 +2,7 @@ use Rattle.std.proofs.Common.{◌≡◌, Some, sym, ap, ◌∙◌, arith}
 use Rattle.json.specs.Json.{read_key}
 use Rattle.json.proofs.Grammar.{read_key-shorter}
 use Rattle.serde_json.specs.Data.{object, put}
-use Rattle.rc_reading.specs.Ahead.{says, told}
-use Rattle.rc_reading.specs.Fields.{fields_of, noted, member_named}
+use Rattle.rc_reading.specs.All.{says, told, fields_of, noted, member_named}
 use Rattle.rc_reading.proofs.Turns.{members_over, member_read, member_refused, key_refused, says_some}
 use Rattle.rc_reading.proofs.Noted.{put_noted}
 use Rattle.rc_reading.proofs.fields.event_members.Goals as goal

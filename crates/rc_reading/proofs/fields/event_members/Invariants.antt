@@ -1,7 +1,6 @@
 use Rattle.std.proofs.Common.{◌≡◌, ◌≤◌, length}
 use Rattle.serde_json.specs.Data.{Members, object, no_members}
-use Rattle.rc_reading.specs.Ahead.{members_at}
-use Rattle.rc_reading.specs.Fields.{fields_of}
+use Rattle.rc_reading.specs.All.{members_at, fields_of}
 use Rattle.rc_reading.proofs.fields.event_members.Given as goal
 
 -- the fields are those of the members so far

@@ -1,8 +1,6 @@
 use Rattle.std.proofs.Common.{◌≡◌, ◌<◌, [], length, Some, None, refl, ap, sym, ◌∙◌, arith}
 use Rattle.json.specs.Json.{after_end_array}
-use Rattle.rc_reading.specs.Values.{take_factor, factor_of}
-use Rattle.rc_reading.specs.Lists.{factor_added}
-use Rattle.rc_reading.specs.Ahead.{says, items_at, folds}
+use Rattle.rc_reading.specs.All.{take_factor, factor_of, factor_added, says, items_at, folds}
 use Rattle.rc_reading.proofs.Turns.{folds_more, folds_over, item_refused}
 use Rattle.rc_reading.proofs.Folds.{folds_refused}
 use Rattle.rc_reading.proofs.lists.factor_items.Goals as goal

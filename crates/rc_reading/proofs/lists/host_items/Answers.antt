@@ -1,9 +1,6 @@
 use Rattle.std.proofs.Common.{◌≡◌, ◌<◌, length, Some, None, refl, ap, sym, ◌∙◌, arith}
 use Rattle.json.specs.Json.{after_end_array}
-use Rattle.rc_reading.specs.Hosts.{with_host, no_hosts}
-use Rattle.rc_reading.specs.Values.{take_host, host_of}
-use Rattle.rc_reading.specs.Lists.{added}
-use Rattle.rc_reading.specs.Ahead.{says, items_at, folds}
+use Rattle.rc_reading.specs.All.{with_host, no_hosts, take_host, host_of, added, says, items_at, folds}
 use Rattle.rc_reading.proofs.Turns.{folds_more, folds_over, item_refused}
 use Rattle.rc_reading.proofs.Folds.{folds_refused}
 use Rattle.rc_reading.proofs.lists.host_items.Goals as goal

@@ -1,7 +1,5 @@
 use Rattle.std.proofs.Common.{◌≡◌, ◌≤◌, length, Some}
-use Rattle.rc_reading.specs.Ahead.{folds}
-use Rattle.rc_reading.specs.Hosts.{no_hosts}
-use Rattle.rc_reading.specs.Values.{take_host}
+use Rattle.rc_reading.specs.All.{folds, no_hosts, take_host}
 use Rattle.rc_reading.proofs.lists.host_items.Given as goal
 
 -- what the items to come make of what there is

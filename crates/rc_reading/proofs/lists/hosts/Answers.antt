@@ -1,8 +1,7 @@
 use Rattle.std.proofs.Common.{◌≡◌, ◌<◌, ◌∷◌, arith}
 use Rattle.std.proofs.lemmas.Result.{IfOk-weaker, on_err_weaker}
 use Rattle.json.specs.Token.{Token}
-use Rattle.rc_reading.specs.Hosts.{no_hosts}
-use Rattle.rc_reading.specs.Values.{each, take_host}
+use Rattle.rc_reading.specs.All.{no_hosts, each, take_host}
 use Rattle.rc_reading.proofs.Firsts.{listed_says, list_refused}
 use Rattle.rc_reading.proofs.lists.hosts.Goals as goal
 

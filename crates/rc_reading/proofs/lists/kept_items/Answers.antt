@@ -1,8 +1,6 @@
 use Rattle.std.proofs.Common.{◌≡◌, ◌<◌, [], length, Some, None, refl, ap, sym, ◌∙◌, arith, option_and_then}
 use Rattle.json.specs.Json.{after_end_array}
-use Rattle.rc_reading.specs.Values.{take_name, name_in, list_of}
-use Rattle.rc_reading.specs.Lists.{added, at_end}
-use Rattle.rc_reading.specs.Ahead.{says, items_at, folds}
+use Rattle.rc_reading.specs.All.{take_name, name_in, list_of, added, at_end, says, items_at, folds}
 use Rattle.rc_reading.proofs.Turns.{folds_more, folds_over, item_refused}
 use Rattle.rc_reading.proofs.Folds.{folds_refused}
 use Rattle.rc_reading.proofs.lists.kept_items.Goals as goal

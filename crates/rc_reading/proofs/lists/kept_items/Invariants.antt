@@ -1,6 +1,5 @@
 use Rattle.std.proofs.Common.{◌≡◌, ◌≤◌, length, Some, []}
-use Rattle.rc_reading.specs.Ahead.{folds}
-use Rattle.rc_reading.specs.Values.{take_name}
+use Rattle.rc_reading.specs.All.{folds, take_name}
 use Rattle.rc_reading.proofs.lists.kept_items.Given as goal
 
 -- what the items to come make of what there is

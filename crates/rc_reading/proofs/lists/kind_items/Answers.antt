@@ -1,10 +1,7 @@
 use Rattle.std.proofs.Common.{◌≡◌, ◌<◌, length, Some, None, refl, ap, sym, ◌∙◌, arith, option_and_then}
 use Rattle.json.specs.Json.{after_end_array}
 use Rattle.serde_json.specs.Find.{as_str}
-use Rattle.rc_reading.specs.Kinds.{kind_named, with_kind, no_kinds}
-use Rattle.rc_reading.specs.Values.{take_kind}
-use Rattle.rc_reading.specs.Lists.{added}
-use Rattle.rc_reading.specs.Ahead.{says, items_at, folds}
+use Rattle.rc_reading.specs.All.{kind_named, with_kind, no_kinds, take_kind, added, says, items_at, folds}
 use Rattle.rc_reading.proofs.Turns.{folds_more, folds_over, item_refused}
 use Rattle.rc_reading.proofs.Folds.{folds_refused}
 use Rattle.rc_reading.proofs.lists.kind_items.Goals as goal

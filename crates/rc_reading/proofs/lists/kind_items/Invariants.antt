@@ -1,7 +1,5 @@
 use Rattle.std.proofs.Common.{◌≡◌, ◌≤◌, length, Some}
-use Rattle.rc_reading.specs.Ahead.{folds}
-use Rattle.rc_reading.specs.Kinds.{no_kinds}
-use Rattle.rc_reading.specs.Values.{take_kind}
+use Rattle.rc_reading.specs.All.{folds, no_kinds, take_kind}
 use Rattle.rc_reading.proofs.lists.kind_items.Given as goal
 
 -- what the items to come make of what there is

@@ -1,8 +1,7 @@
 use Rattle.std.proofs.Common.{◌≡◌, ◌<◌, ◌∷◌, arith}
 use Rattle.std.proofs.lemmas.Result.{IfOk-weaker, on_err_weaker}
 use Rattle.json.specs.Token.{Token}
-use Rattle.rc_reading.specs.Kinds.{no_kinds}
-use Rattle.rc_reading.specs.Values.{each, take_kind}
+use Rattle.rc_reading.specs.All.{no_kinds, each, take_kind}
 use Rattle.rc_reading.proofs.Firsts.{listed_says, list_refused}
 use Rattle.rc_reading.proofs.lists.kinds.Goals as goal
 

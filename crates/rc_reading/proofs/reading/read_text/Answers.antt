@@ -1,7 +1,6 @@
 use Rattle.std.proofs.Common.{◌≡◌, [], Some, Err, sym, ap, ◌∙◌, arith}
 use Rattle.json.specs.Lex.{tokens}
-use Rattle.rc_reading.specs.Ahead.{says}
-use Rattle.rc_reading.specs.Scenario.{scenario_of}
+use Rattle.rc_reading.specs.All.{says, scenario_of}
 use Rattle.rc_reading.proofs.Texts.{text_says, text_and_more, text_refused}
 use Rattle.rc_reading.proofs.reading.read_text.Goals as goal
 

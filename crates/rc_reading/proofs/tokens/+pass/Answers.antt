@@ -1,10 +1,8 @@
 use Rattle.std.proofs.Common.{◌≡◌, ◌<◌, [], ◌∷◌, length, Some, None, ap, ◌∙◌, arith}
-use Rattle.json.specs.Json.{after_end_array, read_key}
+use Rattle.json.specs.Json.{after_end_array, read_key, value}
 use Rattle.json.specs.Reads.{token_of}
-use Rattle.json.proofs.Grammar.{read_key-shorter, left_none}
+use Rattle.json.proofs.Grammar.{read_key-shorter, left_none, value_is}
 use Rattle.std.proofs.lemmas.Result.{on_ok_weaker, on_err_weaker}
-use Rattle.json.specs.Json.{value}
-use Rattle.json.proofs.Grammar.{value_is}
 use Rattle.serde_json.specs.Read.{of_json, converted}
 use Rattle.serde_json.specs.Data.{no_members}
 use Rattle.rc_reading.specs.Ahead.{data_at, items_at, members_at, rest}

@@ -1,9 +1,7 @@
 use Rattle.std.proofs.Common.{◌≡◌, ◌<◌, length, Some, None, refl, ◌∙◌, sym, arith}
 use Rattle.json.specs.Json.{after_end_array}
 use Rattle.rc_reading.specs.declared.pairs.Pair.TheVariants.{Nothing}
-use Rattle.rc_reading.specs.Ahead.{says, items_at}
-use Rattle.rc_reading.specs.Values.{id_in}
-use Rattle.rc_reading.specs.Pairs.{id_item, both_in, server_id}
+use Rattle.rc_reading.specs.All.{says, items_at, id_in, id_item, both_in, server_id}
 use Rattle.rc_reading.proofs.Turns.{folds_more, folds_over, folded_told, item_refused}
 use Rattle.rc_reading.proofs.Folds.{folds_refused}
 use Rattle.rc_reading.proofs.PairsFound.{found_by, id_items_found}

@@ -1,7 +1,6 @@
 use Rattle.std.proofs.Common.{◌≡◌, ◌≤◌, length, Some}
 use Rattle.rc_reading.specs.declared.pairs.Pair.TheVariants.{Nothing}
-use Rattle.rc_reading.specs.Ahead.{folds}
-use Rattle.rc_reading.specs.Pairs.{id_item}
+use Rattle.rc_reading.specs.All.{folds, id_item}
 use Rattle.rc_reading.proofs.wanted.id_items.Given as goal
 
 -- what the items to come make of what there is

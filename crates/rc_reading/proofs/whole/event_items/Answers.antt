@@ -1,8 +1,6 @@
 use Rattle.std.proofs.Common.{◌≡◌, ◌<◌, [], length, Some, None, Ok, refl, ap, sym, ◌∙◌, arith}
 use Rattle.json.specs.Json.{after_end_array}
-use Rattle.rc_reading.specs.Ahead.{says, folds}
-use Rattle.rc_reading.specs.Scenario.{event_of, events_of}
-use Rattle.rc_reading.specs.Whole.{event_added}
+use Rattle.rc_reading.specs.All.{says, folds, event_of, events_of, event_added}
 use Rattle.rc_reading.proofs.Turns.{folds_more, folds_over, folded_told, item_refused}
 use Rattle.rc_reading.proofs.Folds.{folds_refused}
 use Rattle.rc_reading.proofs.Each.{takes_event, found_in, events_found}

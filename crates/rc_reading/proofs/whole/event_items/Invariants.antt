@@ -1,7 +1,5 @@
 use Rattle.std.proofs.Common.{◌≡◌, ◌≤◌, [], length, Some, Ok}
-use Rattle.rc_reading.specs.Ahead.{folds}
-use Rattle.rc_reading.specs.Scenario.{event_of}
-use Rattle.rc_reading.specs.Whole.{event_added}
+use Rattle.rc_reading.specs.All.{folds, event_of, event_added}
 use Rattle.rc_reading.proofs.whole.event_items.Given as goal
 
 -- what the items to come make of what there is

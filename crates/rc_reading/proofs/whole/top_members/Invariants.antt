@@ -1,7 +1,6 @@
 use Rattle.std.proofs.Common.{◌≡◌, ◌≤◌, length}
 use Rattle.serde_json.specs.Data.{Members, object, no_members}
-use Rattle.rc_reading.specs.Ahead.{members_at}
-use Rattle.rc_reading.specs.Whole.{top_of}
+use Rattle.rc_reading.specs.All.{members_at, top_of}
 use Rattle.rc_reading.proofs.whole.top_members.Given as goal
 
 -- they are those of the members so far

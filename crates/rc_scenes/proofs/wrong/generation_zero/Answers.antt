@@ -2,8 +2,7 @@ use Rattle.std.proofs.Common.{refl}
 use Rattle.std.specs.Fmt.{digits}
 use Rattle.std.specs.Str.{chars, is_utf8}
 use Rattle.serde_json.proofs.OnLiterals.{serde_json_on_literals}
-use Rattle.rc_reading.specs.Kinds.{kind_named}
-use Rattle.rc_reading.specs.Scenario.{event_of}
+use Rattle.rc_reading.specs.All.{kind_named, event_of}
 use Rattle.rc_scenes.proofs.wrong.generation_zero.Goals as goal
 
 -- the definitions compute it

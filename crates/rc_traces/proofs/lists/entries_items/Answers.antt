@@ -1,7 +1,6 @@
 use Rattle.std.proofs.Common.{◌≡◌, ◌<◌, [], length, Some, None, refl, ap, sym, ◌∙◌, arith}
 use Rattle.json.specs.Json.{after_end_array}
-use Rattle.rc_reading.specs.Lists.{added, at_end}
-use Rattle.rc_reading.specs.Ahead.{says, folds}
+use Rattle.rc_reading.specs.All.{added, at_end, says, folds}
 use Rattle.rc_reading.proofs.Turns.{folds_more, folds_over, item_refused}
 use Rattle.rc_reading.proofs.Folds.{folds_refused}
 use Rattle.rc_traces.specs.Trace.{take_entry, entry_of}

@@ -4,8 +4,7 @@ use Rattle.std.proofs.lemmas.Map.Steps.{set_value_same}
 use Rattle.std.specs.BTreeMap.{BTreeMap, is_at}
 use Rattle.std.specs.Map.{set_value}
 use Rattle.std.specs.Ordering.{nat_cmp}
-use Rattle.rc_model.specs.Replica.{Replica}
-use Rattle.rc_model.specs.Backup.{replica_after}
+use Rattle.rc_model.specs.Model.{Replica, replica_after}
 use Rattle.rc_backup.specs.HeldAfter.{put_after}
 use Rattle.rc_backup.proofs.HeldLemmas.{held_of, put_after-found, with_replica-lookup, stored_after-lookup}
 use Rattle.rc_backup.proofs.held.Held.store.Goals as goal

@@ -1,6 +1,5 @@
 use Rattle.std.proofs.Common.{List, [], Result, Ok, sym, ◌∙◌, ap}
-use Rattle.rc_types.specs.declared.ids.ServerId.{ServerId}
-use Rattle.rc_types.specs.declared.faults.Fault.{Fault}
+use Rattle.rc_model.specs.Model.{ServerId, Fault}
 use Rattle.rc_model.specs.Config.{Config as Members}
 use Rattle.rc_config.proofs.NobodyLost.{refill-nobody}
 use Rattle.rc_config.proofs.config.Config.refill.Goals as goal

@@ -1,7 +1,6 @@
 use Rattle.std.proofs.Common.{◌≡◌, ◌||◌, List, [], ◌∷◌, refl, ap, ◌∙◌}
 use Rattle.std.specs.List.{list_any}
-use Rattle.rc_types.specs.declared.ids.ServerId.{ServerId}
-use Rattle.rc_model.specs.Ids.{same_id, has_id}
+use Rattle.rc_model.specs.Model.{ServerId, same_id, has_id}
 use Rattle.rc_config.proofs.ids.MemberIds.has.Goals as goal
 
 has_id-any : (id : ServerId) (ids : List ServerId) → list_any (same_id id) ids ≡ has_id id ids

@@ -1,6 +1,5 @@
 use Rattle.std.proofs.Common.{◌<◌, length, sym, ap, ◌∙◌, ◌++◌, ◌∷◌, [], subst, List, arith}
-use Rattle.rc_types.specs.declared.events.Event.{Event}
-use Rattle.rc_types.specs.declared.limits.TheConstants.{MAX_EVENTS}
+use Rattle.rc_model.specs.Model.{Event, MAX_EVENTS}
 use Rattle.rc_journal.specs.declared.view.Place.{Place}
 use Rattle.rc_journal.specs.Views.{with_own}
 use Rattle.rc_journal.specs.Tokens.{place_in}

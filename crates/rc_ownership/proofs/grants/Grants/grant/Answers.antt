@@ -1,7 +1,6 @@
 use Rattle.std.proofs.Common.{◌≡◌, ◌+◌, cond, false, nat_cmp, subst, sym, ap, ◌∙◌, arith}
 use Rattle.std.specs.BTreeMap.{get}
-use Rattle.rc_types.specs.declared.kept.GrantedRange.{GrantedRange}
-use Rattle.rc_model.specs.Ownership.{grant, owns_term}
+use Rattle.rc_model.specs.Model.{GrantedRange, grant, owns_term}
 use Rattle.rc_ownership.specs.Bounds.{Say, point_of, terms_of, or_term, is_within}
 use Rattle.rc_ownership.specs.Grants.{grants_in, owner_of}
 use Rattle.rc_ownership.proofs.Granted.{terms_of-push, grants_in-insert, grant-unowned}

@@ -1,7 +1,6 @@
 use Rattle.std.proofs.Common.{ℕ, ◌+◌, Bool, false, drop, get_or, sym, ap, ◌∙◌}
 use Rattle.std.proofs.lemmas.List.{at_drop_more}
-use Rattle.rc_types.specs.declared.ids.ServerId.{ServerId}
-use Rattle.rc_model.specs.ServerList.{first_rows}
+use Rattle.rc_model.specs.Model.{ServerId, first_rows}
 use Rattle.rc_serverlist.proofs.RowLemmas.{Rows, first_rows-row}
 use Rattle.rc_serverlist.proofs.list.ServerList.from_rows.Goals as goal
 

@@ -1,6 +1,5 @@
 use Rattle.std.proofs.Common.{◌≡◌, [], rules, ap, ◌∙◌}
-use Rattle.rc_model.specs.Ids.{same_id}
-use Rattle.rc_model.specs.ServerList.{ServerList}
+use Rattle.rc_model.specs.Model.{same_id, ServerList}
 use Rattle.indexmap.specs.IndexMap.{insert_all}
 use Rattle.rc_serverlist.proofs.RowLemmas.{Rows, insert_all-rows}
 use Rattle.rc_serverlist.proofs.list.ServerList.try_clone.Goals as goal

@@ -1,7 +1,5 @@
 use Rattle.std.proofs.Common.{◌≡◌, Bool, List, ◌++◌}
-use Rattle.rc_types.specs.declared.ids.ServerId.{ServerId}
-use Rattle.rc_model.specs.Ids.{ids_in_order}
-use Rattle.rc_model.specs.ServerList.{up_rows}
+use Rattle.rc_model.specs.Model.{ServerId, ids_in_order, up_rows}
 use Rattle.rc_serverlist.proofs.list.ServerList.up.Given as goal
 
 -- the ids that are up among the last rows, which were gone over

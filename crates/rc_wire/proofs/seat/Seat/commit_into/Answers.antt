@@ -1,6 +1,5 @@
 use Rattle.std.proofs.Common.{◌≡◌, ◌≤◌, List, [], ◌∷◌, ◌++◌, length, Some, sym, ap, ◌∙◌, subst}
-use Rattle.rc_types.specs.declared.limits.TheConstants.{MAX_EVENTS}
-use Rattle.rc_types.specs.declared.events.Event.{Event}
+use Rattle.rc_model.specs.Model.{MAX_EVENTS, Event}
 use Rattle.rc_world.specs.NodeView.{node_seen}
 use Rattle.rc_journal.specs.Calls.{IsStep}
 use Rattle.rc_wire.specs.declared.offer.Offer.{Offer}

@@ -1,8 +1,7 @@
 use Rattle.std.proofs.Common.{◌≡◌, ℕ, ◌||◌, nat_eq, List, Option, Some, None, sym, ap, ◌∙◌, subst}
 use Rattle.std.specs.List.{list_any}
 use Rattle.std.specs.Option.{IfSome}
-use Rattle.rc_types.specs.declared.messages.Message.{Message}
-use Rattle.rc_model.specs.World.{NodeName}
+use Rattle.rc_model.specs.Model.{Message, NodeName}
 use Rattle.rc_world.specs.NodeView.{node_seen}
 use Rattle.rc_world.specs.declared.work.NodeWork.TheVariants as work
 use Rattle.rc_wire.specs.declared.offer.Offer.{Offer}

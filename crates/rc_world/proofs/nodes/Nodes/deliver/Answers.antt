@@ -1,8 +1,5 @@
 use Rattle.std.proofs.Common.{refl, sym, ◌∙◌}
-use Rattle.rc_types.specs.declared.events.Event.TheVariants.{Deliver}
-use Rattle.rc_model.specs.CoordinatorStep.{coordinator_takes}
-use Rattle.rc_model.specs.Nodes.{Take, host_step}
-use Rattle.rc_model.specs.World.{World, job_done, work_of, coordinator_done, host_done}
+use Rattle.rc_model.specs.Model.{Deliver, coordinator_takes, Take, host_step, World, job_done, work_of, coordinator_done, host_done}
 use Rattle.rc_coordinator.specs.Book.{coordinator_of}
 use Rattle.rc_world.specs.Lending.{message_at}
 use Rattle.rc_world.specs.WorldView.{hosts_of, world_of}

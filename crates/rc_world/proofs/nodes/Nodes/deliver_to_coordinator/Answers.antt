@@ -1,6 +1,5 @@
 use Rattle.std.proofs.Common.{List, refl}
-use Rattle.rc_types.specs.declared.messages.Message.{Message}
-use Rattle.rc_model.specs.CoordinatorStep.{coordinator_takes}
+use Rattle.rc_model.specs.Model.{Message, coordinator_takes}
 use Rattle.rc_coordinator.specs.Book.{coordinator_of}
 use Rattle.rc_world.proofs.HostTables.{OnOk-then, OnErr-then}
 use Rattle.rc_world.proofs.Lent.{sent_after, sent_nothing}

@@ -1,6 +1,5 @@
 use Rattle.std.proofs.Common.{List}
-use Rattle.rc_types.specs.declared.messages.Message.{Message}
-use Rattle.rc_model.specs.Nodes.{takes_if_running}
+use Rattle.rc_model.specs.Model.{Message, takes_if_running}
 use Rattle.rc_world.specs.WorldView.{hosts_of}
 use Rattle.rc_world.proofs.HostTables.{OnOk-then, OnErr-then}
 use Rattle.rc_world.proofs.Lent.{sent_after, sent_nothing}

@@ -2,8 +2,7 @@ use Rattle.std.proofs.Common.{ℕ, [], nat_eq, ap, ◌∙◌}
 use Rattle.std.proofs.Math.Path.{fun_ext}
 use Rattle.std.specs.Map.{lookup}
 use Rattle.rc_model.specs.Coordinator.{Coordinator}
-use Rattle.rc_model.specs.Nodes.{HostNode}
-use Rattle.rc_model.specs.World.{World, opening}
+use Rattle.rc_model.specs.Model.{HostNode, World, opening}
 use Rattle.rc_coordinator.specs.Book.{coordinator_of}
 use Rattle.rc_world.specs.WorldView.{host_at}
 use Rattle.rc_world.proofs.nodes.Nodes.new.Goals as goal

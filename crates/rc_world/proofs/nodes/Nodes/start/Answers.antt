@@ -1,7 +1,5 @@
 use Rattle.std.proofs.Common.{◌≡◌, ◌++◌, ℕ, List, sym, ap, subst, ◌∙◌}
-use Rattle.rc_types.specs.declared.messages.Message.{Message}
-use Rattle.rc_model.specs.Tables.{put}
-use Rattle.rc_model.specs.Nodes.{HostNode, starts_host, next_server}
+use Rattle.rc_model.specs.Model.{Message, put, HostNode, starts_host, next_server}
 use Rattle.rc_world.specs.HostView.{host_of, HostHasRoom}
 use Rattle.rc_world.specs.WorldView.{hosts_of}
 use Rattle.rc_world.proofs.HostTables.{stepped, left, there-at, OnOk-then, OnErr-then}

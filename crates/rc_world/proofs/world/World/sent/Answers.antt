@@ -1,8 +1,5 @@
 use Rattle.std.proofs.Common.{◌≡◌, List, None, sym, subst, ◌∙◌}
-use Rattle.rc_types.specs.declared.messages.Message.{Message}
-use Rattle.rc_model.specs.World.{replay}
-use Rattle.rc_model.specs.Breach.{breach}
-use Rattle.rc_model.specs.Headline.{NothingIsDropped}
+use Rattle.rc_model.specs.Model.{Message, replay, breach, NothingIsDropped}
 use Rattle.rc_log_laws.proofs.KeptWorlds.{nothing-is-dropped}
 use Rattle.rc_owner_laws.proofs.VersionReplays.{there-is-no-breach}
 use Rattle.rc_world.specs.Happened.{Happened}
