@@ -1,5 +1,5 @@
 -- Segments that are filed under their members.
-use Rattle.std.proofs.Common.{◌≡◌, ℕ, ◌+◌, ◌<◌, Bool, true, false, cond, not, ◌&&◌, ◌||◌, List, [], ◌∷◌, ◌++◌, length}
+use Rattle.std.proofs.Common.{◌≡◌, ℕ, ◌+◌, ◌<◌, Bool, true, false, cond, not, ◌&&◌, List, [], ◌∷◌, length}
 use Rattle.std.proofs.Common.{get_or, take, filter, Option, Some, None, refl, ap, sym, ◌∙◌, subst}
 use Rattle.std.specs.List.{list_all}
 use Rattle.std.specs.Map.{lookup}
@@ -29,7 +29,8 @@ module _ (old new : List (ServerId × List ℕ)) (id : ServerId) (numbers : List
       ap (λ (found : Option (List ℕ)). is_among found seg) (updates one) ∙ by (same_id id one) refl
     where
       by : (b : Bool) → same_id id one ≡ b → is_among (cond b (Some numbers) (lookup (same_id one) old)) seg ≡ true
-      by true same = more seg (subst (λ (o : ServerId). is_among (lookup (same_id o) old) seg ≡ true) (sym (same_id-true id one same)) filed)
+      by true same =
+          more seg (subst (λ (o : ServerId). is_among (lookup (same_id o) old) seg ≡ true) (sym (same_id-true id one same)) filed)
       by false other = filed
 
 -- and under one more member

@@ -275,7 +275,8 @@ watched-also old new seg s more watched = by (is_awake new seg) refl
 watched-more : (old new : Watched) (head : ℕ) (t : ℕ → Segment) → IsMore old new → AreWatched old head t → AreWatched new head t
 watched-more old new head t more watched = λ seg above within. watched-also old new seg (t seg) more (watched seg above within)
 
-pub watched-woken : (kept : LogData) (new : Watched) → IsWatchedLog kept → IsMore kept.watch new → IsWatchedLog (record kept { watch = new })
+pub watched-woken : (kept : LogData) (new : Watched) → IsWatchedLog kept → IsMore kept.watch new →
+    IsWatchedLog (record kept { watch = new })
 watched-woken kept new watched more = record {
   now = watched-more kept.watch new (log_of kept).head (log_of kept).segments more watched.now;
   before = watched-more kept.watch new (before_of kept).head (before_of kept).segments more watched.before;
@@ -290,7 +291,8 @@ pushed-within (Ok value) new room old x ok is same = is ∙ ap (λ (segments : L
 pushed-within (Err fault) new room old x ok is same = absurd (false≢true ok)
 
 pub watched-opened : (kept : LogData) (x : Segment) (segments : List Segment) (phase : Phase) (seg : ℕ) (new : Watched) →
-    IsWatchedLog kept → IsMore kept.watch new → seg ≡ length kept.segments + 1 → is_awake new seg ≡ true → segments ≡ kept.segments ++ x ∷ [] →
+    IsWatchedLog kept → IsMore kept.watch new → seg ≡ length kept.segments + 1 → is_awake new seg ≡ true →
+    segments ≡ kept.segments ++ x ∷ [] →
     before_of (record kept { segments = segments; phase = phase }) ≡ before_of kept →
     IsWatchedLog (record kept { segments = segments; phase = phase; watch = new })
 watched-opened kept x segments phase seg new watched more at awake is before = record {

@@ -58,7 +58,8 @@ pub passed-over : (master : Master) (seg : ℕ) (watch : Watched) →
     is_awake watch seg ≡ false → replaces_lost master seg ≡ (master, [])
 passed-over master seg watch roused asleep =
     by (master.log.segments seg).freed refl
-    (ap (λ (b : Bool). b || ((master.log.segments seg).freed || not (is_concerned master.known (master.log.segments seg)))) (sym asleep) ∙ roused)
+    (ap (λ (b : Bool). b || ((master.log.segments seg).freed || not (is_concerned master.known (master.log.segments seg))))
+    (sym asleep) ∙ roused)
   where
     by : (b : Bool) → (master.log.segments seg).freed ≡ b →
         ((master.log.segments seg).freed || not (is_concerned master.known (master.log.segments seg))) ≡ true →

@@ -1,7 +1,7 @@
 //! What a master does about the servers that it knows: it replaces members that have crashed, and
 //! opens its first head.
 
-ghost use Rattle.std.specs.Prelude.{◌≡◌, ◌≢◌, ◌++◌, true, None, OnOk, IfErr};
+ghost use Rattle.std.specs.Prelude.{◌≡◌, ◌≢◌, ◌++◌, true, OnOk, IfErr};
 ghost use Rattle.rc_types.specs.declared.faults.Fault.TheVariants.{OutOfMemory};
 ghost use Rattle.rc_model.specs.ServerList.{from_rows};
 ghost use Rattle.rc_model.specs.Log.{has_segment, numbers_to};
@@ -9,7 +9,7 @@ ghost use Rattle.rc_model.specs.ListRules.{replaces_lost, replaces_lost_of, trie
 ghost use Rattle.rc_headroll.specs.LogData.{log_of};
 ghost use Rattle.rc_headroll.specs.Concerned.{is_concerned};
 ghost use Rattle.rc_headroll.specs.Soundness.{IsRoused};
-ghost use Rattle.rc_master.specs.View.{state_view, before_step, IsNoted};
+ghost use Rattle.rc_master.specs.View.{state_view, before_step, IsNoted, IsAtStart};
 
 use crate::state::State;
 use rc_notices::{add_head_places, add_places};
@@ -38,7 +38,7 @@ impl State {
         sent: &mut Vec<Message>,
     ) -> Result<(), Fault>
         requires noted { IsNoted self.old }
-        requires first { self.old.earlier ≡ None }
+        requires start { IsAtStart self.old }
         ensures state { OnOk result
             (state_view self.new ≡ (takes_list (state_view self.old) (from_rows version rows.now)).0) }
         ensures sends { OnOk result (sent.new.items ≡ sent.old.items ++
@@ -50,6 +50,7 @@ impl State {
         if version <= self.known.version() {
             return Ok(());
         }
+        self.log.rest()?;
         let servers = ServerList::from_rows(self.alloc, version, rows)?;
         let earlier = mem::replace(&mut self.known, servers);
         self.earlier = Some(earlier);

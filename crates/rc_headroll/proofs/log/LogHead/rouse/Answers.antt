@@ -10,8 +10,7 @@ invariant_of-self c =
     let more : IsMore c.self.inside.watch c.wake_crashed.new.self = record {
       awake = c.wake_crashed.ensures.others;
       filed = c.wake_crashed.ensures.filed;
-    } in
-    (
+    } in (
       sound-watch (the_view c.self.inside) c.self.inside.passed c.self.inside.passed_entries c.wake_crashed.new.self c.self.invariant.0,
       watched-woken (the_view c.self.inside) c.wake_crashed.new.self c.self.invariant.1 more,
     )

@@ -1,6 +1,7 @@
-use Rattle.std.proofs.Common.{◌≡◌, ◌≤◌, ℕ, sym, ap, ◌∙◌, subst, arith}
+use Rattle.std.proofs.Common.{◌≡◌, ◌≤◌, ◌++◌, ℕ, sym, ◌∙◌, subst, arith}
+use Rattle.rc_model.specs.Log.{numbers_to}
 use Rattle.rc_model.specs.Master.{Master}
-use Rattle.rc_headroll.specs.LogData.{log_of}
+use Rattle.rc_model.specs.ListRules.{replaces_lost_of}
 use Rattle.rc_headroll.proofs.SegmentTables.{has-parts}
 use Rattle.rc_master.specs.View.{state_view}
 use Rattle.rc_master.proofs.Repeating.{lost-step-to, lost-skips, passed-over}
@@ -13,7 +14,8 @@ loop-seg-preserved c =
     let within : seg ≤ now.log.head = (has-parts now.log seg c.in-Some.ensures.known).1 in
     let step = lost-step-to (state_view c.args.self.now) now (state_view c.replace_lost.new.self) c.loop-seg.done seg
     c.args.sent.now.items c.loop-seg.sent.items c.replace_lost.new.sent.items c.in-Some.ensures.later
-    (λ o above below. passed-over now o c.loop-seg.self.log.watch (c.loop-seg.invariant.roused o (omega (arith, above)) (omega (arith, below, within)))
+    (λ o above below. passed-over now o c.loop-seg.self.log.watch
+    (c.loop-seg.invariant.roused o (omega (arith, above)) (omega (arith, below, within)))
     (c.in-Some.ensures.asleep o above (omega (arith, below, within)) below))
     c.loop-seg.invariant.state c.loop-seg.invariant.sends c.in_ok-replace_lost.ensures.state c.in_ok-replace_lost.ensures.sends in
     record {
@@ -34,7 +36,7 @@ returns-clause-state c =
     (λ o above within. passed-over now o c.loop-seg.self.log.watch (c.loop-seg.invariant.roused o (omega (arith, above)) within)
     (c.in_default.ensures.asleep o above within tt))
     c.loop-seg.invariant.state c.loop-seg.invariant.sends in
-    ?
+    subst (λ (n : ℕ). now ≡ (replaces_lost_of (numbers_to n) (state_view c.args.self.now)).0) c.loop-seg.invariant.head all.0
 
 pub returns-clause-sends : goal.returns-clause-sends
 returns-clause-sends c =
@@ -44,4 +46,6 @@ returns-clause-sends c =
     (λ o above within. passed-over now o c.loop-seg.self.log.watch (c.loop-seg.invariant.roused o (omega (arith, above)) within)
     (c.in_default.ensures.asleep o above within tt))
     c.loop-seg.invariant.state c.loop-seg.invariant.sends in
-    ?
+    subst (λ (n : ℕ). c.loop-seg.sent.items
+    ≡ c.args.sent.now.items ++ (replaces_lost_of (numbers_to n) (state_view c.args.self.now)).1)
+    c.loop-seg.invariant.head all.1
