@@ -61,6 +61,10 @@ passed-over master seg watch roused asleep =
     (ap (λ (b : Bool). b || ((master.log.segments seg).freed || not (is_concerned master.known (master.log.segments seg))))
     (sym asleep) ∙ roused)
   where
+    is-not : (b : Bool) → not b ≡ true → b ≡ false
+    is-not true e = sym e
+    is-not false e = refl
+
     by : (b : Bool) → (master.log.segments seg).freed ≡ b →
         ((master.log.segments seg).freed || not (is_concerned master.known (master.log.segments seg))) ≡ true →
         replaces_lost master seg ≡ (master, [])
@@ -68,10 +72,6 @@ passed-over master seg watch roused asleep =
     by false kept either =
         replaces-unconcerned master seg (is-not (is_concerned master.known (master.log.segments seg))
         (ap (λ (f : Bool). f || not (is_concerned master.known (master.log.segments seg))) (sym kept) ∙ either))
-
-    is-not : (b : Bool) → not b ≡ true → b ≡ false
-    is-not true e = sym e
-    is-not false e = refl
 
 -- so are several
 pub lost-skips : (start now : Master) (done n : ℕ) (before sent : List Message) → done ≤ n →
