@@ -48,9 +48,9 @@ pub record StandsFor (standings : BTreeMap ServerId Standing) (sent : List Messa
   pub below : (m : ServerId) (s : ℕ) → below_at standings m s ≡ acked_below (acked m) s
 
 -- one more acknowledged write of one master, which agrees with all that was sent for its place or not
-pub record AddsWrite (old new : BTreeMap ServerId Standing) (master : ServerId) (ack : Ack) (agrees : Bool) : Type 0
-  where
-    pub kept : (m : ServerId) → kept_at new m ≡ (if same_id master m then kept_at old m && agrees else kept_at old m)
-    pub below : (m : ServerId) (s : ℕ) →
-        below_at new m s ≡ (if same_id master m && nat_eq ack.seg s then max (ack.offset + 1) (below_at old m s)
-        else below_at old m s)
+pub record AddsWrite (old new : BTreeMap ServerId Standing) (master : ServerId) (ack : Ack) (agrees : Bool) :
+    Type 0 where
+  pub kept : (m : ServerId) → kept_at new m ≡ (if same_id master m then kept_at old m && agrees else kept_at old m)
+  pub below : (m : ServerId) (s : ℕ) →
+      below_at new m s ≡ (if same_id master m && nat_eq ack.seg s then max (ack.offset + 1) (below_at old m s)
+      else below_at old m s)

@@ -14,14 +14,13 @@ use Rattle.rc_owner_laws.specs.Parts.{under, AllCame, rows_of_task}
 
 -- a part's own entries: all that was sent for the rows of its task, in their order, under its term
 pub record AreItsOwn (sent : List Message) (m : ServerId) (master : Master) (state : PartState) (own : List Entry) :
-    Type 0
-  where
-    pub task : Task
-    pub among : In task master.tasks
-    pub part_is : task.part ≡ state.part
-    pub entries : List Entry
-    pub came : AllCame sent m state.part.term (rows_of_task task) entries
-    pub own_are : own ≡ map (under_term state.part.term) entries
+    Type 0 where
+  pub task : Task
+  pub among : In task master.tasks
+  pub part_is : task.part ≡ state.part
+  pub entries : List Entry
+  pub came : AllCame sent m state.part.term (rows_of_task task) entries
+  pub own_are : own ≡ map (under_term state.part.term) entries
 
 -- a part is complete exactly where all of its own entries are durable, as the first under its term; and until its
 -- term is owned nothing else under its term is durable

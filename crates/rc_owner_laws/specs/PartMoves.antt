@@ -37,18 +37,18 @@ pub record HasEnded (v : PartView) (attempt term : ℕ) : Type 0 where
   pub attempt_is : attempt_of term v.tasks ≡ attempt
 
 -- a row of a task is asked for, of its holder
-pub record HasFetched (v : PartView) (to : Addr) (attempt : ℕ) (master : ServerId) (seg len : ℕ) (part : Part) : Type 0
-  where
-    pub task : Task
-    pub among : In task v.tasks
-    pub attempt_is : task.attempt ≡ attempt
-    pub master_is : task.master ≡ master
-    pub part_is : task.part ≡ part
-    pub row : PlanRow
-    pub row_among : In row task.rows
-    pub to_is : to ≡ Server row.holder
-    pub seg_is : row.seg ≡ seg
-    pub len_is : row.len ≡ len
+pub record HasFetched (v : PartView) (to : Addr) (attempt : ℕ) (master : ServerId) (seg len : ℕ) (part : Part) :
+    Type 0 where
+  pub task : Task
+  pub among : In task v.tasks
+  pub attempt_is : task.attempt ≡ attempt
+  pub master_is : task.master ≡ master
+  pub part_is : task.part ≡ part
+  pub row : PlanRow
+  pub row_among : In row task.rows
+  pub to_is : to ≡ Server row.holder
+  pub seg_is : row.seg ≡ seg
+  pub len_is : row.len ≡ len
 
 -- an acknowledgement is of a client's entry in the log
 pub record HasWritten (v : PartView) (seg offset term table key version : ℕ) : Type 0 where

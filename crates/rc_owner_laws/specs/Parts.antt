@@ -97,28 +97,28 @@ AllCame sent m term (row ∷ rows) entries =
 -- Parts
 
 -- a part that waits for a row: nothing of its term is in the log or waits to be appended, and the term isn't owned
-pub record IsWaiting (sent : List Message) (m : ServerId) (v : PartView) (task : Task) (state : PartState) : Type 0
-  where
-    pub rows : SomeCame sent m state.part.term (rows_of_task task) state.rows
-    pub some : state.rows ≡ [] → ⊥
-    pub none_logged : under state.part.term (logged v.places) ≡ []
-    pub none_waits : under state.part.term v.own.replay ≡ []
-    pub unowned : owns_term v.own state.part.term ≡ false
+pub record IsWaiting (sent : List Message) (m : ServerId) (v : PartView) (task : Task) (state : PartState) :
+    Type 0 where
+  pub rows : SomeCame sent m state.part.term (rows_of_task task) state.rows
+  pub some : state.rows ≡ [] → ⊥
+  pub none_logged : under state.part.term (logged v.places) ≡ []
+  pub none_waits : under state.part.term v.own.replay ≡ []
+  pub unowned : owns_term v.own state.part.term ≡ false
 
 -- a part whose rows have all come: until its term is owned, what the log and then the replay have under its term are
 -- their entries; then they are the first that the log has under it, all durable, and none waits
-pub record HasJoined (sent : List Message) (m : ServerId) (v : PartView) (task : Task) (state : PartState) : Type 0
-  where
-    pub rows : state.rows ≡ []
-    pub entries : List Entry
-    pub came : AllCame sent m state.part.term (rows_of_task task) entries
-    pub size : state.size ≡ length entries
-    pub fresh : owns_term v.own state.part.term ≡ false →
-        under state.part.term (logged v.places) ++ under state.part.term v.own.replay ≡ map (under_term state.part.term)
-        entries
-    pub owned : owns_term v.own state.part.term ≡ true →
-        Begins (map (under_term state.part.term) entries) (under state.part.term (logged v.places))
-        × (under state.part.term v.own.replay ≡ []) × (state.size ≤ durable_under state.part.term v)
+pub record HasJoined (sent : List Message) (m : ServerId) (v : PartView) (task : Task) (state : PartState) :
+    Type 0 where
+  pub rows : state.rows ≡ []
+  pub entries : List Entry
+  pub came : AllCame sent m state.part.term (rows_of_task task) entries
+  pub size : state.size ≡ length entries
+  pub fresh : owns_term v.own state.part.term ≡ false →
+      under state.part.term (logged v.places) ++ under state.part.term v.own.replay ≡ map (under_term state.part.term)
+      entries
+  pub owned : owns_term v.own state.part.term ≡ true →
+      Begins (map (under_term state.part.term) entries) (under state.part.term (logged v.places))
+      × (under state.part.term v.own.replay ≡ []) × (state.size ≤ durable_under state.part.term v)
 
 -- a part is that of a task, and waits or has joined
 pub record IsPart (sent : List Message) (m : ServerId) (v : PartView) (state : PartState) : Type 0 where

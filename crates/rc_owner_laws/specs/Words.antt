@@ -42,12 +42,12 @@ pub record IsKeptBy (Freed : Type 0) (was entry : Entry) : Type 0 where
   pub kept : ((entry.version ≡ was.version) × (entry.value ≡ was.value)) ⊎ (Freed × (was.version < entry.version))
 
 -- a safe place of a log keeps it so under the term
-pub record Keeps (Freed : Type 0) (sent : List Message) (m : ServerId) (log : Log) (term : ℕ) (was : Entry) : Type 0
-  where
-    pub entry : Entry
-    pub at : IsSafelyLogged sent m log entry
-    pub term_is : entry.term ≡ term
-    pub keeps : IsKeptBy Freed was entry
+pub record Keeps (Freed : Type 0) (sent : List Message) (m : ServerId) (log : Log) (term : ℕ) (was : Entry) :
+    Type 0 where
+  pub entry : Entry
+  pub at : IsSafelyLogged sent m log entry
+  pub term_is : entry.term ≡ term
+  pub keeps : IsKeptBy Freed was entry
 
 -- the entry has the part's previous term, and is of the part's table and of a key from its first to its last
 abbrev pub is_of_part : Part → Entry → Bool
@@ -58,24 +58,24 @@ is_of_part part entry =
 -- A Data is of a plan to its addressee, with a part of its term and a row of its segment whose holder is the sender.
 -- Its entries are those made below that row's length that have the part's previous term and lie in its range, in
 -- order.
-pub record IsPlanCut (sent : List Message) (message : Message) (attempt seg term : ℕ) (entries : List Entry) : Type 0
-  where
-    pub plan : Message
-    pub among : In plan sent
-    pub to : plan.to ≡ message.to
-    pub master : ServerId
-    pub head : ℕ
-    pub rows : List PlanRow
-    pub parts : List Part
-    pub says : plan.body ≡ PlanBody attempt master head rows parts
-    pub part : Part
-    pub part_among : In part parts
-    pub term_is : part.term ≡ term
-    pub row : PlanRow
-    pub row_among : In row rows
-    pub seg_is : row.seg ≡ seg
-    pub from : message.from ≡ Server row.holder
-    pub entries_are : entries ≡ filter (is_of_part part) (made_below sent master seg row.len)
+pub record IsPlanCut (sent : List Message) (message : Message) (attempt seg term : ℕ) (entries : List Entry) :
+    Type 0 where
+  pub plan : Message
+  pub among : In plan sent
+  pub to : plan.to ≡ message.to
+  pub master : ServerId
+  pub head : ℕ
+  pub rows : List PlanRow
+  pub parts : List Part
+  pub says : plan.body ≡ PlanBody attempt master head rows parts
+  pub part : Part
+  pub part_among : In part parts
+  pub term_is : part.term ≡ term
+  pub row : PlanRow
+  pub row_among : In row rows
+  pub seg_is : row.seg ≡ seg
+  pub from : message.from ≡ Server row.holder
+  pub entries_are : entries ≡ filter (is_of_part part) (made_below sent master seg row.len)
 
 -- The base of the grant, by the one accepted recovery of its attempt, however often its Plan was sent, is the first
 -- that its owner's log has under its term. All of it is durable, and each of its entries stands at a safe place.

@@ -317,9 +317,9 @@ pub record GoodCoordinator (sent : List Message) (c : Coordinator) : Type 0 wher
 
 -- All of it
 
-pub record Good (sent : List Message) (masters : ServerId → Master) (hosts : ℕ → HostNode) (c : Coordinator) : Type 0
-  where
-    pub messages : (message : Message) → In message sent → Fine sent masters hosts c message
-    pub masters_are : (m : ServerId) → GoodMaster sent m (masters m)
-    pub hosts_are : (i : ℕ) → GoodHost sent masters i (hosts i)
-    pub coordinator : GoodCoordinator sent c
+pub record Good (sent : List Message) (masters : ServerId → Master) (hosts : ℕ → HostNode) (c : Coordinator) :
+    Type 0 where
+  pub messages : (message : Message) → In message sent → Fine sent masters hosts c message
+  pub masters_are : (m : ServerId) → GoodMaster sent m (masters m)
+  pub hosts_are : (i : ℕ) → GoodHost sent masters i (hosts i)
+  pub coordinator : GoodCoordinator sent c

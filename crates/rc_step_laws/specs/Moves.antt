@@ -61,13 +61,13 @@ pub record MasterSays (sent sent_now : List Message) (m : ServerId) (old log : L
   pub says : body_said sent sent_now m old log message.to message.body
 
 -- a move of a master, from its old view to the new one with these messages
-pub record MasterMoved (sent : List Message) (m : ServerId) (old : Master) (after : Master × List Message) : Type 0
-  where
-    pub good : GoodMaster (sent ++ after.1) m after.0
-    pub fine : OwnFine (sent ++ after.1) m after.0.log
-    pub later : LogLater (sent ++ after.1) m old.log after.0.log
-    pub says : (message : Message) → In message after.1 →
-        MasterSays sent (sent ++ after.1) m old.log after.0.log message
+pub record MasterMoved (sent : List Message) (m : ServerId) (old : Master) (after : Master × List Message) :
+    Type 0 where
+  pub good : GoodMaster (sent ++ after.1) m after.0
+  pub fine : OwnFine (sent ++ after.1) m after.0.log
+  pub later : LogLater (sent ++ after.1) m old.log after.0.log
+  pub says : (message : Message) → In message after.1 →
+      MasterSays sent (sent ++ after.1) m old.log after.0.log message
 
 -- what a master may hear
 abbrev pub MayHear : List Message → ServerId → Addr → Body → Type 0
@@ -123,12 +123,12 @@ coordinator_body_said c to (body.Refused reason) = Unit {0}
 coordinator_body_said c to (body.SplitOk table at) = Unit {0}
 coordinator_body_said c to _ = ⊥
 
-pub record CoordinatorMoved (sent : List Message) (old : Coordinator) (after : Coordinator × List Message) : Type 0
-  where
-    pub good : GoodCoordinator (sent ++ after.1) after.0
-    pub later : CoordinatorLater old after.0
-    pub from : (message : Message) → In message after.1 → message.from ≡ AtCoordinator
-    pub says : (message : Message) → In message after.1 → coordinator_body_said after.0 message.to message.body
+pub record CoordinatorMoved (sent : List Message) (old : Coordinator) (after : Coordinator × List Message) :
+    Type 0 where
+  pub good : GoodCoordinator (sent ++ after.1) after.0
+  pub later : CoordinatorLater old after.0
+  pub from : (message : Message) → In message after.1 → message.from ≡ AtCoordinator
+  pub says : (message : Message) → In message after.1 → coordinator_body_said after.0 message.to message.body
 
 -- what the coordinator may hear
 abbrev pub CoordinatorMayHear : List Message → Addr → Body → Type 0

@@ -1,2 +1,3 @@
 pub mod Scenarios
 pub mod Dropping
+pub mod Spelling

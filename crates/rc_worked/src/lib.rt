@@ -1,5 +1,5 @@
 //! Worked runs: scenarios that the definitions of the protocol compute, each to its whole report.
-#![tactic(auto)]
+#![tactic(auto, unfolding(crate::proofs::Spelling::digits))]
 
 pub mod clients;
 pub mod doubts;

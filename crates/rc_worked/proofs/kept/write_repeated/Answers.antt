@@ -1,6 +1,0 @@
-use Rattle.std.proofs.Common.{refl}
-use Rattle.rc_worked.proofs.kept.write_repeated.Goals as goal
-
--- the definitions compute it
-pub returns : goal.returns
-returns c = refl

@@ -1,8 +1,0 @@
-use Rattle.std.proofs.Common.{refl}
-use Rattle.std.specs.Fmt.{digits}
-use Rattle.rc_worked.proofs.trees.two_tables.Goals as goal
-
--- the definitions compute it
-pub returns : goal.returns
-unfolding digits
-returns c = refl
