@@ -1,10 +1,8 @@
 -- A segment that the list doesn't concern.
-use Rattle.std.proofs.Common.{◌≡◌, ℕ, ◌+◌, suc, Bool, true, false, cond, ◌||◌, eqb, List, [], ◌∷◌, ◌++◌, map, filter}
-use Rattle.std.proofs.Common.{Some, Result, Ok, refl, ap, sym, ◌∙◌, arith}
+use Rattle.std.proofs.Common.{◌≡◌, ℕ, Bool, true, false, cond, ◌||◌, eqb, List, [], ◌∷◌, map}
+use Rattle.std.proofs.Common.{Some, Result, Ok, refl, ap, sym, ◌∙◌}
 use Rattle.std.specs.List.{list_any}
 use Rattle.std.proofs.Math.Path.{fun_ext}
-use Rattle.std.proofs.lemmas.List.{append-nil}
-use Rattle.std.proofs.lemmas.List.Elements.{filter-append}
 use Rattle.std.proofs.lemmas.Bool.{cond-false, cond_both, false≢true, eqb-true}
 use Rattle.rc_types.specs.declared.ids.ServerId.{ServerId}
 use Rattle.rc_types.specs.declared.kept.Member.{Member}
@@ -14,7 +12,7 @@ use Rattle.rc_model.specs.ServerList.{ServerList, has_crashed}
 use Rattle.rc_model.specs.Config.{Config, any_lost, lost_if_crashed, with_lost, staying, substitutes, substitutes_for}
 use Rattle.rc_model.specs.Config.{replaced, candidates, changes_to, refills_with, lose, refill}
 use Rattle.rc_model.specs.Segment.{Segment}
-use Rattle.rc_model.specs.Log.{Log, numbers_to}
+use Rattle.rc_model.specs.Log.{Log}
 use Rattle.rc_model.specs.Heads.{with_config, refills, opens_change, loses}
 use Rattle.rc_headroll.specs.Concerned.{is_concerned}
 
@@ -99,32 +97,3 @@ loses-unconcerned servers seg log none =
     either : (b : Bool) (x : Log × Result (List ServerId) Fault) → cond b x x ≡ x
     either true x = refl
     either false x = refl
-
--- One more segment is looked at
-
-numbers_to-more : (n : ℕ) → numbers_to (n + 1) ≡ numbers_to n ++ (n + 1) ∷ []
-numbers_to-more n = let next : n + 1 ≡ suc n = omega arith in rw next refl
-
-concerned-more : (servers : ServerList) (t : ℕ → Segment) (n : ℕ) (b : Bool) → is_concerned servers (t (n + 1)) ≡ b →
-    filter (λ seg. is_concerned servers (t seg)) (numbers_to (n + 1)) ≡ filter (λ seg. is_concerned servers (t seg))
-    (numbers_to n) ++ cond b ((n + 1) ∷ []) []
-concerned-more servers t n b e =
-    ap (filter (λ seg. is_concerned servers (t seg))) (numbers_to-more n)
-    ∙ filter-append (λ seg. is_concerned servers (t seg)) (numbers_to n) ((n + 1) ∷ [])
-    ∙ ap (λ (here : Bool). filter (λ seg. is_concerned servers (t seg)) (numbers_to n) ++ cond here ((n + 1) ∷ []) []) e
-
-pub concerned-then : (servers : ServerList) (t : ℕ → Segment) (n : ℕ) (before after : List ℕ) (x : Segment) →
-    x ≡ t (n + 1) → true ≡ is_concerned servers x →
-    before ≡ filter (λ seg. is_concerned servers (t seg)) (numbers_to n) → after ≡ before ++ (n + 1) ∷ [] →
-    after ≡ filter (λ seg. is_concerned servers (t seg)) (numbers_to (n + 1))
-concerned-then servers t n before after x is yes' so_far added =
-    added ∙ ap (λ (ns : List ℕ). ns ++ (n + 1) ∷ []) so_far
-    ∙ sym (concerned-more servers t n true (ap (is_concerned servers) (sym is) ∙ sym yes'))
-
-pub concerned-else : (servers : ServerList) (t : ℕ → Segment) (n : ℕ) (before after : List ℕ) (x : Segment) →
-    x ≡ t (n + 1) → false ≡ is_concerned servers x →
-    before ≡ filter (λ seg. is_concerned servers (t seg)) (numbers_to n) → after ≡ before →
-    after ≡ filter (λ seg. is_concerned servers (t seg)) (numbers_to (n + 1))
-concerned-else servers t n before after x is no' so_far same =
-    same ∙ so_far ∙ sym (append-nil (filter (λ seg. is_concerned servers (t seg)) (numbers_to n)))
-    ∙ sym (concerned-more servers t n false (ap (is_concerned servers) (sym is) ∙ sym no'))

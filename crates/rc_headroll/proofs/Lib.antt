@@ -12,4 +12,5 @@ pub mod StillBefore
 pub mod Stood
 pub mod ConcernedLemmas
 pub mod ListRuleLemmas
+pub mod FiledLemmas
 pub mod WatchLemmas

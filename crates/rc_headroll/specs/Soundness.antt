@@ -2,11 +2,12 @@
 use Rattle.std.specs.Prelude.{◌≡◌, ℕ, ◌+◌, ◌-◌, ◌<◌, ◌≤◌, true, false, if◌then◌else◌, zero, suc, length, All}
 use Rattle.rc_types.specs.declared.kept.Phase.TheVariants.{Opening}
 use Rattle.rc_types.specs.declared.limits.TheConstants.{LAST_SEGMENT, MAX_FACTOR, MAX_SEGMENT}
+use Rattle.rc_model.specs.ServerList.{ServerList}
 use Rattle.rc_model.specs.Segment.{Segment}
 use Rattle.rc_model.specs.Log.{Log, head_of, is_writing}
 use Rattle.rc_headroll.specs.Before.{CanGoBack}
 use Rattle.rc_headroll.specs.LogData.{LogData, segment_at, log_of, before_of}
-use Rattle.rc_headroll.specs.Watching.{AreWatched}
+use Rattle.rc_headroll.specs.Watching.{AreWatched, AreRoused}
 
 -- the number is that of a segment
 abbrev pub IsKnown : ℕ → ℕ → Type 0
@@ -51,3 +52,7 @@ pub record IsSoundLog (kept : LogData) (passed entries : ℕ) : Type 0 where
 pub record IsWatchedLog (kept : LogData) : Type 0 where
   pub now : AreWatched kept.watch (log_of kept).head (log_of kept).segments
   pub before : AreWatched kept.watch (before_of kept).head (before_of kept).segments
+
+-- each segment that the timer passes over was freed, or the list doesn't concern it
+abbrev pub IsRoused : ServerList → LogData → Type 0
+IsRoused servers kept = AreRoused servers kept.watch (log_of kept).head (log_of kept).segments

@@ -20,16 +20,6 @@ impl LogHead {
         ensures log { log_of self.new ≡ log_of self.old }
         ensures before { before_of self.new ≡ log_of self.old }
     {
-        let head = self.before.head();
-        self.go_back_to_now();
-        self.rest_after(head.saturating_sub(2) as u16);
-    }
-
-    /// From here on `restore` goes back to now.
-    fn go_back_to_now(&mut self)
-        ensures log { log_of self.new ≡ log_of self.old }
-        ensures before { before_of self.new ≡ log_of self.old }
-    {
         self.before.begin(
             self.segments.as_slice(),
             self.phase,

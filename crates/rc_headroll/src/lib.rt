@@ -5,10 +5,11 @@
 
 mod before;
 mod durable;
+mod filing;
 mod going_back;
 mod going_on;
-pub mod laws;
 mod log;
+mod numbers;
 mod opening;
 mod segment;
 mod state;

@@ -1,12 +1,13 @@
 //! What members tell, and what becomes of lost ones.
 
-ghost use Rattle.std.specs.Prelude.{◌≡◌, ◌⊎◌, ℕ, true, false, [], Ok, Err, OnOk, OnErr, IfOk, IfErr};
+ghost use Rattle.std.specs.Prelude.{◌≡◌, ◌⊎◌, ℕ, true, Ok, Err, OnOk, OnErr, IfOk, IfErr};
 ghost use Rattle.rc_types.specs.declared.faults.Fault.TheVariants.{OutOfMemory};
+ghost use Rattle.rc_model.specs.ServerList.{ServerList as Servers};
 ghost use Rattle.rc_model.specs.Log.{has_segment};
 ghost use Rattle.rc_model.specs.Heads.{stored, notes_stored, commit_noted, loses};
 ghost use Rattle.rc_headroll.specs.Before.{IsKept};
-ghost use Rattle.rc_headroll.specs.Concerned.{is_concerned, concerned};
 ghost use Rattle.rc_headroll.specs.LogData.{log_of, before_of};
+ghost use Rattle.rc_headroll.specs.Soundness.{IsRoused};
 ghost use Rattle.rc_headroll.specs.Watching.{is_awake};
 
 use crate::log::LogHead;
@@ -80,23 +81,6 @@ impl LogHead {
         self.segments[usize::from(seg) - 1].committed_at(epoch);
     }
 
-    /// The numbers of the segments, ascending, that have a member which is lost or which the list shows
-    /// crashed. Of any other segment `lose` would change nothing and answer nobody. It goes over the
-    /// members of all segments, and over no entry.
-    pub fn concerned(&self, alloc: Global, servers: &ServerList) -> Result<Vec<u16>, AllocError>
-        ensures which { IfOk result (λ segs. segs.items ≡ concerned servers.now (log_of self.now)) }
-        ensures others { (seg : ℕ) → is_concerned servers.now ((log_of self.now).segments seg) ≡ false →
-            loses servers.now seg (log_of self.now) ≡ (log_of self.now, Ok []) }
-    {
-        let mut segs = Vec::new(alloc);
-        for place in 0..self.segments.len() {
-            if self.segments[place].is_concerned(servers) {
-                segs.push(place as u16 + 1)?;
-            }
-        }
-        Ok(segs)
-    }
-
     /// Marks the members of a segment lost that the list shows crashed, and replaces the lost ones:
     /// those of an open segment by a change of members, those of a shut one under the same epoch.
     /// Answers who is to be sent a Place: all members after a change, the new ones of a shut segment,
@@ -118,6 +102,7 @@ impl LogHead {
         ensures err { IfErr result (λ fault. ((fault ≡ OutOfMemory) × (log_of self.new ≡ log_of self.old))
             ⊎ (loses servers.now seg (log_of self.old) ≡ (log_of self.new, Err fault))) }
         ensures before { before_of self.new ≡ before_of self.old }
+        ensures roused { (others : Servers) → IsRoused others self.old → IsRoused others self.new }
     {
         self.wake(seg)?;
         self.keep(seg)?;
@@ -138,6 +123,7 @@ impl LogHead {
         ensures err { IfErr result (λ fault. ((fault ≡ OutOfMemory) × (log_of self.new ≡ log_of self.old))
             ⊎ (loses servers.now seg (log_of self.old) ≡ (log_of self.new, Err fault))) }
         ensures before { before_of self.new ≡ before_of self.old }
+        ensures roused { (others : Servers) → IsRoused others self.old → IsRoused others self.new }
     {
         self.segments[usize::from(seg) - 1].lose(alloc, self.own, servers)
     }

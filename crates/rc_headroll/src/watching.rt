@@ -1,11 +1,13 @@
-//! Which segments the timer goes over.
+//! Which segments the timer and a new server list go over.
 
 ghost use Rattle.std.specs.Prelude.{◌≡◌, ◌<◌, ◌≤◌, ℕ, true, false, OnOk, OnErr, IfSome};
 ghost use Rattle.rc_model.specs.Log.{has_segment};
 ghost use Rattle.rc_headroll.specs.LogData.{log_of, before_of};
-ghost use Rattle.rc_headroll.specs.Watching.{is_awake, wants_nothing};
+ghost use Rattle.rc_headroll.specs.Soundness.{IsRoused};
+ghost use Rattle.rc_headroll.specs.Watching.{is_awake, is_on_file, wants_nothing};
 
 use crate::log::LogHead;
+use rc_serverlist::ServerList;
 use std::alloc::AllocError;
 
 impl LogHead {
@@ -17,6 +19,8 @@ impl LogHead {
         ensures known { IfSome result (λ seg. has_segment (log_of self.now) seg ≡ true) }
         ensures others { (other : ℕ) → done < other → other ≤ (log_of self.now).head →
             IfSome result (λ seg. other < seg) → wants_nothing ((log_of self.now).segments other) ≡ true }
+        ensures asleep { (other : ℕ) → done < other → other ≤ (log_of self.now).head →
+            IfSome result (λ seg. other < seg) → is_awake self.now.watch other ≡ false }
     {
         let seg = self.watch.next(done)?;
         if !self.has(seg) {
@@ -30,42 +34,92 @@ impl LogHead {
         ensures log { log_of self.new ≡ log_of self.old }
         ensures before { before_of self.new ≡ before_of self.old }
         ensures awake { OnOk result (is_awake self.new.watch seg ≡ true) }
+        ensures others { (other : ℕ) → is_awake self.old.watch other ≡ true → is_awake self.new.watch other ≡ true }
     {
         self.watch.wake(seg)
     }
 
+    /// From here on the timer goes over each segment that was not freed and has a member which is lost or
+    /// which the list shows crashed. It looks at the ids of members that are on file, once, and at no other
+    /// segment than those of which a member has crashed. Where memory is refused, the log is as it was.
+    pub fn rouse(&mut self, servers: &ServerList) -> Result<(), AllocError>
+        ensures log { log_of self.new ≡ log_of self.old }
+        ensures before { before_of self.new ≡ before_of self.old }
+        ensures roused { OnOk result (IsRoused servers.now self.new) }
+    {
+        self.watch.wake_crashed(servers)
+    }
+
     /// Lets each segment go that wants nothing, of those that the timer goes over. A step comes to it only at
-    /// its beginning. It takes no memory.
-    pub fn rest(&mut self)
+    /// its beginning. Where memory is refused, the log is as it was.
+    pub fn rest(&mut self) -> Result<(), AllocError>
         requires { before_of self.old ≡ log_of self.old }
         ensures log { log_of self.new ≡ log_of self.old }
         ensures before { before_of self.new ≡ before_of self.old }
     {
-        self.rest_after(0);
+        self.rest_after(0)
+    }
+
+    /// Lets those go that want nothing, of the last three segments: one that was shut when the last step ended is
+    /// among them, save where that step opened several heads. Where memory is refused, the log is as it was.
+    pub fn rest_newest(&mut self) -> Result<(), AllocError>
+        requires { before_of self.old ≡ log_of self.old }
+        ensures log { log_of self.new ≡ log_of self.old }
+        ensures before { before_of self.new ≡ before_of self.old }
+    {
+        self.rest_after(self.head().saturating_sub(3))
     }
 
     /// Lets those go that want nothing, of the segments after this one.
-    pub(crate) fn rest_after(&mut self, seg: u16)
+    fn rest_after(&mut self, seg: u16) -> Result<(), AllocError>
         requires { before_of self.old ≡ log_of self.old }
         ensures log { log_of self.new ≡ log_of self.old }
         ensures before { before_of self.new ≡ before_of self.old }
     {
         let mut done = seg;
         while let Some(seg) = self.next_awake(done) {
-            self.let_go(seg);
+            self.let_go(seg)?;
             done = seg;
         }
+        Ok(())
     }
 
-    /// Lets a segment go, if it wants nothing.
-    fn let_go(&mut self, seg: u16)
+    /// Files a segment under its members and lets it go, if it wants nothing.
+    fn let_go(&mut self, seg: u16) -> Result<(), AllocError>
         requires known { has_segment (log_of self.old) seg ≡ true }
         requires same { before_of self.old ≡ log_of self.old }
         ensures log { log_of self.new ≡ log_of self.old }
         ensures before { before_of self.new ≡ before_of self.old }
     {
         if self.segments[usize::from(seg) - 1].wants_nothing() {
-            self.watch.let_go(seg);
+            self.file(seg)?;
+            self.pass_over(seg);
         }
+        Ok(())
+    }
+
+    /// Files a segment under each of its members, if it wasn't freed. Where memory is refused, the log is as it was.
+    fn file(&mut self, seg: u16) -> Result<(), AllocError>
+        requires { has_segment (log_of self.old) seg ≡ true }
+        ensures log { log_of self.new ≡ log_of self.old }
+        ensures before { before_of self.new ≡ before_of self.old }
+        ensures filed { OnOk result (is_on_file self.new.watch seg ((log_of self.new).segments seg) ≡ true) }
+    {
+        let segment = &self.segments[usize::from(seg) - 1];
+        if segment.is_freed() {
+            return Ok(());
+        }
+        self.watch.file(seg, segment.config().members())
+    }
+
+    /// From here on the timer passes over a segment that wants nothing and is on file.
+    fn pass_over(&mut self, seg: u16)
+        requires same { before_of self.old ≡ log_of self.old }
+        requires nothing { wants_nothing ((log_of self.old).segments seg) ≡ true }
+        requires filed { is_on_file self.old.watch seg ((log_of self.old).segments seg) ≡ true }
+        ensures log { log_of self.new ≡ log_of self.old }
+        ensures before { before_of self.new ≡ before_of self.old }
+    {
+        self.watch.let_go(seg);
     }
 }

@@ -1,6 +1,7 @@
 -- Rules over a list, one more at its end.
-use Rattle.std.proofs.Common.{◌≡◌, ◌⊎◌, inl, inr, false, cond, Err, ℕ, ◌+◌, ◌<◌, List, [], ◌∷◌, ◌++◌, length, take}
-use Rattle.std.proofs.Common.{get_or, sym, ap, ◌∙◌, append_assoc}
+use Rattle.std.proofs.Common.{◌≡◌, ◌⊎◌, ⊎_elim, inl, inr, Bool, true, false, not, ◌||◌, cond, Err, ℕ, ◌+◌, ◌<◌, ◌≤◌, zero, suc}
+use Rattle.std.proofs.Common.{List, [], ◌∷◌, ◌++◌, length, take, get_or, refl, sym, ap, ◌∙◌, subst, append_assoc, arith}
+use Rattle.std.proofs.lemmas.Bool.{cases_eq}
 use Rattle.std.proofs.lemmas.List.{append-nil, take_more, get_or_default}
 use Rattle.std.proofs.Math.Numerals.{add-one}
 use Rattle.rc_types.specs.declared.ids.ServerId.{ServerId}
@@ -13,6 +14,9 @@ use Rattle.rc_model.specs.Heads.{loses}
 use Rattle.rc_model.specs.Log.{Log, numbers_to}
 use Rattle.rc_model.specs.Master.{Master, with_log}
 use Rattle.rc_model.specs.ListRules.{then_does, places_segment, replaces_lost, replaces_lost_of}
+use Rattle.rc_headroll.specs.Concerned.{is_concerned}
+use Rattle.rc_headroll.specs.Watching.{Watched, is_awake}
+use Rattle.rc_headroll.proofs.ListRuleLemmas.{replaces-unconcerned}
 use Rattle.rc_model.specs.MasterStep.{task_of, begins_task, takes_plan}
 
 -- the last one after the others
@@ -46,6 +50,72 @@ lost-step start now next n before sent more state sends then_ says =
           (replaces_lost (replaces_lost_of (numbers_to n) start).0 (n + 1)).1
           ∙ ap (λ (r : Master × List Message). before ++ r.1) (sym all)))),
     )
+
+-- A segment that wants nothing, and that the list doesn't concern, is passed over
+
+pub passed-over : (master : Master) (seg : ℕ) (watch : Watched) →
+    (is_awake watch seg || ((master.log.segments seg).freed || not (is_concerned master.known (master.log.segments seg)))) ≡ true →
+    is_awake watch seg ≡ false → replaces_lost master seg ≡ (master, [])
+passed-over master seg watch roused asleep =
+    by (master.log.segments seg).freed refl
+    (ap (λ (b : Bool). b || ((master.log.segments seg).freed || not (is_concerned master.known (master.log.segments seg))))
+    (sym asleep) ∙ roused)
+  where
+    is-not : (b : Bool) → not b ≡ true → b ≡ false
+    is-not true e = sym e
+    is-not false e = refl
+
+    by : (b : Bool) → (master.log.segments seg).freed ≡ b →
+        ((master.log.segments seg).freed || not (is_concerned master.known (master.log.segments seg))) ≡ true →
+        replaces_lost master seg ≡ (master, [])
+    by true freed either = ap (λ (f : Bool). cond f (master, []) (places_segment seg master (loses master.known seg master.log))) freed
+    by false kept either =
+        replaces-unconcerned master seg (is-not (is_concerned master.known (master.log.segments seg))
+        (ap (λ (f : Bool). f || not (is_concerned master.known (master.log.segments seg))) (sym kept) ∙ either))
+
+-- so are several
+pub lost-skips : (start now : Master) (done n : ℕ) (before sent : List Message) → done ≤ n →
+    ((o : ℕ) → done < o → o ≤ n → replaces_lost now o ≡ (now, [])) →
+    now ≡ (replaces_lost_of (numbers_to done) start).0 → sent ≡ before ++ (replaces_lost_of (numbers_to done) start).1 →
+    (now ≡ (replaces_lost_of (numbers_to n) start).0) × (sent ≡ before ++ (replaces_lost_of (numbers_to n) start).1)
+lost-skips start now done zero before sent below none state sends =
+    let same : done ≡ 0 = omega arith in
+    subst (λ (m : ℕ). (now ≡ (replaces_lost_of (numbers_to m) start).0) × (sent ≡ before ++ (replaces_lost_of (numbers_to m) start).1))
+    same (state, sends)
+lost-skips start now done (suc n) before sent below none state sends = ⊎_elim
+    {C = (now ≡ (replaces_lost_of (numbers_to (suc n)) start).0) × (sent ≡ before ++ (replaces_lost_of (numbers_to (suc n)) start).1)}
+    (λ (here : done ≡ suc n).
+    subst (λ (m : ℕ). (now ≡ (replaces_lost_of (numbers_to m) start).0) × (sent ≡ before ++ (replaces_lost_of (numbers_to m) start).1))
+    here (state, sends))
+    (λ (apart : done ≡ suc n → ⊥).
+    let within : done ≤ n = omega (arith, apart) in
+    let next : n + 1 ≡ suc n = omega arith in
+    let so_far = lost-skips start now done n before sent within (λ o above under. none o above (omega arith)) state sends in
+    let nothing = none (n + 1) (omega arith) (omega arith) in
+    subst (λ (m : ℕ). (now ≡ (replaces_lost_of (numbers_to m) start).0) × (sent ≡ before ++ (replaces_lost_of (numbers_to m) start).1))
+    next
+    (lost-step start now now n before sent sent so_far.0 so_far.1 (sym (ap (λ (r : Master × List Message). r.0) nothing))
+    (sym (append-nil sent) ∙ ap (λ (r : Master × List Message). sent ++ r.1) (sym nothing))))
+    (cases_eq done (suc n))
+
+-- and then the next one
+pub lost-step-to : (start now next : Master) (done seg : ℕ) (before sent more : List Message) → done < seg →
+    ((o : ℕ) → done < o → o < seg → replaces_lost now o ≡ (now, [])) →
+    now ≡ (replaces_lost_of (numbers_to done) start).0 → sent ≡ before ++ (replaces_lost_of (numbers_to done) start).1 →
+    next ≡ (replaces_lost now seg).0 → more ≡ sent ++ (replaces_lost now seg).1 →
+    (next ≡ (replaces_lost_of (numbers_to seg) start).0) × (more ≡ before ++ (replaces_lost_of (numbers_to seg) start).1)
+lost-step-to start now next done zero before sent more above none state sends then_ says = absurd (omega arith)
+lost-step-to start now next done (suc n) before sent more above none state sends then_ says =
+    let one : n + 1 ≡ suc n = omega arith in
+    let so_far = lost-skips start now done n before sent (omega arith) (λ o later under. none o later (omega arith)) state sends in
+    let step : (m : ℕ) → m ≡ n + 1 → next ≡ (replaces_lost now m).0 → more ≡ sent ++ (replaces_lost now m).1 →
+    (next ≡ (replaces_lost_of (numbers_to m) start).0) × (more ≡ before ++ (replaces_lost_of (numbers_to m) start).1) =
+    λ m is state' says'.
+    subst (λ (k : ℕ). (next ≡ (replaces_lost_of (numbers_to k) start).0) × (more ≡ before ++ (replaces_lost_of (numbers_to k) start).1))
+    (sym is)
+    (lost-step start now next n before sent more so_far.0 so_far.1
+    (subst (λ (k : ℕ). next ≡ (replaces_lost now k).0) is state') (subst (λ (k : ℕ). more ≡ sent ++ (replaces_lost now k).1) is says')) in
+    step (suc n) (sym one) then_ says
 
 pub plan-more : (attempt : ℕ) (crashed : ServerId) (rows : List PlanRow) (parts : List Part) (part : Part) (master : Master) →
     takes_plan attempt crashed rows (parts ++ part ∷ []) master

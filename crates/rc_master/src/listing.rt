@@ -1,14 +1,15 @@
 //! What a master does about the servers that it knows: it replaces members that have crashed, and
 //! opens its first head.
 
-ghost use Rattle.std.specs.Prelude.{◌≡◌, ◌≢◌, ◌++◌, true, None, OnOk, IfErr};
+ghost use Rattle.std.specs.Prelude.{◌≡◌, ◌≢◌, ◌++◌, true, OnOk, IfErr};
 ghost use Rattle.rc_types.specs.declared.faults.Fault.TheVariants.{OutOfMemory};
 ghost use Rattle.rc_model.specs.ServerList.{from_rows};
 ghost use Rattle.rc_model.specs.Log.{has_segment, numbers_to};
 ghost use Rattle.rc_model.specs.ListRules.{replaces_lost, replaces_lost_of, tries_first, obeys_list, takes_list};
 ghost use Rattle.rc_headroll.specs.LogData.{log_of};
 ghost use Rattle.rc_headroll.specs.Concerned.{is_concerned};
-ghost use Rattle.rc_master.specs.View.{state_view, before_step, IsNoted};
+ghost use Rattle.rc_headroll.specs.Soundness.{IsRoused};
+ghost use Rattle.rc_master.specs.View.{state_view, before_step, IsNoted, IsAtStart};
 
 use crate::state::State;
 use rc_notices::{add_head_places, add_places};
@@ -37,7 +38,7 @@ impl State {
         sent: &mut Vec<Message>,
     ) -> Result<(), Fault>
         requires noted { IsNoted self.old }
-        requires first { self.old.earlier ≡ None }
+        requires start { IsAtStart self.old }
         ensures state { OnOk result
             (state_view self.new ≡ (takes_list (state_view self.old) (from_rows version rows.now)).0) }
         ensures sends { OnOk result (sent.new.items ≡ sent.old.items ++
@@ -49,6 +50,7 @@ impl State {
         if version <= self.known.version() {
             return Ok(());
         }
+        self.log.rest()?;
         let servers = ServerList::from_rows(self.alloc, version, rows)?;
         let earlier = mem::replace(&mut self.known, servers);
         self.earlier = Some(earlier);
@@ -68,7 +70,8 @@ impl State {
         self.try_first(sent)
     }
 
-    /// Lost members of each segment are replaced, one segment after another.
+    /// Lost members of each segment are replaced, one segment after another. Of the segments those are gone over
+    /// that may want something, and those of which a member has crashed.
     fn replace_all_lost(&mut self, sent: &mut Vec<Message>) -> Result<(), Fault>
         requires noted { IsNoted self.old }
         ensures state { OnOk result
@@ -79,8 +82,11 @@ impl State {
         ensures before { before_step self.new ≡ before_step self.old }
         ensures no_memory { IfErr result (λ fault. fault ≡ OutOfMemory) }
     {
-        for before in 0..self.log.head() {
-            self.replace_lost(before + 1, sent)?;
+        self.log.rouse(&self.known)?;
+        let mut done = 0;
+        while let Some(seg) = self.log.next_awake(done) {
+            self.replace_lost(seg, sent)?;
+            done = seg;
         }
         Ok(())
     }
@@ -93,6 +99,7 @@ impl State {
         ensures state { OnOk result (state_view self.new ≡ (replaces_lost (state_view self.old) seg).0) }
         ensures sends { OnOk result (sent.new.items ≡ sent.old.items ++ (replaces_lost (state_view self.old) seg).1) }
         ensures head { OnOk result ((log_of self.new.log).head ≡ (log_of self.old.log).head) }
+        ensures roused { OnOk result (IsRoused self.old.known self.old.log → IsRoused self.new.known self.new.log) }
         ensures noted { OnOk result (IsNoted self.new) }
         ensures before { before_step self.new ≡ before_step self.old }
         ensures no_memory { IfErr result (λ fault. fault ≡ OutOfMemory) }

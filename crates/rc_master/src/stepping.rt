@@ -110,6 +110,7 @@ impl State {
         ensures no_memory { IfErr result (λ fault. fault ≡ OutOfMemory) }
     {
         let mut messages = Vec::new(self.alloc);
+        self.log.rest_newest()?;
         self.take_first(from, body, &mut messages)?;
         self.go_on(&mut messages)?;
         sent.append(&mut messages)?;
@@ -247,7 +248,7 @@ impl State {
             sent.push(enlist(self.log.own()))?;
             return Ok(());
         }
-        self.log.rest();
+        self.log.rest()?;
         self.obey_list(sent)?;
         self.remind(sent)
     }

@@ -2,11 +2,12 @@ use Rattle.std.proofs.Common.{◌≡◌, true, sym}
 use Rattle.rc_model.specs.Log.{has_segment}
 use Rattle.rc_headroll.specs.Before.{IsKept}
 use Rattle.rc_headroll.specs.LogData.{log_of}
+use Rattle.rc_headroll.specs.Soundness.{IsRoused}
 use Rattle.rc_headroll.specs.Watching.{is_awake}
 use Rattle.rc_headroll.specs.contracts.log.LogHead.{the_view}
 use Rattle.rc_headroll.proofs.LogChanges.{lose_keeps, lose_ok, lose_err}
 use Rattle.rc_headroll.proofs.StillBefore.{written-sound, written-before}
-use Rattle.rc_headroll.proofs.WatchLemmas.{watched-awake}
+use Rattle.rc_headroll.proofs.WatchLemmas.{watched-awake, roused-set}
 use Rattle.rc_headroll.proofs.log.LogHead.lose_members.Goals as goal
 
 pub invariant_of-self : goal.invariant_of-self
@@ -55,3 +56,12 @@ returns-clause-err c =
     rw (← c.self.view_is)
     (lose_err (the_view c.self.inside) c.args.seg c.from.result c.args.servers.now c.lose.new.self c.index_mut.result.now
     (rw (← c.self.view_is) at has) c.from.ensures c.index_mut.ensures.value c.lose.result c.lose.ensures.err)
+
+pub returns-clause-roused : goal.returns-clause-roused
+returns-clause-roused c =
+    let has : true ≡ has_segment (log_of c.args.self.now) c.args.seg = sym c.requires.has in
+    let awake : is_awake c.args.self.now.watch c.args.seg ≡ true = c.requires.awake in
+    λ others roused.
+    let before : IsRoused others c.args.self.now = roused in
+    roused-set others (the_view c.self.inside) c.args.seg c.from.result c.lose.new.self
+    (rw (← c.self.view_is) at has) c.from.ensures (rw (← c.self.view_is) at awake) (rw (← c.self.view_is) at before)

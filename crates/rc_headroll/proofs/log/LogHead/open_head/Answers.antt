@@ -7,7 +7,7 @@ use Rattle.rc_headroll.specs.Soundness.{IsKnown}
 use Rattle.rc_headroll.specs.contracts.log.LogHead.{the_view}
 use Rattle.rc_headroll.proofs.LogChanges.{sound-opened, opened-is}
 use Rattle.rc_headroll.proofs.StillBefore.{sound_log-from, before_of-same, opened-before, opened-back}
-use Rattle.rc_headroll.proofs.WatchLemmas.{sound-watch, watched-opened, pushed-within}
+use Rattle.rc_headroll.proofs.WatchLemmas.{sound-watch, more-awake, watched-opened, pushed-within}
 use Rattle.rc_headroll.proofs.log.LogHead.open_head.Goals as goal
 
 pub invariant_of-self-2 : goal.invariant_of-self-2
@@ -33,7 +33,8 @@ invariant_of-self-2 c =
           c.self.invariant.0.now (rw (← c.self.view_is) at room) (rw (← c.self.view_is) at shut)
           (rw (← c.self.view_is) at known) seg c.new-head.ensures pushed)),
       watched-opened (the_view c.self.inside) c.new-head.result c.push.new.self.items Opening (c.head-seg.result + 1)
-          c.wake.new.self c.self.invariant.1 c.in_ok-wake.ensures.others seg c.in_ok-wake.ensures.awake pushed
+          c.wake.new.self c.self.invariant.1
+          (more-awake c.self.inside.watch c.wake.new.self c.wake.ensures.filed c.wake.ensures.others) seg c.in_ok-wake.ensures.awake pushed
           (before_of-same (the_view c.self.inside) c.push.new.self.items
           (opened-before (the_view c.self.inside) c.new-head.result c.push.new.self.items c.self.invariant.0.back pushed)),
     )

@@ -4,7 +4,7 @@ use Rattle.rc_headroll.specs.Before.{mark_of}
 use Rattle.rc_headroll.specs.contracts.log.LogHead.{the_view}
 use Rattle.rc_headroll.proofs.SoundBefore.{before_of-begin, sound-begin}
 use Rattle.rc_headroll.proofs.WatchLemmas.{watched-begins}
-use Rattle.rc_headroll.proofs.log.LogHead.go_back_to_now.Goals as goal
+use Rattle.rc_headroll.proofs.log.LogHead.begin.Goals as goal
 
 pub invariant_of-self : goal.invariant_of-self
 invariant_of-self c =
