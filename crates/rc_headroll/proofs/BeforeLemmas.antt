@@ -1,16 +1,13 @@
 -- What a log goes back to: from now on, and whatever is done with the log.
-use Rattle.std.proofs.Common.{◌≡◌, ◌⊎◌, ⊎_elim, inl, inr, ℕ, ◌+◌, ◌-◌, ◌<◌, ◌≤◌, Bool, true, false, cond, eqb, ltb}
-use Rattle.std.proofs.Common.{leb, List, length, get_or, take, Option, Some, None, refl, ap, sym, ◌∙◌, arith, is_some}
-use Rattle.std.proofs.Common.{slice_get, option_map}
+use Rattle.std.proofs.Common.{◌≡◌, ◌⊎◌, ⊎_elim, inl, inr, ℕ, ◌+◌, ◌-◌, ◌<◌, ◌≤◌, Bool, true, false, cond, eqb, ltb, leb, List, length}
+use Rattle.std.proofs.Common.{get_or, take, Option, Some, None, refl, ap, sym, ◌∙◌, arith, is_some, slice_get, option_map}
 use Rattle.std.proofs.Math.Path.{fun_ext}
 use Rattle.std.proofs.Math.Seq.{take-length}
 use Rattle.std.proofs.lemmas.Option.{slice_get-get_or}
 use Rattle.std.proofs.lemmas.Bool.{cond-true, cond-false, cond_both, cases_eq, eq-eqb, ne_eqb, and_parts, ltb-true}
 use Rattle.std.proofs.lemmas.Bool.{leb-true, lt-ltb, le-ltb, false≢true}
 use Rattle.std.proofs.lemmas.Bool.Decides.{nat_tests}
-use Rattle.rc_types.specs.declared.kept.Phase.{Phase}
-use Rattle.rc_model.specs.Tables.{put}
-use Rattle.rc_model.specs.Segment.{Segment, no_segment}
+use Rattle.rc_model.specs.Model.{Phase, put, Segment, no_segment}
 use Rattle.rc_headroll.specs.declared.state.SegmentState.{SegmentState}
 use Rattle.rc_headroll.specs.LogData.{segment_at}
 use Rattle.rc_headroll.specs.Before.{Mark, mark_of, state_at, state_of, with_state, as_it_was, kept_of, kept_len}

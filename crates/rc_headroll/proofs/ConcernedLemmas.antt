@@ -1,19 +1,11 @@
 -- A segment that the list doesn't concern.
-use Rattle.std.proofs.Common.{◌≡◌, ℕ, Bool, true, false, cond, ◌||◌, eqb, List, [], ◌∷◌, map}
-use Rattle.std.proofs.Common.{Some, Result, Ok, refl, ap, sym, ◌∙◌}
+use Rattle.std.proofs.Common.{◌≡◌, ℕ, Bool, true, false, cond, ◌||◌, eqb, List, [], ◌∷◌, map, Some, Result, Ok, refl, ap, sym, ◌∙◌}
 use Rattle.std.specs.List.{list_any}
 use Rattle.std.proofs.Math.Path.{fun_ext}
 use Rattle.std.proofs.lemmas.Bool.{cond-false, cond_both, false≢true, eqb-true}
-use Rattle.rc_types.specs.declared.ids.ServerId.{ServerId}
-use Rattle.rc_types.specs.declared.kept.Member.{Member}
-use Rattle.rc_types.specs.declared.faults.Fault.{Fault}
-use Rattle.rc_model.specs.Tables.{put}
-use Rattle.rc_model.specs.ServerList.{ServerList, has_crashed}
-use Rattle.rc_model.specs.Config.{Config, any_lost, lost_if_crashed, with_lost, staying, substitutes, substitutes_for}
-use Rattle.rc_model.specs.Config.{replaced, candidates, changes_to, refills_with, lose, refill}
-use Rattle.rc_model.specs.Segment.{Segment}
-use Rattle.rc_model.specs.Log.{Log}
-use Rattle.rc_model.specs.Heads.{with_config, refills, opens_change, loses}
+use Rattle.rc_model.specs.Model.{ServerId, Member, Fault, put, ServerList, has_crashed, Config, any_lost, lost_if_crashed, with_lost}
+use Rattle.rc_model.specs.Model.{staying, substitutes, substitutes_for, replaced, candidates, changes_to, refills_with, lose, refill}
+use Rattle.rc_model.specs.Model.{Segment, Log, with_config, refills, opens_change, loses}
 use Rattle.rc_headroll.specs.Concerned.{is_concerned}
 
 or-false : (a b : Bool) → (a || b) ≡ false → (a ≡ false) × (b ≡ false)

@@ -4,10 +4,7 @@ use Rattle.std.proofs.Common.{[], ◌∷◌, ◌++◌, length, get_or, map, find
 use Rattle.std.proofs.Common.{append_assoc, add_assoc, zero-add, add-zero, ltb, leb}
 use Rattle.std.proofs.lemmas.Bool.{cases_eq, and_from, lt-ltb, le-leb}
 use Rattle.std.proofs.lemmas.List.{map-append, append-nil}
-use Rattle.rc_types.specs.declared.limits.TheConstants.{MAX_SEGMENT}
-use Rattle.rc_model.specs.Segment.{Segment, durable_in}
-use Rattle.rc_model.specs.Log.{Log, has_segment, numbers_to, durable_among, durable_now}
-use Rattle.rc_model.specs.FollowUps.{first_open}
+use Rattle.rc_model.specs.Model.{MAX_SEGMENT, Segment, durable_in, Log, has_segment, numbers_to, durable_among, durable_now, first_open}
 use Rattle.rc_headroll.specs.LogData.{LogData, segment_at, log_of}
 use Rattle.rc_headroll.specs.Soundness.{IsSound, IsSoundSegment, entries_to}
 use Rattle.rc_headroll.proofs.SegmentTables.{segment_at-read}

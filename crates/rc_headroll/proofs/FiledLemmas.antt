@@ -7,10 +7,7 @@ use Rattle.std.proofs.lemmas.Bool.{and_from, false≢true}
 use Rattle.std.proofs.lemmas.List.{take_more}
 use Rattle.std.proofs.lemmas.List.Folds.{list_all-append}
 use Rattle.std.proofs.lemmas.Map.Entries.{lookup-filter-keys}
-use Rattle.rc_types.specs.declared.ids.ServerId.{ServerId}
-use Rattle.rc_types.specs.declared.kept.Member.{Member}
-use Rattle.rc_model.specs.Ids.{same_id}
-use Rattle.rc_model.specs.ServerList.{ServerList, has_crashed}
+use Rattle.rc_model.specs.Model.{ServerId, Member, same_id, ServerList, has_crashed}
 use Rattle.rc_model.proofs.Ids.{same_id-true, same_id-refl}
 use Rattle.rc_headroll.specs.Watching.{has_number, is_among, is_under}
 

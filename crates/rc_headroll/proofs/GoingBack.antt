@@ -1,12 +1,10 @@
 -- What was kept of segments, and segments that are put back.
-use Rattle.std.proofs.Common.{◌≡◌, ⊎_elim, ℕ, ◌+◌, ◌-◌, ◌<◌, ◌≤◌, Bool, true, false, cond, ◌&&◌, eqb, ltb, leb, List}
-use Rattle.std.proofs.Common.{[], ◌∷◌, ◌++◌, length, get_or, set, Option, Some, None, refl, ap, sym, ◌∙◌, arith}
-use Rattle.std.proofs.Common.{is_some, is_none}
+use Rattle.std.proofs.Common.{◌≡◌, ⊎_elim, ℕ, ◌+◌, ◌-◌, ◌<◌, ◌≤◌, Bool, true, false, cond, ◌&&◌, eqb, ltb, leb, List, [], ◌∷◌, ◌++◌}
+use Rattle.std.proofs.Common.{length, get_or, set, Option, Some, None, refl, ap, sym, ◌∙◌, arith, is_some, is_none}
 use Rattle.std.proofs.Math.Path.{fun_ext}
 use Rattle.std.proofs.lemmas.Bool.{cond-true, cond-false, cases_eq, cases_lt, eq-eqb, ne_eqb, and_from, lt-ltb, le-ltb, false≢true}
 use Rattle.std.proofs.lemmas.Bool.Decides.{nat_tests}
-use Rattle.rc_model.specs.Tables.{put}
-use Rattle.rc_model.specs.Segment.{Segment, no_segment}
+use Rattle.rc_model.specs.Model.{put, Segment, no_segment}
 use Rattle.rc_headroll.specs.declared.state.SegmentState.{SegmentState}
 use Rattle.rc_headroll.specs.LogData.{segment_at}
 use Rattle.rc_headroll.specs.Before.{Mark, with_state, as_it_was, other_of, segments_before, with_kept, one_back, other_back, others_back}

@@ -1,8 +1,6 @@
 -- What a master's list rules do about a segment that the list doesn't concern.
 use Rattle.std.proofs.Common.{◌≡◌, ℕ, Bool, true, false, cond, List, [], ap, ◌∙◌, refl}
-use Rattle.rc_types.specs.declared.messages.Message.{Message}
-use Rattle.rc_model.specs.Master.{Master}
-use Rattle.rc_model.specs.ListRules.{places_segment, replaces_lost}
+use Rattle.rc_model.specs.Model.{Message, Master, places_segment, replaces_lost}
 use Rattle.rc_headroll.specs.Concerned.{is_concerned}
 use Rattle.rc_headroll.proofs.ConcernedLemmas.{loses-unconcerned}
 

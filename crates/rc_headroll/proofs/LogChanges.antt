@@ -5,18 +5,11 @@ use Rattle.std.proofs.Common.{Vec, Global, refl, ap, sym, ◌∙◌, subst, arit
 use Rattle.std.specs.List.{All}
 use Rattle.std.proofs.lemmas.Bool.{cond-true, cases_eq, leb-false, false≢true}
 use Rattle.std.proofs.lemmas.List.{set-get_or, length_push}
-use Rattle.rc_types.specs.declared.ids.ServerId.{ServerId}
-use Rattle.rc_types.specs.declared.entries.Entry.{Entry}
-use Rattle.rc_types.specs.declared.kept.Phase.TheVariants.{Opening}
-use Rattle.rc_types.specs.declared.faults.Fault.{Fault}
-use Rattle.rc_types.specs.declared.faults.Fault.TheVariants.{OutOfMemory, Rolling, LogFull}
-use Rattle.rc_types.specs.declared.limits.TheConstants.{LAST_SEGMENT}
-use Rattle.rc_model.specs.ServerList.{ServerList}
-use Rattle.rc_model.specs.Config.{Config, committed_at, noted, notes, lose, refill}
-use Rattle.rc_model.specs.Segment.{Segment, new_segment, with_entry}
-use Rattle.rc_model.specs.Log.{Log, head_of, with_segment, has_segment, is_writing}
-use Rattle.rc_model.specs.Heads.{commit_noted, stored, notes_stored, loses, opens_change, refills, opens_head, is_full}
-use Rattle.rc_model.specs.Heads.{appends, append_fault}
+use Rattle.rc_model.specs.Model.{ServerId, Entry, Opening, Fault, Rolling, LogFull, LAST_SEGMENT, ServerList, Config, committed_at, noted}
+use Rattle.rc_model.specs.Model.{notes, lose, refill, Segment, new_segment, with_entry, Log, head_of, with_segment, has_segment}
+use Rattle.rc_model.specs.Model.{is_writing, commit_noted, stored, notes_stored, loses, opens_change, refills, opens_head, is_full}
+use Rattle.rc_model.specs.Model.{appends, append_fault}
+use Rattle.rc_types.specs.declared.faults.Fault.TheVariants.{OutOfMemory}
 use Rattle.rc_headroll.specs.Losing.{segment_loses, segment_changes, segment_refills}
 use Rattle.rc_headroll.specs.LogData.{LogData, segment_at, log_of}
 use Rattle.rc_headroll.specs.Soundness.{IsKnown, IsSound}

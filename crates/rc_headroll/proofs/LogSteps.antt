@@ -4,13 +4,10 @@ use Rattle.std.proofs.Common.{refl, ap, sym, ◌∙◌, arith, Bool, filter}
 use Rattle.std.specs.List.{All, list_any}
 use Rattle.std.proofs.lemmas.Bool.{cond-true, and_parts, ltb-true, false≢true, eqb-true}
 use Rattle.std.proofs.lemmas.List.Elements.{All-filter}
-use Rattle.rc_types.specs.declared.kept.Phase.{Phase}
-use Rattle.rc_types.specs.declared.kept.Phase.TheVariants.{Opening, Closing, Writing}
-use Rattle.rc_model.specs.Segment.{Segment, no_segment, is_all_closed, is_ready, has_unclosed, with_closes_sent}
-use Rattle.rc_model.specs.Tables.{put}
-use Rattle.rc_model.specs.Log.{Log, head_of, old_head_of, has_old_head, has_segment, with_segment, is_opening, is_closing, is_writing}
-use Rattle.rc_model.specs.Heads.{shuts, with_shut, may_start, may_write, starts, writes_on, left_out, with_freed}
-use Rattle.rc_model.specs.FollowUps.{close_is_due, close_marked}
+use Rattle.rc_model.specs.Model.{Phase, Opening, Closing, Writing, Segment, no_segment, is_all_closed, is_ready, has_unclosed}
+use Rattle.rc_model.specs.Model.{with_closes_sent, put, Log, head_of, old_head_of, has_old_head, has_segment, with_segment, is_opening}
+use Rattle.rc_model.specs.Model.{is_closing, is_writing, shuts, with_shut, may_start, may_write, starts, writes_on, left_out, with_freed}
+use Rattle.rc_model.specs.Model.{close_is_due, close_marked}
 use Rattle.rc_headroll.specs.LogData.{LogData, segment_at, log_of}
 use Rattle.rc_headroll.specs.Soundness.{IsKnown, IsSound}
 use Rattle.rc_headroll.specs.Freeing.{freed_in}

@@ -5,9 +5,7 @@ use Rattle.std.proofs.Math.Seq.{take-append-add, drop-append-add}
 use Rattle.std.proofs.lemmas.Bool.{cases_lt}
 use Rattle.std.proofs.lemmas.List.{take-append-le, drop-append-le, take_all, drop_all, append-nil, length-take}
 use Rattle.std.proofs.lemmas.List.{length-append, take_more, take_min, drop-take}
-use Rattle.rc_types.specs.declared.entries.Entry.{Entry}
-use Rattle.rc_model.specs.Segment.{Segment}
-use Rattle.rc_model.specs.Log.{LogPlace, places_in, places_to}
+use Rattle.rc_model.specs.Model.{Entry, Segment, LogPlace, places_in, places_to}
 use Rattle.rc_headroll.specs.Soundness.{entries_to}
 
 -- A part of a list that has two parts

@@ -6,11 +6,7 @@ use Rattle.std.proofs.lemmas.Bool.{cases_eq, cases_lt, eq-eqb, ne_eqb, eqb-true,
 use Rattle.std.proofs.lemmas.Bool.{ltb-true, leb-true, lt-ltb, le-leb}
 use Rattle.std.proofs.lemmas.List.{get_or-set_same, get_or-set_other, get_or_push, get_or_append_left, get_or_past}
 use Rattle.std.proofs.lemmas.List.{get_or_default, length-set, length_push}
-use Rattle.rc_model.specs.Tables.{put}
-use Rattle.rc_model.specs.Segment.{Segment, no_segment}
-use Rattle.rc_types.specs.declared.ids.ServerId.{ServerId}
-use Rattle.rc_types.specs.declared.kept.Phase.TheVariants.{Opening}
-use Rattle.rc_model.specs.Log.{Log, new_log, with_segment, has_segment}
+use Rattle.rc_model.specs.Model.{put, Segment, no_segment, ServerId, Opening, Log, new_log, with_segment, has_segment}
 use Rattle.rc_headroll.specs.Before.{first_mark}
 use Rattle.rc_headroll.specs.Watching.{Watched}
 use Rattle.rc_headroll.specs.LogData.{LogData, segment_at, log_of}

@@ -4,12 +4,7 @@ use Rattle.std.proofs.Common.{◌∙◌, subst, arith, length-take}
 use Rattle.std.proofs.Math.Path.{fun_ext}
 use Rattle.std.proofs.lemmas.Bool.{and_parts, leb-true, ltb-true}
 use Rattle.std.proofs.lemmas.List.{get_or-take}
-use Rattle.rc_types.specs.declared.ids.ServerId.{ServerId}
-use Rattle.rc_types.specs.declared.kept.Phase.{Phase}
-use Rattle.rc_types.specs.declared.kept.Phase.TheVariants.{Opening}
-use Rattle.rc_types.specs.declared.limits.TheConstants.{MAX_FACTOR, MAX_SEGMENT}
-use Rattle.rc_model.specs.Segment.{Segment, no_segment}
-use Rattle.rc_model.specs.Log.{new_log}
+use Rattle.rc_model.specs.Model.{ServerId, Phase, Opening, MAX_FACTOR, MAX_SEGMENT, Segment, no_segment, new_log}
 use Rattle.rc_headroll.specs.LogData.{LogData, segment_at, log_of, before_of}
 use Rattle.rc_headroll.specs.Soundness.{IsSound, IsSoundLog}
 use Rattle.rc_headroll.specs.Watching.{Watched}

@@ -5,13 +5,8 @@ use Rattle.std.specs.List.{All}
 use Rattle.std.proofs.lemmas.Bool.{cases_eq, cases_lt, false≢true, cond-false}
 use Rattle.std.proofs.lemmas.List.{length_push}
 use Rattle.std.proofs.lemmas.List.Elements.{All-push, All-filter}
-use Rattle.rc_types.specs.declared.ids.ServerId.{ServerId}
-use Rattle.rc_types.specs.declared.entries.Entry.{Entry}
-use Rattle.rc_types.specs.declared.limits.TheConstants.{LAST_SEGMENT, MAX_FACTOR, MAX_SEGMENT}
-use Rattle.rc_model.specs.Tables.{put}
-use Rattle.rc_model.specs.Segment.{Segment, new_segment, with_entry}
-use Rattle.rc_model.specs.Log.{Log, new_log, head_of, old_head_of, with_segment, is_writing}
-use Rattle.rc_model.specs.Heads.{opens_head, appends, starts}
+use Rattle.rc_model.specs.Model.{ServerId, Entry, LAST_SEGMENT, MAX_FACTOR, MAX_SEGMENT, put, Segment, new_segment, with_entry, Log}
+use Rattle.rc_model.specs.Model.{new_log, head_of, old_head_of, with_segment, is_writing, opens_head, appends, starts}
 use Rattle.rc_headroll.specs.Soundness.{IsKnown, IsSoundSegment, IsSound, all_shut_below, entries_to}
 use Rattle.rc_headroll.proofs.SegmentTables.{put-at, put-other, put_each}
 

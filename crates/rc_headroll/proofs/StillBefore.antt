@@ -3,13 +3,7 @@ use Rattle.std.proofs.Common.{◌≡◌, ℕ, suc, ◌+◌, ◌-◌, ◌<◌, �
 use Rattle.std.proofs.Common.{set, take, refl, ap, sym, ◌∙◌, subst, arith}
 use Rattle.std.specs.List.{All}
 use Rattle.std.proofs.lemmas.List.{take-append-le, length_push, length-set}
-use Rattle.rc_types.specs.declared.entries.Entry.{Entry}
-use Rattle.rc_types.specs.declared.kept.Phase.{Phase}
-use Rattle.rc_types.specs.declared.kept.Phase.TheVariants.{Writing}
-use Rattle.rc_model.specs.Tables.{put}
-use Rattle.rc_model.specs.Segment.{Segment, with_entry}
-use Rattle.rc_model.specs.Log.{has_segment}
-use Rattle.rc_model.specs.Heads.{append_fault}
+use Rattle.rc_model.specs.Model.{Entry, Phase, Writing, put, Segment, with_entry, has_segment, append_fault}
 use Rattle.rc_headroll.specs.LogData.{LogData, segment_at, log_of, before_of}
 use Rattle.rc_headroll.specs.Soundness.{IsSound, IsSoundLog}
 use Rattle.rc_headroll.specs.Before.{Mark, segments_before, IsKept, CanGoBack}

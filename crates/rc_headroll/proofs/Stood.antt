@@ -3,12 +3,7 @@ use Rattle.std.proofs.Common.{◌≡◌, ℕ, ◌<◌, ◌≤◌, Bool, true, �
 use Rattle.std.proofs.Common.{None, refl, ap, sym, ◌∙◌}
 use Rattle.std.specs.List.{list_any}
 use Rattle.std.proofs.lemmas.Bool.{cond-true, and_from, eq-eqb, lt-ltb, le-leb}
-use Rattle.rc_types.specs.declared.ids.ServerId.{ServerId}
-use Rattle.rc_types.specs.declared.kept.Member.{Member}
-use Rattle.rc_model.specs.Ids.{same_id, has_id}
-use Rattle.rc_model.specs.Segment.{Segment, no_segment}
-use Rattle.rc_model.specs.Master.{ids_of}
-use Rattle.rc_model.specs.MasterTick.{stood}
+use Rattle.rc_model.specs.Model.{ServerId, Member, same_id, has_id, Segment, no_segment, ids_of, stood}
 use Rattle.rc_headroll.specs.declared.state.SegmentState.{SegmentState}
 use Rattle.rc_headroll.specs.LogData.{LogData, segment_at, log_of, before_of}
 use Rattle.rc_headroll.specs.Before.{kept_of, was_there, as_it_was, segments_before}

@@ -1,20 +1,12 @@
 -- The timer goes over each segment that may want something, whatever is done with the log.
-use Rattle.std.proofs.Common.{◌≡◌, ⊎_elim, ℕ, ◌+◌, ◌-◌, ◌<◌, ◌≤◌, Bool, true, false, cond, not, ◌&&◌, ◌||◌, eqb, List, []}
-use Rattle.std.proofs.Common.{◌∷◌, ◌++◌, length, get_or, set, map, Some, is_some, Result, Ok, Err, is_ok, IsOk}
-use Rattle.std.proofs.Common.{refl, ap, sym, ◌∙◌, subst, arith}
+use Rattle.std.proofs.Common.{◌≡◌, ⊎_elim, ℕ, ◌+◌, ◌-◌, ◌<◌, ◌≤◌, Bool, true, false, cond, not, ◌&&◌, ◌||◌, eqb, List, [], ◌∷◌, ◌++◌}
+use Rattle.std.proofs.Common.{length, get_or, set, map, Some, is_some, Result, Ok, Err, is_ok, IsOk, refl, ap, sym, ◌∙◌, subst, arith}
 use Rattle.std.specs.List.{list_all, list_any}
 use Rattle.std.specs.Map.{lookup}
 use Rattle.std.proofs.lemmas.Bool.{and_parts, and_from, cases_eq, cond_both, cond-false, ne_eqb, false≢true}
 use Rattle.std.proofs.lemmas.List.{length-set, length_push}
-use Rattle.rc_types.specs.declared.ids.ServerId.{ServerId}
-use Rattle.rc_types.specs.declared.kept.Member.{Member}
-use Rattle.rc_types.specs.declared.kept.Phase.{Phase}
-use Rattle.rc_model.specs.Ids.{same_id}
-use Rattle.rc_model.specs.ServerList.{ServerList, has_crashed}
-use Rattle.rc_model.specs.Tables.{put}
-use Rattle.rc_model.specs.Config.{Config, is_placed, all_placed, is_heard, told_with, told_if_heard, noted, committed_at}
-use Rattle.rc_model.specs.Segment.{Segment}
-use Rattle.rc_model.specs.Log.{Log, has_segment}
+use Rattle.rc_model.specs.Model.{ServerId, Member, Phase, same_id, ServerList, has_crashed, put, Config, is_placed, all_placed, is_heard}
+use Rattle.rc_model.specs.Model.{told_with, told_if_heard, noted, committed_at, Segment, Log, has_segment}
 use Rattle.rc_headroll.specs.LogData.{LogData, segment_at, log_of, before_of}
 use Rattle.rc_headroll.specs.Concerned.{is_concerned}
 use Rattle.rc_headroll.specs.Watching.{Watched, is_among, is_awake, is_filed, is_on_file, wants_nothing, is_watched, AreWatched}

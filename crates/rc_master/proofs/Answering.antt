@@ -1,7 +1,6 @@
 -- Where no part is to be answered, none is.
 use Rattle.std.proofs.Common.{◌≡◌, Bool, true, false, cond, List, [], ◌∷◌, find, Option, Some, None, option_map, refl, ap}
-use Rattle.rc_types.specs.declared.entries.Entry.{Entry}
-use Rattle.rc_model.specs.Ownership.{Ownership, PartState, is_to_answer, to_answer, answered_in, after_answer}
+use Rattle.rc_model.specs.Model.{Entry, Ownership, PartState, is_to_answer, to_answer, answered_in, after_answer}
 
 answered-none : (durable : List Entry) (states : List PartState) → find (is_to_answer durable) states ≡ None →
     answered_in durable states ≡ states

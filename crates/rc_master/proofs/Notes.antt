@@ -1,29 +1,17 @@
 -- The notes of a log stay those of the log, whatever is done to it.
-use Rattle.std.proofs.Common.{◌≡◌, ℕ, zero, suc, ◌+◌, ◌-◌, ◌<◌, ◌≤◌, Bool, true, false, cond, not, ◌&&◌, nat_eq}
-use Rattle.std.proofs.Common.{nat_lt, List, [], ◌∷◌, ◌++◌, length, take, map, Option, Some, None, Result, Ok, Err}
-use Rattle.std.proofs.Common.{is_err, refl, sym, ap, ◌∙◌, subst, arith}
+use Rattle.std.proofs.Common.{◌≡◌, ℕ, zero, suc, ◌+◌, ◌-◌, ◌<◌, ◌≤◌, Bool, true, false, cond, not, ◌&&◌, nat_eq, nat_lt, List, [], ◌∷◌}
+use Rattle.std.proofs.Common.{◌++◌, length, take, map, Option, Some, None, Result, Ok, Err, is_err, refl, sym, ap, ◌∙◌, subst, arith}
 use Rattle.std.proofs.lemmas.List.{append-nil, map-append, length-map, get_or_past}
 use Rattle.std.proofs.lemmas.Bool.Decides.{nat_tests}
 use Rattle.std.proofs.lemmas.Bool.{and_parts, ltb-true, ne_eqb}
 use Rattle.std.proofs.Math.Numerals.{add-one}
-use Rattle.rc_types.specs.declared.ids.ServerId.{ServerId}
-use Rattle.rc_types.specs.declared.entries.Entry.{Entry}
-use Rattle.rc_types.specs.declared.faults.Fault.{Fault}
-use Rattle.rc_types.specs.declared.faults.Fault.TheVariants.{LogFull, Rolling}
-use Rattle.rc_types.specs.declared.kept.Phase.TheVariants.{Writing}
-use Rattle.rc_types.specs.declared.limits.TheConstants.{LAST_SEGMENT}
-use Rattle.rc_model.specs.Tables.{put}
-use Rattle.rc_model.specs.ServerList.{ServerList}
-use Rattle.rc_model.specs.Config.{Config, choose, noted, committed_at, lose, refill}
-use Rattle.rc_model.specs.Segment.{Segment, no_segment, new_segment, is_ready, with_closes_sent}
-use Rattle.rc_model.specs.Log.{Log, LogPlace, head_of, old_head_of, has_old_head, has_segment, with_segment, places_in}
-use Rattle.rc_model.specs.Log.{places_to, places_of, entries_of, numbers_to, durable_now, is_closing, is_writing}
-use Rattle.rc_model.specs.Heads.{is_full, append_fault, opens_head, appends, next_digest}
-use Rattle.rc_model.specs.Heads.{rolled, begin_roll, with_config, stored, commit_noted, opens_change, refills, loses}
-use Rattle.rc_model.specs.Heads.{shuts, with_shut, may_start, may_write, left_out, starts, closes_old, writes_on}
-use Rattle.rc_model.specs.FollowUps.{close_marked}
-use Rattle.rc_model.specs.Versions.{is_dead}
-use Rattle.rc_model.specs.Master.{Master, durable_entries, is_dead_segment}
+use Rattle.rc_model.specs.Model.{ServerId, Entry, Fault, LogFull, Rolling, Writing, LAST_SEGMENT, put, ServerList, Config, choose, noted}
+use Rattle.rc_model.specs.Model.{committed_at, lose, refill, Segment, no_segment, new_segment, is_ready, with_closes_sent, Log, LogPlace}
+use Rattle.rc_model.specs.Model.{head_of, old_head_of, has_old_head, has_segment, with_segment, places_in, places_to, places_of}
+use Rattle.rc_model.specs.Model.{entries_of, numbers_to, durable_now, is_closing, is_writing, is_full, append_fault, opens_head, appends}
+use Rattle.rc_model.specs.Model.{next_digest, rolled, begin_roll, with_config, stored, commit_noted, opens_change, refills, loses, shuts}
+use Rattle.rc_model.specs.Model.{with_shut, may_start, may_write, left_out, starts, closes_old, writes_on, close_marked, is_dead, Master}
+use Rattle.rc_model.specs.Model.{durable_entries, is_dead_segment}
 use Rattle.rc_model.proofs.Tests.{either, true_false}
 use Rattle.rc_model.proofs.Tables.{put_each, put-same, put-other}
 use Rattle.rc_model.proofs.LogParts.{places_to-agrees, total, total-places, durable-within, marked, with_freed-marked, marked-alone}

@@ -3,8 +3,7 @@ use Rattle.std.proofs.Common.{◌≡◌, ℕ, zero, suc, ◌-◌, ◌∷◌, [],
 use Rattle.std.proofs.Common.{sym, ◌∙◌, arith}
 use Rattle.std.specs.Option.{option_or}
 use Rattle.std.proofs.lemmas.List.Folds.{find-append}
-use Rattle.rc_model.specs.Segment.{Segment}
-use Rattle.rc_model.specs.Log.{numbers_to}
+use Rattle.rc_model.specs.Model.{Segment, numbers_to}
 use Rattle.rc_master.specs.Looks.{fewest_to}
 
 abbrev pub is_open : (ℕ → Segment) → ℕ → Bool

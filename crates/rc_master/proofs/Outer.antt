@@ -1,13 +1,6 @@
 -- What a step's contract says of the fields, said of what callers see.
 use Rattle.std.proofs.Common.{◌≡◌, ◌++◌, false, cond, List, [], take, Result, OnOk, sym, ap, ◌∙◌, subst}
-use Rattle.rc_types.specs.declared.ids.Addr.{Addr}
-use Rattle.rc_types.specs.declared.messages.Message.{Message}
-use Rattle.rc_types.specs.declared.messages.Body.{Body}
-use Rattle.rc_model.specs.Master.{Master, durable_entries}
-use Rattle.rc_model.specs.MasterStep.{master_takes, master_ticks}
-use Rattle.rc_model.specs.ListRules.{then_does}
-use Rattle.rc_model.specs.FollowUps.{goes_on}
-use Rattle.rc_model.specs.MasterTick.{ticks}
+use Rattle.rc_model.specs.Model.{Addr, Message, Body, Master, durable_entries, master_takes, master_ticks, then_does, goes_on, ticks}
 use Rattle.rc_master.specs.declared.state.State.{State}
 use Rattle.rc_master.specs.Data.{MasterData, master_of}
 use Rattle.rc_headroll.specs.LogData.{log_of}

@@ -1,23 +1,13 @@
 -- A master that follows no rule stays as it is, and so does one that is granted a range.
 use Rattle.std.proofs.Common.{◌≡◌, ◌≢◌, ℕ, zero, suc, ◌<◌, Bool, true, false, cond, List, [], ◌∷◌, ◌++◌, Option, Some}
 use Rattle.std.proofs.Common.{None, Result, Ok, Err, OnOk, OnErr, refl, sym, ap, ◌∙◌, subst, arith}
-use Rattle.rc_types.specs.declared.entries.Entry.{Entry}
-use Rattle.rc_types.specs.declared.faults.Fault.{Fault}
-use Rattle.rc_types.specs.declared.kept.GrantedRange.{GrantedRange}
-use Rattle.rc_types.specs.declared.messages.Message.{Message}
-use Rattle.rc_model.specs.Log.{Log, is_writing}
-use Rattle.rc_model.specs.Heads.{is_full, begin_roll, may_start, may_close, may_write}
-use Rattle.rc_model.specs.Ownership.{Ownership, grant, owns_term, to_answer, after_replay}
-use Rattle.rc_model.specs.Master.{Master, MasterSetup, new_master, durable_entries, dead_segments, appends_entry}
-use Rattle.rc_model.specs.FollowUps.{when, or_rule, follow_up, follows_start, follows_placed, follows_closing}
-use Rattle.rc_model.specs.FollowUps.{follows_shut, follows_change, follows_stored, follows_data, follows_replay}
-use Rattle.rc_model.specs.FollowUps.{first_open, wants_commit, commits, commits_open, close_is_due, rolls_for_replay}
-use Rattle.rc_model.specs.FollowUps.{replays, answers_part, marks_shut, further, followed, measure, goes_on}
-use Rattle.rc_types.specs.declared.ids.ServerId.{ServerId}
-use Rattle.rc_types.specs.declared.ids.Addr.{Addr}
-use Rattle.rc_types.specs.declared.messages.Body.{Body}
-use Rattle.rc_model.specs.ListRules.{then_does}
-use Rattle.rc_model.specs.MasterStep.{master_takes_first, deposed_takes, master_takes}
+use Rattle.rc_model.specs.Model.{Entry, Fault, GrantedRange, Message, Log, is_writing, is_full, begin_roll, may_start, may_close}
+use Rattle.rc_model.specs.Model.{may_write, Ownership, grant, owns_term, to_answer, after_replay, Master, MasterSetup, new_master}
+use Rattle.rc_model.specs.Model.{durable_entries, dead_segments, appends_entry, when, or_rule, follow_up, follows_start, follows_placed}
+use Rattle.rc_model.specs.Model.{follows_closing, follows_shut, follows_change, follows_stored, follows_data, follows_replay, first_open}
+use Rattle.rc_model.specs.Model.{wants_commit, commits, commits_open, close_is_due, rolls_for_replay, replays, answers_part, marks_shut}
+use Rattle.rc_model.specs.Model.{further, followed, measure, goes_on, ServerId, Addr, Body, then_does, master_takes_first, deposed_takes}
+use Rattle.rc_model.specs.Model.{master_takes}
 use Rattle.rc_model.proofs.Tests.{either, true_false}
 use Rattle.rc_model.proofs.Measures.{goes_on-up, goes_on-settles, goes_on-marked}
 use Rattle.rc_master.specs.Rules.{did}

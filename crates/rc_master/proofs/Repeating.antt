@@ -4,20 +4,12 @@ use Rattle.std.proofs.Common.{List, [], ◌∷◌, ◌++◌, length, take, get_o
 use Rattle.std.proofs.lemmas.Bool.{cases_eq}
 use Rattle.std.proofs.lemmas.List.{append-nil, take_more, get_or_default}
 use Rattle.std.proofs.Math.Numerals.{add-one}
-use Rattle.rc_types.specs.declared.ids.ServerId.{ServerId}
-use Rattle.rc_types.specs.declared.rows.Part.{Part}
-use Rattle.rc_types.specs.declared.rows.PlanRow.{PlanRow}
-use Rattle.rc_types.specs.declared.messages.Message.{Message}
-use Rattle.rc_types.specs.declared.faults.Fault.{Fault}
+use Rattle.rc_model.specs.Model.{ServerId, Part, PlanRow, Message, Fault, loses, Log, numbers_to, Master, with_log, then_does}
+use Rattle.rc_model.specs.Model.{places_segment, replaces_lost, replaces_lost_of, task_of, begins_task, takes_plan}
 use Rattle.rc_types.specs.declared.faults.Fault.TheVariants.{OutOfMemory}
-use Rattle.rc_model.specs.Heads.{loses}
-use Rattle.rc_model.specs.Log.{Log, numbers_to}
-use Rattle.rc_model.specs.Master.{Master, with_log}
-use Rattle.rc_model.specs.ListRules.{then_does, places_segment, replaces_lost, replaces_lost_of}
 use Rattle.rc_headroll.specs.Concerned.{is_concerned}
 use Rattle.rc_headroll.specs.Watching.{Watched, is_awake}
 use Rattle.rc_headroll.proofs.ListRuleLemmas.{replaces-unconcerned}
-use Rattle.rc_model.specs.MasterStep.{task_of, begins_task, takes_plan}
 
 -- the last one after the others
 pub lost-more : (segs : List ℕ) (seg : ℕ) (master : Master) →

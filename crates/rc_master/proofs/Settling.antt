@@ -2,12 +2,8 @@
 use Rattle.std.proofs.Common.{◌≡◌, ◌≢◌, ℕ, zero, suc, ◌-◌, ◌<◌, ◌≤◌, Bool, true, false, List, [], ◌++◌, Option, Some}
 use Rattle.std.proofs.Common.{None, Result, IfOk, OnOk, refl, sym, ap, ◌∙◌, subst, arith, append_assoc}
 use Rattle.std.proofs.lemmas.List.{append-nil}
-use Rattle.rc_types.specs.declared.messages.Message.{Message}
-use Rattle.rc_types.specs.declared.faults.Fault.{Fault}
-use Rattle.rc_model.specs.Log.{Log, with_segment, old_head_of}
-use Rattle.rc_model.specs.Heads.{shuts}
-use Rattle.rc_model.specs.Master.{Master}
-use Rattle.rc_model.specs.FollowUps.{or_rule, follow_up, marks_shut, further, followed, measure}
+use Rattle.rc_model.specs.Model.{Message, Fault, Log, with_segment, old_head_of, shuts, Master, or_rule, follow_up, marks_shut, further}
+use Rattle.rc_model.specs.Model.{followed, measure}
 use Rattle.rc_model.proofs.Tests.{either, true_false}
 use Rattle.rc_model.proofs.Measures.{AllLower, lowers, measure-marks_shut}
 use Rattle.rc_master.specs.Rules.{did, or_still, settled}

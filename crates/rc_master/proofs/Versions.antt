@@ -1,8 +1,7 @@
 -- Versions leave room for one more.
 use Rattle.std.proofs.Common.{◌≡◌, ℕ, ◌-◌, ◌^◌, ◌<◌, List, [], ◌∷◌, max, zero, suc, subst, sym, arith}
 use Rattle.std.specs.List.{All}
-use Rattle.rc_types.specs.declared.entries.Entry.{Entry}
-use Rattle.rc_model.specs.Versions.{is_of, greatest_version, next_version}
+use Rattle.rc_model.specs.Model.{Entry, is_of, greatest_version, next_version}
 use Rattle.rc_model.proofs.Tests.{either}
 
 greatest-fits : (term table key : ℕ) (entries : List Entry) → All (λ entry. entry.version < 2 ^ 64 - 1) entries →

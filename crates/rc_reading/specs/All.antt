@@ -1,16 +1,19 @@
 -- All words of this crate that proofs name, in one place.
-pub use Rattle.rc_reading.specs.Ahead.{data_at, folds, items_at, members_at, rest, says, taken_from, told}
+pub use Rattle.rc_reading.specs.Ahead.{folds, rest, says, taken_from, told}
+unfoldable pub use Rattle.rc_reading.specs.Ahead.{data_at, items_at, members_at}
 pub use Rattle.rc_reading.specs.Bits.{has_bit, with_bit}
 pub use Rattle.rc_reading.specs.Fields.{event_from, event_in, fields_of, member_named, noted, server_in}
 pub use Rattle.rc_reading.specs.Hosts.{has_host, no_hosts, with_host}
-pub use Rattle.rc_reading.specs.Kinds.{all_kinds, kind_named, kind_of, kind_place, no_kinds, with_kind}
+pub use Rattle.rc_reading.specs.Kinds.{all_kinds, kind_of, kind_place, no_kinds, with_kind}
+unfoldable pub use Rattle.rc_reading.specs.Kinds.{kind_named}
 pub use Rattle.rc_reading.specs.Lists.{added, at_end, factor_added}
 pub use Rattle.rc_reading.specs.Names.{create_members, deliver_members, first_members, id_members, read_members}
 pub use Rattle.rc_reading.specs.Names.{second_members, settle_members, split_members, start_members, write_members}
 pub use Rattle.rc_reading.specs.Pairs.{both_in, generation_of, id_item, kept_segment_of, name_item, paired}
 pub use Rattle.rc_reading.specs.Pairs.{replica_name, server_id}
 pub use Rattle.rc_reading.specs.Said.{Said, begins_object, both_of, said_of}
-pub use Rattle.rc_reading.specs.Scenario.{core_event, event_by, event_of, events_of, first_setup, of_text, of_value}
+pub use Rattle.rc_reading.specs.Scenario.{core_event, event_by, events_of, first_setup, of_text, of_value}
+unfoldable pub use Rattle.rc_reading.specs.Scenario.{event_of}
 pub use Rattle.rc_reading.specs.Scenario.{one_event_more, reading, scenario_in, scenario_of, second_setup, segment_of}
 pub use Rattle.rc_reading.specs.Scenario.{setup_by, setup_of, value_in, with_events}
 pub use Rattle.rc_reading.specs.Values.{addr_of, are_among, each, event_name, factor_of, factors_of, field, given2}

@@ -2,8 +2,7 @@ use Rattle.std.proofs.Common.{◌≡◌, ℕ, List, Some, cond, refl, ap, ◌∙
 use Rattle.std.proofs.lemmas.Bool.{false≢true}
 use Rattle.std.specs.Map.{lookup}
 use Rattle.std.specs.Option.{IsSome}
-use Rattle.rc_types.specs.declared.ids.ServerId.{ServerId}
-use Rattle.rc_model.specs.Ids.{same_id}
+use Rattle.rc_model.specs.Model.{ServerId, same_id}
 use Rattle.rc_headroll.specs.Watching.{is_among}
 use Rattle.rc_headroll.proofs.FiledLemmas.{filed-still}
 use Rattle.rc_headroll.proofs.filing.file_under.Goals as goal

@@ -1,6 +1,5 @@
 use Rattle.std.proofs.Common.{◌≡◌, ℕ, true, ◌||◌}
-use Rattle.rc_types.specs.declared.ids.ServerId.{ServerId}
-use Rattle.rc_model.specs.ServerList.{has_crashed}
+use Rattle.rc_model.specs.Model.{ServerId, has_crashed}
 use Rattle.rc_headroll.specs.Watching.{has_number, is_under}
 use Rattle.rc_headroll.proofs.filing.wake_crashed.Given as goal
 

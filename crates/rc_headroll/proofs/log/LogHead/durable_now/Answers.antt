@@ -1,6 +1,5 @@
 use Rattle.std.proofs.Common.{◌≡◌, ◌+◌, ◌*◌, ◌<◌, ◌≤◌, ℕ, true, false, length, sym, ap, ◌∙◌, arith}
-use Rattle.rc_types.specs.declared.limits.TheConstants.{MAX_SEGMENT}
-use Rattle.rc_model.specs.Segment.{durable_in}
+use Rattle.rc_model.specs.Model.{MAX_SEGMENT, durable_in}
 use Rattle.rc_headroll.specs.LogData.{log_of, segment_at}
 use Rattle.rc_headroll.specs.Soundness.{entries_to}
 use Rattle.rc_headroll.specs.contracts.log.LogHead.{the_view}

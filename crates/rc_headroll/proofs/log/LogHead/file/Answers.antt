@@ -1,8 +1,6 @@
 use Rattle.std.proofs.Common.{◌≡◌, true, sym, ap, ◌∙◌}
 use Rattle.std.proofs.lemmas.Result.{on_ok_weaker}
-use Rattle.rc_model.specs.Log.{has_segment}
-use Rattle.rc_model.specs.Segment.{Segment}
-use Rattle.rc_model.specs.Config.{Config}
+use Rattle.rc_model.specs.Model.{has_segment, Segment, Config}
 use Rattle.rc_headroll.specs.LogData.{log_of, segment_at}
 use Rattle.rc_headroll.specs.contracts.log.LogHead.{the_view}
 use Rattle.rc_headroll.proofs.SegmentTables.{segment_at-read}

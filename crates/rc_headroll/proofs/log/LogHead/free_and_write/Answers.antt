@@ -1,9 +1,7 @@
 use Rattle.std.proofs.Common.{◌≡◌, true, List, length, sym, subst, ◌∙◌, ap}
 use Rattle.std.specs.List.{All}
 use Rattle.std.proofs.lemmas.List.{with_items_is}
-use Rattle.rc_types.specs.declared.kept.Phase.TheVariants.{Writing}
-use Rattle.rc_model.specs.Segment.{Segment}
-use Rattle.rc_model.specs.Heads.{left_out, may_write, writes_on}
+use Rattle.rc_model.specs.Model.{Writing, Segment, left_out, may_write, writes_on}
 use Rattle.rc_headroll.specs.Before.{IsKept}
 use Rattle.rc_headroll.specs.LogData.{log_of, before_of, segment_at}
 use Rattle.rc_headroll.specs.Soundness.{IsKnown, IsSoundLog, IsWatchedLog}

@@ -1,7 +1,6 @@
 use Rattle.std.proofs.Common.{◌≡◌, ◌⊎◌, Ok, Err, IfOk, IfErr, subst, ◌∙◌}
 use Rattle.rc_types.specs.declared.faults.Fault.TheVariants.{OutOfMemory}
-use Rattle.rc_model.specs.Log.{Log}
-use Rattle.rc_model.specs.Heads.{loses}
+use Rattle.rc_model.specs.Model.{Log, loses}
 use Rattle.rc_headroll.specs.LogData.{log_of}
 use Rattle.rc_headroll.proofs.log.LogHead.lose.Goals as goal
 

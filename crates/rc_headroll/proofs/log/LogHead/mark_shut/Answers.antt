@@ -1,6 +1,5 @@
 use Rattle.std.proofs.Common.{◌≡◌, ◌-◌, ◌<◌, ℕ, true, length, sym, ap, ◌∙◌, arith}
-use Rattle.rc_model.specs.Segment.{Segment}
-use Rattle.rc_model.specs.Heads.{shuts}
+use Rattle.rc_model.specs.Model.{Segment, shuts}
 use Rattle.rc_headroll.specs.LogData.{log_of}
 use Rattle.rc_headroll.specs.contracts.log.LogHead.{the_view}
 use Rattle.rc_headroll.proofs.LogSteps.{sound-shut_marked, shut-marked, shuts-parts}

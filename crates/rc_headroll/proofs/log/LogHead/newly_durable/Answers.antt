@@ -1,8 +1,5 @@
 use Rattle.std.proofs.Common.{◌≡◌, ◌+◌, ◌-◌, ◌*◌, ◌<◌, ◌≤◌, ℕ, ◌++◌, Bool, List, map, min, length, take, drop, sym, ap, ◌∙◌, arith}
-use Rattle.rc_types.specs.declared.limits.TheConstants.{MAX_SEGMENT}
-use Rattle.rc_types.specs.declared.entries.Entry.{Entry}
-use Rattle.rc_model.specs.Segment.{Segment}
-use Rattle.rc_model.specs.Log.{LogPlace, places_in}
+use Rattle.rc_model.specs.Model.{MAX_SEGMENT, Entry, Segment, LogPlace, places_in}
 use Rattle.rc_headroll.specs.LogData.{LogData, log_of, segment_at}
 use Rattle.rc_headroll.specs.Soundness.{entries_to}
 use Rattle.rc_headroll.specs.Places.{log_place}

@@ -1,7 +1,6 @@
 use Rattle.std.proofs.Common.{◌≡◌, ◌+◌, ◌∷◌, ◌++◌, [], ◌<◌, ℕ, true, length, ap, arith}
 use Rattle.std.specs.List.{All}
-use Rattle.rc_types.specs.declared.kept.Phase.TheVariants.{Opening}
-use Rattle.rc_types.specs.declared.limits.TheConstants.{LAST_SEGMENT}
+use Rattle.rc_model.specs.Model.{Opening, LAST_SEGMENT}
 use Rattle.rc_headroll.specs.LogData.{segment_at}
 use Rattle.rc_headroll.specs.Soundness.{IsKnown}
 use Rattle.rc_headroll.specs.contracts.log.LogHead.{the_view}

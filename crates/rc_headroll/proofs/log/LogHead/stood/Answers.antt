@@ -1,8 +1,7 @@
 use Rattle.std.proofs.Common.{◌≡◌, ◌-◌, ◌<◌, ◌≤◌, ℕ, Bool, ◌&&◌, eqb, length, ap, sym, ◌∙◌, arith}
 use Rattle.std.specs.List.{list_any}
 use Rattle.std.proofs.lemmas.Bool.{eq-eqb, ne_eqb}
-use Rattle.rc_model.specs.Ids.{same_id}
-use Rattle.rc_model.specs.Config.{Config}
+use Rattle.rc_model.specs.Model.{same_id, Config}
 use Rattle.rc_headroll.specs.contracts.log.LogHead.{the_view}
 use Rattle.rc_headroll.proofs.SegmentTables.{segment_at-read}
 use Rattle.rc_headroll.proofs.Stood.{stood-same, stood-kept}

@@ -1,8 +1,5 @@
 use Rattle.std.proofs.Common.{◌≡◌, Option, None, ℕ, List, sym, ap, ◌∙◌}
-use Rattle.rc_types.specs.declared.entries.Entry.{Entry}
-use Rattle.rc_model.specs.Ownership.{Ownership, to_answer}
-use Rattle.rc_model.specs.Master.{durable_entries}
-use Rattle.rc_model.specs.FollowUps.{answers_part}
+use Rattle.rc_model.specs.Model.{Entry, Ownership, to_answer, durable_entries, answers_part}
 use Rattle.rc_ownership.specs.Owner.{Owner, durable_of}
 use Rattle.rc_master.specs.View.{state_view}
 use Rattle.rc_master.specs.Rules.{or_still}

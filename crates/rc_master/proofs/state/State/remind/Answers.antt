@@ -1,8 +1,6 @@
 use Rattle.std.proofs.Common.{◌++◌, List, sym, ap, ◌∙◌}
-use Rattle.rc_types.specs.declared.messages.Message.{Message}
+use Rattle.rc_model.specs.Model.{Message, Task, reminds}
 use Rattle.rc_headroll.specs.LogData.{log_of, before_of}
-use Rattle.rc_model.specs.Master.{Task}
-use Rattle.rc_model.specs.MasterTick.{reminds}
 use Rattle.rc_notices.specs.Sender.{sender}
 use Rattle.rc_notices.proofs.Senders.{reminds-sender}
 use Rattle.rc_master.specs.View.{state_view}

@@ -1,7 +1,5 @@
 use Rattle.std.proofs.Common.{◌≡◌, ◌≤◌, ◌++◌, ℕ, sym, ◌∙◌, subst, arith}
-use Rattle.rc_model.specs.Log.{numbers_to}
-use Rattle.rc_model.specs.Master.{Master}
-use Rattle.rc_model.specs.ListRules.{replaces_lost_of}
+use Rattle.rc_model.specs.Model.{numbers_to, Master, replaces_lost_of}
 use Rattle.rc_headroll.proofs.SegmentTables.{has-parts}
 use Rattle.rc_master.specs.View.{state_view}
 use Rattle.rc_master.proofs.Repeating.{lost-step-to, lost-skips, passed-over}

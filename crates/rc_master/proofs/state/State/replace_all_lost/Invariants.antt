@@ -1,6 +1,5 @@
 use Rattle.std.proofs.Common.{◌≡◌, ◌≤◌, ◌-◌, ◌++◌}
-use Rattle.rc_model.specs.Log.{numbers_to}
-use Rattle.rc_model.specs.ListRules.{replaces_lost_of}
+use Rattle.rc_model.specs.Model.{numbers_to, replaces_lost_of}
 use Rattle.rc_headroll.specs.LogData.{log_of}
 use Rattle.rc_headroll.specs.Soundness.{IsRoused}
 use Rattle.rc_master.specs.View.{state_view, before_step, IsNoted}

@@ -1,7 +1,6 @@
 use Rattle.std.proofs.Common.{◌++◌, List, sym, ap, ◌∙◌}
 use Rattle.std.proofs.lemmas.List.{append-nil}
-use Rattle.rc_types.specs.declared.messages.Message.{Message}
-use Rattle.rc_model.specs.Master.{Master}
+use Rattle.rc_model.specs.Model.{Message, Master}
 use Rattle.rc_headroll.specs.LogData.{log_of}
 use Rattle.rc_headroll.proofs.ListRuleLemmas.{replaces-unconcerned}
 use Rattle.rc_master.specs.View.{state_view}

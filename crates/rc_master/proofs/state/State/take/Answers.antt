@@ -1,8 +1,6 @@
 use Rattle.std.proofs.Common.{◌≡◌, ◌++◌, List, sym, ap, ◌∙◌, subst}
 use Rattle.std.proofs.lemmas.List.{append-nil}
-use Rattle.rc_types.specs.declared.messages.Message.{Message}
-use Rattle.rc_model.specs.Master.{Master}
-use Rattle.rc_model.specs.MasterStep.{master_takes_first}
+use Rattle.rc_model.specs.Model.{Message, Master, master_takes_first}
 use Rattle.rc_master.specs.Quiet.{IsQuiet}
 use Rattle.rc_master.specs.View.{state_view}
 use Rattle.rc_master.proofs.Quiet.{takes-quiet, on_ok-then}

@@ -1,6 +1,5 @@
 use Rattle.std.proofs.Common.{◌≡◌, ◌++◌, List, sym, ap, ◌∙◌, subst}
-use Rattle.rc_types.specs.declared.messages.Message.{Message}
-use Rattle.rc_model.specs.Master.{Master}
+use Rattle.rc_model.specs.Model.{Message, Master}
 use Rattle.rc_master.proofs.Outer.{ticks-up}
 use Rattle.rc_master.specs.Quiet.{IsQuiet}
 use Rattle.rc_master.specs.View.{Moment, now_of, state_view}
