@@ -18,7 +18,8 @@ use Rattle.rc_model.specs.Coordinator.{Coordinator, attempt_at}
 use Rattle.rc_model.specs.Deciding.{is_current, with_answer}
 use Rattle.rc_model.specs.CoordinatorStep.{is_granted_term, asks_again, asks_again_of}
 use Rattle.rc_model.specs.CoordinatorStep as step
-use Rattle.rc_coordinator.specs.Recovering.{Recovering, number_of, attempt_of, is_granted}
+use Rattle.rc_attempts.specs.Lookups.{number_of, attempt_of}
+use Rattle.rc_coordinator.specs.Recovering.{Recovering, is_granted}
 use Rattle.rc_coordinator.specs.Asked.{has_open_part, is_open, waits, waits_at, asks_of, asks_of_all, IsIn, AllAbove, AreRising, AreAsked}
 
 abbrev pub Current : Type 0

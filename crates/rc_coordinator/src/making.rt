@@ -10,11 +10,11 @@ ghost use Rattle.rc_coordinator.specs.Book.{IsBook};
 ghost use Rattle.rc_coordinator.specs.View.{book_of};
 ghost use Rattle.rc_coordinator.specs.declared.lists.ListsFault.TheVariants.{NoCoordinator};
 
-use crate::attempts::Attempt;
 use crate::lists::{Lists, ListsFault};
 use crate::recoveries::Recoveries;
 use crate::state::State;
 use indexmap::{IndexMap, IndexSet};
+use rc_attempts::Attempt;
 use rc_rangetree::{RangeTree, are_tablets};
 use rc_serverlist::ServerList;
 use rc_types::{Grant, Pair, ServerId, Tablet};

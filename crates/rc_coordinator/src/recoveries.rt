@@ -9,16 +9,18 @@ ghost use Rattle.rc_model.specs.Tables.{put_id};
 ghost use Rattle.rc_model.specs.Messages.{to_each};
 ghost use Rattle.rc_model.specs.ServerList.{up};
 ghost use Rattle.rc_model.specs.Attempts.{Attempt as Attempted, new_attempt, is_gathering};
-ghost use Rattle.rc_model.specs.Deciding.{is_grant_to, with_answer};
-ghost use Rattle.rc_coordinator.specs.Recovering.{number_of, attempt_of, is_granted};
+ghost use Rattle.rc_model.specs.Deciding.{is_grant_to, with_answer, part_of_sender};
+ghost use Rattle.rc_attempts.specs.Lookups.{number_of, attempt_of, knowing};
+ghost use Rattle.rc_coordinator.specs.Recovering.{is_granted};
 ghost use Rattle.rc_coordinator.specs.Asked.{AreAsked, AreUpTo, is_open, has_open_part, waits_at};
 
-use crate::attempts::{Attempt, Decision, GivenPart};
 use crate::grants::Grants;
 use crate::notices;
 use indexmap::IndexMap;
+use rc_attempts::numbers::{attempt_of, current_number, part_of_sender};
+use rc_attempts::{Attempt, Decision, GivenPart};
 use rc_serverlist::ServerList;
-use rc_types::{Fault, Grant, Message, Row, Seq, ServerId};
+use rc_types::{Fault, Grant, Message, Part, Row, Seq, ServerId};
 use std::alloc::{AllocError, Global};
 use std::marker::Model;
 
@@ -126,6 +128,13 @@ impl Recoveries {
         ensures { option_copied result ≡ attempt_of self.now.attempts number }
     {
         attempt_of(&self.attempts, number)
+    }
+
+    /// The part of this term that the id has in this attempt, where that is its master's current one.
+    pub(crate) fn part_of_sender(&self, id: ServerId, number: u32, term: u32) -> Option<Part>
+        ensures { result ≡ part_of_sender (knowing self.now.attempts self.now.current) id number term }
+    {
+        part_of_sender(&self.attempts, &self.current, id, number, term)
     }
 
     /// Begins an attempt, which becomes the master's current one, and adds to those sent these
@@ -243,26 +252,6 @@ fn all_numbers(alloc: Global, count: u32) -> Result<Vec<u32>, AllocError>
         numbers.push(before + 1)?;
     }
     Ok(numbers)
-}
-
-/// The attempt of this number.
-fn attempt_of(attempts: &[Attempt], number: u32) -> Option<&Attempt>
-    ensures { option_copied result ≡ attempt_of attempts.now number }
-{
-    match number {
-        0 => None,
-        _ => attempts.get(number as usize - 1),
-    }
-}
-
-/// The number that a master has, and 0 where it has none.
-fn current_number(current: &IndexMap<ServerId, u32>, master: ServerId) -> u32
-    ensures { result ≡ number_of current.now.entries master }
-{
-    match current.get(&master) {
-        Some(number) => *number,
-        None => 0,
-    }
 }
 
 /// Whether the attempt of this number waits for something: it is its master's current one, and is open.
