@@ -2,7 +2,7 @@
 
 ghost use Rattle.std.specs.Prelude.{◌≡◌, nat_eq, length, not, count_by};
 ghost use Rattle.std.specs.Map.{values_of};
-ghost use Rattle.rc_replica.specs.Sizes.{within_64_bits};
+ghost use Rattle.rc_types.specs.Counts.{within_64_bits};
 ghost use Rattle.rc_backup.specs.Sizes.{count_entries, value_bytes};
 
 use crate::held::Held;

@@ -16,11 +16,6 @@ abbrev pub PickableIsPicked : Type 0
 PickableIsPicked = (min : Pair) (replies : List (ServerId × List Row)) (plan : Plan) →
     IsPickable min replies plan ↔ (pick min replies ≡ Ok plan)
 
--- at most one plan is pickable
-abbrev pub OnePlanIsPickable : Type 0
-OnePlanIsPickable = (min : Pair) (replies : List (ServerId × List Row)) (plan other : Plan) →
-    IsPickable min replies plan → IsPickable min replies other → plan ≡ other
-
 -- the rows of a plan are in order of segment: one for each segment that `ascending` lists
 abbrev pub RowsAreOfSegments : Type 0
 RowsAreOfSegments = (min : Pair) (replies : List (ServerId × List Row)) (plan : Plan)

@@ -1,8 +1,9 @@
 //! What the definitions of the choice say, as contracts of functions that do nothing.
 
 ghost use Rattle.rc_model.specs.Pick.{longer_first, head_first, closed_first};
+ghost use Rattle.rc_model.specs.PickClaims.{OnePlanIsPickable};
 ghost use Rattle.rc_digestpick.specs.Orders.{IsLonger, IsHigher, IsBetter};
-ghost use Rattle.rc_digestpick.specs.Meaning.{PickableIsPicked, OnePlanIsPickable, RowsAreOfSegments};
+ghost use Rattle.rc_digestpick.specs.Meaning.{PickableIsPicked, RowsAreOfSegments};
 ghost use Rattle.rc_digestpick.specs.Meaning.{AscendingIncreases, AscendingListsTheSame, HeadIsMissing};
 ghost use Rattle.rc_digestpick.specs.Meaning.{SegmentIsMissing, Tells, FirstByIsFirst, FirstByOfNone, HeadRowIsFirst};
 ghost use Rattle.rc_digestpick.specs.Meaning.{RowOfIsFirst};

@@ -12,7 +12,7 @@ use Rattle.rc_types.specs.declared.verdicts.Breach.{Breach}
 use Rattle.rc_evidence.specs.declared.highs.TermKey.{TermKey}
 use Rattle.rc_evidence.specs.Places.{id_order}
 use Rattle.rc_evidence.specs.declared.senders.Sent.{Sent}
-use Rattle.rc_evidence.specs.Senders.{sent_by, sent_in, from_by, AddsMessage, AreSenders}
+use Rattle.rc_evidence.specs.Senders.{sent_by, messages_by, from_by, AddsMessage, AreSenders}
 use Rattle.rc_evidence.specs.Superseded.{superseded_in, says_above, HasSuperseded}
 use Rattle.rc_evidence.proofs.PlaceLemmas.{taken_more}
 
@@ -80,4 +80,4 @@ pub missing_nothing : (senders : BTreeMap ServerId Sent) (sent : List Message) (
     AreSenders senders sent → get id_order senders plan.master ≡ None →
     None ≡ first_missing sent plan (acknowledged sent plan.master)
 missing_nothing senders sent plan are none =
-    missing_told sent [] plan None (sym (ap sent_in none) ∙ are.each plan.master) refl
+    missing_told sent [] plan None (sym (ap messages_by none) ∙ are.each plan.master) refl

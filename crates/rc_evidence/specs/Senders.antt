@@ -16,12 +16,12 @@ sent_by m (message ∷ sent) = if is_server m message.from then message ∷ sent
 abbrev pub messages_in : Sent → List Message
 messages_in sent = map (λ message. message.now) sent.messages.items
 
-abbrev pub sent_in : Option Sent → List Message
-sent_in None = []
-sent_in (Some sent) = messages_in sent
+abbrev pub messages_by : Option Sent → List Message
+messages_by None = []
+messages_by (Some sent) = messages_in sent
 
 abbrev pub sent_at : BTreeMap ServerId Sent → ServerId → List Message
-sent_at senders m = sent_in (get id_order senders m)
+sent_at senders m = messages_by (get id_order senders m)
 
 -- the new table has one more message of one server, and of the others what the old one has
 pub record NotesSender (old new : BTreeMap ServerId Sent) (master : ServerId) (message : Message) : Type 0 where

@@ -12,12 +12,12 @@ use Rattle.rc_model.specs.MasterStep.{master_takes}
 use Rattle.rc_model.specs.Coordinator.{Coordinator}
 use Rattle.rc_model.specs.Nodes.{HostNode, coordinator_step, server_of, runs, is_for_backup, with_backup}
 use Rattle.rc_model.specs.Nodes.{with_master, server_takes, takes_if_running, is_some_master}
-use Rattle.rc_model.specs.Works.{host_after as after_all}
+use Rattle.rc_model.specs.Works.{host_after_work as after_all}
 use Rattle.rc_model.proofs.Tests.{either, true_false}
 use Rattle.rc_history.specs.Nodes.{TheHost, TheCoordinator}
 use Rattle.rc_history.specs.Remade.{host_keeps, stopped, SameButMaster}
 use Rattle.rc_history.proofs.Remade.{hosts-remade}
-use Rattle.rc_world.specs.NodeView.{work_at, host_may, host_after}
+use Rattle.rc_world.specs.NodeView.{work_at, host_may, host_after_work}
 use Rattle.rc_world.specs.declared.work.NodeWork.{NodeWork}
 use Rattle.rc_world.specs.declared.work.NodeWork.TheVariants as work
 use Rattle.rc_keeping.specs.declared.keeping.Role.TheVariants.{Host, Coordinator as AsCoordinator}
@@ -61,7 +61,8 @@ takes-same host one other message = by (is_server (server_of host) message.to)
     by false = record { runs = refl; rest = refl }
 
 running-same : (host : HostNode) (one other : Master) (given : NodeWork) →
-    SameButMaster (host_after (record host { master = Some one }) given).0 (host_after (record host { master = Some other }) given).0
+    SameButMaster (host_after_work (record host { master = Some one }) given).0
+    (host_after_work (record host { master = Some other }) given).0
 running-same host one other (work.Deliver message) = takes-same host one other message
 running-same host one other work.Tick = record { runs = refl; rest = refl }
 running-same host one other work.Stop = record { runs = refl; rest = refl }
@@ -73,16 +74,16 @@ running-same host one other (work.Create table owner) = record { runs = refl; re
 running-same host one other (work.Split table at) = record { runs = refl; rest = refl }
 
 either-same : (host : HostNode) (one other : Option Master) (given : NodeWork) → is_some_master one ≡ is_some_master other →
-    SameButMaster (host_after (record host { master = one }) given).0 (host_after (record host { master = other }) given).0
-either-same host None None given both = same-same (host_after (record host { master = None }) given).0
+    SameButMaster (host_after_work (record host { master = one }) given).0 (host_after_work (record host { master = other }) given).0
+either-same host None None given both = same-same (host_after_work (record host { master = None }) given).0
 either-same host None (Some other) given both = true_false (sym both)
 either-same host (Some one) None given both = true_false both
 either-same host (Some one) (Some other) given both = running-same host one other given
 
 step-same : (one other : HostNode) (given : NodeWork) → SameButMaster one other →
-    SameButMaster (host_after one given).0 (host_after other given).0
+    SameButMaster (host_after_work one given).0 (host_after_work other given).0
 step-same one other given same =
-    subst (λ (h : HostNode). SameButMaster (host_after (record h { master = one.master }) given).0 (host_after other given).0)
+    subst (λ (h : HostNode). SameButMaster (host_after_work (record h { master = one.master }) given).0 (host_after_work other given).0)
     (sym same.rest) (either-same (stopped other) one.master other.master given same.runs)
 
 -- ---- what is kept is refused at both, or at none
@@ -109,17 +110,17 @@ refusals-come-back one other (work.Split table at) same kept = refl
 
 -- what is not kept changes the master alone
 step-unkept : (host : HostNode) (given : NodeWork) → host_keeps (work_at (TheHost host) given) ≡ false →
-    SameButMaster (host_after host given).0 host
+    SameButMaster (host_after_work host given).0 host
 step-unkept host given unkept =
     let done = work_at (TheHost host) given in
-    same-back host (host_after host given).0
+    same-back host (host_after_work host given).0
     (subst (λ (b : Bool). SameButMaster (after_all host (cond b (done ∷ []) [])) (after_all host (done ∷ []))) unkept
     (hosts-remade host (done ∷ [])))
 
 next-unkept : (host : HostNode) (given : NodeWork) → host_keeps (work_at (TheHost host) given) ≡ false →
     SameButMaster (host_next host given) host
 next-unkept host given unkept =
-    either (λ after. SameButMaster after host) (host_may host given) (host_after host given).0 host
+    either (λ after. SameButMaster after host) (host_may host given) (host_after_work host given).0 host
     (λ _. step-unkept host given unkept) (λ _. same-same host)
 
 next-kept : (one other : HostNode) (given : NodeWork) → SameButMaster one other → kept_as Host (work_at (TheHost one) given) ≡ true →
@@ -127,7 +128,7 @@ next-kept : (one other : HostNode) (given : NodeWork) → SameButMaster one othe
 next-kept one other given same kept = by (host_may one given) (host_may other given) (refusals-come-back one other given same kept)
   where
     by : (b c : Bool) → b ≡ c →
-        SameButMaster (cond b (host_after one given).0 one) (cond c (host_after other given).0 other)
+        SameButMaster (cond b (host_after_work one given).0 one) (cond c (host_after_work other given).0 other)
     by true true e = step-same one other given same
     by false false e = same
     by true false e = true_false e

@@ -4,7 +4,7 @@ use Rattle.rc_model.specs.Coordinator.{Coordinator}
 use Rattle.rc_model.specs.Nodes.{Work, HostNode}
 use Rattle.rc_history.specs.Nodes.{TheCoordinator, TheHost}
 use Rattle.rc_history.specs.Remade.{host_keeps, coordinator_keeps, SameButMaster}
-use Rattle.rc_world.specs.NodeView.{work_at, host_may, host_after, coordinator_may, coordinator_after}
+use Rattle.rc_world.specs.NodeView.{work_at, host_may, host_after_work, coordinator_may, coordinator_after_work}
 use Rattle.rc_world.specs.declared.work.NodeWork.{NodeWork}
 use Rattle.rc_keeping.specs.declared.keeping.Role.{Role}
 use Rattle.rc_keeping.specs.declared.keeping.Role.TheVariants.{Outside, Coordinator as AsCoordinator, Host}
@@ -24,7 +24,7 @@ kept_by_coordinator c works = filter (λ given. kept_as AsCoordinator (work_at (
 
 -- a host after it was given these, one after another, as `NodeState::step` is: what it can't be given changes nothing
 abbrev pub host_next : HostNode → NodeWork → HostNode
-host_next host given = if host_may host given then (host_after host given).0 else host
+host_next host given = if host_may host given then (host_after_work host given).0 else host
 
 abbrev pub host_given : HostNode → List NodeWork → HostNode
 host_given host [] = host
@@ -32,7 +32,7 @@ host_given host (given ∷ works) = host_given (host_next host given) works
 
 -- and the coordinator
 abbrev pub coordinator_next : Coordinator → NodeWork → Coordinator
-coordinator_next c given = if coordinator_may c given then (coordinator_after c given).0 else c
+coordinator_next c given = if coordinator_may c given then (coordinator_after_work c given).0 else c
 
 abbrev pub coordinator_given : Coordinator → List NodeWork → Coordinator
 coordinator_given c [] = c

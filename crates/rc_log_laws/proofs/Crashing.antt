@@ -9,7 +9,7 @@ use Rattle.rc_model.proofs.Replays.{replay_from-push}
 use Rattle.rc_model.specs.Nodes.{Ask, Take, Tick, Stop, Start, Suspect, Decide, Create, Split}
 use Rattle.rc_log_laws.proofs.Granted.{grants-takes, grants-ticks, grants-suspects, grants-decides, grants-creates, grants-splits}
 use Rattle.rc_log_laws.proofs.Replays.{GoodWorld, GoodStep, led-step, good-world}
-use Rattle.rc_log_laws.specs.CommitClaims.{CrashedIsNeverUp, IsGrantedTo, EachGrantGoesToTheUp, GrantsGoToTheUp, CrashedAreGrantedNoMore}
+use Rattle.rc_log_laws.specs.CommitClaims.{CrashedIsNeverUp, WasCommitted, EachGrantGoesToTheUp, GrantsGoToTheUp, CrashedAreGrantedNoMore}
 use Rattle.rc_log_laws.proofs.Since.{replay_from-append}
 use Rattle.rc_model.proofs.Tests.{true_false}
 
@@ -43,11 +43,11 @@ each-grant-goes-to-the-up c (Start kept) m s e at = absurd at
 pub grants-go-to-the-up : GrantsGoToTheUp
 grants-go-to-the-up setup events one m s e at =
     (led-step (replay setup events) one (good-world setup events)).onward.granted m s e
-    (subst (λ (world : World). IsGrantedTo world.sent m s e) (replay_from-push (opening setup) events one) at)
+    (subst (λ (world : World). WasCommitted world.sent m s e) (replay_from-push (opening setup) events one) at)
 
 granted-from : (world : World) (more : List Event) (m : ServerId) (s e : ℕ) → GoodWorld world →
-    has_crashed world.coordinator.servers m ≡ true → IsGrantedTo (replay_from world more).sent m s e →
-    IsGrantedTo world.sent m s e
+    has_crashed world.coordinator.servers m ≡ true → WasCommitted (replay_from world more).sent m s e →
+    WasCommitted world.sent m s e
 granted-from world [] m s e good has at = at
 granted-from world (one ∷ more) m s e good has at =
     by (led.onward.granted m s e (granted-from (step world one) more m s e led.good (led.onward.c_later.crashed m has) at))
@@ -55,11 +55,11 @@ granted-from world (one ∷ more) m s e good has at =
     led : GoodStep world (step world one)
     led = led-step world one good
 
-    by : IsGrantedTo world.sent m s e ⊎ (is_up world.coordinator.servers m ≡ true) → IsGrantedTo world.sent m s e
+    by : WasCommitted world.sent m s e ⊎ (is_up world.coordinator.servers m ≡ true) → WasCommitted world.sent m s e
     by (inl there) = there
     by (inr up) = true_false (sym up ∙ crashed-not-up world.coordinator.servers m has)
 
 pub crashed-are-granted-no-more : CrashedAreGrantedNoMore
 crashed-are-granted-no-more setup events more m s e has at =
     granted-from (replay setup events) more m s e (good-world setup events) has
-    (subst (λ (world : World). IsGrantedTo world.sent m s e) (replay_from-append (opening setup) events more) at)
+    (subst (λ (world : World). WasCommitted world.sent m s e) (replay_from-append (opening setup) events more) at)

@@ -14,13 +14,13 @@ use Rattle.rc_step_laws.specs.Facts.{IsAnswer, body_fine}
 use Rattle.rc_step_laws.specs.Later.{IsNewStored}
 use Rattle.rc_step_laws.proofs.Attempting.{numbered-same}
 use Rattle.rc_log_laws.proofs.Replays.{GoodWorld, GoodStep, led-step, good-world}
-use Rattle.rc_log_laws.specs.LogClaims.{WasAsked, FencesHold, WhoAnsweredIsFenced}
+use Rattle.rc_log_laws.specs.LogClaims.{WasGathered, FencesHold, WhoAnsweredIsFenced}
 use Rattle.rc_log_laws.proofs.Since.{replay_from-append}
 use Rattle.rc_model.proofs.Tests.{true_false}
 
 -- an answer about this master: it is fenced as long as the server is its host's last
 pub answer-about : (world : World) (y m : ServerId) (number : ℕ) (rows : List Row) → GoodWorld world →
-    WasAsked world.sent number m → In (to_coordinator y (Replicas number rows)) world.sent →
+    WasGathered world.sent number m → In (to_coordinator y (Replicas number rows)) world.sent →
     (y.generation ≤ (world.hosts y.index).generation) × (y.generation ≡ (world.hosts y.index).generation →
     (held_at world.hosts y.index m).fenced ≡ true)
 answer-about world y m number rows good asked at =
@@ -44,7 +44,7 @@ answer-about world y m number rows good asked at =
 
 -- so it tells nothing new
 told-before : (old new : World) (y m : ServerId) (number : ℕ) (rows : List Row) → GoodWorld old → GoodStep old new →
-    WasAsked old.sent number m → In (to_coordinator y (Replicas number rows)) old.sent →
+    WasGathered old.sent number m → In (to_coordinator y (Replicas number rows)) old.sent →
     (s e len : ℕ) (closed : Bool) → In (between y m (Stored s e len closed)) new.sent → In (between y m (Stored s e len closed)) old.sent
 told-before old new y m number rows good led asked at s e len closed told = by (led.onward.stored y m s e len closed told)
   where
@@ -62,7 +62,7 @@ told-before old new y m number rows good led asked at s e len closed told = by (
     by (inr fresh) = absurd (never fresh)
 
 fences-from : (world : World) (more : List Event) (y m : ServerId) (number : ℕ) (rows : List Row) → GoodWorld world →
-    WasAsked world.sent number m → In (to_coordinator y (Replicas number rows)) world.sent →
+    WasGathered world.sent number m → In (to_coordinator y (Replicas number rows)) world.sent →
     (s e len : ℕ) (closed : Bool) → In (between y m (Stored s e len closed)) (replay_from world more).sent →
     In (between y m (Stored s e len closed)) world.sent
 fences-from world [] y m number rows good asked at s e len closed told = told

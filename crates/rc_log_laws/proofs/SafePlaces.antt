@@ -14,7 +14,7 @@ use Rattle.rc_step_laws.proofs.Logs.{get-log}
 use Rattle.rc_step_laws.proofs.Backups.{own-fine}
 use Rattle.rc_log_laws.proofs.Clauses.{safe-there, acknowledged-is}
 use Rattle.rc_log_laws.proofs.Replays.{GoodWorld, good-world}
-use Rattle.rc_log_laws.specs.WordClaims.{as_ack, StoredIsSafe, SafeStaysSafe, DurableIsRecovered, AcknowledgedIsDurable}
+use Rattle.rc_log_laws.specs.WordClaims.{as_ack, StoredIsSafe, SafeStaysSafe, DurableIsRecovered, AcknowledgedIsSafe}
 use Rattle.rc_log_laws.specs.WordClaims.{AcknowledgedIsRecorded}
 use Rattle.rc_log_laws.proofs.Since.{Since, since-more, since-take}
 use Rattle.rc_log_laws.proofs.Stored.{stored-safe}
@@ -80,7 +80,7 @@ write : (setup : Setup) (events : List Event) (m : ServerId) (ack : Ack) → Has
 write setup events m ack acked = acknowledged-is (replay setup events).sent (replay setup events).masters
     (replay setup events).hosts (replay setup events).coordinator (good-world setup events) m ack acked
 
-pub acknowledged-is-durable : AcknowledgedIsDurable
+pub acknowledged-is-durable : AcknowledgedIsSafe
 acknowledged-is-durable setup events m ack acked = (write setup events m ack acked).safe
 
 pub acknowledged-is-recorded : AcknowledgedIsRecorded

@@ -13,7 +13,7 @@ use Rattle.rc_model.specs.World.{World, opening, NodeName, TheOutside, TheCoordi
 use Rattle.rc_model.specs.World.{is_possible, node_done, job_done, step, replay_from, replay}
 use Rattle.rc_model.proofs.Storing.{AllFencedStay, fenced-stay}
 use Rattle.rc_log_laws.proofs.Replays.{good-world}
-use Rattle.rc_log_laws.specs.LogClaims.{FencedReplicasStay}
+use Rattle.rc_log_laws.specs.LogClaims.{AnsweredReplicasStay}
 use Rattle.rc_log_laws.proofs.Since.{replay_from-append}
 use Rattle.rc_log_laws.proofs.Fencing.{answer-about}
 use Rattle.rc_model.proofs.Tests.{either}
@@ -110,7 +110,7 @@ stays-from world (one ∷ events) i =
     (stays-step world one i) (stays-from (step world one) events i)
 
 -- what it keeps of a master stays once it has answered
-pub fenced-replicas-stay : FencedReplicasStay
+pub fenced-replicas-stay : AnsweredReplicasStay
 fenced-replicas-stay setup events more y m number rows asked at same =
     subst (λ (world : World).
     ((world.hosts y.index).backup.held m).replicas ≡ (((replay setup events).hosts y.index).backup.held m).replicas)

@@ -24,25 +24,25 @@ CrashedIsNeverUp = (setup : Setup) (events more : List Event) (m : ServerId) →
     has_crashed (servers_after setup events) m ≡ true → is_up (servers_after setup (events ++ more)) m ≡ false
 
 -- a commit of the segment under the epoch was granted to the server
-abbrev pub IsGrantedTo : List Message → ServerId → ℕ → ℕ → Type 0
-IsGrantedTo sent m s e = In (from_coordinator m (CommitOk s e)) sent
+abbrev pub WasCommitted : List Message → ServerId → ℕ → ℕ → Type 0
+WasCommitted sent m s e = In (from_coordinator m (CommitOk s e)) sent
 
 -- in each of its steps the coordinator grants only to servers that are up
 abbrev pub EachGrantGoesToTheUp : Type 0
 EachGrantGoesToTheUp = (c : Coordinator) (work : Work) (m : ServerId) (s e : ℕ) →
-    IsGrantedTo (coordinator_step c work).1 m s e → is_up c.servers m ≡ true
+    WasCommitted (coordinator_step c work).1 m s e → is_up c.servers m ≡ true
 
 -- what one event newly grants goes to a server that is up at that moment
 abbrev pub GrantsGoToTheUp : Type 0
 GrantsGoToTheUp = (setup : Setup) (events : List Event) (one : Event) (m : ServerId) (s e : ℕ) →
-    IsGrantedTo (sent_after setup (events ++ one ∷ [])) m s e →
-    IsGrantedTo (sent_after setup events) m s e ⊎ (is_up (servers_after setup events) m ≡ true)
+    WasCommitted (sent_after setup (events ++ one ∷ [])) m s e →
+    WasCommitted (sent_after setup events) m s e ⊎ (is_up (servers_after setup events) m ≡ true)
 
 -- so nothing is newly granted to who has crashed
 abbrev pub CrashedAreGrantedNoMore : Type 0
 CrashedAreGrantedNoMore = (setup : Setup) (events more : List Event) (m : ServerId) (s e : ℕ) →
-    has_crashed (servers_after setup events) m ≡ true → IsGrantedTo (sent_after setup (events ++ more)) m s e →
-    IsGrantedTo (sent_after setup events) m s e
+    has_crashed (servers_after setup events) m ≡ true → WasCommitted (sent_after setup (events ++ more)) m s e →
+    WasCommitted (sent_after setup events) m s e
 
 -- the least pair that the coordinator keeps of a master is the greatest pair of the CommitOks that were sent to it
 abbrev pub LeastIsTheGreatestCommit : Type 0

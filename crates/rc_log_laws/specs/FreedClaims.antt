@@ -7,18 +7,10 @@ use Rattle.rc_types.specs.declared.events.Event.{Event}
 use Rattle.rc_types.specs.declared.rows.PlanRow.{PlanRow}
 use Rattle.rc_types.specs.declared.messages.Message.{Message}
 use Rattle.rc_types.specs.declared.messages.Body.TheVariants.{Free}
-use Rattle.rc_model.specs.Log.{Log}
-use Rattle.rc_model.specs.World.{replay, master_of}
 use Rattle.rc_model.specs.Recovered.{Accepted}
 use Rattle.rc_model.specs.Headline.{In, WasAccepted}
 use Rattle.rc_log_laws.specs.Freed.{IsLeftOut}
-
--- all that was sent, and the log of a master, after these events
-abbrev pub sent_after : Setup → List Event → List Message
-sent_after setup events = (replay setup events).sent
-
-abbrev pub log_of : Setup → List Event → ServerId → Log
-log_of setup events m = (master_of (replay setup events) m).log
+use Rattle.rc_log_laws.specs.WordClaims.{sent_after, log_of}
 
 -- the master has told a backup to drop its replica of the segment
 pub record HasFreed (sent : List Message) (m : ServerId) (s : ℕ) : Type 0 where

@@ -73,7 +73,7 @@ RecoveredIsMade = (setup : Setup) (events : List Event) (plan : Accepted) (s o :
 -- Fences
 
 -- the coordinator has asked for what is kept of this master, under this number
-pub record WasAsked (sent : List Message) (number : ℕ) (m : ServerId) : Type 0 where
+pub record WasGathered (sent : List Message) (number : ℕ) (m : ServerId) : Type 0 where
   pub message : Message
   pub among : In message sent
   pub says : message.body ≡ Gather number m
@@ -81,7 +81,7 @@ pub record WasAsked (sent : List Message) (number : ℕ) (m : ServerId) : Type 0
 -- who has answered tells that master no more
 abbrev pub FencesHold : Type 0
 FencesHold = (setup : Setup) (events more : List Event) (y m : ServerId) (number : ℕ) (rows : List Row) →
-    WasAsked (sent_after setup events) number m →
+    WasGathered (sent_after setup events) number m →
     In (to_coordinator y (Replicas number rows)) (sent_after setup events) →
     (s e len : ℕ) (closed : Bool) → In (between y m (Stored s e len closed)) (sent_after setup (events ++ more)) →
     In (between y m (Stored s e len closed)) (sent_after setup events)
@@ -89,14 +89,14 @@ FencesHold = (setup : Setup) (events more : List Event) (y m : ServerId) (number
 -- and is fenced for that master, as long as it is its host's last server
 abbrev pub WhoAnsweredIsFenced : Type 0
 WhoAnsweredIsFenced = (setup : Setup) (events : List Event) (y m : ServerId) (number : ℕ) (rows : List Row) →
-    WasAsked (sent_after setup events) number m →
+    WasGathered (sent_after setup events) number m →
     In (to_coordinator y (Replicas number rows)) (sent_after setup events) →
     y.generation ≡ ((replay setup events).hosts y.index).generation → (held_after setup events y.index m).fenced ≡ true
 
 -- and what it keeps of that master stays as it is until its host starts anew
-abbrev pub FencedReplicasStay : Type 0
-FencedReplicasStay = (setup : Setup) (events more : List Event) (y m : ServerId) (number : ℕ) (rows : List Row) →
-    WasAsked (sent_after setup events) number m →
+abbrev pub AnsweredReplicasStay : Type 0
+AnsweredReplicasStay = (setup : Setup) (events more : List Event) (y m : ServerId) (number : ℕ) (rows : List Row) →
+    WasGathered (sent_after setup events) number m →
     In (to_coordinator y (Replicas number rows)) (sent_after setup events) →
     y.generation ≡ ((replay setup (events ++ more)).hosts y.index).generation →
     (held_after setup (events ++ more) y.index m).replicas ≡ (held_after setup events y.index m).replicas

@@ -66,8 +66,8 @@ DurableIsRecovered = (setup : Setup) (events : List Event) (m : ServerId) (s o :
 -- Acknowledgements
 
 -- each names a safe place
-abbrev pub AcknowledgedIsDurable : Type 0
-AcknowledgedIsDurable = (setup : Setup) (events : List Event) (m : ServerId) (ack : Ack) →
+abbrev pub AcknowledgedIsSafe : Type 0
+AcknowledgedIsSafe = (setup : Setup) (events : List Event) (m : ServerId) (ack : Ack) →
     HasAcknowledged (sent_after setup events) m ack → IsSafeAfter setup events m ack.seg ack.offset
 
 -- the acknowledged entry stands at its place

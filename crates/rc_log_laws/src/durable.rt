@@ -1,6 +1,6 @@
 //! What becomes of a durable place.
 
-ghost use Rattle.rc_log_laws.specs.WordClaims.{StoredIsSafe, SafeStaysSafe, DurableIsRecovered, AcknowledgedIsDurable};
+ghost use Rattle.rc_log_laws.specs.WordClaims.{StoredIsSafe, SafeStaysSafe, DurableIsRecovered, AcknowledgedIsSafe};
 ghost use Rattle.rc_log_laws.specs.WordClaims.{AcknowledgedIsRecorded};
 
 /// A place that all members of its segment have told, under a committed epoch, with each earlier
@@ -16,6 +16,6 @@ pub fn durable_is_recovered()
 /// Each acknowledgement names a safe place of its sender's log, and what stands there is what was
 /// acknowledged: its term, table, key and version.
 pub fn acknowledged_means_durable()
-    ensures safe { AcknowledgedIsDurable }
+    ensures safe { AcknowledgedIsSafe }
     ensures holds { AcknowledgedIsRecorded }
 {}

@@ -6,7 +6,8 @@ ghost use Rattle.rc_model.specs.FollowUps.{first_open};
 ghost use Rattle.rc_model.specs.Master.{durable_entries, not_lost};
 ghost use Rattle.rc_headroll.specs.LogData.{log_of};
 ghost use Rattle.rc_ownership.specs.Grants.{grants_in};
-ghost use Rattle.rc_ownership.specs.Looks.{progress_of, within_64_bits};
+ghost use Rattle.rc_types.specs.Counts.{within_64_bits};
+ghost use Rattle.rc_ownership.specs.Looks.{progress_of};
 ghost use Rattle.rc_master.specs.Data.{master_of};
 ghost use Rattle.rc_master.specs.Looks.{fewest_with, fewest_members};
 

@@ -129,7 +129,10 @@ pub kept-input : (master : Master) (from : Addr) (body : Body) → OfLog LogKept
 kept-input master from body =
     kept-takes_first (OfLog LogKept) (of_log-joined LogKept kept-joined) (of_log-listed LogKept kept-joined kept-listed) master from body
     (of_log-taken LogKept kept-joined
-    (record { rolls = λ servers log digest ids writing room chosen. inr refl; writes = λ log entry client writing room. inl refl }) master from body
+    (record {
+      rolls = λ servers log digest ids writing room chosen. inr refl;
+      writes = λ log entry client writing room. inl refl;
+    }) master from body
     (λ teller seg epoch len closed is says.
     kept-if master.log (has_segment master.log seg) seg (noted teller epoch len closed (master.log.segments seg).config))
     (λ seg epoch is. kept-if master.log (has_segment master.log seg) seg (committed_at epoch (master.log.segments seg).config)))

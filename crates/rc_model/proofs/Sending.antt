@@ -139,7 +139,8 @@ module _ (P : Message → Type 0) (log : Log) (says : Copied P log) where
       Each P (reminds_shut before log segs)
   each-shut before [] are = each-none P
   each-shut before (seg ∷ segs) are =
-      each-both P (cond ((log.segments seg).shut && not (log.segments seg).freed) (reminds_shut_members log seg (standing before log seg)) [])
+      each-both P
+      (cond ((log.segments seg).shut && not (log.segments seg).freed) (reminds_shut_members log seg (standing before log seg)) [])
       (reminds_shut before log segs)
       (each-if P ((log.segments seg).shut && not (log.segments seg).freed) (reminds_shut_members log seg (standing before log seg))
       (λ e. each-map P (λ (member : Member). between log.own member.id (place_of log seg true))

@@ -1,6 +1,6 @@
 -- What a master has sent for the places of its log, by its messages alone. A place is a segment and an offset in it.
-use Rattle.std.specs.Prelude.{◌≡◌, ℕ, ◌-◌, not, nat_eq, nat_le, ◌&&◌, if◌then◌else◌, List, [], ◌∷◌, ◌++◌, Option}
-use Rattle.std.specs.Prelude.{Some, None, slice_get}
+use Rattle.std.specs.Prelude.{ℕ, ◌-◌, not, nat_eq, nat_le, ◌&&◌, if◌then◌else◌, List, [], ◌∷◌, ◌++◌, Option}
+use Rattle.std.specs.Prelude.{None, slice_get}
 use Rattle.std.specs.Option.{option_to_list}
 use Rattle.rc_types.specs.declared.ids.ServerId.{ServerId}
 use Rattle.rc_types.specs.declared.ids.Addr.{Addr}
@@ -23,10 +23,6 @@ abbrev pub made : List Message → ServerId → ℕ → ℕ → List Entry
 made [] m s o = []
 made (message ∷ sent) m s o =
     if is_server m message.from then option_to_list (entry_at message.body s o) ++ made sent m s o else made sent m s o
-
--- the entry is one that the master has sent for the place
-abbrev pub IsMade : List Message → ServerId → ℕ → ℕ → Entry → Type 0
-IsMade sent m s o entry = (k : ℕ) × (slice_get (made sent m s o) k ≡ Some entry)
 
 -- to whom a proper Place, one that doesn't close, of a segment under an epoch goes
 abbrev pub placed_to : Addr → Body → ℕ → ℕ → List ServerId

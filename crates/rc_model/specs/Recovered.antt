@@ -1,16 +1,13 @@
 -- What was acknowledged, which recoveries were accepted, and what they recover, by the messages sent alone.
-use Rattle.std.specs.Prelude.{◌≡◌, ℕ, nat_eq, nat_lt, if◌then◌else◌, Bool, List, [], ◌∷◌, ◌++◌, max, Some, slice_get}
-use Rattle.std.specs.Prelude.{IsTrue}
+use Rattle.std.specs.Prelude.{ℕ, nat_eq, nat_lt, if◌then◌else◌, Bool, List, [], ◌∷◌, ◌++◌, max}
 use Rattle.rc_types.specs.declared.ids.ServerId.{ServerId}
 use Rattle.rc_types.specs.declared.ids.Pair.{Pair}
-use Rattle.rc_types.specs.declared.entries.Entry.{Entry}
 use Rattle.rc_types.specs.declared.rows.PlanRow.{PlanRow}
 use Rattle.rc_types.specs.declared.messages.Message.{Message}
 use Rattle.rc_types.specs.declared.messages.Body.{Body}
 use Rattle.rc_types.specs.declared.messages.Body.TheVariants.{WriteOk, CommitOk, Plan}
 use Rattle.rc_model.specs.Ids.{is_server}
 use Rattle.rc_model.specs.Pick.{greater_pair}
-use Rattle.rc_model.specs.Made.{IsMade}
 
 -- an acknowledged write: its place, and what was written under which version
 pub record Ack : Type 0 where
@@ -37,11 +34,6 @@ abbrev pub all_acknowledged : List Message → List Ack
 all_acknowledged [] = []
 all_acknowledged (message ∷ sent) = ack_in message.body ++ all_acknowledged sent
 
--- the master has acknowledged a write at this place
-abbrev pub IsAcknowledged : List Message → ServerId → ℕ → ℕ → Type 0
-IsAcknowledged sent m s o =
-    (k : ℕ) × (ack : Ack) × (slice_get (acknowledged sent m) k ≡ Some ack) × (ack.seg ≡ s) × (ack.offset ≡ o)
-
 -- an accepted recovery: the attempt, the master, and where its log is
 pub record Accepted : Type 0 where
   pub attempt : ℕ
@@ -57,11 +49,6 @@ abbrev pub accepted : List Message → List Accepted
 accepted [] = []
 accepted (message ∷ sent) = plan_in message.body ++ accepted sent
 
--- the recovery was accepted
-abbrev pub IsAccepted : List Message → ℕ → ServerId → List PlanRow → Type 0
-IsAccepted sent attempt master rows =
-    (k : ℕ) × (slice_get (accepted sent) k ≡ Some (record { attempt = attempt; master = master; rows = rows }))
-
 -- how far the rows reach in a segment: the places below this are recovered
 abbrev pub reach : List PlanRow → ℕ → ℕ
 reach [] s = 0
@@ -70,10 +57,6 @@ reach (row ∷ rows) s = if nat_eq row.seg s then max row.len (reach rows s) els
 -- the place is in the recovered log
 abbrev pub is_recovered : List PlanRow → ℕ → ℕ → Bool
 is_recovered rows s o = nat_lt o (reach rows s)
-
--- the entry is in the recovered log of this master, at its place
-abbrev pub IsRecovered : List Message → ServerId → List PlanRow → ℕ → ℕ → Entry → Type 0
-IsRecovered sent m rows s o entry = IsTrue (is_recovered rows s o) × IsMade sent m s o entry
 
 abbrev pub pair_in : Body → Pair
 pair_in (CommitOk seg epoch) = record { seg = seg; epoch = epoch }

@@ -29,7 +29,7 @@ use Rattle.rc_owner_laws.specs.Grants.{IsDecided, IsPlanOf, own_said}
 use Rattle.rc_owner_laws.specs.Terms.{IsGivenBy}
 use Rattle.rc_owner_laws.specs.Data.{IsCut}
 use Rattle.rc_owner_laws.specs.Parts.{part_view, logged, under, durable_under, HasSent, WasPlanned, IsWaiting, HasJoined, IsPart}
-use Rattle.rc_owner_laws.specs.PartMoves.{HasEnded, HasAsked}
+use Rattle.rc_owner_laws.specs.PartMoves.{HasEnded, HasFetched}
 use Rattle.rc_owner_laws.proofs.PartLists.{under-append, under-In, begins-within, nothing-more}
 use Rattle.rc_owner_laws.specs.Worlds.{AllHold}
 use Rattle.rc_owner_laws.specs.Words.{IsSafelyLogged}
@@ -127,7 +127,7 @@ module _ (sent : List Message) (masters : ServerId → Master) (hosts : ℕ → 
       cut : IsCut sent masters row.holder x was.attempt row.seg task.part.term entries
       cut = all.cuts (between row.holder x (body.Data was.attempt row.seg task.part.term entries)) was.among
 
-      asked : HasAsked (part_view (masters x)) (Server row.holder) was.attempt cut.master row.seg cut.len cut.part
+      asked : HasFetched (part_view (masters x)) (Server row.holder) was.attempt cut.master row.seg cut.len cut.part
       asked = all.parts.said (between x row.holder (body.Fetch was.attempt cut.master row.seg cut.len cut.part)) cut.asked
 
       same : SameTask task asked.task

@@ -1,6 +1,6 @@
 -- The owners of a point form one chain, in every world.
 use Rattle.rc_model.specs.World.{replay}
-use Rattle.rc_owner_laws.specs.Headline.{PointsHaveOneChain, TermsRise, PointsAreGrantedOnce}
+use Rattle.rc_owner_laws.specs.Chains.{PointsHaveOneChain, TermsRise, PointsAreGrantedOnce}
 use Rattle.rc_owner_laws.proofs.OwnersOrdered.{one-chain, earlier-less, granted-once}
 use Rattle.rc_owner_laws.proofs.OwnerReplays.{OfWorld, grants-world}
 

@@ -30,7 +30,7 @@ use Rattle.rc_step_laws.proofs.Tests.{any-one}
 use Rattle.rc_owner_laws.proofs.OwnersOrdered.{one-chain}
 use Rattle.rc_owner_laws.specs.Grants.{IsOwn, own_said}
 use Rattle.rc_owner_laws.specs.Terms.{IsGivenBy}
-use Rattle.rc_owner_laws.specs.Parts.{part_view, logged, WasGranted, IsPart}
+use Rattle.rc_owner_laws.specs.Parts.{part_view, logged, RangeWasGranted, IsPart}
 use Rattle.rc_owner_laws.proofs.PartLists.{logged-append}
 use Rattle.rc_owner_laws.specs.Worlds.{AllHold}
 use Rattle.rc_owner_laws.specs.Words.{Keeps, IsCarriedOn}
@@ -72,7 +72,7 @@ module _ (sent : List Message) (masters : ServerId → Master) (hosts : ℕ → 
       (grant : Grant) × (In grant c.grants) × (m ≡ grant.owner) × (grant.term ≡ one.term)
   owner-of m one at = (own.grant, own.among, owner own.to_is, sym (terms own.body_is))
     where
-      was : WasGranted sent m one
+      was : RangeWasGranted sent m one
       was = (all.parts.each m).granted one at
 
       own : IsOwn c (Server m) (body.Own one.range.table one.range.lo one.range.hi one.term was.previous was.attempt)

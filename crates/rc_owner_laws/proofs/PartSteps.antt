@@ -33,7 +33,7 @@ use Rattle.rc_model.specs.Headline.{In}
 use Rattle.rc_model.proofs.Members.{In-left, In-right, In-get}
 use Rattle.rc_model.proofs.Numbering.{places-push}
 use Rattle.rc_step_laws.proofs.Tests.{In-take, find-one}
-use Rattle.rc_owner_laws.specs.Parts.{PartView, part_view, WasGranted, WasPlanned, GoodParts}
+use Rattle.rc_owner_laws.specs.Parts.{PartView, part_view, RangeWasGranted, WasPlanned, GoodParts}
 use Rattle.rc_owner_laws.specs.PartMoves.{HasHead, IsComplete, HasEnded, part_said, StateLater, PartsLater, PartsMoved, PartsHear}
 use Rattle.rc_owner_laws.specs.PartClaims.{TakesKeepParts, TicksKeepParts, NewHasGoodParts}
 use Rattle.rc_owner_laws.proofs.PartViews.{IsPlain, plain-says, plain-none, plain-one, plain-to_ids}
@@ -337,7 +337,7 @@ module _ (sent : List Message) (m : ServerId) where
   }
 
   parts-grant : (granted : GrantedRange) (master : Master) → HasHead master.log → GoodParts sent m (part_view master) →
-      WasGranted sent m granted →
+      RangeWasGranted sent m granted →
       ((state : PartState) → In state master.ownership.parts → state.part.term ≡ granted.term →
       IsComplete (part_view master) granted.term) →
       PartsMoved sent m master (record master { ownership = grant granted master.ownership }, [])

@@ -20,7 +20,7 @@ use Rattle.rc_model.specs.Headline.{In}
 use Rattle.rc_model.proofs.Members.{In-append, In-left, In-right}
 use Rattle.rc_step_laws.specs.Words.{Begins}
 use Rattle.rc_step_laws.proofs.Lists.{begins-refl}
-use Rattle.rc_owner_laws.specs.Parts.{PartView, logged, under, durable_under, WasGranted, WasPlanned, HasSent}
+use Rattle.rc_owner_laws.specs.Parts.{PartView, logged, under, durable_under, RangeWasGranted, WasPlanned, HasSent}
 use Rattle.rc_owner_laws.specs.Parts.{rows_of_task, SomeCame, AllCame, IsWaiting, HasJoined, IsPart, IsClients}
 use Rattle.rc_owner_laws.specs.Parts.{IsReplayed, GoodParts}
 use Rattle.rc_owner_laws.specs.PartMoves.{IsComplete}
@@ -246,7 +246,7 @@ abbrev pub owning : GrantedRange → Ownership → Ownership
 owning granted own = record own { grants = own.grants ++ granted ∷ [] }
 
 module _ (sent : List Message) (m : ServerId) (v : PartView) (good : GoodParts sent m v) (granted : GrantedRange)
-    (was : WasGranted sent m granted) (new : owns_term v.own granted.term ≡ false)
+    (was : RangeWasGranted sent m granted) (new : owns_term v.own granted.term ≡ false)
     (ended : (state : PartState) → In state v.own.parts → state.part.term ≡ granted.term → IsComplete v granted.term) where
   owns-now : (term : ℕ) → owns_term (owning granted v.own) term ≡ (owns_term v.own term || nat_eq granted.term term)
   owns-now term = granted-test term v.own.grants granted
@@ -339,9 +339,9 @@ module _ (sent : List Message) (m : ServerId) (v : PartView) (good : GoodParts s
         });
   }
     where
-      which : (one : GrantedRange) → In one v.own.grants ⊎ ((one ≡ granted) ⊎ ⊥) → WasGranted sent m one
+      which : (one : GrantedRange) → In one v.own.grants ⊎ ((one ≡ granted) ⊎ ⊥) → RangeWasGranted sent m one
       which one (inl old) = good.granted one old
-      which one (inr (inl same)) = subst (WasGranted sent m) (sym same) was
+      which one (inr (inl same)) = subst (RangeWasGranted sent m) (sym same) was
       which one (inr (inr never)) = absurd never
 
 -- A part is begun

@@ -31,7 +31,7 @@ use Rattle.rc_log_laws.proofs.Clauses.{accepted-is, acknowledged-is}
 use Rattle.rc_log_laws.proofs.Covers.{IsCovered, PlanIs, covered}
 use Rattle.rc_owner_laws.specs.Grants.{IsOwn, own_said}
 use Rattle.rc_owner_laws.specs.Terms.{IsGrantedTo, IsGivenBy}
-use Rattle.rc_owner_laws.specs.Parts.{part_view, logged, under, AllCame, WasGranted, IsClients}
+use Rattle.rc_owner_laws.specs.Parts.{part_view, logged, under, AllCame, RangeWasGranted, IsClients}
 use Rattle.rc_owner_laws.specs.PartMoves.{HasWritten}
 use Rattle.rc_owner_laws.proofs.PartLists.{under-append, under-In, logged-append, begins-within, begins-more}
 use Rattle.rc_owner_laws.specs.Worlds.{parts_fine, AllHold}
@@ -456,7 +456,7 @@ module _ (sent : List Message) (masters : ServerId → Master) (hosts : ℕ → 
     holds = subst (λ range. in_range range table key ≡ true) (ranges own.body_is) holds;
   }
     where
-      was : WasGranted sent m granted
+      was : RangeWasGranted sent m granted
       was = (all.parts.each m).granted granted at
 
       own : IsOwn c (Server m) (body.Own granted.range.table granted.range.lo granted.range.hi granted.term was.previous was.attempt)

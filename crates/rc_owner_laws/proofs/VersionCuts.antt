@@ -34,7 +34,7 @@ use Rattle.rc_log_laws.proofs.Clauses.{made-is, accepted-is, held-made}
 use Rattle.rc_owner_laws.specs.Terms.{IsGivenBy}
 use Rattle.rc_owner_laws.specs.Data.{IsCut, data_fine, data_between}
 use Rattle.rc_owner_laws.specs.Parts.{part_view, logged, under, AllCame, WasPlanned}
-use Rattle.rc_owner_laws.specs.PartMoves.{HasAsked}
+use Rattle.rc_owner_laws.specs.PartMoves.{HasFetched}
 use Rattle.rc_owner_laws.specs.Worlds.{AllHold}
 use Rattle.rc_owner_laws.specs.Words.{IsPlanCut, StartsFromBase}
 use Rattle.rc_owner_laws.proofs.Rows.{waited, in-order}
@@ -178,7 +178,7 @@ module _ (sent : List Message) (masters : ServerId → Master) (hosts : ℕ → 
         ∙ ap (λ s. filter (is_in_part asked.task.part) (made_below sent asked.task.master s asked.row.len)) asked.seg_is;
   }
     where
-      asked : HasAsked (part_view (masters x)) (Server y) attempt cut.master seg cut.len cut.part
+      asked : HasFetched (part_view (masters x)) (Server y) attempt cut.master seg cut.len cut.part
       asked = all.parts.said (between x y (body.Fetch attempt cut.master seg cut.len cut.part)) cut.asked
 
       plan : WasPlanned sent x asked.task

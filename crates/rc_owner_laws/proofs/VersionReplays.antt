@@ -15,7 +15,7 @@ use Rattle.rc_log_laws.proofs.KeptWorlds.{safe-is-held}
 use Rattle.rc_owner_laws.proofs.OwnerReplays.{OfWorld, grants-world}
 use Rattle.rc_owner_laws.proofs.TermReplays.{terms-world}
 use Rattle.rc_owner_laws.proofs.DataReplays.{data-world}
-use Rattle.rc_owner_laws.specs.VersionClaims.{MayFree, Frees, FactsAlwaysHold, DataIsThePlanCutToThePart}
+use Rattle.rc_owner_laws.specs.VersionClaims.{MayFree, Frees, AllFactsHold, DataIsThePlanCutToThePart}
 use Rattle.rc_owner_laws.specs.VersionClaims.{GrantsStartFromTheirBase, HandoversKeepWhatWasAcknowledged}
 use Rattle.rc_owner_laws.specs.VersionClaims.{HandoversKeepWhatIsDurable, PreviousIsEarlier, VersionsRiseOverOwners}
 use Rattle.rc_owner_laws.specs.VersionClaims.{VersionsAlwaysRiseWithThePlace, NoVersionIsAcknowledgedTwice}
@@ -26,7 +26,7 @@ use Rattle.rc_owner_laws.proofs.Kept.{later-keeps, later-keeps-acked, no-version
 use Rattle.rc_owner_laws.proofs.VersionsOrdered.{logs-rise}
 use Rattle.rc_owner_laws.proofs.Laws.{facts-cut-data, facts-start-grants, facts-let-versions-rise}
 
-pub all-world : FactsAlwaysHold
+pub all-world : AllFactsHold
 all-world setup events = let grants : OfWorld (replay setup events) = grants-world setup events in
     record {
       good = good-world setup events;

@@ -1,6 +1,6 @@
 pub mod Grants
 pub mod OwnerClaims
-pub mod Headline
+pub mod Chains
 pub mod Waiting
 pub mod Recoveries
 pub mod Terms

@@ -37,7 +37,7 @@ pub record HasEnded (v : PartView) (attempt term : ℕ) : Type 0 where
   pub attempt_is : attempt_of term v.tasks ≡ attempt
 
 -- a row of a task is asked for, of its holder
-pub record HasAsked (v : PartView) (to : Addr) (attempt : ℕ) (master : ServerId) (seg len : ℕ) (part : Part) : Type 0
+pub record HasFetched (v : PartView) (to : Addr) (attempt : ℕ) (master : ServerId) (seg len : ℕ) (part : Part) : Type 0
   where
     pub task : Task
     pub among : In task v.tasks
@@ -65,7 +65,7 @@ pub record HasWritten (v : PartView) (seg offset term table key version : ℕ) :
 abbrev pub part_said : PartView → Addr → Body → Type 0
 part_said v to (body.WriteOk seg offset term table key version) = HasWritten v seg offset term table key version
 part_said v to (body.Recovered attempt term) = HasEnded v attempt term
-part_said v to (body.Fetch attempt master seg len part) = HasAsked v to attempt master seg len part
+part_said v to (body.Fetch attempt master seg len part) = HasFetched v to attempt master seg len part
 part_said v to _ = Unit {0}
 
 -- What only grows

@@ -45,7 +45,7 @@ durable_under term v = count_under term (take v.durable (logged v.places))
 -- What was sent to a master
 
 -- the range was granted to it under the term
-pub record WasGranted (sent : List Message) (m : ServerId) (grant : GrantedRange) : Type 0 where
+pub record RangeWasGranted (sent : List Message) (m : ServerId) (grant : GrantedRange) : Type 0 where
   pub message : Message
   pub among : In message sent
   pub to : message.to ≡ Server m
@@ -162,7 +162,7 @@ pub record IsReplayed (v : PartView) (before : List LogPlace) (entry : Entry) : 
 -- All of it
 
 pub record GoodParts (sent : List Message) (m : ServerId) (v : PartView) : Type 0 where
-  pub granted : (grant : GrantedRange) → In grant v.own.grants → WasGranted sent m grant
+  pub granted : (grant : GrantedRange) → In grant v.own.grants → RangeWasGranted sent m grant
   pub planned : (task : Task) → In task v.tasks → WasPlanned sent m task
   pub task_known : (task : Task) → In task v.tasks → has_part v.own task.part.term ≡ true
   pub differ : TermsDiffer v.own.parts

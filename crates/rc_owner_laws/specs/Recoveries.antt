@@ -18,8 +18,8 @@ use Rattle.rc_model.specs.Headline.{In}
 use Rattle.rc_owner_laws.specs.Waiting.{IsTablet}
 
 -- the coordinator after these events
-abbrev pub coordinator_after : Setup → List Event → Coordinator
-coordinator_after setup events = (replay setup events).coordinator
+abbrev pub coordinator_of_events : Setup → List Event → Coordinator
+coordinator_of_events setup events = (replay setup events).coordinator
 
 -- a Plan was sent that gives the server this part, in the attempt of this number to recover the master
 pub record IsPlanned (sent : List Message) (id : ServerId) (number : ℕ) (master : ServerId) (part : Part) : Type 0 where
@@ -44,8 +44,8 @@ abbrev pub PlannedPartsAreTablets : Type 0
 PlannedPartsAreTablets =
     (setup : Setup) (events : List Event) (id : ServerId) (number : ℕ) (master : ServerId) (part : Part) →
     IsPlanned (replay setup events).sent id number master part →
-    (coordinator_after setup events).current master ≡ number → (IsOwned (replay setup events).sent id part → ⊥) →
-    IsTablet (coordinator_after setup events).tablets master part
+    (coordinator_of_events setup events).current master ≡ number → (IsOwned (replay setup events).sent id part → ⊥) →
+    IsTablet (coordinator_of_events setup events).tablets master part
 
 -- so a Recovered of it, by whom it was given to, is answered by its Own, as long as that one is up
 pub record IsAnsweredByOwn (c : Coordinator) (id : ServerId) (number term : ℕ) : Type 0 where
@@ -58,9 +58,9 @@ abbrev pub PlannedPartsCanBeGranted : Type 0
 PlannedPartsCanBeGranted =
     (setup : Setup) (events : List Event) (id : ServerId) (number : ℕ) (master : ServerId) (part : Part) →
     IsPlanned (replay setup events).sent id number master part →
-    (coordinator_after setup events).current master ≡ number →
-    is_up (coordinator_after setup events).servers id ≡ true →
-    IsAnsweredByOwn (coordinator_after setup events) id number part.term
+    (coordinator_of_events setup events).current master ≡ number →
+    is_up (coordinator_of_events setup events).servers id ≡ true →
+    IsAnsweredByOwn (coordinator_of_events setup events) id number part.term
 
 -- and no server is ever refused for want of a tablet
 abbrev pub NoServerLacksATablet : Type 0

@@ -88,8 +88,8 @@ FactsLetVersionsRise = WhereFactsHold (λ sent masters. VersionsRise sent)
 abbrev pub Frees : Setup → Type 0
 Frees setup = setup.free ≡ true
 
-abbrev pub FactsAlwaysHold : Type 0
-FactsAlwaysHold = (setup : Setup) (events : List Event) →
+abbrev pub AllFactsHold : Type 0
+AllFactsHold = (setup : Setup) (events : List Event) →
     AllHold (replay setup events).sent (replay setup events).masters (replay setup events).hosts
     (replay setup events).coordinator
 

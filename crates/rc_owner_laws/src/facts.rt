@@ -1,6 +1,6 @@
 //! The facts, and what follows from them in any world.
 
-ghost use Rattle.rc_owner_laws.specs.VersionClaims.{FactsAlwaysHold, FactsCutData, FactsStartGrants};
+ghost use Rattle.rc_owner_laws.specs.VersionClaims.{AllFactsHold, FactsCutData, FactsStartGrants};
 ghost use Rattle.rc_owner_laws.specs.VersionClaims.{FactsKeepWhatIsSafe, FactsKeepWhatWasAcknowledged};
 ghost use Rattle.rc_owner_laws.specs.VersionClaims.{FactsLetVersionsRise};
 
@@ -22,5 +22,5 @@ pub fn facts_suffice()
 /// have under the term is the part's base; a client's entry comes after its term's grant; and the end
 /// of a part is told only where all of its base is durable.
 pub fn facts_hold()
-    ensures { FactsAlwaysHold }
+    ensures { AllFactsHold }
 {}

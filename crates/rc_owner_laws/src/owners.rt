@@ -1,6 +1,6 @@
 //! Who owns a point, of every setup and every list of events.
 
-ghost use Rattle.rc_owner_laws.specs.Headline.{PointsHaveOneChain, TermsRise, PointsAreGrantedOnce};
+ghost use Rattle.rc_owner_laws.specs.Chains.{PointsHaveOneChain, TermsRise, PointsAreGrantedOnce};
 
 /// The owners of a point form one chain: of two terms granted for it one is the earlier one, an
 /// earlier term is less, and no id is granted it twice.

@@ -6,7 +6,7 @@ use Rattle.std.proofs.lemmas.List.{length-drop}
 use Rattle.std.proofs.lemmas.List.Concat.{length-flat_map}
 use Rattle.rc_types.specs.declared.entries.Entry.{Entry}
 use Rattle.rc_model.specs.Ownership.{PartState}
-use Rattle.rc_ownership.specs.Looks.{within_64_bits}
+use Rattle.rc_types.specs.Counts.{within_64_bits}
 use Rattle.rc_ownership.specs.Parts.{parts_in}
 use Rattle.rc_ownership.specs.Replay.{all_waiting, waiting_from}
 use Rattle.rc_ownership.proofs.Waiting.{IsRowAt, drop-at, place-row}

@@ -1,13 +1,9 @@
 -- What is shown of the parts of a recovery.
-use Rattle.std.specs.Prelude.{ℕ, ◌-◌, ◌^◌, min, List, [], ◌∷◌, length}
+use Rattle.std.specs.Prelude.{ℕ, List, [], ◌∷◌, length}
 use Rattle.rc_types.specs.declared.entries.Entry.{Entry}
 use Rattle.rc_model.specs.Ownership.{PartRow, PartState, entries_that_came, count_under}
 use Rattle.rc_ownership.specs.Rows.{count_missing}
 use Rattle.rc_ownership.specs.declared.looks.PartProgress.{PartProgress}
-
--- as much of a number as 64 bits hold
-abbrev pub within_64_bits : ℕ → ℕ
-within_64_bits n = min n (2 ^ 64 - 1)
 
 -- how many entries have come of the rows that a part waits for; of one that waits for none, how many it has
 abbrev pub count_came : List PartRow → ℕ → ℕ

@@ -1,7 +1,8 @@
 //! What is shown of the parts of a recovery to whoever runs a master.
 
 ghost use Rattle.std.specs.Prelude.{◌≡◌, length, take, drop, slice_get, option_map, sum_by};
-ghost use Rattle.rc_ownership.specs.Looks.{progress_of, within_64_bits};
+ghost use Rattle.rc_types.specs.Counts.{within_64_bits};
+ghost use Rattle.rc_ownership.specs.Looks.{progress_of};
 
 use crate::notes::Notes;
 use crate::part::FetchedPart;

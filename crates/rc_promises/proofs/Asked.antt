@@ -15,7 +15,7 @@ use Rattle.rc_model.specs.Recovered.{Ack}
 use Rattle.rc_model.specs.Headline.{In, HasAcknowledged}
 use Rattle.rc_model.proofs.Members.{In-left}
 use Rattle.rc_log_laws.specs.WordClaims.{sent_after}
-use Rattle.rc_write_laws.specs.AckClaims.{WasAsked}
+use Rattle.rc_write_laws.specs.AckClaims.{WasToldToWrite}
 use Rattle.rc_write_laws.proofs.Asking.{asks-takes, asks-ticks}
 use Rattle.rc_log_laws.proofs.EachMaster.{IsKeptByAll, kept-replay}
 use Rattle.rc_owner_laws.proofs.Rising.{IsAcked, acked}
@@ -24,13 +24,13 @@ use Rattle.rc_promises.specs.Service.{HasAsked}
 use Rattle.rc_promises.proofs.News.{clients-are-heard}
 
 abbrev EntryAsked : List Message → ServerId → Entry → Type 0
-EntryAsked sent m entry = WasAsked sent m entry.table entry.key entry.value
+EntryAsked sent m entry = WasToldToWrite sent m entry.table entry.key entry.value
 
 abbrev pub ClientsAsked : List Message → ServerId → Master → Type 0
 ClientsAsked sent m master = (place : LogPlace) → In place (places_of master.log) → place.client ≡ true → EntryAsked sent m place.entry
 
-asked-more : (sent messages : List Message) (m : ServerId) (table key : ℕ) (value : Option (List ℕ)) → WasAsked sent m table key value →
-    WasAsked (sent ++ messages) m table key value
+asked-more : (sent messages : List Message) (m : ServerId) (table key : ℕ) (value : Option (List ℕ)) →
+    WasToldToWrite sent m table key value → WasToldToWrite (sent ++ messages) m table key value
 asked-more sent messages m table key value p = record
     { message = p.message; among = In-left p.message sent messages p.among; to = p.to; says = p.says }
 
@@ -60,7 +60,7 @@ clients-asked setup events m = kept-replay setup ClientsAsked (clients-kept setu
 
 -- it was the outside that asked
 pub client-asked : (setup : Setup) (events : List Event) (m : ServerId) (table key : ℕ) (value : Option (List ℕ)) →
-    WasAsked (replay setup events).sent m table key value → HasAsked (replay setup events).sent m table key value
+    WasToldToWrite (replay setup events).sent m table key value → HasAsked (replay setup events).sent m table key value
 client-asked setup events m table key value p =
     subst (λ (message : Message). In message (replay setup events).sent)
     (same p.message ((clients-are-heard setup events).asked p.message p.among table key value p.says) p.to p.says) p.among

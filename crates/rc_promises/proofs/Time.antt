@@ -30,7 +30,7 @@ use Rattle.rc_owner_laws.proofs.OwnersOrdered.{one-chain, earlier-less}
 use Rattle.rc_owner_laws.specs.Terms.{IsGrantedTo, IsGivenBy}
 use Rattle.rc_owner_laws.specs.Parts.{part_view, logged, IsClients}
 use Rattle.rc_owner_laws.proofs.PartLists.{logged-append}
-use Rattle.rc_write_laws.specs.AckClaims.{WasAsked}
+use Rattle.rc_write_laws.specs.AckClaims.{WasToldToWrite}
 use Rattle.rc_owner_laws.specs.Worlds.{AllHold}
 use Rattle.rc_owner_laws.specs.VersionClaims.{MayFree}
 use Rattle.rc_owner_laws.proofs.Bases.{IsTaskOf, task-of, IsStarted, started}
@@ -78,7 +78,7 @@ module _ (setup : Setup) (events more : List Event) where
   -- What was asked only afterwards stands above all that its key had before
 
   module _ (x : ServerId) (later : Ack) (entry : Entry) (written : IsWritten new.sent x later entry)
-      (unasked : WasAsked old.sent x later.table later.key entry.value → ⊥) where
+      (unasked : WasToldToWrite old.sent x later.table later.key entry.value → ⊥) where
     is : IsAcked new.sent new.masters new.hosts new.coordinator all_new x later
     is = acked new.sent new.masters new.hosts new.coordinator all_new x later written.acknowledged
 
@@ -115,9 +115,9 @@ module _ (setup : Setup) (events more : List Event) where
             Begins (places_of (old.masters x).log) at.before
         by (inr p) = p
         by (inl there) = absurd (unasked
-            (subst (λ (value : _). WasAsked old.sent x later.table later.key value) (ap (λ (one : Entry). one.value) same)
-            (subst (λ k. WasAsked old.sent x later.table k is.written.place.entry.value) is.written.key_is
-            (subst (λ t. WasAsked old.sent x t is.written.place.entry.key is.written.place.entry.value) is.written.table_is
+            (subst (λ (value : _). WasToldToWrite old.sent x later.table later.key value) (ap (λ (one : Entry). one.value) same)
+            (subst (λ k. WasToldToWrite old.sent x later.table k is.written.place.entry.value) is.written.key_is
+            (subst (λ t. WasToldToWrite old.sent x t is.written.place.entry.key is.written.place.entry.value) is.written.table_is
             (clients-asked setup events x is.written.place there is.written.client)))))
 
     pub is-above : (other : Entry) → In other (logged (places_of (old.masters x).log)) → other.term ≡ later.term →
@@ -209,7 +209,7 @@ module _ (setup : Setup) (events more : List Event) where
 
   module _ (m x : ServerId) (first later : Ack) (entry : Entry) (acked_first : HasAcknowledged old.sent m first)
       (written : IsWritten new.sent x later entry)
-      (keys : IsOfKey first.table first.key later) (unasked : WasAsked old.sent x later.table later.key entry.value → ⊥) where
+      (keys : IsOfKey first.table first.key later) (unasked : WasToldToWrite old.sent x later.table later.key entry.value → ⊥) where
     first_old : IsAcked old.sent old.masters old.hosts old.coordinator all_old m first
     first_old = acked old.sent old.masters old.hosts old.coordinator all_old m first acked_first
 

@@ -1,12 +1,7 @@
 -- How much a replica holds.
-use Rattle.std.specs.Prelude.{ℕ, ◌-◌, ◌^◌, min, List, length, Option, Some, None}
+use Rattle.std.specs.Prelude.{ℕ, List, length, Option, Some, None}
 use Rattle.std.specs.List.{sum_by}
 use Rattle.rc_types.specs.declared.entries.Entry.{Entry}
-use Rattle.rc_model.specs.Replica.{Replica}
-
--- as much of a number as 64 bits hold
-abbrev pub within_64_bits : ℕ → ℕ
-within_64_bits n = min n (2 ^ 64 - 1)
 
 -- how many bytes a value has; a deletion has none
 abbrev pub value_len : Option (List ℕ) → ℕ

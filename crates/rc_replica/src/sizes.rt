@@ -1,7 +1,8 @@
 //! How much a replica holds.
 
 ghost use Rattle.std.specs.Prelude.{◌≡◌};
-ghost use Rattle.rc_replica.specs.Sizes.{value_len, value_bytes, within_64_bits};
+ghost use Rattle.rc_types.specs.Counts.{within_64_bits};
+ghost use Rattle.rc_replica.specs.Sizes.{value_len, value_bytes};
 
 use crate::kept::Replica;
 use rc_types::{Entry, Seq};

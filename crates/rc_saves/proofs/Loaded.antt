@@ -9,7 +9,7 @@ use Rattle.rc_history.specs.Remade.{SameButMaster}
 use Rattle.rc_coordinator.specs.Book.{Book, coordinator_of}
 use Rattle.rc_world.specs.HostView.{HostData, host_of}
 use Rattle.rc_world.specs.HostParts.{HostParts, head_of, setup_of, last_server, host_from}
-use Rattle.rc_world.specs.NodeView.{NodeData, OutsideData, CoordinatorData, HostNodeData, node_of}
+use Rattle.rc_world.specs.NodeView.{NodeData, OutsideData, CoordinatorData, HostNodeData, node_seen}
 use Rattle.rc_world.specs.declared.work.NodeWork.{NodeWork}
 use Rattle.rc_world.specs.declared.work.NodeWork.TheVariants as work
 use Rattle.rc_keeping.specs.Claims.{AreReadFrom}
@@ -59,7 +59,7 @@ same-book one other e = cc
 -- what stands behind a save is read from where the save ends
 behind : (saved : Saved) (bytes rest : List ℕ) (node : NodeData) (count : ℕ) (read : List NodeWork) (good : ℕ) →
     bytes ≡ save_of saved → IsLoaded (bytes ++ rest) node count → AreReadFrom (drop count (bytes ++ rest)) read good →
-    (node_of node ≡ node_from saved) × AreReadFrom rest read good
+    (node_seen node ≡ node_from saved) × AreReadFrom rest read good
 behind saved bytes rest node count read good is loaded all =
     let there = saved-is-loaded saved rest node count (subst (λ (xs : List ℕ). IsLoaded (xs ++ rest) node count) is loaded) in
     let past : drop count (bytes ++ rest) ≡ rest =

@@ -10,8 +10,8 @@ use Rattle.rc_codec.proofs.Promises.{is_prefix_free}
 use Rattle.rc_codec.proofs.Lawful.{IsBytes, some_is}
 use Rattle.rc_coordinator.specs.Book.{Book, IsBook}
 use Rattle.rc_world.specs.HostView.{IsMasterSetup}
-use Rattle.rc_world.specs.HostParts.{HostParts, setup_of, parts_of}
-use Rattle.rc_world.specs.NodeView.{NodeData, OutsideData, CoordinatorData, HostNodeData, node_of, book_in}
+use Rattle.rc_world.specs.HostParts.{HostParts, setup_of, host_parts_in}
+use Rattle.rc_world.specs.NodeView.{NodeData, OutsideData, CoordinatorData, HostNodeData, node_seen, book_in}
 use Rattle.rc_keeping.specs.Spelling.{sealed, sum_of}
 use Rattle.rc_keeping.proofs.RecordLaws.{head_code, head_law, head_of}
 use Rattle.rc_keeping.proofs.SealLaws.{sealed_law}
@@ -24,7 +24,7 @@ use Rattle.rc_saves.proofs.CodedLaws.{coded_law, alone-again, alone-takes}
 
 -- ---- what a node is saved as
 
-pub saved_host : (node : NodeData) (parts : HostParts) → parts_of node ≡ Some parts → saved_of node ≡ Some (HostSave parts)
+pub saved_host : (node : NodeData) (parts : HostParts) → host_parts_in node ≡ Some parts → saved_of node ≡ Some (HostSave parts)
 saved_host OutsideData parts e = absurd cc
 saved_host (CoordinatorData book) parts e = absurd cc
 saved_host (HostNodeData host) parts e = ap (λ (p : HostParts). Some (HostSave p)) (some_is _ parts e)
@@ -34,12 +34,12 @@ saved_book OutsideData book e = absurd cc
 saved_book (CoordinatorData other) book e = ap (λ (b : Book). Some (CoordinatorSave b)) (some_is other book e)
 saved_book (HostNodeData host) book e = absurd cc
 
-pub saved_nothing : (node : NodeData) → parts_of node ≡ None → book_in node ≡ None → saved_of node ≡ None
+pub saved_nothing : (node : NodeData) → host_parts_in node ≡ None → book_in node ≡ None → saved_of node ≡ None
 saved_nothing OutsideData no_host no_coordinator = refl
 saved_nothing (CoordinatorData book) no_host no_coordinator = absurd cc
 saved_nothing (HostNodeData host) no_host no_coordinator = absurd cc
 
-pub is_saved_host : (node : NodeData) (parts : HostParts) (before after : List ℕ) → parts_of node ≡ Some parts →
+pub is_saved_host : (node : NodeData) (parts : HostParts) (before after : List ℕ) → host_parts_in node ≡ Some parts →
     IsMasterSetup (setup_of parts.head) → IsInOrder parts.backup.table → after ≡ before ++ save_of (HostSave parts) →
     IsSaved node before after
 is_saved_host node parts before after its limits order written = record {
@@ -61,7 +61,7 @@ is_saved_book node book before after its sound written = record {
 -- ---- the bytes of that alone
 
 pub node-of-code : (code : List ℕ) (saved : Saved) (node : NodeData) → IsBytes code → alone_at code ≡ Some saved →
-    node_of node ≡ node_from saved → saved_of node ≡ Some saved → IsNodeOf code node
+    node_seen node ≡ node_from saved → saved_of node ≡ Some saved → IsNodeOf code node
 node-of-code code saved node fits read made its =
     record { saved = saved; its = its; made = made; is = alone-takes code saved fits read }
 

@@ -9,7 +9,7 @@ use Rattle.rc_history.specs.Remade.{SameButMaster}
 use Rattle.rc_coordinator.specs.Book.{Book, coordinator_of}
 use Rattle.rc_world.specs.HostView.{HostData, host_of}
 use Rattle.rc_world.specs.HostParts.{HostParts, host_from}
-use Rattle.rc_world.specs.NodeView.{NodeData, CoordinatorData, HostNodeData, node_of}
+use Rattle.rc_world.specs.NodeView.{NodeData, CoordinatorData, HostNodeData, node_seen}
 use Rattle.rc_world.specs.declared.work.NodeWork.{NodeWork}
 use Rattle.rc_keeping.specs.Claims.{AreReadFrom}
 use Rattle.rc_keeping.specs.Keeping.{kept_by_host, host_given, kept_by_coordinator, coordinator_given}
@@ -28,14 +28,14 @@ pub record IsSaved (node : NodeData) (before after : List ℕ) : Type 0 where
 pub record IsLoaded (bytes : List ℕ) (node : NodeData) (count : ℕ) : Type 0 where
   pub saved : Saved
   pub its : saved_of node ≡ Some saved
-  pub made : node_of node ≡ node_from saved
+  pub made : node_seen node ≡ node_from saved
   pub front : IsFront (save_of saved) count bytes
 
 -- the same of what is saved alone, without length and sum
 pub record IsNodeOf (code : List ℕ) (node : NodeData) : Type 0 where
   pub saved : Saved
   pub its : saved_of node ≡ Some saved
-  pub made : node_of node ≡ node_from saved
+  pub made : node_seen node ≡ node_from saved
   pub is : code ≡ coded saved
 
 abbrev pub CodesNothing : List ℕ → Type 0
@@ -49,7 +49,7 @@ BeginsWithNoSave bytes = (saved : Saved) (rest : List ℕ) → IsSound saved →
 abbrev pub SavedIsLoaded : Type 0
 SavedIsLoaded = (saved : Saved) (rest : List ℕ) (node : NodeData) (count : ℕ) →
     IsLoaded (save_of saved ++ rest) node count →
-    (node_of node ≡ node_from saved) × (saved_of node ≡ Some saved) × (count ≡ length (save_of saved))
+    (node_seen node ≡ node_from saved) × (saved_of node ≡ Some saved) × (count ≡ length (save_of saved))
 
 -- a save is never refused as malformed
 abbrev pub SavesAreTaken : Type 0
@@ -88,7 +88,7 @@ HostsComeBack = (host : HostData) (works : List NodeWork) (saved : List ℕ) (no
     (read : List NodeWork) (good : ℕ) → IsSaved (HostNodeData host) [] saved →
     IsLoaded (saved ++ journal_of (kept_by_host (host_of host) works)) node count →
     AreReadFrom (drop count (saved ++ journal_of (kept_by_host (host_of host) works))) read good →
-    (loaded : HostNode) × (node_of node ≡ TheHost loaded)
+    (loaded : HostNode) × (node_seen node ≡ TheHost loaded)
     × SameButMaster (host_given loaded read) (host_given (host_of host) works)
 
 -- a coordinator that is loaded is the coordinator that was saved, in all that contracts see of it, whatever stands
@@ -103,5 +103,5 @@ CoordinatorsComeBack = (book : Book) (works : List NodeWork) (saved : List ℕ) 
     (read : List NodeWork) (good : ℕ) → IsSaved (CoordinatorData book) [] saved →
     IsLoaded (saved ++ journal_of (kept_by_coordinator (coordinator_of book) works)) node count →
     AreReadFrom (drop count (saved ++ journal_of (kept_by_coordinator (coordinator_of book) works))) read good →
-    (loaded : Coordinator) × (node_of node ≡ TheCoordinator loaded)
+    (loaded : Coordinator) × (node_seen node ≡ TheCoordinator loaded)
     × (coordinator_given loaded read ≡ coordinator_given (coordinator_of book) works)

@@ -4,8 +4,8 @@ ghost use Rattle.std.specs.Prelude.{◌≡◌, ◌↔◌, ◌++◌, Some, None, 
 ghost use Rattle.rc_codec.specs.declared.faults.DecodeFault.TheVariants.{Malformed};
 ghost use Rattle.rc_history.specs.Nodes.{TheHost};
 ghost use Rattle.rc_coordinator.specs.Book.{IsBook};
-ghost use Rattle.rc_world.specs.HostParts.{parts_of, host_from};
-ghost use Rattle.rc_world.specs.NodeView.{CoordinatorData, node_of};
+ghost use Rattle.rc_world.specs.HostParts.{host_parts_in, host_from};
+ghost use Rattle.rc_world.specs.NodeView.{CoordinatorData, node_seen};
 ghost use Rattle.rc_saves.specs.Saved.{HostSave, CoordinatorSave, saved_of, node_from, save_of};
 ghost use Rattle.rc_saves.specs.Order.{IsInOrder, AreSound, IsSound};
 ghost use Rattle.rc_saves.specs.Claims.{IsSaved, IsLoaded, IsNodeOf, CodesNothing, BeginsWithNoSave};
@@ -57,7 +57,7 @@ fn save_no_host<A: Allocator + Clone>(
     node: &NodeState<A>,
     out: &mut Vec<u8>,
 ) -> Result<(), SaveFault>
-    requires { parts_of node.now ≡ None }
+    requires { host_parts_in node.now ≡ None }
     ensures ok { OnOk result (IsSaved node.now out.old.items out.new.items) }
     ensures outside { (result ≡ Err Outside) ↔ (saved_of node.now ≡ None) }
     ensures err { OnErr result (out.new.items ≡ out.old.items) }
@@ -155,7 +155,7 @@ fn node_from<A: Allocator + Clone>(
     tablets: A,
     read: Read,
 ) -> Result<NodeState<A>, DecodeFault>
-    ensures made { IfOk result (λ node. node_of node ≡ node_from read) }
+    ensures made { IfOk result (λ node. node_seen node ≡ node_from read) }
     ensures its { IfOk result (λ node. saved_of node ≡ Some read) }
     ensures refused { IfErr result (λ fault. fault ≡ Malformed → IsSound read → ⊥) }
 {
@@ -197,8 +197,8 @@ fn host_from<A: Allocator + Clone>(
     alloc: Global,
     written: Written,
 ) -> Result<NodeState<A>, DecodeFault>
-    ensures host { IfOk result (λ node. node_of node ≡ TheHost (host_from written)) }
-    ensures its { IfOk result (λ node. parts_of node ≡ Some written) }
+    ensures host { IfOk result (λ node. node_seen node ≡ TheHost (host_from written)) }
+    ensures its { IfOk result (λ node. host_parts_in node ≡ Some written) }
     ensures refused { IfErr result (λ fault. fault ≡ Malformed → AreSound written → ⊥) }
 {
     let head = written.head();

@@ -4,15 +4,11 @@ use Rattle.rc_types.specs.declared.ids.ServerId.{ServerId}
 use Rattle.rc_types.specs.declared.entries.Entry.{Entry}
 use Rattle.rc_types.specs.declared.messages.Message.{Message}
 use Rattle.rc_types.specs.declared.messages.Body.TheVariants.{Place, Stored}
-use Rattle.rc_model.specs.Messages.{between}
-use Rattle.rc_model.specs.ServerList.{has_crashed}
-use Rattle.rc_model.specs.Pick.{is_below}
 use Rattle.rc_model.specs.Replica.{Replica}
 use Rattle.rc_model.specs.Backup.{Held, replica_of, is_freed}
 use Rattle.rc_model.specs.Log.{Log}
-use Rattle.rc_model.specs.Master.{Master, ids_of}
+use Rattle.rc_model.specs.Master.{ids_of}
 use Rattle.rc_model.specs.Attempts.{Attempt}
-use Rattle.rc_model.specs.Coordinator.{Coordinator}
 use Rattle.rc_model.specs.Nodes.{HostNode}
 use Rattle.rc_model.specs.Headline.{In}
 use Rattle.rc_step_laws.specs.Words.{Begins, log_in, HasToldClosed, IsMember, held_at, IsNumbered}
@@ -67,24 +63,3 @@ pub record IsNewPlace (sent : List Message) (m : ServerId) (old : Log) (x : Serv
 pub record IsNewStored (hosts : ℕ → HostNode) (x m : ServerId) : Type 0 where
   pub since : (hosts x.index).generation ≤ x.generation
   pub unfenced : x.generation ≡ (hosts x.index).generation → (held_at hosts x.index m).fenced ≡ false
-
--- a later world
-pub record Later (sent : List Message) (masters : ServerId → Master) (hosts : ℕ → HostNode) (c : Coordinator)
-    (sent_now : List Message) (masters_now : ServerId → Master) (hosts_now : ℕ → HostNode) (c_now : Coordinator) :
-    Type 0 where
-  pub sent_more : (message : Message) → In message sent → In message sent_now
-  pub logs : (m : ServerId) → LogLater sent_now m (masters m).log (masters_now m).log
-  pub hosts_more : (i : ℕ) → HostLater (hosts i) (hosts_now i)
-  pub attempts : (number : ℕ) (attempt : Attempt) → IsNumbered c.attempts number attempt →
-      AttemptLater c_now.attempts number attempt
-  -- crashed for good; least pairs rise, and that of a crashed master stays
-  pub crashed : (m : ServerId) → has_crashed c.servers m ≡ true → has_crashed c_now.servers m ≡ true
-  pub least : (m : ServerId) → is_below (c_now.least m) (c.least m) ≡ false
-  pub least_stays : (m : ServerId) → has_crashed c.servers m ≡ true → c_now.least m ≡ c.least m
-  -- what is new
-  pub places : (m x : ServerId) (s e : ℕ) (digest : List ℕ) (entries : List Entry) (closed : Bool) →
-      In (between m x (Place s e digest entries closed)) sent_now →
-      In (between m x (Place s e digest entries closed)) sent ⊎ IsNewPlace sent m (masters m).log x s e entries closed
-  pub stored : (x m : ServerId) (s e len : ℕ) (closed : Bool) →
-      In (between x m (Stored s e len closed)) sent_now →
-      In (between x m (Stored s e len closed)) sent ⊎ IsNewStored hosts x m

@@ -1,3 +1,4 @@
 pub mod Carried
 pub mod Codes
+pub mod Counts
 pub mod Texts

@@ -23,7 +23,7 @@ use Rattle.rc_world.specs.declared.work.NodeWork.{NodeWork}
 use Rattle.rc_world.specs.declared.work.NodeWork.TheVariants as work
 use Rattle.rc_wire.specs.declared.offer.Offer.{Offer}
 use Rattle.rc_wire.specs.SeatView.{SeatData, Offered, node_name, world_at, node_at, offered_events}
-use Rattle.rc_wire.specs.Steps.{IsStep, HasTaken, IsHeld}
+use Rattle.rc_wire.specs.Steps.{IsStep, HasTaken, HoldsItsMessage}
 use Rattle.rc_wire.specs.SeatHolds.{SeatSound, seat_data}
 use Rattle.rc_wire.specs.Given.{is_delivery, own_number, Does}
 use Rattle.rc_wire.specs.Works.{IsOffer, Offers, was_delivered}
@@ -114,7 +114,7 @@ pub held-step : (setup : Setup) (seat : SeatData) (number : ℕ) (node after : N
 held-step setup seat number node after numbers k offer s idle o d =
     let sent : List Message = (world_at setup seat).sent in
     let named : name_of node ≡ node_name seat = idle-name setup seat number node numbers s idle in
-    let found : slice_get sent k ≡ Some o.message = subst (λ (h : Option (ℕ × Message)). IsHeld sent h) o.is s.held in
+    let found : slice_get sent k ≡ Some o.message = subst (λ (h : Option (ℕ × Message)). HoldsItsMessage sent h) o.is s.held in
     let addressed : node_of o.message.to ≡ name_of node = same_node-true (node_of o.message.to) (node_name seat) o.own ∙ sym named in
     subst (λ (n : Node). IsStep sent (node_name seat) n (seen_of offer) after) (idle-node setup seat number node numbers s idle)
     (does-step sent (node_name seat) node k (work.Deliver o.message) offer after named (found, addressed)
@@ -125,7 +125,8 @@ held-step setup seat number node after numbers k offer s idle o d =
 -- a step that the node has taken is offered, and this is held
 pub sound-offered : (setup : Setup) (seat : SeatData) (number : ℕ) (node after : Node) (numbers noted : List ℕ) (offer : Offer)
     (held : Option (ℕ × Message)) → SeatSound setup seat number node numbers →
-    IsStep (world_at setup seat).sent (node_name seat) (node_at setup seat) (seen_of offer) after → IsHeld (world_at setup seat).sent held →
+    IsStep (world_at setup seat).sent (node_name seat) (node_at setup seat) (seen_of offer) after →
+    HoldsItsMessage (world_at setup seat).sent held →
     ((n : ℕ) → list_any (nat_eq n) noted ≡ was_delivered (seat.mine ++ offer.event ∷ []) n) →
     SeatSound setup (record seat { held = held; pending = Some (seen_of offer) }) number after noted
 sound-offered setup seat number node after numbers noted offer held s step holds all = record {

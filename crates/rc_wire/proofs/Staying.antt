@@ -11,7 +11,7 @@ use Rattle.rc_history.specs.Events.{events_of, StartsWith}
 use Rattle.rc_history.proofs.Lists.{starts-get}
 use Rattle.rc_history.proofs.Longer.{node-stays, longer-sent}
 use Rattle.rc_wire.specs.SeatView.{SeatData, Offered, node_name, node_at, world_at}
-use Rattle.rc_wire.specs.Steps.{IsStep, HasTaken, IsHeld}
+use Rattle.rc_wire.specs.Steps.{IsStep, HasTaken, HoldsItsMessage}
 use Rattle.rc_wire.specs.SeatHolds.{SeatSound}
 use Rattle.rc_wire.specs.Calls.{having_seen}
 
@@ -51,8 +51,8 @@ taken-stays : (longer shorter : List Message) (name : NodeName) (before : Node) 
 taken-stays longer shorter name before None after starts h = h
 taken-stays longer shorter name before (Some offered) after starts h = step-stays longer shorter name before offered after starts h
 
-pub held-stays : (longer shorter : List Message) (held : Option (ℕ × Message)) → StartsWith longer shorter → IsHeld shorter held →
-    IsHeld longer held
+pub held-stays : (longer shorter : List Message) (held : Option (ℕ × Message)) → StartsWith longer shorter → HoldsItsMessage shorter held →
+    HoldsItsMessage longer held
 held-stays longer shorter None starts h = tt
 held-stays longer shorter (Some held) starts h = starts-get longer shorter held.0 held.1 starts h
 

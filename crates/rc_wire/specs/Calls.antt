@@ -8,7 +8,7 @@ use Rattle.rc_types.specs.declared.messages.Message.{Message}
 use Rattle.rc_model.specs.World.{replay}
 use Rattle.rc_history.specs.Events.{events_of, StartsWith}
 use Rattle.rc_wire.specs.SeatView.{SeatData, Offered, node_name, world_at}
-use Rattle.rc_wire.specs.Steps.{IsHeld}
+use Rattle.rc_wire.specs.Steps.{HoldsItsMessage}
 use Rattle.rc_wire.specs.Works.{IsOffer}
 
 -- what is true of each seat
@@ -19,7 +19,7 @@ pub record IsSeat (setup : Setup) (seat : SeatData) : Type 0 where
   -- what is pending is one more event of its node, possible there, with the messages that are sent in it;
   pub pending : IfSome seat.pending (IsOffer (world_at setup seat) (node_name seat))
   -- what is held is the message of its number there
-  pub held : IsHeld (world_at setup seat).sent seat.held
+  pub held : HoldsItsMessage (world_at setup seat).sent seat.held
 
 -- the history begins with what the seat has seen, and its node's events in it are those that the seat has committed
 pub record Covers (setup : Setup) (history : List Event) (seat : SeatData) : Type 0 where

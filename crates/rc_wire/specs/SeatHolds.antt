@@ -11,7 +11,7 @@ use Rattle.rc_journal.specs.declared.names.SeatName.{SeatName}
 use Rattle.rc_journal.specs.Names.{number_of}
 use Rattle.rc_wire.specs.declared.offer.Offer.{Offer}
 use Rattle.rc_wire.specs.SeatView.{SeatData, offered_by, offered_events, node_name, world_at, node_at}
-use Rattle.rc_wire.specs.Steps.{HasTaken, IsHeld}
+use Rattle.rc_wire.specs.Steps.{HasTaken, HoldsItsMessage}
 use Rattle.rc_wire.specs.Works.{was_delivered}
 
 -- a seat's fields as its value: what it has seen and done, its token knows
@@ -28,5 +28,5 @@ pub record SeatSound (setup : Setup) (seat : SeatData) (number : ℕ) (node : No
   pub mine : events_of setup (node_name seat) seat.seen ≡ seat.mine
   -- the state is that of the node there, or the one that the pending step leads it to
   pub state : HasTaken (world_at setup seat).sent (node_name seat) (node_at setup seat) seat.pending node
-  pub held : IsHeld (world_at setup seat).sent seat.held
+  pub held : HoldsItsMessage (world_at setup seat).sent seat.held
   pub delivered : (n : ℕ) → list_any (nat_eq n) numbers ≡ was_delivered (seat.mine ++ offered_events seat.pending) n

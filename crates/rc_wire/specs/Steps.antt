@@ -23,6 +23,6 @@ HasTaken sent name before None after = after ≡ before
 HasTaken sent name before (Some offered) after = IsStep sent name before offered after
 
 -- the message that is held is the one of this number
-abbrev pub IsHeld : List Message → Option (ℕ × Message) → Type 0
-IsHeld sent None = Unit {0}
-IsHeld sent (Some held) = slice_get sent held.0 ≡ Some held.1
+abbrev pub HoldsItsMessage : List Message → Option (ℕ × Message) → Type 0
+HoldsItsMessage sent None = Unit {0}
+HoldsItsMessage sent (Some held) = slice_get sent held.0 ≡ Some held.1

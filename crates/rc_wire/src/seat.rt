@@ -8,7 +8,7 @@ ghost use Rattle.rc_types.specs.declared.faults.Fault.TheVariants.{OutOfMemory, 
 ghost use Rattle.rc_journal.specs.Views.{new_place};
 ghost use Rattle.rc_world.specs.HostView.{IsWithinLimits};
 ghost use Rattle.rc_world.specs.NodeCalls.{event_of};
-ghost use Rattle.rc_world.specs.NodeView.{node_of};
+ghost use Rattle.rc_world.specs.NodeView.{node_seen};
 ghost use Rattle.rc_journal.specs.Names.{number_of};
 ghost use Rattle.rc_wire.specs.SeatView.{new_seat, offered_events, node_at, node_name, world_at};
 ghost use Rattle.rc_wire.specs.Steps.{HasTaken};
@@ -58,14 +58,14 @@ impl<N: Naming> Drop for Seat<N> {
 impl<N: Naming> Model for Seat<N> {
     ghost use Rattle.rc_wire.specs.SeatView.{SeatData};
     ghost use Rattle.rc_wire.specs.SeatHolds.{seat_data, SeatSound};
-    ghost use Rattle.rc_world.specs.NodeView.{node_of};
+    ghost use Rattle.rc_world.specs.NodeView.{node_seen};
 
     ghost Value = { SeatData };
 
     ghost view = { λ s. seat_data s.name s.token s.held s.pending };
 
     ghost invariant = { λ s. SeatSound N.wire.setup (seat_data s.name s.token s.held s.pending)
-        s.token.node (node_of s.state) s.delivered.keys };
+        s.token.node (node_seen s.state) s.delivered.keys };
 }
 
 impl<N: Naming> Seat<N> {
@@ -99,7 +99,7 @@ impl<N: Naming> Seat<N> {
     /// a step is pending, the one to which that step leads it from there. It takes no memory.
     pub fn node(&self) -> &NodeState<Global>
         ensures state { HasTaken (world_at N.wire.setup self.now).sent (node_name self.now)
-            (node_at N.wire.setup self.now) self.now.pending (node_of result.now) }
+            (node_at N.wire.setup self.now) self.now.pending (node_seen result.now) }
     {
         &self.state
     }

@@ -5,7 +5,7 @@ ghost use Rattle.std.specs.Option.{IfSome};
 ghost use Rattle.rc_types.specs.declared.faults.Fault.TheVariants.{OutOfMemory, BadEvent};
 ghost use Rattle.rc_history.specs.Nodes.{Node, new_node, name_of as node_name_of};
 ghost use Rattle.rc_world.specs.HostView.{IsWithinLimits};
-ghost use Rattle.rc_world.specs.NodeView.{node_of, own_server, own_addr, may_take, NodeHasRoom};
+ghost use Rattle.rc_world.specs.NodeView.{node_seen, own_server, own_addr, may_take, NodeHasRoom};
 ghost use Rattle.rc_world.specs.NodeCalls.{event_of};
 ghost use Rattle.rc_world.specs.declared.work.NodeWork.TheVariants.{Deliver};
 ghost use Rattle.rc_journal.specs.Names.{name_of};
@@ -21,7 +21,7 @@ use std::alloc::Global;
 /// The node of this name before anything has happened.
 pub(crate) fn new_state(alloc: Global, name: SeatName, setup: &Setup) -> NodeState<Global>
     requires { IsWithinLimits setup.now }
-    ensures { node_of result ≡ new_node setup.now (name_of name) }
+    ensures { node_seen result ≡ new_node setup.now (name_of name) }
 {
     match name {
         SeatName::Outside => NodeState::outside(alloc),
@@ -53,13 +53,13 @@ pub(crate) fn give(
     name: SeatName,
     given: NodeWork,
 ) -> Result<Offer, Fault>
-    requires room { NodeHasRoom (node_of state.old) }
-    requires name { node_name_of (node_of state.old) ≡ name_of name }
+    requires room { NodeHasRoom (node_seen state.old) }
+    requires name { node_name_of (node_seen state.old) ≡ name_of name }
     requires given { is_delivery given ≡ false }
-    ensures does { IfOk result (λ offer. Does (node_of state.old) 0 given offer (node_of state.new)) }
-    ensures bad { (result ≡ Err BadEvent) ↔ (may_take (node_of state.old) given ≡ false) }
+    ensures does { IfOk result (λ offer. Does (node_seen state.old) 0 given offer (node_seen state.new)) }
+    ensures bad { (result ≡ Err BadEvent) ↔ (may_take (node_seen state.old) given ≡ false) }
     ensures fault { IfErr result (λ fault. (fault ≡ OutOfMemory) ⊎ (fault ≡ BadEvent)) }
-    ensures err { OnErr result (node_of state.new ≡ node_of state.old) }
+    ensures err { OnErr result (node_seen state.new ≡ node_seen state.old) }
 {
     let own = state.server();
     let messages = state.step(&given)?;
@@ -116,11 +116,11 @@ pub(crate) fn take(
     state: &mut NodeState<Global>,
     held: &Option<(usize, Message)>,
 ) -> Result<Offer, Fault>
-    requires room { NodeHasRoom (node_of state.old) }
+    requires room { NodeHasRoom (node_seen state.old) }
     requires held { is_some held.now ≡ true }
     ensures does { IfOk result (λ offer. IfSome held.now (λ h.
-        Does (node_of state.old) h.0 (Deliver h.1) offer (node_of state.new))) }
-    ensures err { OnErr result (node_of state.new ≡ node_of state.old) }
+        Does (node_seen state.old) h.0 (Deliver h.1) offer (node_seen state.new))) }
+    ensures err { OnErr result (node_seen state.new ≡ node_seen state.old) }
     ensures no_memory { IfErr result (λ fault. fault ≡ OutOfMemory) }
 {
     match held {
@@ -136,10 +136,10 @@ fn deliver(
     number: usize,
     message: &Message,
 ) -> Result<Offer, Fault>
-    requires { NodeHasRoom (node_of state.old) }
+    requires { NodeHasRoom (node_seen state.old) }
     ensures does { IfOk result (λ offer.
-        Does (node_of state.old) number (Deliver message.now) offer (node_of state.new)) }
-    ensures err { OnErr result (node_of state.new ≡ node_of state.old) }
+        Does (node_seen state.old) number (Deliver message.now) offer (node_seen state.new)) }
+    ensures err { OnErr result (node_seen state.new ≡ node_seen state.old) }
     ensures no_memory { IfErr result (λ fault. fault ≡ OutOfMemory) }
 {
     let mut messages = Vec::new(alloc);

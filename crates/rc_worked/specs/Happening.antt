@@ -23,8 +23,8 @@ ScenariosAreReplays =
     (setup : Setup) (lines : List Line) → replay setup (runs (opening setup) lines).events ≡ runs (opening setup) lines
 
 -- what is sent in a scenario
-abbrev pub sent_in : Setup → List Line → List Message
-sent_in setup lines = (runs (opening setup) lines).sent
+abbrev pub sent_by_lines : Setup → List Line → List Message
+sent_by_lines setup lines = (runs (opening setup) lines).sent
 
 -- the heads of the accepted recoveries, in order
 abbrev pub head_in : Body → List ℕ
@@ -51,14 +51,15 @@ rolled_plan = record {
 
 abbrev pub RolledIsAcknowledged : Type 0
 RolledIsAcknowledged =
-    acknowledged (sent_in of_two replaced_then_rolled) (id 0 1) ≡ ack 1 0 1 1 1 ∷ ack 1 1 1 2 1 ∷ ack 2 0 1 3 1 ∷ []
+    acknowledged (sent_by_lines of_two replaced_then_rolled) (id 0 1)
+    ≡ ack 1 0 1 1 1 ∷ ack 1 1 1 2 1 ∷ ack 2 0 1 3 1 ∷ []
 
 abbrev pub RolledIsRecovered : Type 0
-RolledIsRecovered = accepted (sent_in of_two replaced_then_rolled) ≡ rolled_plan ∷ []
+RolledIsRecovered = accepted (sent_by_lines of_two replaced_then_rolled) ≡ rolled_plan ∷ []
 
 -- with segment 2 as its head
 abbrev pub RolledHasItsHeadAbove : Type 0
-RolledHasItsHeadAbove = heads (sent_in of_two replaced_then_rolled) ≡ 2 ∷ []
+RolledHasItsHeadAbove = heads (sent_by_lines of_two replaced_then_rolled) ≡ 2 ∷ []
 
 abbrev pub RolledIsCovered : Type 0
 RolledIsCovered = is_recovered rolled_plan.rows 1 0 ≡ true
@@ -86,21 +87,21 @@ abbrev pub freed_acks : List Ack
 freed_acks = ack 1 0 1 1 1 ∷ ack 1 1 1 1 2 ∷ ack 2 0 1 1 3 ∷ ack 2 1 1 1 4 ∷ []
 
 abbrev pub FreedIsAcknowledged : Type 0
-FreedIsAcknowledged = acknowledged (sent_in freeing freed) (id 0 1) ≡ freed_acks
+FreedIsAcknowledged = acknowledged (sent_by_lines freeing freed) (id 0 1) ≡ freed_acks
 
 abbrev pub FreedIsRecovered : Type 0
-FreedIsRecovered = accepted (sent_in freeing freed) ≡ freed_plan ∷ []
+FreedIsRecovered = accepted (sent_by_lines freeing freed) ≡ freed_plan ∷ []
 
 abbrev pub FreedIsLeftOut : Type 0
 FreedIsLeftOut = is_recovered freed_plan.rows 1 0 ≡ false
 
 -- for a greater version of the key is there
 abbrev pub FreedIsSuperseded : Type 0
-FreedIsSuperseded = is_superseded (sent_in freeing freed) freed_plan (ack 1 0 1 1 1) ≡ true
+FreedIsSuperseded = is_superseded (sent_by_lines freeing freed) freed_plan (ack 1 0 1 1 1) ≡ true
 
 -- so where segments are freed, an acknowledged write need not be at its own place
 abbrev pub FreedIsDropped : Type 0
-FreedIsDropped = NothingIsDropped (sent_in freeing freed) → ⊥
+FreedIsDropped = NothingIsDropped (sent_by_lines freeing freed) → ⊥
 
 -- Three owners in turn acknowledge writes of one key, the first of them after the second one's grant
 
@@ -116,7 +117,7 @@ three_owners =
 -- in this order
 abbrev pub ThreeOwnersTell : Type 0
 ThreeOwnersTell =
-    message_lines (sent_in (of_eight 2) three_owners)
+    message_lines (sent_by_lines (of_eight 2) three_owners)
     ≡ codes "own 0.1 term 1 table 7 from 0 to 18446744073709551615 after 0 attempt 0\n"
     ++ codes "plan 1 of 0.1 to 1.1 head 1 rows 1:1.1:1\n"
     ++ codes "own 1.1 term 2 table 7 from 0 to 18446744073709551615 after 1 attempt 1\n"
@@ -129,8 +130,8 @@ ThreeOwnersTell =
 -- the same as values
 abbrev pub ThreeOwnersAcknowledge : Type 0
 ThreeOwnersAcknowledge =
-    all_acknowledged (sent_in (of_eight 2) three_owners) ≡ ack 1 1 2 5 2 ∷ ack 1 0 1 5 1 ∷ ack 1 2 3 5 3 ∷ []
+    all_acknowledged (sent_by_lines (of_eight 2) three_owners) ≡ ack 1 1 2 5 2 ∷ ack 1 0 1 5 1 ∷ ack 1 2 3 5 3 ∷ []
 
 -- the first one's term is the earlier one of the third's, over two grants
 abbrev pub ThreeOwnersAreInTurn : Type 0
-ThreeOwnersAreInTurn = is_earlier (sent_in (of_eight 2) three_owners) 7 5 1 3 ≡ true
+ThreeOwnersAreInTurn = is_earlier (sent_by_lines (of_eight 2) three_owners) 7 5 1 3 ≡ true

@@ -98,9 +98,6 @@ tick server = Once (event.Tick (Server server))
 abbrev pub write : ServerId → ℕ → ℕ → List ℕ → Line
 write to table key value = Once (event.Ask to (Write table key (Some value)))
 
-abbrev pub delete : ServerId → ℕ → ℕ → Line
-delete to table key = Once (event.Ask to (Write table key None))
-
 abbrev pub read : ServerId → ℕ → ℕ → Line
 read to table key = Once (event.Ask to (Read table key))
 

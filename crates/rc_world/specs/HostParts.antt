@@ -48,9 +48,9 @@ pub record HostParts : Type 0 where
   pub backup : Holdings
 
 -- the parts of a node that is a host
-abbrev pub parts_of : NodeData → Option HostParts
-parts_of (HostNodeData host) = Some (record { head = head_of (host_of host); backup = host.backup })
-parts_of _ = None
+abbrev pub host_parts_in : NodeData → Option HostParts
+host_parts_in (HostNodeData host) = Some (record { head = head_of (host_of host); backup = host.backup })
+host_parts_in _ = None
 
 -- the host of these parts
 abbrev pub host_from : HostParts → HostNode

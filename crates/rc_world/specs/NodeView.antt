@@ -24,10 +24,10 @@ pub data NodeData : Type 0 where
   HostNodeData : (host : HostData) → NodeData
 
 -- a node as the definitions see it
-abbrev pub node_of : NodeData → Node
-node_of OutsideData = TheOutside
-node_of (CoordinatorData book) = TheCoordinator (coordinator_of book)
-node_of (HostNodeData host) = TheHost (host_of host)
+abbrev pub node_seen : NodeData → Node
+node_seen OutsideData = TheOutside
+node_seen (CoordinatorData book) = TheCoordinator (coordinator_of book)
+node_seen (HostNodeData host) = TheHost (host_of host)
 
 -- the book of a node that is the coordinator
 abbrev pub book_in : NodeData → Option Book
@@ -80,14 +80,14 @@ after_work node given = node_step node (work_at node given)
 abbrev pub coordinator_may : Coordinator → NodeWork → Bool
 coordinator_may c given = coordinator_can (work_at (TheCoordinator c) given)
 
-abbrev pub coordinator_after : Coordinator → NodeWork → Coordinator × List Message
-coordinator_after c given = coordinator_step c (work_at (TheCoordinator c) given)
+abbrev pub coordinator_after_work : Coordinator → NodeWork → Coordinator × List Message
+coordinator_after_work c given = coordinator_step c (work_at (TheCoordinator c) given)
 
 abbrev pub host_may : HostNode → NodeWork → Bool
 host_may host given = host_can host (work_at (TheHost host) given)
 
-abbrev pub host_after : HostNode → NodeWork → HostNode × List Message
-host_after host given = host_step host (work_at (TheHost host) given)
+abbrev pub host_after_work : HostNode → NodeWork → HostNode × List Message
+host_after_work host given = host_step host (work_at (TheHost host) given)
 
 -- the node's numbers suffice for one more step
 abbrev pub NodeHasRoom : Node → Type 0

@@ -9,12 +9,12 @@ ghost use Rattle.rc_model.specs.Coordinator.{new_coordinator};
 ghost use Rattle.rc_coordinator.specs.Book.{coordinator_of};
 ghost use Rattle.rc_coordinator.specs.Steps.{HasNumbers};
 ghost use Rattle.rc_world.specs.HostView.{host_of, HostHasRoom, IsMasterSetup, IsWithinLimits};
-ghost use Rattle.rc_world.specs.HostParts.{setup_of, parts_of, host_from};
+ghost use Rattle.rc_world.specs.HostParts.{setup_of, host_parts_in, host_from};
 ghost use Rattle.rc_history.specs.Nodes.{TheOutside, TheCoordinator, TheHost};
-ghost use Rattle.rc_world.specs.NodeView.{CoordinatorData, node_of, book_in, own_server, work_at, NodeHasRoom};
+ghost use Rattle.rc_world.specs.NodeView.{CoordinatorData, node_seen, book_in, own_server, work_at, NodeHasRoom};
 ghost use Rattle.rc_world.specs.NodeView.{node_runs, master_in, backup_in};
-ghost use Rattle.rc_world.specs.NodeView.{may_take, after_work, coordinator_may, coordinator_after};
-ghost use Rattle.rc_world.specs.NodeView.{host_may, host_after};
+ghost use Rattle.rc_world.specs.NodeView.{may_take, after_work, coordinator_may, coordinator_after_work};
+ghost use Rattle.rc_world.specs.NodeView.{host_may, host_after_work};
 ghost use Rattle.rc_world.specs.declared.work.NodeWork.TheVariants.{Deliver};
 ghost use Rattle.rc_world.specs.declared.work.StepFault.TheVariants.{NoRoom, Refused};
 
@@ -75,7 +75,7 @@ impl<A: Allocator> Model for NodeState<A> {
 impl<A: Allocator + Clone> NodeState<A> {
     /// The outside, which asks servers, and takes answers without a word.
     pub fn outside(alloc: Global) -> NodeState<A>
-        ensures { node_of result ≡ TheOutside }
+        ensures { node_seen result ≡ TheOutside }
     {
         NodeState {
             alloc,
@@ -86,7 +86,7 @@ impl<A: Allocator + Clone> NodeState<A> {
     /// The coordinator before anything has happened. Its tablets lie in memory of the second
     /// allocator. It takes no memory.
     pub fn coordinator(alloc: Global, tablets: A) -> NodeState<A>
-        ensures { node_of result ≡ TheCoordinator new_coordinator }
+        ensures { node_seen result ≡ TheCoordinator new_coordinator }
     {
         NodeState {
             alloc,
@@ -97,7 +97,7 @@ impl<A: Allocator + Clone> NodeState<A> {
     /// The host of this index, which was never started. It takes no memory.
     pub fn host(alloc: Global, index: u8, setup: &Setup) -> NodeState<A>
         requires { IsWithinLimits setup.now }
-        ensures { node_of result ≡ TheHost (new_host index (master_setup setup.now index)) }
+        ensures { node_seen result ≡ TheHost (new_host index (master_setup setup.now index)) }
     {
         NodeState {
             alloc,
@@ -108,7 +108,7 @@ impl<A: Allocator + Clone> NodeState<A> {
     /// A host in two parts, to be kept: what it is by itself, and what it keeps as a backup. None where the node is no
     /// host. It takes no memory.
     pub fn parts(&self) -> Option<(HostHead, &Backup)>
-        ensures parts { option_map (λ p. record { head = p.0; backup = p.1.now }) result ≡ parts_of self.now }
+        ensures parts { option_map (λ p. record { head = p.0; backup = p.1.now }) result ≡ host_parts_in self.now }
         ensures limits { IfSome result (λ p. IsMasterSetup (setup_of p.0)) }
     {
         match &self.node {
@@ -121,8 +121,8 @@ impl<A: Allocator + Clone> NodeState<A> {
     /// had these parts but for its master: a stop makes the two equal. It takes no memory.
     pub fn of_parts(alloc: Global, head: HostHead, backup: Backup) -> NodeState<A>
         requires { IsMasterSetup (setup_of head) }
-        ensures node { node_of result ≡ TheHost (host_from (record { head = head; backup = backup })) }
-        ensures parts { parts_of result ≡ Some (record { head = head; backup = backup }) }
+        ensures node { node_seen result ≡ TheHost (host_from (record { head = head; backup = backup })) }
+        ensures parts { host_parts_in result ≡ Some (record { head = head; backup = backup }) }
     {
         NodeState {
             alloc,
@@ -154,7 +154,7 @@ impl<A: Allocator + Clone> NodeState<A> {
     /// never started has generation 0; the outside and the coordinator have no server, and answer 0.0.
     /// It takes no memory.
     pub fn server(&self) -> ServerId
-        ensures { result ≡ own_server (node_of self.now) }
+        ensures { result ≡ own_server (node_seen self.now) }
     {
         match &self.node {
             Node::Outside | Node::Coordinator(_) => no_server(),
@@ -164,7 +164,7 @@ impl<A: Allocator + Clone> NodeState<A> {
 
     /// Whether a server runs on the node; so it is of no node that is no host. It takes no memory.
     pub fn runs(&self) -> bool
-        ensures { result ≡ node_runs (node_of self.now) }
+        ensures { result ≡ node_runs (node_seen self.now) }
     {
         match &self.node {
             Node::Outside | Node::Coordinator(_) => false,
@@ -176,7 +176,7 @@ impl<A: Allocator + Clone> NodeState<A> {
     /// versions in its log; of the coordinator the numbers of its lists, attempts and terms. It takes no memory, and
     /// its cost does not grow with what has happened.
     pub fn has_room(&self) -> bool
-        ensures { (result ≡ true) ↔ NodeHasRoom (node_of self.now) }
+        ensures { (result ≡ true) ↔ NodeHasRoom (node_seen self.now) }
     {
         match &self.node {
             Node::Outside => true,
@@ -213,12 +213,12 @@ impl<A: Allocator + Clone> NodeState<A> {
     /// `BadEvent` (F18): the node can't be given this now. `OutOfMemory` (F1): memory was refused.
     /// After either the node and what was sent are as before.
     pub fn step_into(&mut self, work: &NodeWork, sent: &mut Vec<Message>) -> Result<(), Fault>
-        requires { NodeHasRoom (node_of self.old) }
-        ensures state { OnOk result (node_of self.new ≡ (after_work (node_of self.old) work.now).0) }
-        ensures sends { OnOk result (sent.new.items ≡ sent.old.items ++ (after_work (node_of self.old) work.now).1) }
-        ensures bad { (result ≡ Err BadEvent) ↔ (may_take (node_of self.old) work.now ≡ false) }
+        requires { NodeHasRoom (node_seen self.old) }
+        ensures state { OnOk result (node_seen self.new ≡ (after_work (node_seen self.old) work.now).0) }
+        ensures sends { OnOk result (sent.new.items ≡ sent.old.items ++ (after_work (node_seen self.old) work.now).1) }
+        ensures bad { (result ≡ Err BadEvent) ↔ (may_take (node_seen self.old) work.now ≡ false) }
         ensures fault { IfErr result (λ fault. (fault ≡ OutOfMemory) ⊎ (fault ≡ BadEvent)) }
-        ensures err { OnErr result (node_of self.new ≡ node_of self.old) }
+        ensures err { OnErr result (node_seen self.new ≡ node_seen self.old) }
         ensures unsent { OnErr result (sent.new.items ≡ sent.old.items) }
     {
         match &mut self.node {
@@ -235,11 +235,11 @@ impl<A: Allocator + Clone> NodeState<A> {
     ///
     /// `OutOfMemory` (F1): memory was refused. The node and what was sent are as before.
     pub fn take(&mut self, message: &Message, sent: &mut Vec<Message>) -> Result<(), Fault>
-        requires { NodeHasRoom (node_of self.old) }
-        ensures state { OnOk result (node_of self.new ≡ (after_work (node_of self.old) (Deliver message.now)).0) }
+        requires { NodeHasRoom (node_seen self.old) }
+        ensures state { OnOk result (node_seen self.new ≡ (after_work (node_seen self.old) (Deliver message.now)).0) }
         ensures sends { OnOk result (sent.new.items ≡
-            sent.old.items ++ (after_work (node_of self.old) (Deliver message.now)).1) }
-        ensures err { OnErr result (node_of self.new ≡ node_of self.old) }
+            sent.old.items ++ (after_work (node_seen self.old) (Deliver message.now)).1) }
+        ensures err { OnErr result (node_seen self.new ≡ node_seen self.old) }
         ensures unsent { OnErr result (sent.new.items ≡ sent.old.items) }
         ensures no_memory { IfErr result (λ fault. fault ≡ OutOfMemory) }
     {
@@ -261,14 +261,14 @@ impl<A: Allocator + Clone> NodeState<A> {
         work: &NodeWork,
         sent: &mut Vec<Message>,
     ) -> Result<(), StepFault>
-        ensures state { OnOk result (node_of self.new ≡ (after_work (node_of self.old) work.now).0) }
-        ensures sends { OnOk result (sent.new.items ≡ sent.old.items ++ (after_work (node_of self.old) work.now).1) }
-        ensures full { (result ≡ Err NoRoom) ↔ (NodeHasRoom (node_of self.old) → ⊥) }
-        ensures bad { NodeHasRoom (node_of self.old) →
-            ((result ≡ Err (Refused BadEvent)) ↔ (may_take (node_of self.old) work.now ≡ false)) }
+        ensures state { OnOk result (node_seen self.new ≡ (after_work (node_seen self.old) work.now).0) }
+        ensures sends { OnOk result (sent.new.items ≡ sent.old.items ++ (after_work (node_seen self.old) work.now).1) }
+        ensures full { (result ≡ Err NoRoom) ↔ (NodeHasRoom (node_seen self.old) → ⊥) }
+        ensures bad { NodeHasRoom (node_seen self.old) →
+            ((result ≡ Err (Refused BadEvent)) ↔ (may_take (node_seen self.old) work.now ≡ false)) }
         ensures fault { IfErr result (λ fault.
             (fault ≡ NoRoom) ⊎ (fault ≡ Refused OutOfMemory) ⊎ (fault ≡ Refused BadEvent)) }
-        ensures err { OnErr result (node_of self.new ≡ node_of self.old) }
+        ensures err { OnErr result (node_seen self.new ≡ node_seen self.old) }
         ensures unsent { OnErr result (sent.new.items ≡ sent.old.items) }
     {
         if !self.has_room() {
@@ -287,12 +287,12 @@ impl<A: Allocator + Clone> NodeState<A> {
     /// `BadEvent` (F18): the node can't be given this now. `OutOfMemory` (F1): memory was refused.
     /// After either the node is as before.
     pub fn step(&mut self, work: &NodeWork) -> Result<Vec<Message>, Fault>
-        requires { NodeHasRoom (node_of self.old) }
-        ensures state { OnOk result (node_of self.new ≡ (after_work (node_of self.old) work.now).0) }
-        ensures sends { IfOk result (λ sent. sent.items ≡ (after_work (node_of self.old) work.now).1) }
-        ensures bad { (result ≡ Err BadEvent) ↔ (may_take (node_of self.old) work.now ≡ false) }
+        requires { NodeHasRoom (node_seen self.old) }
+        ensures state { OnOk result (node_seen self.new ≡ (after_work (node_seen self.old) work.now).0) }
+        ensures sends { IfOk result (λ sent. sent.items ≡ (after_work (node_seen self.old) work.now).1) }
+        ensures bad { (result ≡ Err BadEvent) ↔ (may_take (node_seen self.old) work.now ≡ false) }
         ensures fault { IfErr result (λ fault. (fault ≡ OutOfMemory) ⊎ (fault ≡ BadEvent)) }
-        ensures err { OnErr result (node_of self.new ≡ node_of self.old) }
+        ensures err { OnErr result (node_seen self.new ≡ node_seen self.old) }
     {
         let mut sent = Vec::new(self.alloc);
         self.step_into(work, &mut sent)?;
@@ -332,9 +332,9 @@ fn coordinator_step<A: Allocator + Clone>(
 ) -> Result<(), Fault>
     requires { HasNumbers (coordinator_of coordinator.old) }
     ensures state { OnOk result (coordinator_of coordinator.new ≡
-        (coordinator_after (coordinator_of coordinator.old) work.now).0) }
+        (coordinator_after_work (coordinator_of coordinator.old) work.now).0) }
     ensures sends { OnOk result (sent.new.items ≡
-        sent.old.items ++ (coordinator_after (coordinator_of coordinator.old) work.now).1) }
+        sent.old.items ++ (coordinator_after_work (coordinator_of coordinator.old) work.now).1) }
     ensures bad { (result ≡ Err BadEvent) ↔ (coordinator_may (coordinator_of coordinator.old) work.now ≡ false) }
     ensures fault { IfErr result (λ fault. (fault ≡ OutOfMemory) ⊎ (fault ≡ BadEvent)) }
     ensures err { OnErr result (coordinator.new ≡ coordinator.old) }
@@ -363,8 +363,8 @@ fn coordinator_step<A: Allocator + Clone>(
 /// A host's step.
 fn host_step(host: &mut Host, work: &NodeWork, sent: &mut Vec<Message>) -> Result<(), Fault>
     requires { HostHasRoom (host_of host.old) }
-    ensures state { OnOk result (host_of host.new ≡ (host_after (host_of host.old) work.now).0) }
-    ensures sends { OnOk result (sent.new.items ≡ sent.old.items ++ (host_after (host_of host.old) work.now).1) }
+    ensures state { OnOk result (host_of host.new ≡ (host_after_work (host_of host.old) work.now).0) }
+    ensures sends { OnOk result (sent.new.items ≡ sent.old.items ++ (host_after_work (host_of host.old) work.now).1) }
     ensures bad { (result ≡ Err BadEvent) ↔ (host_may (host_of host.old) work.now ≡ false) }
     ensures fault { IfErr result (λ fault. (fault ≡ OutOfMemory) ⊎ (fault ≡ BadEvent)) }
     ensures err { OnErr result (host_of host.new ≡ host_of host.old) }

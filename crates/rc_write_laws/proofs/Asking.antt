@@ -24,7 +24,7 @@ use Rattle.rc_model.specs.Headline.{In}
 use Rattle.rc_model.proofs.Members.{In-left, In-append, place_of}
 use Rattle.rc_step_laws.specs.Words.{log_in}
 use Rattle.rc_step_laws.proofs.Places.{IsOf, places_to-are, place-logged, places_to-same}
-use Rattle.rc_write_laws.specs.AckClaims.{is_ack_of, counted_places, WasAsked, IsAsked, AcknowledgedWasAsked}
+use Rattle.rc_write_laws.specs.AckClaims.{is_ack_of, counted_places, WasToldToWrite, IsAsked, AcknowledgedWasAsked}
 use Rattle.rc_write_laws.proofs.Walk.{IsKept, takes-kept, tick-kept}
 use Rattle.rc_log_laws.proofs.EachMaster.{IsKeptByAll, kept-replay}
 use Rattle.rc_write_laws.proofs.Counting.{added, places-appended, filter-in, counted-is-acknowledged}
@@ -101,10 +101,10 @@ module _ (Asked : Entry → Type 0) where
 -- A world
 
 abbrev EntryAsked : List Message → ServerId → Entry → Type 0
-EntryAsked sent m entry = WasAsked sent m entry.table entry.key entry.value
+EntryAsked sent m entry = WasToldToWrite sent m entry.table entry.key entry.value
 
 asked-more : (sent messages : List Message) (m : ServerId) (table key : ℕ) (value : Option (List ℕ)) →
-    WasAsked sent m table key value → WasAsked (sent ++ messages) m table key value
+    WasToldToWrite sent m table key value → WasToldToWrite (sent ++ messages) m table key value
 asked-more sent messages m table key value p =
     record { message = p.message; among = In-left p.message sent messages p.among; to = p.to; says = p.says }
 
@@ -203,8 +203,8 @@ acknowledged-was-asked setup events m ack acked = by (oks-of m (counted_places l
           (ap (slice_get (log_in log place.seg)) says.offset ∙ place-logged log place found);
       of_ack = record { term = sym says.term; table = sym says.table; key = sym says.key };
       version = sym says.version;
-      asked = subst (λ t. WasAsked (replay setup events).sent m t ack.key place.entry.value) (sym says.table)
-          (subst (λ k. WasAsked (replay setup events).sent m place.entry.table k place.entry.value) (sym says.key)
+      asked = subst (λ t. WasToldToWrite (replay setup events).sent m t ack.key place.entry.value) (sym says.table)
+          (subst (λ k. WasToldToWrite (replay setup events).sent m place.entry.table k place.entry.value) (sym says.key)
           (kept-replay setup ClientsAsked (clients-kept setup) events m place
           (In-from_take log.durable (places_of log) place among) client));
     }

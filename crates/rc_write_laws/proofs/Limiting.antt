@@ -10,14 +10,14 @@ use Rattle.rc_model.specs.Log.{head_of}
 use Rattle.rc_model.specs.Heads.{is_full}
 use Rattle.rc_model.specs.Master.{Master, appends_entry}
 use Rattle.rc_model.specs.MasterStep.{master_takes, master_ticks}
-use Rattle.rc_write_laws.specs.LimitClaims.{IsWithinLimits, LogsStayWithinLimits, SegmentsTakeWhatIsSetUp}
+use Rattle.rc_write_laws.specs.LimitClaims.{LogIsWithinLimits, LogsStayWithinLimits, SegmentsTakeWhatIsSetUp}
 use Rattle.rc_write_laws.proofs.Quiet.{limits-put}
 use Rattle.rc_write_laws.proofs.Walk.{IsKept, takes-kept, tick-kept}
 use Rattle.rc_log_laws.proofs.EachMaster.{IsKeptByAll, kept-replay}
 
 record Limits (old : Master) (after : Master × List Message) : Type 0 where
   size : after.0.log.size ≡ old.log.size
-  limits : IsWithinLimits old.log → IsWithinLimits after.0.log
+  limits : LogIsWithinLimits old.log → LogIsWithinLimits after.0.log
 
 limits-appends : (master : Master) (entry : Entry) (client : Bool) → is_full master.log ≡ false →
     Limits master (appends_entry master entry client)
@@ -48,7 +48,7 @@ limits-kept = record {
 
 record OfSetup (setup : Setup) (sent : List Message) (m : ServerId) (master : Master) : Type 0 where
   size : master.log.size ≡ setup.segment
-  limits : IsWithinLimits master.log
+  limits : LogIsWithinLimits master.log
 
 after-step : (setup : Setup) (sent sent_now : List Message) (m : ServerId) (master : Master)
     (after : Master × List Message) → OfSetup setup sent m master → Limits master after →

@@ -23,7 +23,7 @@ use Rattle.rc_model.specs.Log.{Log, places_in, places_to, places_of, with_segmen
 use Rattle.rc_model.specs.Heads.{opens_head, with_config}
 use Rattle.rc_model.specs.Heads.{stored, commit_noted, opens_change, refills, loses, with_freed}
 use Rattle.rc_model.specs.Master.{to_ids}
-use Rattle.rc_write_laws.specs.LimitClaims.{IsWithinLimits}
+use Rattle.rc_write_laws.specs.LimitClaims.{LogIsWithinLimits}
 use Rattle.rc_model.proofs.Tests.{true_false, either}
 use Rattle.rc_model.proofs.Tables.{put_each}
 use Rattle.rc_model.proofs.Sending.{Each, each-all}
@@ -77,7 +77,7 @@ pub record QuietLog (old new : Log) : Type 0 where
   pub factor : new.factor ≡ old.factor
   pub durable : new.durable ≡ old.durable
   pub size : new.size ≡ old.size
-  pub limits : IsWithinLimits old → IsWithinLimits new
+  pub limits : LogIsWithinLimits old → LogIsWithinLimits new
   pub places : places_of new ≡ places_of old
   pub head : old.head ≤ new.head
   -- shut is for good, and no further segment counts as one whose commit was asked
@@ -125,8 +125,8 @@ quiet-phase log phase = record {
 }
 
 -- a segment within its limits is put in
-pub limits-put : (log : Log) (seg : ℕ) (segment : Segment) → IsWithinLimits log → segment.config.epoch ≤ LAST_EPOCH →
-    length segment.entries ≤ log.size → IsWithinLimits (with_segment seg segment log)
+pub limits-put : (log : Log) (seg : ℕ) (segment : Segment) → LogIsWithinLimits log → segment.config.epoch ≤ LAST_EPOCH →
+    length segment.entries ≤ log.size → LogIsWithinLimits (with_segment seg segment log)
 limits-put log seg segment h epoch entries = record {
   head = h.head;
   epochs = put_each (λ k (one : Segment). one.config.epoch ≤ LAST_EPOCH) log.segments seg segment epoch h.epochs;

@@ -64,7 +64,7 @@ AcknowledgedOnce = (setup : Setup) (events : List Event) (m : ServerId) (s o : �
     length (filter (acks_place m s o) (sent_after setup events)) ≤ 1
 
 -- the write was asked of the master
-pub record WasAsked (sent : List Message) (m : ServerId) (table key : ℕ) (value : Option (List ℕ)) : Type 0 where
+pub record WasToldToWrite (sent : List Message) (m : ServerId) (table key : ℕ) (value : Option (List ℕ)) : Type 0 where
   pub message : Message
   pub among : In message sent
   pub to : message.to ≡ Server m
@@ -76,7 +76,7 @@ pub record IsAsked (sent : List Message) (m : ServerId) (log : Log) (ack : Ack) 
   pub stands : entry_in log ack.seg ack.offset ≡ Some entry
   pub of_ack : IsOfAck ack entry
   pub version : entry.version ≡ ack.version
-  pub asked : WasAsked sent m ack.table ack.key entry.value
+  pub asked : WasToldToWrite sent m ack.table ack.key entry.value
 
 abbrev pub AcknowledgedWasAsked : Type 0
 AcknowledgedWasAsked = (setup : Setup) (events : List Event) (m : ServerId) (ack : Ack) →

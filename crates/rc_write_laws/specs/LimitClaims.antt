@@ -8,13 +8,13 @@ use Rattle.rc_model.specs.Log.{Log}
 use Rattle.rc_log_laws.specs.WordClaims.{log_of}
 
 -- segments and epochs are numbered within their limits, and a segment has at most as many entries as it takes
-pub record IsWithinLimits (log : Log) : Type 0 where
+pub record LogIsWithinLimits (log : Log) : Type 0 where
   pub head : log.head ≤ LAST_SEGMENT
   pub epochs : (s : ℕ) → (log.segments s).config.epoch ≤ LAST_EPOCH
   pub entries : (s : ℕ) → length (log.segments s).entries ≤ log.size
 
 abbrev pub LogsStayWithinLimits : Type 0
-LogsStayWithinLimits = (setup : Setup) (events : List Event) (m : ServerId) → IsWithinLimits (log_of setup events m)
+LogsStayWithinLimits = (setup : Setup) (events : List Event) (m : ServerId) → LogIsWithinLimits (log_of setup events m)
 
 -- which is what the setup says
 abbrev pub SegmentsTakeWhatIsSetUp : Type 0

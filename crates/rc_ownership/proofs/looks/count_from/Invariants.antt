@@ -1,5 +1,5 @@
 use Rattle.std.proofs.Common.{◌≡◌, ◌≤◌, ◌+◌, ◌-◌, ◌^◌, length, drop, sum_by}
-use Rattle.rc_ownership.specs.Looks.{within_64_bits}
+use Rattle.rc_types.specs.Counts.{within_64_bits}
 use Rattle.rc_ownership.proofs.looks.count_from.Given as goal
 
 -- those of the rows so far, with those of the rows that are left

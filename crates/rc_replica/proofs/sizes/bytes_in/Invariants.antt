@@ -1,5 +1,6 @@
 use Rattle.std.proofs.Common.{◌≡◌, take}
-use Rattle.rc_replica.specs.Sizes.{value_bytes, within_64_bits}
+use Rattle.rc_types.specs.Counts.{within_64_bits}
+use Rattle.rc_replica.specs.Sizes.{value_bytes}
 use Rattle.rc_replica.proofs.sizes.bytes_in.Given as goal
 
 -- the bytes of the values so far

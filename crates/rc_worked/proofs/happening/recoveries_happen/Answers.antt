@@ -1,6 +1,6 @@
 use Rattle.std.proofs.Common.{ℕ, ◌≤◌, length, refl, arith}
 use Rattle.rc_worked.specs.Freeing.{freed}
-use Rattle.rc_worked.specs.Happening.{rolled_events, sent_in, freeing}
+use Rattle.rc_worked.specs.Happening.{rolled_events, sent_by_lines, freeing}
 use Rattle.rc_worked.proofs.Dropping.{first-dropped}
 use Rattle.rc_worked.proofs.happening.recoveries_happen.Goals as goal
 
@@ -45,4 +45,4 @@ pub returns-clause-freed_superseded : goal.returns-clause-freed_superseded
 returns-clause-freed_superseded c = refl
 
 pub returns-clause-freed_dropped : goal.returns-clause-freed_dropped
-returns-clause-freed_dropped c = first-dropped (sent_in freeing freed) refl refl
+returns-clause-freed_dropped c = first-dropped (sent_by_lines freeing freed) refl refl

@@ -1,5 +1,5 @@
 use Rattle.std.proofs.Common.{◌≡◌, ◌≤◌, ◌+◌, ◌-◌, ◌^◌}
-use Rattle.rc_replica.specs.Sizes.{within_64_bits}
+use Rattle.rc_types.specs.Counts.{within_64_bits}
 use Rattle.rc_backup.specs.Sizes.{count_entries}
 use Rattle.rc_backup.proofs.held.Held.count_entries.Given as goal
 

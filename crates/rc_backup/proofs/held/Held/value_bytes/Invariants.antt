@@ -1,5 +1,5 @@
 use Rattle.std.proofs.Common.{◌≡◌, ◌≤◌, ◌+◌, ◌-◌, ◌^◌}
-use Rattle.rc_replica.specs.Sizes.{within_64_bits}
+use Rattle.rc_types.specs.Counts.{within_64_bits}
 use Rattle.rc_backup.specs.Sizes.{value_bytes}
 use Rattle.rc_backup.proofs.held.Held.value_bytes.Given as goal
 

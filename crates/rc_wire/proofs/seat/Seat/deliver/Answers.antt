@@ -3,7 +3,7 @@ use Rattle.std.specs.List.{list_any}
 use Rattle.std.specs.Option.{IfSome}
 use Rattle.rc_types.specs.declared.messages.Message.{Message}
 use Rattle.rc_model.specs.World.{NodeName}
-use Rattle.rc_world.specs.NodeView.{node_of}
+use Rattle.rc_world.specs.NodeView.{node_seen}
 use Rattle.rc_world.specs.declared.work.NodeWork.TheVariants as work
 use Rattle.rc_wire.specs.declared.offer.Offer.{Offer}
 use Rattle.rc_wire.specs.SeatView.{SeatData, node_name, node_at}
@@ -17,7 +17,7 @@ use Rattle.rc_wire.proofs.seat.Seat.deliver.Goals as goal
 pub take-requires-clause-room : goal.take-requires-clause-room
 take-requires-clause-room g c =
     let f = c.self.inside in
-    idle-room g.N.Naming.wire.setup (seat_data f.name f.token f.held f.pending) f.token.node (node_of f.state) f.delivered.keys
+    idle-room g.N.Naming.wire.setup (seat_data f.name f.token f.held f.pending) f.token.node (node_seen f.state) f.delivered.keys
     c.self.invariant
     (ap (λ (s : SeatData). s.pending) c.self.view_is ∙ c.requires)
 
@@ -29,19 +29,19 @@ invariant_of-self-2 g c =
     let offer : Offer = c.in_ok-offer.offer in
     let o : IsOwn (node_name d) f.held c.in-Some.number =
     own-held (node_name d) f.held c.in-Some.number (sym c.own_number.ensures ∙ c.in-Some.is) in
-    let does : Does (node_of f.state) c.in-Some.number (work.Deliver o.message) offer (node_of c.take.new.state) =
-    subst (λ (h : Option (ℕ × Message)). IfSome h (λ x. Does (node_of f.state) x.0 (work.Deliver x.1) offer (node_of c.take.new.state)))
+    let does : Does (node_seen f.state) c.in-Some.number (work.Deliver o.message) offer (node_seen c.take.new.state) =
+    subst (λ (h : Option (ℕ × Message)). IfSome h (λ x. Does (node_seen f.state) x.0 (work.Deliver x.1) offer (node_seen c.take.new.state)))
     o.is c.in_ok-offer.ensures.does in
     let noted = λ (n : ℕ). c.note.ensures n ∙ ap (λ (keys : List ℕ). nat_eq n c.in-Some.number || list_any (nat_eq n) keys)
     c.reserve.ensures.keys in
-    let sound : SeatSound setup (seat_data f.name f.token None (Some offer)) f.token.node (node_of c.take.new.state)
+    let sound : SeatSound setup (seat_data f.name f.token None (Some offer)) f.token.node (node_seen c.take.new.state)
     c.note.new.delivered.keys =
-    sound-delivered setup d f.token.node (node_of f.state) (node_of c.take.new.state) f.delivered.keys c.note.new.delivered.keys
+    sound-delivered setup d f.token.node (node_seen f.state) (node_seen c.take.new.state) f.delivered.keys c.note.new.delivered.keys
     c.in-Some.number offer c.self.invariant (ap (λ (s : SeatData). s.pending) c.self.view_is ∙ c.requires) o does noted in
-    subst (λ (p : Option Offer). SeatSound setup (seat_data f.name f.token c.let_go.new.held p) f.token.node (node_of c.take.new.state)
+    subst (λ (p : Option Offer). SeatSound setup (seat_data f.name f.token c.let_go.new.held p) f.token.node (node_seen c.take.new.state)
     c.note.new.delivered.keys) (sym c.put.ensures)
-    (subst (λ (h : Option (ℕ × Message)). SeatSound setup (seat_data f.name f.token h (Some offer)) f.token.node (node_of c.take.new.state)
-    c.note.new.delivered.keys) (sym c.let_go.ensures) sound)
+    (subst (λ (h : Option (ℕ × Message)). SeatSound setup (seat_data f.name f.token h (Some offer)) f.token.node
+    (node_seen c.take.new.state) c.note.new.delivered.keys) (sym c.let_go.ensures) sound)
 
 pub returns-clause-ok : goal.returns-clause-ok
 returns-clause-ok g c =
@@ -49,21 +49,21 @@ returns-clause-ok g c =
     let setup = g.N.Naming.wire.setup in
     let now = c.args.self.now in
     let offer : Offer = c.in_ok-offer.offer in
-    let s : SeatSound setup now f.token.node (node_of f.state) f.delivered.keys =
-    subst (λ (d : SeatData). SeatSound setup d f.token.node (node_of f.state) f.delivered.keys) c.self.view_is c.self.invariant in
+    let s : SeatSound setup now f.token.node (node_seen f.state) f.delivered.keys =
+    subst (λ (d : SeatData). SeatSound setup d f.token.node (node_seen f.state) f.delivered.keys) c.self.view_is c.self.invariant in
     let same : f.held ≡ now.held = ap (λ (d : SeatData). d.held) c.self.view_is in
     let named : node_name (seat_data f.name f.token f.held f.pending) ≡ node_name now = ap node_name c.self.view_is in
     let o : IsOwn (node_name now) now.held c.in-Some.number =
     subst (λ (h : Option (ℕ × Message)). IsOwn (node_name now) h c.in-Some.number) same
     (own-held (node_name now) f.held c.in-Some.number
     (sym (c.own_number.ensures ∙ ap (λ (n : NodeName). own_number n f.held) named) ∙ c.in-Some.is)) in
-    let does : Does (node_of f.state) c.in-Some.number (work.Deliver o.message) offer (node_of c.take.new.state) =
-    subst (λ (h : Option (ℕ × Message)). IfSome h (λ x. Does (node_of f.state) x.0 (work.Deliver x.1) offer (node_of c.take.new.state)))
+    let does : Does (node_seen f.state) c.in-Some.number (work.Deliver o.message) offer (node_seen c.take.new.state) =
+    subst (λ (h : Option (ℕ × Message)). IfSome h (λ x. Does (node_seen f.state) x.0 (work.Deliver x.1) offer (node_seen c.take.new.state)))
     (same ∙ o.is) c.in_ok-offer.ensures.does in
-    let step = held-step setup now f.token.node (node_of f.state) (node_of c.take.new.state) f.delivered.keys c.in-Some.number offer s
+    let step = held-step setup now f.token.node (node_seen f.state) (node_seen c.take.new.state) f.delivered.keys c.in-Some.number offer s
     c.requires o does in
     subst (λ (h : Option (ℕ × Message)). Offers setup now (event_for (node_at setup now) now.held Fetched) None
     (seat_data f.name f.token h c.put.new.place)) (sym c.let_go.ensures)
     (offers-put setup f.name f.token f.held None f.pending c.put.new.place now offer (event_for (node_at setup now) now.held Fetched)
-    (node_of c.take.new.state) c.self.view_is c.put.ensures
+    (node_seen c.take.new.state) c.self.view_is c.put.ensures
     (ap (λ (h : Option (ℕ × Message)). event_for (node_at setup now) h Fetched) o.is ∙ sym (ap Some does.event)) step)
