@@ -139,13 +139,13 @@ impl Recoveries {
 
     /// Begins an attempt, which becomes the master's current one, and adds to those sent these
     /// messages and then a Gather to every server that is up. Only memory can be refused (F1), and
-    /// then nothing has changed.
+    /// then nothing has changed but the list of these messages.
     pub(crate) fn begin(
         &mut self,
         alloc: Global,
         servers: &ServerList,
         master: ServerId,
-        messages: Vec<Message>,
+        messages: &mut Vec<Message>,
         sent: &mut Vec<Message>,
     ) -> Result<(), Fault>
         requires { length self.old.attempts < 2 ^ 32 - 1 }
@@ -154,21 +154,20 @@ impl Recoveries {
             (length self.old.attempts + 1)) }
         ensures grants { self.new.grants ≡ self.old.grants }
         ensures sends { OnOk result (sent.new.items ≡ sent.old.items ++
-            (messages.items ++ to_each (up servers.now) (Gather (length self.old.attempts + 1) master))) }
+            (messages.old.items ++ to_each (up servers.now) (Gather (length self.old.attempts + 1) master))) }
         ensures err { OnErr result (self.new ≡ self.old) }
         ensures unsent { OnErr result (sent.new.items ≡ sent.old.items) }
         ensures no_memory { IfErr result (λ fault. fault ≡ OutOfMemory) }
     {
         let number = self.attempts.len() as u32 + 1;
-        let mut messages = messages;
-        notices::add_gathers(alloc, servers, number, master, &mut messages)?;
+        notices::add_gathers(alloc, servers, number, master, messages)?;
         self.attempts.reserve(1)?;
         self.asked.reserve(1)?;
         sent.reserve(messages.len())?;
         self.current.insert(master, number)?;
         self.attempts.push(Attempt::new(alloc, master)).unwrap();
         self.asked.push(number).unwrap();
-        sent.append(&mut messages).unwrap();
+        sent.append(messages).unwrap();
         Ok(())
     }
 
