@@ -8,17 +8,12 @@ use Rattle.std.proofs.lemmas.Bool.Decides.{nat_tests}
 use Rattle.std.proofs.lemmas.Option.{slice_get_within, slice_get-get_or, none-some, same_Some}
 use Rattle.std.proofs.lemmas.List.{length-append}
 use Rattle.std.proofs.lemmas.List.Folds.{list_any-append}
-use Rattle.rc_types.specs.declared.ids.ServerId.{ServerId}
-use Rattle.rc_types.specs.declared.kept.Grant.{Grant}
-use Rattle.rc_types.specs.declared.rows.Row.{Row}
-use Rattle.rc_model.specs.Ids.{same_id}
-use Rattle.rc_model.specs.ServerList.{up}
-use Rattle.rc_model.specs.Attempts.{GivenPart, Decision, Attempt, new_attempt, is_undecided, is_gathering, parts_of, plan_messages}
-use Rattle.rc_model.specs.Coordinator.{Coordinator, attempt_at}
-use Rattle.rc_model.specs.Deciding.{is_current, with_answer}
-use Rattle.rc_model.specs.CoordinatorStep.{is_granted_term, asks_again, asks_again_of}
+use Rattle.rc_model.specs.Model.{ServerId, Grant, Row, same_id, up, GivenPart, Decision, Attempt, new_attempt, is_undecided, is_gathering}
+use Rattle.rc_model.specs.Model.{parts_of, plan_messages, attempt_at, is_current, with_answer, is_granted_term, asks_again, asks_again_of}
+use Rattle.rc_model.specs.Coordinator.{Coordinator}
 use Rattle.rc_model.specs.CoordinatorStep as step
-use Rattle.rc_coordinator.specs.Recovering.{Recovering, number_of, attempt_of, is_granted}
+use Rattle.rc_attempts.specs.Lookups.{number_of, attempt_of}
+use Rattle.rc_coordinator.specs.Recovering.{Recovering, is_granted}
 use Rattle.rc_coordinator.specs.Asked.{has_open_part, is_open, waits, waits_at, asks_of, asks_of_all, IsIn, AllAbove, AreRising, AreAsked}
 
 abbrev pub Current : Type 0

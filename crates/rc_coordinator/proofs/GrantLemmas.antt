@@ -4,8 +4,7 @@ use Rattle.std.proofs.Common.{None, Option, refl, sym, ap, ◌∙◌}
 use Rattle.std.specs.List.{list_any}
 use Rattle.std.specs.Option.{option_or}
 use Rattle.std.proofs.lemmas.List.Folds.{find-append, list_any-append}
-use Rattle.rc_types.specs.declared.kept.Grant.{Grant}
-use Rattle.rc_model.specs.Deciding.{is_grant_to}
+use Rattle.rc_model.specs.Model.{Grant, is_grant_to}
 use Rattle.rc_coordinator.specs.declared.grants.Claim.{Claim}
 use Rattle.rc_coordinator.specs.Grants.{same_claim, claim_of}
 

@@ -7,11 +7,7 @@ use Rattle.std.proofs.lemmas.Bool.{ltb-true, ltb-false}
 use Rattle.std.proofs.lemmas.List.{length-append, append-nil}
 use Rattle.std.proofs.lemmas.Option.{none-some, same_Some, slice_get-get_or}
 use Rattle.indexmap.specs.IndexMap.{insert_entry}
-use Rattle.rc_types.specs.declared.ids.ServerId.{ServerId}
-use Rattle.rc_types.specs.declared.kept.Grant.{Grant}
-use Rattle.rc_model.specs.Ids.{same_id}
-use Rattle.rc_model.specs.ServerList.{ServerList, knows, first_rows, from_rows}
-use Rattle.rc_model.specs.Attempts.{Attempt}
+use Rattle.rc_model.specs.Model.{ServerId, Grant, same_id, ServerList, knows, first_rows, from_rows, Attempt}
 use Rattle.rc_model.proofs.Ids.{same_id-true, same_id-refl}
 use Rattle.rc_coordinator.specs.Asked.{IsIn, AreAsked, AreUpTo}
 use Rattle.rc_coordinator.proofs.AskedLemmas.{attempt_of-there, AreRising-append, IsIn-append, IsIn-last, IsIn-from_append}

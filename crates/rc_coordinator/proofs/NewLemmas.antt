@@ -1,13 +1,8 @@
 -- A coordinator before anything has happened.
 use Rattle.std.proofs.Common.{◌≡◌, ℕ, Bool, false, List, [], ap, ◌∙◌}
 use Rattle.std.proofs.Math.Path.{fun_ext}
-use Rattle.rc_types.specs.declared.ids.ServerId.{ServerId}
-use Rattle.rc_types.specs.declared.ids.Pair.{Pair}
-use Rattle.rc_types.specs.declared.rows.Tablet.{Tablet}
-use Rattle.rc_types.specs.declared.kept.Grant.{Grant}
-use Rattle.rc_model.specs.ServerList.{ServerList, no_servers}
-use Rattle.rc_model.specs.Attempts.{Attempt}
-use Rattle.rc_model.specs.Coordinator.{Coordinator, new_coordinator}
+use Rattle.rc_model.specs.Model.{ServerId, Pair, Tablet, Grant, ServerList, no_servers, Attempt, new_coordinator}
+use Rattle.rc_model.specs.Coordinator.{Coordinator}
 
 abbrev pub coordinator_with : ServerList → (ServerId → Bool) → List Tablet → (ServerId → Pair) → List Attempt →
     (ServerId → ℕ) → List Grant → Coordinator

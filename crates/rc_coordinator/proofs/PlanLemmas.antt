@@ -1,8 +1,6 @@
 -- The parts of a recovery, given in turn.
 use Rattle.std.proofs.Common.{◌≡◌, ℕ, ◌+◌, ◌%◌, List, [], ◌∷◌, ◌++◌, length, slice_get, Some, append_assoc, sym, ap, ◌∙◌}
-use Rattle.rc_types.specs.declared.ids.ServerId.{ServerId}
-use Rattle.rc_types.specs.declared.rows.Tablet.{Tablet}
-use Rattle.rc_model.specs.Attempts.{GivenPart, part_of, gives_parts, given_to}
+use Rattle.rc_model.specs.Model.{ServerId, Tablet, GivenPart, part_of, gives_parts, given_to}
 
 -- a tablet is given next
 pub given-next : (ids : List ServerId) (place term next_place next_term : ℕ) (parts now : List GivenPart)

@@ -1,18 +1,12 @@
 -- The rules of the coordinator, case by case.
 use Rattle.std.proofs.Common.{◌≡◌, ℕ, ◌+◌, ◌-◌, ◌<◌, ◌≤◌, Bool, true, false, cond, nat_eq, nat_lt, ◌&&◌, List, [], ◌∷◌}
-use Rattle.std.proofs.Common.{◌++◌, length, get_or, slice_get, Some, None, sym, ap, ◌∙◌, arith}
+use Rattle.std.proofs.Common.{◌++◌, length, get_or, slice_get, Option, Some, None, refl, sym, ap, ◌∙◌, arith}
 use Rattle.std.proofs.lemmas.Bool.Decides.{nat_tests}
 use Rattle.std.proofs.lemmas.Option.{slice_get-get_or}
-use Rattle.rc_types.specs.declared.ids.ServerId.{ServerId}
-use Rattle.rc_types.specs.declared.messages.Message.{Message}
-use Rattle.rc_types.specs.declared.messages.Body.TheVariants.{Gather}
-use Rattle.rc_model.specs.Tables.{put_id}
-use Rattle.rc_model.specs.Messages.{to_each}
-use Rattle.rc_model.specs.ServerList.{ServerList, has_crashed, up}
-use Rattle.rc_model.specs.Tablets.{marked_crashed}
-use Rattle.rc_model.specs.Attempts.{Attempt, new_attempt}
-use Rattle.rc_model.specs.Coordinator.{Coordinator, spreads_list, has_tablets, begins_attempt, begins_if_needed}
-use Rattle.rc_model.specs.Coordinator.{spreads_then_begins, attempt_at}
+use Rattle.rc_model.specs.Model.{ServerId, Message, Gather, put_id, to_each, ServerList, has_crashed, up, marked_crashed, Attempt}
+use Rattle.rc_model.specs.Model.{new_attempt, spreads_list, has_tablets, begins_attempt, begins_if_needed, spreads_then_begins}
+use Rattle.rc_model.specs.Model.{attempt_at, part_in, part_if_current}
+use Rattle.rc_model.specs.Coordinator.{Coordinator}
 use Rattle.rc_coordinator.proofs.TabletLemmas.{tablets_of-marked}
 
 -- with a new list, in which an id has crashed
@@ -51,6 +45,13 @@ follows-beginning c servers gone e =
     let begun : begins_if_needed after gone ≡ begins_attempt after gone =
     ap (λ b. cond b (begins_attempt after gone) (after, [])) (begins-gone c servers gone true e) in
     ap (λ (r : Coordinator × List Message). (r.0, spreads_list servers ++ r.1)) begun
+
+-- a part of a sender goes by the attempts and the current numbers alone
+pub part-by_numbers : (c one : Coordinator) → c.current ≡ one.current → (id : ServerId) (number term : ℕ)
+    (found : Option Attempt) → part_if_current c id number term found ≡ part_if_current one id number term found
+part-by_numbers c one same id number term None = refl
+part-by_numbers c one same id number term (Some attempt) =
+    ap (λ f. cond (nat_eq (f attempt.master) number) (part_in id term attempt.decided) None) same
 
 -- there is an attempt of each number from 1 to their count
 pub attempt-there : (c : Coordinator) (number : ℕ) → 0 < number → number ≤ length c.attempts →

@@ -1,15 +1,11 @@
--- Maps and sets as tables.
+-- Maps as tables.
 use Rattle.std.proofs.Common.{◌≡◌, ℕ, Bool, true, false, cond, Option, Some, unwrap_or, refl, ap, ◌∙◌}
 use Rattle.std.proofs.Math.Path.{fun_ext}
 use Rattle.std.specs.declared.hash.FoldHasher.{FoldHasher}
 use Rattle.std.specs.declared.hash.BuildHasherDefault.{BuildHasherDefault}
 use Rattle.indexmap.specs.IndexMap.{IndexMap, get, Updates}
-use Rattle.rc_types.specs.declared.ids.ServerId.{ServerId}
-use Rattle.rc_model.specs.Ids.{same_id}
-use Rattle.rc_model.specs.Tables.{put_id}
-use Rattle.rc_types.specs.declared.ids.Pair.{Pair}
-use Rattle.rc_coordinator.specs.Numbers.{pair_in}
-use Rattle.rc_coordinator.specs.Recovering.{number_of}
+use Rattle.rc_model.specs.Model.{ServerId, same_id, put_id}
+use Rattle.rc_attempts.specs.Lookups.{number_of}
 
 abbrev pub Numbers : Type 0
 Numbers = IndexMap ServerId ℕ (BuildHasherDefault FoldHasher)
@@ -29,17 +25,3 @@ pub number_of-inserted : (old new : Numbers) (master : ServerId) (number : ℕ) 
     Updates same_id old new master (Some number) →
     number_of new.entries ≡ put_id (number_of old.entries) master number
 number_of-inserted old new master number updates = fun_ext (number_of-updated old new master number updates)
-
-abbrev pub Pairs : Type 0
-Pairs = IndexMap ServerId Pair (BuildHasherDefault FoldHasher)
-
-pub pair_in-inserted : (old new : Pairs) (master : ServerId) (pair : Pair) →
-    Updates same_id old new master (Some pair) → pair_in new ≡ put_id (pair_in old) master pair
-pair_in-inserted old new master pair updates =
-    fun_ext (λ other. ap (λ o. unwrap_or o (record { seg = 0; epoch = 0 })) (updates.0 other) ∙
-    by (same_id master other) (get same_id old other))
-  where
-    by : (b : Bool) (o : Option Pair) → unwrap_or (cond b (Some pair) o) (record { seg = 0; epoch = 0 }) ≡ cond b pair
-        (unwrap_or o (record { seg = 0; epoch = 0 }))
-    by true o = refl
-    by false o = refl

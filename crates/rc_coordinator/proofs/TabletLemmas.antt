@@ -1,24 +1,6 @@
 -- Lists of tablets, and why one isn't changed.
-use Rattle.std.proofs.Common.{◌≡◌, suc, ◌≤◌, Bool, true, false, cond, ◌||◌, List, []}
-use Rattle.std.proofs.Common.{◌∷◌, length, refl, ap, ◌∙◌, arith}
-use Rattle.rc_types.specs.declared.ids.ServerId.{ServerId}
-use Rattle.rc_types.specs.declared.rows.Tablet.{Tablet}
-use Rattle.rc_types.specs.declared.rows.Row.{Row}
-use Rattle.rc_model.specs.Ids.{same_id}
-use Rattle.rc_model.specs.Tablets.{tablets_of, marked_crashed}
-use Rattle.rc_model.specs.Attempts.{has_answered}
-use Rattle.std.specs.List.{list_any}
-
--- some answer is of the backup
-pub any-has_answered : (id : ServerId) (replies : List (ServerId × List Row)) →
-    list_any (λ reply. same_id id reply.0) replies ≡ has_answered id replies
-any-has_answered id [] = refl
-any-has_answered id (reply ∷ replies) = by (same_id id reply.0) (any-has_answered id replies)
-  where
-    by : (b : Bool) → list_any (λ r. same_id id r.0) replies ≡ has_answered id replies →
-        (b || list_any (λ r. same_id id r.0) replies) ≡ cond b true (has_answered id replies)
-    by true rest = refl
-    by false rest = rest
+use Rattle.std.proofs.Common.{◌≡◌, suc, ◌≤◌, Bool, true, false, cond, List, [], ◌∷◌, length, refl, ap, ◌∙◌, arith}
+use Rattle.rc_model.specs.Model.{ServerId, Tablet, same_id, tablets_of, marked_crashed}
 
 -- marking takes no tablet from its owner
 pub tablets_of-marked : (owner : ServerId) (tablets : List Tablet) →

@@ -9,7 +9,8 @@ use Rattle.rc_model.specs.Attempts.{GivenPart, Decision, Attempt}
 use Rattle.rc_model.specs.Coordinator.{Coordinator, attempt_at}
 use Rattle.rc_model.specs.Deciding.{is_current}
 use Rattle.rc_model.specs.CoordinatorStep.{asks_again}
-use Rattle.rc_coordinator.specs.Recovering.{number_of, attempt_of, is_granted}
+use Rattle.rc_attempts.specs.Lookups.{number_of, attempt_of}
+use Rattle.rc_coordinator.specs.Recovering.{is_granted}
 
 -- one of these parts isn't granted
 abbrev pub has_open_part : List Grant → List GivenPart → Bool

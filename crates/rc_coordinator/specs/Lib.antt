@@ -1,5 +1,4 @@
 pub mod Book
-pub mod Numbers
 pub mod View
 pub mod Steps
 pub mod Grants

@@ -2,10 +2,9 @@
 use Rattle.indexmap.specs.IndexSet.{contains}
 use Rattle.rc_model.specs.Ids.{same_id}
 use Rattle.rc_model.specs.Coordinator.{Coordinator as Node}
+use Rattle.rc_attempts.specs.Lookups.{pair_in, number_of}
 use Rattle.rc_coordinator.specs.declared.state.State.{State}
 use Rattle.rc_coordinator.specs.Book.{Book}
-use Rattle.rc_coordinator.specs.Numbers.{pair_in}
-use Rattle.rc_coordinator.specs.Recovering.{number_of}
 
 abbrev pub state_view : {A : _} → State A → Node
 state_view c =

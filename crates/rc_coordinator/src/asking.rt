@@ -9,9 +9,9 @@ ghost use Rattle.rc_coordinator.specs.View.{book_of, state_view};
 ghost use Rattle.rc_coordinator.specs.Steps.{HasNumbers};
 ghost use Rattle.rc_coordinator.specs.Asked.{asks_of, asks_of_all};
 
-use crate::attempts::{Attempt, Decision};
 use crate::state::State;
 use crate::{notices, plans};
+use rc_attempts::{Attempt, Decision};
 use rc_types::{Fault, Message, ServerId};
 use std::alloc::Allocator;
 

@@ -9,11 +9,11 @@ ghost use Rattle.rc_coordinator.specs.Book.{IsBook, coordinator_of};
 ghost use Rattle.rc_coordinator.specs.Steps.{steps, HasNumbers};
 ghost use Rattle.rc_coordinator.specs.declared.lists.ListsFault.TheVariants.{NoCoordinator};
 
-use crate::attempts::Attempt;
 use crate::lists::{Lists, ListsFault};
 use crate::making;
 use crate::state::State;
 use indexmap::{IndexMap, IndexSet};
+use rc_attempts::Attempt;
 use rc_serverlist::ServerList;
 use rc_types::{Fault, Grant, Input, Message, Pair, ServerId, Tablet};
 use std::alloc::{Allocator, Global};

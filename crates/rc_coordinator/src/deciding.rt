@@ -11,10 +11,11 @@ ghost use Rattle.rc_model.specs.Deciding.{keeps_answer, decides, decides_on, rea
 ghost use Rattle.rc_coordinator.specs.View.{book_of, state_view};
 ghost use Rattle.rc_coordinator.specs.Steps.{HasNumbers};
 
-use crate::attempts::{Decision, GivenPart};
+use crate::notices;
 use crate::plans::{self, Choice};
 use crate::state::State;
-use crate::{least, notices};
+use rc_attempts::least::least_of;
+use rc_attempts::{Decision, GivenPart};
 use rc_digestpick::pick;
 use rc_types::{Fault, Message, Row, Seq, ServerId, TryClone};
 use std::alloc::Allocator;
@@ -97,7 +98,7 @@ impl<A: Allocator + Clone> State<A> {
         if !attempt.is_gathering() {
             return Err(Fault::StaleAttempt);
         }
-        let least = least::least_of(&self.least, master);
+        let least = least_of(&self.least, master);
         let plan = pick(self.alloc, least, attempt.replies())?;
         let ids = self.ready_ids()?;
         if ids.is_empty() {
@@ -108,7 +109,7 @@ impl<A: Allocator + Clone> State<A> {
         Ok(Choice {
             number,
             master,
-            decision: Decision { plan, parts },
+            decision: Decision::new(plan, parts),
             ids,
         })
     }

@@ -1,6 +1,6 @@
 //! Who is up: what the coordinator does when a server enlists, is ready, or is suspected.
 
-ghost use Rattle.std.specs.Prelude.{◌≡◌, ◌++◌, ◌&&◌, None, IfOk, OnOk, OnErr, IfErr};
+ghost use Rattle.std.specs.Prelude.{◌≡◌, ◌++◌, ◌&&◌, nat_eq, find, None, IfOk, OnOk, OnErr, IfErr};
 ghost use Rattle.rc_types.specs.declared.faults.Fault.TheVariants.{OutOfMemory};
 ghost use Rattle.rc_model.specs.ServerList.{has_crashed};
 ghost use Rattle.rc_model.specs.Tablets.{marked_crashed};
@@ -48,7 +48,7 @@ impl<A: Allocator + Clone> State<A> {
         ensures no_memory { IfErr result (λ fault. fault ≡ OutOfMemory) }
     {
         let ids = self.servers.up(self.alloc)?;
-        Ok(ids.iter().copied().find(|id| id.index == index))
+        Ok(of_host(&ids, index))
     }
 
     /// Takes a new list, and spreads it.
@@ -95,7 +95,7 @@ impl<A: Allocator + Clone> State<A> {
             return Ok(());
         }
         self.recoveries
-            .begin(self.alloc, &servers, gone, messages, sent)?;
+            .begin(self.alloc, &servers, gone, &mut messages, sent)?;
         self.servers = servers;
         self.tablets.mark_crashed(gone);
         Ok(())
@@ -165,10 +165,22 @@ impl<A: Allocator + Clone> State<A> {
         ensures no_memory { IfErr result (λ fault. fault ≡ OutOfMemory) }
     {
         if self.servers.has_crashed(id) && self.has_tablets(id)? {
-            let messages = Vec::new(self.alloc);
+            let mut messages = Vec::new(self.alloc);
             self.recoveries
-                .begin(self.alloc, &self.servers, id, messages, sent)?;
+                .begin(self.alloc, &self.servers, id, &mut messages, sent)?;
         }
         Ok(())
     }
+}
+
+/// The first of these ids that is of this host.
+fn of_host(ids: &[ServerId], index: u8) -> Option<ServerId>
+    ensures { result ≡ find (λ id. nat_eq id.index index) ids.now }
+{
+    for id in ids {
+        if id.index == index {
+            return Some(*id);
+        }
+    }
+    None
 }

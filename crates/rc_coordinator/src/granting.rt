@@ -11,7 +11,8 @@ ghost use Rattle.rc_coordinator.specs.View.{book_of, state_view};
 ghost use Rattle.rc_coordinator.specs.Steps.{creates_unless_full, HasNumbers};
 
 use crate::state::State;
-use crate::{grants, least, notices};
+use crate::{grants, notices};
+use rc_attempts::least::raise_if_up;
 use rc_types::{Fault, Message, Pair, Part, ServerId};
 use std::alloc::Allocator;
 
@@ -30,12 +31,11 @@ impl<A: Allocator + Clone> State<A> {
         ensures unsent { OnErr result (sent.new.items ≡ sent.old.items) }
         ensures no_memory { IfErr result (λ fault. fault ≡ OutOfMemory) }
     {
-        if !self.servers.is_up(id) {
-            sent.push(notices::refusal_to(id, Fault::Deposed))?;
+        sent.reserve(1)?;
+        if !raise_if_up(&mut self.least, &self.servers, id, pair)? {
+            sent.push(notices::refusal_to(id, Fault::Deposed)).unwrap();
             return Ok(());
         }
-        sent.reserve(1)?;
-        least::raise(&mut self.least, id, pair)?;
         sent.push(notices::commit_ok(id, pair)).unwrap();
         Ok(())
     }
@@ -165,13 +165,7 @@ impl<A: Allocator + Clone> State<A> {
     fn part_of_sender(&self, id: ServerId, number: u32, term: u32) -> Option<Part>
         ensures { result ≡ part_of_sender (state_view self.now) id number term }
     {
-        let Some(attempt) = self.recoveries.attempt(number) else {
-            return None;
-        };
-        if self.recoveries.current_number(attempt.master()) != number {
-            return None;
-        }
-        attempt.part_in(id, term)
+        self.recoveries.part_of_sender(id, number, term)
     }
 
     /// Grants a part to the recovery master that has recovered it.

@@ -5,18 +5,16 @@
 //!
 //! To be read in this order: `coordinator`, the calls; `state`, which input is taken how; the rules by topic:
 //! `enlisting`, who is up; `deciding`, which log is chosen; `granting`, who owns what; `asking`, what the timer asks
-//! for again; `recoveries` with `attempts`, what is remembered of recoveries; `plans`, which tablet goes to whom;
-//! `grants`; `least`; `notices`, all other messages; `lists` and `making`, a coordinator of a save.
+//! for again; `recoveries`, what is remembered of recoveries; `plans`, which tablet goes to whom; `grants`; `notices`,
+//! all other messages; `lists` and `making`, a coordinator of a save. Attempts and least pairs are in `rc_attempts`.
 #![tactic(auto)]
 
 mod asking;
-mod attempts;
 mod coordinator;
 mod deciding;
 mod enlisting;
 mod granting;
 mod grants;
-mod least;
 mod lists;
 mod making;
 mod notices;
@@ -24,6 +22,6 @@ mod plans;
 mod recoveries;
 mod state;
 
-pub use attempts::{Attempt, Decision, GivenPart};
 pub use coordinator::Coordinator;
 pub use lists::{Lists, ListsFault};
+pub use rc_attempts::{Attempt, Decision, GivenPart};

@@ -2,7 +2,7 @@
 
 ghost use Rattle.std.specs.Prelude.{◌≡◌};
 
-use crate::attempts::Attempt;
+use rc_attempts::Attempt;
 use rc_types::{Grant, Pair, Seq, ServerId, Tablet};
 use std::alloc::{AllocError, AllocFailed};
 use std::fmt;

@@ -1,7 +1,7 @@
 //! A coordinator's state made of lists: its tables, its tree and its attempts, each where the lists are such as a
 //! coordinator has.
 
-ghost use Rattle.std.specs.Prelude.{◌≡◌, ◌^◌, ◌<◌, length, IfOk, IfErr};
+ghost use Rattle.std.specs.Prelude.{◌≡◌, ◌⊎◌, ◌^◌, ◌<◌, length, Ok, Err, IfOk, IfErr};
 ghost use Rattle.std.specs.List.{IsDistinct};
 ghost use Rattle.std.specs.Map.{keys_of};
 ghost use Rattle.rc_model.specs.Ids.{same_id};
@@ -10,15 +10,23 @@ ghost use Rattle.rc_coordinator.specs.Book.{IsBook};
 ghost use Rattle.rc_coordinator.specs.View.{book_of};
 ghost use Rattle.rc_coordinator.specs.declared.lists.ListsFault.TheVariants.{NoCoordinator};
 
-use crate::attempts::Attempt;
 use crate::lists::{Lists, ListsFault};
 use crate::recoveries::Recoveries;
 use crate::state::State;
 use indexmap::{IndexMap, IndexSet};
+use rc_attempts::Attempt;
 use rc_rangetree::{RangeTree, are_tablets};
 use rc_serverlist::ServerList;
 use rc_types::{Grant, Pair, ServerId, Tablet};
 use std::alloc::{Allocator, Global};
+
+/// The servers, who is ready, and the least pairs.
+#[derive(Drop)]
+struct Tables {
+    servers: ServerList,
+    ready: IndexSet<ServerId>,
+    least: IndexMap<ServerId, Pair>,
+}
 
 /// The state of these lists, where a coordinator has them.
 pub(crate) fn state_of<A: Allocator + Clone>(
@@ -40,32 +48,56 @@ pub(crate) fn state_of<A: Allocator + Clone>(
         grants,
         last_term,
     } = lists;
-    let servers = match servers_of(alloc, version, rows.as_slice()) {
-        Ok(servers) => servers,
-        Err(fault) => return Err(fault),
-    };
-    let (ready, least) = match tables_of(alloc, ready.as_slice(), least.as_slice()) {
+    let tables = tables_of(
+        alloc,
+        version,
+        rows.as_slice(),
+        ready.as_slice(),
+        least.as_slice(),
+    );
+    let tree = tree_of(tablets_alloc, tablets.as_slice());
+    let current = current.as_slice();
+    let recoveries = recoveries_of(alloc, attempts.into_vec(), current, grants.as_slice());
+    joined(alloc, tables, tree, recoveries, last_term)
+}
+
+/// The state of these parts, where there are all, and else why one isn't there.
+fn joined<A: Allocator + Clone>(
+    alloc: Global,
+    tables: Result<Tables, ListsFault>,
+    tree: Result<RangeTree<A>, ListsFault>,
+    recoveries: Result<Recoveries, ListsFault>,
+    last_term: u32,
+) -> Result<State<A>, ListsFault>
+    ensures ok { IfOk result (λ state. (tree ≡ Ok state.tablets) × (recoveries ≡ Ok state.recoveries) ×
+        (tables ≡ Ok (record { servers = state.servers; ready = state.ready; least = state.least })) ×
+        (state.last_term ≡ last_term)) }
+    ensures refused { IfErr result (λ fault. (tables ≡ Err fault) ⊎ (tree ≡ Err fault) ⊎ (recoveries ≡ Err fault)) }
+{
+    let Tables {
+        servers,
+        ready,
+        least,
+    } = match tables {
         Ok(tables) => tables,
         Err(fault) => return Err(fault),
     };
-    let tablets = match tree_of(tablets_alloc, tablets.as_slice()) {
-        Ok(tablets) => tablets,
+    let tablets = match tree {
+        Ok(tree) => tree,
         Err(fault) => return Err(fault),
     };
-    let current = current.as_slice();
-    let recoveries = match recoveries_of(alloc, attempts.into_vec(), current, grants.as_slice()) {
-        Ok(recoveries) => recoveries,
-        Err(fault) => return Err(fault),
-    };
-    Ok(State {
-        alloc,
-        servers,
-        ready,
-        tablets,
-        least,
-        recoveries,
-        last_term,
-    })
+    match recoveries {
+        Ok(recoveries) => Ok(State {
+            alloc,
+            servers,
+            ready,
+            tablets,
+            least,
+            recoveries,
+            last_term,
+        }),
+        Err(fault) => Err(fault),
+    }
 }
 
 /// The list of servers with these rows, where no id stands there twice.
@@ -161,23 +193,34 @@ fn recoveries_of(
     }
 }
 
-/// The set of who is ready, and the least pairs, where no id stands twice in either.
+/// The tables of ids, where no id stands twice in one of them.
 fn tables_of(
     alloc: Global,
+    version: u32,
+    rows: &[(ServerId, bool)],
     ready: &[ServerId],
     least: &[(ServerId, Pair)],
-) -> Result<(IndexSet<ServerId>, IndexMap<ServerId, Pair>), ListsFault>
-    ensures ready { IfOk result (λ made. made.0.keys ≡ ready.now) }
-    ensures least { IfOk result (λ made. made.1.entries ≡ least.now) }
-    ensures refused { IfErr result (λ fault. fault ≡ NoCoordinator → IsDistinct same_id ready.now →
-        IsDistinct same_id (keys_of least.now) → ⊥) }
+) -> Result<Tables, ListsFault>
+    ensures servers { IfOk result (λ made. made.servers ≡ record { version = version; rows = rows.now }) }
+    ensures ready { IfOk result (λ made. made.ready.keys ≡ ready.now) }
+    ensures least { IfOk result (λ made. made.least.entries ≡ least.now) }
+    ensures refused { IfErr result (λ fault. fault ≡ NoCoordinator → IsDistinct same_id (keys_of rows.now) →
+        IsDistinct same_id ready.now → IsDistinct same_id (keys_of least.now) → ⊥) }
 {
+    let servers = match servers_of(alloc, version, rows) {
+        Ok(servers) => servers,
+        Err(fault) => return Err(fault),
+    };
     let ready = match set_of(alloc, ready) {
         Ok(ready) => ready,
         Err(fault) => return Err(fault),
     };
     match map_of(alloc, least) {
-        Ok(least) => Ok((ready, least)),
+        Ok(least) => Ok(Tables {
+            servers,
+            ready,
+            least,
+        }),
         Err(fault) => Err(fault),
     }
 }

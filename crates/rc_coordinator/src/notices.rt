@@ -9,7 +9,7 @@ ghost use Rattle.rc_model.specs.Attempts.{has_answered};
 ghost use Rattle.rc_model.specs.Coordinator.{spreads_list, refuses_server};
 ghost use Rattle.rc_model.specs.Deciding.{own_body};
 
-use crate::attempts::Attempt;
+use rc_attempts::Attempt;
 use rc_serverlist::ServerList;
 use rc_types::{Addr, Body, Fault, Grant, Message, Pair, Seq, ServerId};
 use std::alloc::Global;

@@ -6,8 +6,8 @@ ghost use Rattle.rc_types.specs.declared.messages.Body.TheVariants.{Plan as Plan
 ghost use Rattle.rc_model.specs.Messages.{from_coordinator};
 ghost use Rattle.rc_model.specs.Attempts.{part_of, gives_parts, parts_of, plan_messages};
 
-use crate::attempts::{Decision, GivenPart};
 use crate::notices;
+use rc_attempts::{Decision, GivenPart};
 use rc_types::{Body, Fault, Message, Part, Plan, Seq, ServerId, Tablet, TryClone};
 use std::alloc::Global;
 
@@ -111,9 +111,9 @@ pub(crate) fn plan_messages(
 {
     let mut messages = Vec::new(alloc);
     for id in ids {
-        let parts = parts_of(alloc, *id, &decision.parts)?;
+        let parts = parts_of(alloc, *id, decision.parts())?;
         if !parts.is_empty() {
-            messages.push(plan_to(alloc, number, master, &decision.plan, *id, parts)?)?;
+            messages.push(plan_to(alloc, number, master, decision.plan(), *id, parts)?)?;
         }
     }
     Ok(messages)

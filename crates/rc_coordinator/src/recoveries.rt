@@ -9,16 +9,18 @@ ghost use Rattle.rc_model.specs.Tables.{put_id};
 ghost use Rattle.rc_model.specs.Messages.{to_each};
 ghost use Rattle.rc_model.specs.ServerList.{up};
 ghost use Rattle.rc_model.specs.Attempts.{Attempt as Attempted, new_attempt, is_gathering};
-ghost use Rattle.rc_model.specs.Deciding.{is_grant_to, with_answer};
-ghost use Rattle.rc_coordinator.specs.Recovering.{number_of, attempt_of, is_granted};
+ghost use Rattle.rc_model.specs.Deciding.{is_grant_to, with_answer, part_of_sender};
+ghost use Rattle.rc_attempts.specs.Lookups.{number_of, attempt_of, knowing};
+ghost use Rattle.rc_coordinator.specs.Recovering.{is_granted};
 ghost use Rattle.rc_coordinator.specs.Asked.{AreAsked, AreUpTo, is_open, has_open_part, waits_at};
 
-use crate::attempts::{Attempt, Decision, GivenPart};
 use crate::grants::Grants;
 use crate::notices;
 use indexmap::IndexMap;
+use rc_attempts::numbers::{attempt_of, current_number, part_of_sender};
+use rc_attempts::{Attempt, Decision, GivenPart};
 use rc_serverlist::ServerList;
-use rc_types::{Fault, Grant, Message, Row, Seq, ServerId};
+use rc_types::{Fault, Grant, Message, Part, Row, Seq, ServerId};
 use std::alloc::{AllocError, Global};
 use std::marker::Model;
 
@@ -128,15 +130,22 @@ impl Recoveries {
         attempt_of(&self.attempts, number)
     }
 
+    /// The part of this term that the id has in this attempt, where that is its master's current one.
+    pub(crate) fn part_of_sender(&self, id: ServerId, number: u32, term: u32) -> Option<Part>
+        ensures { result ≡ part_of_sender (knowing self.now.attempts self.now.current) id number term }
+    {
+        part_of_sender(&self.attempts, &self.current, id, number, term)
+    }
+
     /// Begins an attempt, which becomes the master's current one, and adds to those sent these
     /// messages and then a Gather to every server that is up. Only memory can be refused (F1), and
-    /// then nothing has changed.
+    /// then nothing has changed but the list of these messages.
     pub(crate) fn begin(
         &mut self,
         alloc: Global,
         servers: &ServerList,
         master: ServerId,
-        messages: Vec<Message>,
+        messages: &mut Vec<Message>,
         sent: &mut Vec<Message>,
     ) -> Result<(), Fault>
         requires { length self.old.attempts < 2 ^ 32 - 1 }
@@ -145,21 +154,20 @@ impl Recoveries {
             (length self.old.attempts + 1)) }
         ensures grants { self.new.grants ≡ self.old.grants }
         ensures sends { OnOk result (sent.new.items ≡ sent.old.items ++
-            (messages.items ++ to_each (up servers.now) (Gather (length self.old.attempts + 1) master))) }
+            (messages.old.items ++ to_each (up servers.now) (Gather (length self.old.attempts + 1) master))) }
         ensures err { OnErr result (self.new ≡ self.old) }
         ensures unsent { OnErr result (sent.new.items ≡ sent.old.items) }
         ensures no_memory { IfErr result (λ fault. fault ≡ OutOfMemory) }
     {
         let number = self.attempts.len() as u32 + 1;
-        let mut messages = messages;
-        notices::add_gathers(alloc, servers, number, master, &mut messages)?;
+        notices::add_gathers(alloc, servers, number, master, messages)?;
         self.attempts.reserve(1)?;
         self.asked.reserve(1)?;
         sent.reserve(messages.len())?;
         self.current.insert(master, number)?;
         self.attempts.push(Attempt::new(alloc, master)).unwrap();
         self.asked.push(number).unwrap();
-        sent.append(&mut messages).unwrap();
+        sent.append(messages).unwrap();
         Ok(())
     }
 
@@ -243,26 +251,6 @@ fn all_numbers(alloc: Global, count: u32) -> Result<Vec<u32>, AllocError>
         numbers.push(before + 1)?;
     }
     Ok(numbers)
-}
-
-/// The attempt of this number.
-fn attempt_of(attempts: &[Attempt], number: u32) -> Option<&Attempt>
-    ensures { option_copied result ≡ attempt_of attempts.now number }
-{
-    match number {
-        0 => None,
-        _ => attempts.get(number as usize - 1),
-    }
-}
-
-/// The number that a master has, and 0 where it has none.
-fn current_number(current: &IndexMap<ServerId, u32>, master: ServerId) -> u32
-    ensures { result ≡ number_of current.now.entries master }
-{
-    match current.get(&master) {
-        Some(number) => *number,
-        None => 0,
-    }
 }
 
 /// Whether the attempt of this number waits for something: it is its master's current one, and is open.

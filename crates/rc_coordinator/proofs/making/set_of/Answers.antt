@@ -1,7 +1,6 @@
 use Rattle.std.proofs.Common.{List, get_or, sym, ap, ◌∙◌}
 use Rattle.std.specs.List.{list_any}
-use Rattle.rc_types.specs.declared.ids.ServerId.{ServerId}
-use Rattle.rc_model.specs.Ids.{same_id}
+use Rattle.rc_model.specs.Model.{ServerId, same_id}
 use Rattle.rc_coordinator.proofs.ListLemmas.{stands-twice, stands-at}
 use Rattle.rc_coordinator.proofs.making.set_of.Goals as goal
 

@@ -1,6 +1,5 @@
 use Rattle.std.proofs.Common.{◌≡◌, ◌++◌, drop}
-use Rattle.rc_types.specs.declared.messages.Body.TheVariants.{Gather}
-use Rattle.rc_model.specs.Messages.{to_each}
+use Rattle.rc_model.specs.Model.{Gather, to_each}
 use Rattle.rc_coordinator.proofs.notices.add_gathers.Given as goal
 
 -- the messages so far, and then those to the ids that are left

@@ -1,7 +1,5 @@
 use Rattle.std.proofs.Common.{◌≡◌, ◌++◌, not, filter, drop}
-use Rattle.rc_types.specs.declared.messages.Body.TheVariants.{Gather}
-use Rattle.rc_model.specs.Messages.{to_each}
-use Rattle.rc_model.specs.Attempts.{has_answered}
+use Rattle.rc_model.specs.Model.{Gather, to_each, has_answered}
 use Rattle.rc_coordinator.proofs.notices.gather_again.Given as goal
 
 -- the messages so far, and then those to the ids that are left

@@ -1,10 +1,7 @@
 use Rattle.std.proofs.Common.{◌≡◌, ℕ, ◌+◌, ◌%◌, ◌++◌, [], ◌∷◌, false, Some, List, length, get_or, drop, slice_get, sym, ap, ◌∙◌, arith}
 use Rattle.std.proofs.lemmas.List.{at_drop_more, length_push}
 use Rattle.std.proofs.lemmas.Option.{slice_get-get_or}
-use Rattle.rc_types.specs.declared.ids.ServerId.{ServerId}
-use Rattle.rc_types.specs.declared.rows.Part.{Part}
-use Rattle.rc_types.specs.declared.rows.Tablet.{Tablet}
-use Rattle.rc_model.specs.Attempts.{GivenPart, part_of, gives_parts}
+use Rattle.rc_model.specs.Model.{ServerId, Part, Tablet, GivenPart, part_of, gives_parts}
 use Rattle.rc_coordinator.proofs.PlanLemmas.{given-next}
 use Rattle.rc_coordinator.proofs.plans.give_parts.Goals as goal
 

@@ -1,10 +1,9 @@
 use Rattle.std.proofs.Common.{◌≡◌, ℕ, ◌+◌, ◌++◌, ◌∷◌, [], List, length, sym, ap, subst, ◌∙◌, arith}
 use Rattle.std.proofs.lemmas.Grind.{common_steps}
 use Rattle.std.proofs.lemmas.List.{length-append}
-use Rattle.rc_model.specs.Attempts.{Attempt, new_attempt}
+use Rattle.rc_model.specs.Model.{Attempt, new_attempt, put_id}
 use Rattle.rc_coordinator.specs.Asked.{AreAsked}
-use Rattle.rc_model.specs.Tables.{put_id}
-use Rattle.rc_coordinator.specs.Recovering.{number_of}
+use Rattle.rc_attempts.specs.Lookups.{number_of}
 use Rattle.rc_coordinator.proofs.TableLemmas.{number_of-inserted, number_of-updated}
 use Rattle.rc_coordinator.proofs.AskedLemmas.{asked-begun}
 use Rattle.rc_coordinator.proofs.recoveries.Recoveries.begin.Goals as goal

@@ -1,5 +1,5 @@
 use Rattle.std.proofs.Common.{◌≡◌, ◌-◌, ◌≤◌, length, Some, sym, ap, ◌∙◌, arith}
-use Rattle.rc_coordinator.specs.Recovering.{attempt_of}
+use Rattle.rc_attempts.specs.Lookups.{attempt_of}
 use Rattle.rc_coordinator.specs.contracts.recoveries.Recoveries.{the_view}
 use Rattle.rc_coordinator.proofs.AskedLemmas.{attempt_of-read, asked-changed, length-set, decided-waits, with-changed}
 use Rattle.rc_coordinator.proofs.recoveries.Recoveries.decide.Goals as goal

@@ -1,7 +1,7 @@
 use Rattle.std.proofs.Common.{◌≡◌, ◌-◌, ◌≤◌, length, Some, ap, arith}
 use Rattle.std.proofs.lemmas.Result.{on_ok_weaker}
 use Rattle.rc_model.specs.Deciding.{with_answer}
-use Rattle.rc_coordinator.specs.Recovering.{attempt_of}
+use Rattle.rc_attempts.specs.Lookups.{attempt_of}
 use Rattle.rc_coordinator.specs.contracts.recoveries.Recoveries.{the_view}
 use Rattle.rc_coordinator.proofs.AskedLemmas.{attempt_of-read, asked-changed, length-set, answered-waits, with-changed}
 use Rattle.rc_coordinator.proofs.recoveries.Recoveries.keep.Goals as goal

@@ -1,6 +1,6 @@
 use Rattle.std.proofs.Common.{List, ℕ, rules, tests, sym, subst}
 use Rattle.std.proofs.lemmas.Fn.{filter_same}
-use Rattle.rc_coordinator.specs.Recovering.{attempt_of}
+use Rattle.rc_attempts.specs.Lookups.{attempt_of}
 use Rattle.rc_coordinator.specs.Asked.{waits_at, AreAsked}
 use Rattle.rc_coordinator.proofs.AskedLemmas.{asked-kept}
 use Rattle.rc_coordinator.proofs.recoveries.Recoveries.pass_over_quiet.Goals as goal

@@ -1,7 +1,6 @@
 use Rattle.std.proofs.Common.{◌≡◌, not, drop}
 use Rattle.std.specs.List.{list_any}
-use Rattle.rc_model.specs.Attempts.{parts_of}
-use Rattle.rc_model.specs.CoordinatorStep.{is_granted_term}
+use Rattle.rc_model.specs.Model.{parts_of, is_granted_term}
 use Rattle.rc_coordinator.specs.View.{state_view}
 use Rattle.rc_coordinator.proofs.state.State.has_open_part.Given as goal
 

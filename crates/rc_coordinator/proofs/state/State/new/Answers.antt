@@ -3,8 +3,7 @@ use Rattle.std.specs.List.{list_any}
 use Rattle.std.specs.Map.{lookup}
 use Rattle.indexmap.specs.IndexSet.{contains}
 use Rattle.rc_model.specs.Ids.{same_id}
-use Rattle.rc_coordinator.specs.Numbers.{pair_in}
-use Rattle.rc_coordinator.specs.Recovering.{number_of}
+use Rattle.rc_attempts.specs.Lookups.{pair_in, number_of}
 use Rattle.rc_coordinator.proofs.NewLemmas.{new-is}
 use Rattle.rc_coordinator.proofs.state.State.new.Goals as goal
 

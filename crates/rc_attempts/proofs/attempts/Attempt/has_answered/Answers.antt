@@ -1,10 +1,9 @@
 use Rattle.std.proofs.Common.{ap, rules, tests, ◌∙◌}
 use Rattle.std.proofs.lemmas.Iterator.{YieldsList-from_slice}
 use Rattle.std.proofs.lemmas.Iterator.Search.{any_from_yields_List}
-use Rattle.rc_model.specs.Ids.{same_id}
-use Rattle.rc_model.specs.Attempts.{has_answered}
-use Rattle.rc_coordinator.proofs.TabletLemmas.{any-has_answered}
-use Rattle.rc_coordinator.proofs.attempts.Attempt.has_answered.Goals as goal
+use Rattle.rc_model.specs.Model.{same_id, has_answered}
+use Rattle.rc_attempts.proofs.AnswerLemmas.{any-has_answered}
+use Rattle.rc_attempts.proofs.attempts.Attempt.has_answered.Goals as goal
 
 pub returns : goal.returns
 returns c =

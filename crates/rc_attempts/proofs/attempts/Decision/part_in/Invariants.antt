@@ -1,6 +1,6 @@
 use Rattle.std.proofs.Common.{◌≡◌, nat_eq, find, drop}
 use Rattle.rc_model.specs.Attempts.{parts_of}
-use Rattle.rc_coordinator.proofs.attempts.Decision.part_in.Given as goal
+use Rattle.rc_attempts.proofs.attempts.Decision.part_in.Given as goal
 
 -- the part is the first among those that are left
 abbrev pub invariant-loop-given : goal.invariant-loop-given

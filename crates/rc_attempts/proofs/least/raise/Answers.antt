@@ -1,5 +1,5 @@
-use Rattle.rc_coordinator.proofs.TableLemmas.{pair_in-inserted}
-use Rattle.rc_coordinator.proofs.least.raise.Goals as goal
+use Rattle.rc_attempts.proofs.PairLemmas.{pair_in-inserted}
+use Rattle.rc_attempts.proofs.least.raise.Goals as goal
 
 pub returns-clause-ok : goal.returns-clause-ok
 returns-clause-ok c =

@@ -31,8 +31,8 @@ impl Model for GivenPart {
 /// What was decided on an attempt: where the log is, and who recovers which part.
 #[derive(Drop)]
 pub struct Decision {
-    pub(crate) plan: Plan,
-    pub(crate) parts: Vec<GivenPart>,
+    plan: Plan,
+    parts: Vec<GivenPart>,
 }
 
 impl Model for Decision {
@@ -59,7 +59,7 @@ impl Decision {
     }
 
     /// The part of this term among those of this recovery master.
-    pub(crate) fn part_in(&self, id: ServerId, term: u32) -> Option<Part>
+    pub fn part_in(&self, id: ServerId, term: u32) -> Option<Part>
         ensures { result ≡ part_in id term (Some self.now) }
     {
         for given in &self.parts {
@@ -78,7 +78,7 @@ impl Decision {
     }
 
     /// How many parts there are.
-    pub(crate) fn parts_len(&self) -> usize
+    pub fn parts_len(&self) -> usize
         ensures { result ≡ length self.now.parts }
     {
         self.parts.len()
@@ -89,9 +89,9 @@ impl Decision {
 /// coming, and the decision, once it is made.
 #[derive(Drop)]
 pub struct Attempt {
-    pub(crate) master: ServerId,
-    pub(crate) replies: Vec<(ServerId, Seq<Row>)>,
-    pub(crate) decided: Option<Decision>,
+    master: ServerId,
+    replies: Vec<(ServerId, Seq<Row>)>,
+    decided: Option<Decision>,
 }
 
 impl Model for Attempt {
@@ -104,7 +104,7 @@ impl Model for Attempt {
 
 impl Attempt {
     /// An attempt that nobody has answered. It takes no memory.
-    pub(crate) fn new(alloc: Global, master: ServerId) -> Attempt
+    pub fn new(alloc: Global, master: ServerId) -> Attempt
         ensures { result ≡ new_attempt master }
     {
         Attempt {
@@ -145,14 +145,14 @@ impl Attempt {
     }
 
     /// Whether nothing has been decided yet.
-    pub(crate) fn is_gathering(&self) -> bool
+    pub fn is_gathering(&self) -> bool
         ensures { result ≡ is_gathering self.now }
     {
         self.decided.is_none()
     }
 
     /// The part of this term that was given to this recovery master.
-    pub(crate) fn part_in(&self, id: ServerId, term: u32) -> Option<Part>
+    pub fn part_in(&self, id: ServerId, term: u32) -> Option<Part>
         ensures { result ≡ part_in id term self.now.decided }
     {
         match &self.decided {
@@ -169,14 +169,14 @@ impl Attempt {
     }
 
     /// Whether the backup has answered.
-    pub(crate) fn has_answered(&self, from: ServerId) -> bool
+    pub fn has_answered(&self, from: ServerId) -> bool
         ensures { result ≡ has_answered from self.now.replies }
     {
         self.replies.iter().any(|reply| from == reply.0)
     }
 
     /// Keeps an answer. Only memory can be refused (F1), and then the attempt is as it was.
-    pub(crate) fn keep(&mut self, from: ServerId, rows: Seq<Row>) -> Result<(), Fault>
+    pub fn keep(&mut self, from: ServerId, rows: Seq<Row>) -> Result<(), Fault>
         ensures ok { OnOk result (self.new ≡ record self.old { replies = self.old.replies ++ (from, rows) ∷ [] }) }
         ensures err { OnErr result (self.new ≡ self.old) }
         ensures no_memory { IfErr result (λ fault. fault ≡ OutOfMemory) }
@@ -186,7 +186,7 @@ impl Attempt {
     }
 
     /// Keeps the decision.
-    pub(crate) fn decide(&mut self, decision: Decision)
+    pub fn decide(&mut self, decision: Decision)
         ensures { self.new ≡ record self.old { decided = Some decision } }
     {
         self.decided = Some(decision);

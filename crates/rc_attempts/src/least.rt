@@ -1,12 +1,14 @@
 //! The least pair of each master: a recovery doesn't count open replicas below it.
 
-ghost use Rattle.std.specs.Prelude.{◌≡◌, OnOk, OnErr};
+ghost use Rattle.std.specs.Prelude.{◌≡◌, if◌then◌else◌, OnOk, OnErr, IfOk};
 ghost use Rattle.rc_model.specs.Pick.{is_below};
 ghost use Rattle.rc_model.specs.Tables.{put_id};
 ghost use Rattle.rc_model.specs.Pick.{greater_pair};
-ghost use Rattle.rc_coordinator.specs.Numbers.{pair_in};
+ghost use Rattle.rc_model.specs.ServerList.{is_up};
+ghost use Rattle.rc_attempts.specs.Lookups.{pair_in};
 
 use indexmap::IndexMap;
+use rc_serverlist::ServerList;
 use rc_types::{Pair, ServerId};
 use std::alloc::AllocError;
 
@@ -14,7 +16,7 @@ use std::alloc::AllocError;
 const LEAST: Pair = Pair { seg: 0, epoch: 0 };
 
 /// The least pair of a master: the least of all pairs where none was committed.
-pub(crate) fn least_of(least: &IndexMap<ServerId, Pair>, master: ServerId) -> Pair
+pub fn least_of(least: &IndexMap<ServerId, Pair>, master: ServerId) -> Pair
     ensures { result ≡ pair_in least.now master }
 {
     match least.get(&master) {
@@ -23,8 +25,29 @@ pub(crate) fn least_of(least: &IndexMap<ServerId, Pair>, master: ServerId) -> Pa
     }
 }
 
+/// Takes a commit of a master that is up, and says whether it is: its least pair becomes the greater of the two. A pair
+/// of a master that isn't up is not taken. Only memory can be refused (F1), and then nothing has changed.
+pub fn raise_if_up(
+    least: &mut IndexMap<ServerId, Pair>,
+    servers: &ServerList,
+    master: ServerId,
+    pair: Pair,
+) -> Result<bool, AllocError>
+    ensures said { IfOk result (λ taken. taken ≡ is_up servers.now master) }
+    ensures pairs { OnOk result (pair_in least.new ≡ (if is_up servers.now master
+        then put_id (pair_in least.old) master (greater_pair (pair_in least.old master) pair)
+        else pair_in least.old)) }
+    ensures err { OnErr result (least.new.entries ≡ least.old.entries) }
+{
+    if !servers.is_up(master) {
+        return Ok(false);
+    }
+    raise(least, master, pair)?;
+    Ok(true)
+}
+
 /// Takes a commit: the master's least pair becomes the greater of the two.
-pub(crate) fn raise(
+fn raise(
     least: &mut IndexMap<ServerId, Pair>,
     master: ServerId,
     pair: Pair,
