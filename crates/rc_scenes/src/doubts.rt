@@ -1,4 +1,5 @@
 //! Runs in which a choice of the rules shows.
+#![tactic(auto, unfolding(crate::proofs::Spelling::computed))]
 
 ghost use Rattle.rc_scenes.specs.Doubts.{CloseToALostMemberPrints, CommitAnswersItsOwnPairPrints};
 ghost use Rattle.rc_scenes.specs.Doubts.{StepsOneByOnePrints, IndexOfNoHostPrints};

@@ -1,4 +1,5 @@
 //! Lost backups, epochs and commits.
+#![tactic(auto, unfolding(crate::proofs::Spelling::computed))]
 
 ghost use Rattle.rc_scenes.specs.Epochs.{AppendAfterFencePrints, CommitLostNewPrints, CommitLostOldPrints};
 ghost use Rattle.rc_scenes.specs.Epochs.{CommitOfCrashedPrints, StaleReplicaReturnsPrints};

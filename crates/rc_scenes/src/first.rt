@@ -1,4 +1,5 @@
 //! Writes, and events that stop a run.
+#![tactic(auto, unfolding(crate::proofs::Spelling::computed))]
 
 ghost use Rattle.rc_scenes.specs.First.{FirstWritePrints, LostStoredPrints, NothingPrints, RefusalsPrints};
 ghost use Rattle.rc_scenes.specs.First.{TwiceAndInReversePrints, DeliverUnsentPrints, DeliverTooFarPrints};

@@ -1,4 +1,5 @@
 //! Recoveries to their end, and reads.
+#![tactic(auto, unfolding(crate::proofs::Spelling::computed))]
 
 ghost use Rattle.rc_scenes.specs.Recoveries.{LeftoversPrints, ReadPrints};
 

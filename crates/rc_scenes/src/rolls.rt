@@ -1,4 +1,5 @@
 //! Head roll-over, and restarts.
+#![tactic(auto, unfolding(crate::proofs::Spelling::computed))]
 
 ghost use Rattle.rc_scenes.specs.Rolls.{RollPrints, NewHeadNowherePrints, SuspectedWhileOpeningPrints};
 ghost use Rattle.rc_scenes.specs.Rolls.{RestartDroppedPrints};

@@ -1,4 +1,5 @@
 //! Worked scenarios: what is printed for these bytes, as contracts of functions that do nothing.
+#![tactic(auto, unfolding(crate::proofs::Spelling::computed))]
 
 ghost use Rattle.rc_scenes.specs.Worked.{RestartKeptPrints, SplitTwicePrints, ZombiePrints, FreedPrints};
 ghost use Rattle.rc_scenes.specs.Worked.{FactorsPrints, StopNotRunningPrints, IndexTooGreatPrints};

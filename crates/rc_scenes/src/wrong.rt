@@ -1,4 +1,5 @@
 //! Bytes that say no scenario, and the place that is told.
+#![tactic(auto, unfolding(crate::proofs::Spelling::computed))]
 
 ghost use Rattle.rc_scenes.specs.Wrong.{BadJsonPrints, FreeingInFormat1Prints, Format3Prints, BracketsPrints};
 ghost use Rattle.rc_scenes.specs.Wrong.{MessageTooGreatPrints, EventsAreAnObjectPrints, FactorWithAPointPrints};
