@@ -2,7 +2,9 @@
 //! and what was last acknowledged of each key.
 
 use crate::kinds::{body_name, body_place};
+use crate::passages::Passages;
 use crate::story::Story;
+use crate::tables::put;
 use indexmap::IndexMap;
 use rc_types::{Addr, Body, Message};
 use std::alloc::{AllocError, Global};
@@ -84,7 +86,6 @@ pub(crate) struct Newest {
 }
 
 /// How things stand at the end.
-#[derive(Drop)]
 pub(crate) struct Ending {
     /// What was never delivered to a server or to the coordinator, by kind and addressee.
     lost: IndexMap<(usize, Addr), Group>,
@@ -94,24 +95,52 @@ pub(crate) struct Ending {
     newest: IndexMap<(u32, u64), Newest>,
 }
 
+impl Drop for Ending {
+    fn drop(self) {
+        let Ending {
+            lost: _,
+            told: _,
+            ranges: _,
+            newest: _,
+        } = self;
+    }
+}
+
 impl Ending {
-    /// How things stand at the end of this story.
-    pub(crate) fn of(alloc: Global, story: &Story<'_>) -> Result<Ending, AllocError> {
-        let mut ending = Ending {
+    /// Of no message yet.
+    pub(crate) fn new(alloc: Global) -> Ending {
+        Ending {
             lost: IndexMap::new(alloc),
             told: IndexMap::new(alloc),
             ranges: IndexMap::new(alloc),
             newest: IndexMap::new(alloc),
-        };
-        for (number, message) in story.messages.iter().enumerate() {
-            if message.to == Addr::Outside {
-                count(&mut ending.told, number, message)?;
-            } else if story.notes.passages().is_lost(number) {
-                count(&mut ending.lost, number, message)?;
-            }
-            ending.note(message)?;
         }
-        Ok(ending)
+    }
+
+    /// Notes all messages of a story.
+    pub(crate) fn note_all(&mut self, story: &Story<'_>) -> Result<(), AllocError> {
+        let passages = story.notes.passages();
+        for (number, message) in story.messages.iter().enumerate() {
+            self.group(passages, number, message)?;
+            self.note(message)?;
+        }
+        Ok(())
+    }
+
+    /// Counts a message, where it goes to the outside or was never delivered.
+    fn group(
+        &mut self,
+        passages: &Passages,
+        number: usize,
+        message: &Message,
+    ) -> Result<(), AllocError> {
+        if message.to == Addr::Outside {
+            count(&mut self.told, number, message)
+        } else if passages.is_lost(number) {
+            count(&mut self.lost, number, message)
+        } else {
+            Ok(())
+        }
     }
 
     /// Notes what a message grants or acknowledges.
@@ -131,8 +160,7 @@ impl Ending {
                     term: *term,
                     owner: message.to,
                 };
-                self.ranges.insert((*table, *lo, *hi), range)?;
-                Ok(())
+                put(&mut self.ranges, (*table, *lo, *hi), range)
             }
             Body::WriteOk {
                 term,
@@ -159,8 +187,7 @@ impl Ending {
                 return Ok(());
             }
         }
-        self.newest.insert(place, newest)?;
-        Ok(())
+        put(&mut self.newest, place, newest)
     }
 
     /// What was never delivered to a server or to the coordinator, by kind and addressee.
@@ -210,6 +237,14 @@ pub(crate) fn count(
         None => Group::of(message),
     };
     group.add(number);
-    groups.insert(place, group)?;
-    Ok(())
+    put(groups, place, group)
+}
+
+/// How many messages all groups have.
+pub(crate) fn total_of(groups: &IndexMap<(usize, Addr), Group>) -> u64 {
+    let mut total = 0u64;
+    for group in groups.values() {
+        total = total.saturating_add(group.count);
+    }
+    total
 }

@@ -1,8 +1,9 @@
 //! Recoveries that are not at their end, and what they wait for.
 
 use crate::course::Course;
+use crate::tables::{put, put_first};
 use indexmap::IndexMap;
-use rc_pen::Pen;
+use rc_pen::{Pen, Piece};
 use rc_types::{Addr, Body, Message, Part, ServerId};
 use std::alloc::{AllocError, Global};
 
@@ -46,7 +47,6 @@ enum Stage {
 }
 
 /// The recoveries of a run.
-#[derive(Drop)]
 pub(crate) struct Recoveries {
     /// By number of an attempt: the master.
     masters: IndexMap<u32, ServerId>,
@@ -56,6 +56,17 @@ pub(crate) struct Recoveries {
     parts: IndexMap<u32, Given>,
     /// By term and segment: from whom it is fetched, and whether it has come.
     fetches: IndexMap<(u32, u16), (Addr, bool)>,
+}
+
+impl Drop for Recoveries {
+    fn drop(self) {
+        let Recoveries {
+            masters: _,
+            newest: _,
+            parts: _,
+            fetches: _,
+        } = self;
+    }
 }
 
 impl Recoveries {
@@ -116,10 +127,7 @@ impl Recoveries {
 
     /// A segment is fetched for a part.
     fn fetch(&mut self, term: u32, seg: u16, from: Addr) -> Result<(), AllocError> {
-        if self.fetches.get(&(term, seg)).is_none() {
-            self.fetches.insert((term, seg), (from, false))?;
-        }
-        Ok(())
+        put_first(&mut self.fetches, (term, seg), (from, false))
     }
 
     /// A segment has come for a part.
@@ -138,23 +146,20 @@ impl Recoveries {
 
     /// An attempt asks a server.
     fn ask(&mut self, number: u32, master: ServerId) -> Result<(), AllocError> {
-        self.masters.insert(number, master)?;
+        put(&mut self.masters, number, master)?;
         if let Some(attempt) = self.newest.get_mut(&master) {
             if attempt.number == number {
                 attempt.asked = attempt.asked.saturating_add(1);
                 return Ok(());
             }
         }
-        self.newest.insert(
-            master,
-            Attempt {
-                number,
-                asked: 1,
-                answers: 0,
-                is_decided: false,
-            },
-        )?;
-        Ok(())
+        let attempt = Attempt {
+            number,
+            asked: 1,
+            answers: 0,
+            is_decided: false,
+        };
+        put(&mut self.newest, master, attempt)
     }
 
     /// The newest attempt of its master, if this is one.
@@ -181,25 +186,20 @@ impl Recoveries {
             attempt.is_decided = true;
         }
         for part in parts {
-            if self.parts.get(&part.term).is_none() {
-                self.give(number, to, part.term)?;
-            }
+            self.give(number, to, part.term)?;
         }
         Ok(())
     }
 
-    /// A part is given to a server.
+    /// A part is given to a server, for the first time or once more.
     fn give(&mut self, attempt: u32, to: Addr, term: u32) -> Result<(), AllocError> {
-        self.parts.insert(
-            term,
-            Given {
-                attempt,
-                to,
-                is_recovered: false,
-                is_granted: false,
-            },
-        )?;
-        Ok(())
+        let given = Given {
+            attempt,
+            to,
+            is_recovered: false,
+            is_granted: false,
+        };
+        put_first(&mut self.parts, term, given)
     }
 
     /// A part is granted.
@@ -241,7 +241,7 @@ impl Recoveries {
 }
 
 /// Each recovery that is not at its end.
-pub(crate) fn tell_recoveries(pen: &mut Pen<'_>, recoveries: &Recoveries, course: &Course) {
+pub(crate) fn tell_recoveries(pen: &mut Pen, recoveries: &Recoveries, course: &Course) {
     for (master, attempt) in &recoveries.newest {
         if !attempt.is_decided {
             tell_undecided(pen, *master, attempt);
@@ -258,20 +258,31 @@ pub(crate) fn tell_recoveries(pen: &mut Pen<'_>, recoveries: &Recoveries, course
 }
 
 /// An attempt without a plan.
-fn tell_undecided(pen: &mut Pen<'_>, master: ServerId, attempt: &Attempt) {
-    pen.id("hint: the recovery of ", master);
-    pen.number(" (attempt ", u64::from(attempt.number));
-    pen.number(") has no plan: answers have come to ", attempt.answers);
-    pen.number(" of ", attempt.asked);
-    pen.say(" Gathers; it takes a decide, once they suffice\n");
+fn tell_undecided(pen: &mut Pen, master: ServerId, attempt: &Attempt) {
+    pen.say_all(
+        "hint: the recovery of % (attempt %) has no plan: answers have come to % of % Gathers; it takes a decide, \
+         once they suffice\n",
+        &[
+            Piece::Id(master),
+            Piece::U32(attempt.number),
+            Piece::U64(attempt.answers),
+            Piece::U64(attempt.asked),
+        ],
+    );
 }
 
 /// A plan of which parts were not granted.
-fn tell_missing(pen: &mut Pen<'_>, master: ServerId, attempt: &Attempt, count: u64, to: Addr) {
-    pen.id("hint: the recovery of ", master);
-    pen.number(" (attempt ", u64::from(attempt.number));
-    pen.number(") is not at its end: parts that were not granted: ", count);
-    pen.put_node("; the first is to be recovered by ", to);
+fn tell_missing(pen: &mut Pen, master: ServerId, attempt: &Attempt, count: u64, to: Addr) {
+    pen.say_all(
+        "hint: the recovery of % (attempt %) is not at its end: parts that were not granted: %; the first is to be \
+         recovered by %",
+        &[
+            Piece::Id(master),
+            Piece::U32(attempt.number),
+            Piece::U64(count),
+            Piece::Node(to),
+        ],
+    );
 }
 
 /// Whether a node is a server that does not run.
@@ -283,18 +294,22 @@ fn is_gone(node: Addr, course: &Course) -> bool {
 }
 
 /// Who is needed for the recovery of this master is gone.
-fn tell_gone(pen: &mut Pen<'_>, master: ServerId) {
-    pen.id(", which runs no longer: suspect ", master);
-    pen.say(" once more");
+fn tell_gone(pen: &mut Pen, master: ServerId) {
+    pen.say_all(
+        ", which runs no longer: suspect % once more",
+        &[Piece::Id(master)],
+    );
 }
 
 /// How far a part has come, and what it waits for.
-fn tell_stage(pen: &mut Pen<'_>, master: ServerId, stage: Stage, course: &Course) {
+fn tell_stage(pen: &mut Pen, master: ServerId, stage: Stage, course: &Course) {
     match stage {
         Stage::Planned => pen.say(", which the plan has not reached"),
         Stage::Fetching(seg, from) => {
-            pen.number(", which waits for segment ", u64::from(seg));
-            pen.put_node(" from ", from);
+            pen.say_all(
+                ", which waits for segment % from %",
+                &[Piece::U16(seg), Piece::Node(from)],
+            );
             if is_gone(from, course) {
                 tell_gone(pen, master);
             }
@@ -310,9 +325,11 @@ fn tell_stage(pen: &mut Pen<'_>, master: ServerId, stage: Stage, course: &Course
 }
 
 /// A server that has stopped, and of which the coordinator was not told.
-fn tell_unsuspected(pen: &mut Pen<'_>, course: &Course) {
+fn tell_unsuspected(pen: &mut Pen, course: &Course) {
     if let Some(id) = course.unsuspected() {
-        pen.id("; ", id);
-        pen.say(" has stopped and was not suspected, so its place is not filled");
+        pen.say_all(
+            "; % has stopped and was not suspected, so its place is not filled",
+            &[Piece::Id(id)],
+        );
     }
 }

@@ -1,8 +1,9 @@
 //! Why a delivery came to nothing: whom a backup had fenced by then, what it had freed, which epoch a segment had,
 //! which attempt to recover a master was the newest, and who was deposed.
 
+use crate::tables::{put, put_first};
 use indexmap::IndexMap;
-use rc_pen::Pen;
+use rc_pen::{Pen, Piece};
 use rc_types::{Addr, Body, Code, Message, ServerId};
 use std::alloc::{AllocError, Global};
 
@@ -28,7 +29,6 @@ pub(crate) enum Silence {
 }
 
 /// What has to be known of what was sent and delivered so far.
-#[derive(Drop)]
 pub(crate) struct Known {
     /// By backup and master: the attempt for which the one fenced the other.
     fences: IndexMap<(ServerId, ServerId), u32>,
@@ -44,6 +44,20 @@ pub(crate) struct Known {
     lists: IndexMap<ServerId, u32>,
     /// By server: who was deposed.
     deposed: IndexMap<ServerId, bool>,
+}
+
+impl Drop for Known {
+    fn drop(self) {
+        let Known {
+            fences: _,
+            freed: _,
+            epochs: _,
+            attempts: _,
+            newest: _,
+            lists: _,
+            deposed: _,
+        } = self;
+    }
 }
 
 impl Known {
@@ -73,15 +87,13 @@ impl Known {
 
     /// A master places a segment under this epoch.
     fn place(&mut self, master: ServerId, seg: u16, epoch: u16) -> Result<(), AllocError> {
-        self.epochs.insert((master, seg), epoch)?;
-        Ok(())
+        put(&mut self.epochs, (master, seg), epoch)
     }
 
     /// An attempt asks for replicas of this master.
     fn attempt(&mut self, attempt: u32, master: ServerId) -> Result<(), AllocError> {
-        self.attempts.insert(attempt, master)?;
-        self.newest.insert(master, attempt)?;
-        Ok(())
+        put(&mut self.attempts, attempt, master)?;
+        put(&mut self.newest, master, attempt)
     }
 
     /// A message has reached its addressee, which runs.
@@ -110,32 +122,28 @@ impl Known {
         master: ServerId,
         attempt: u32,
     ) -> Result<(), AllocError> {
-        if self.fences.get(&(backup, master)).is_none() {
-            self.fences.insert((backup, master), attempt)?;
-        }
-        Ok(())
+        put_first(&mut self.fences, (backup, master), attempt)
     }
 
     /// A backup frees a segment, if it has not fenced its master.
     fn free(&mut self, backup: ServerId, master: ServerId, seg: u16) -> Result<(), AllocError> {
-        if self.fences.get(&(backup, master)).is_none() {
-            self.freed.insert((backup, master, seg), true)?;
+        if self.has_fenced(backup, master) {
+            return Ok(());
         }
-        Ok(())
+        put(&mut self.freed, (backup, master, seg), true)
     }
 
     /// A server is given a list.
     fn list(&mut self, to: ServerId, version: u32) -> Result<(), AllocError> {
-        if self.list_of(to) < version {
-            self.lists.insert(to, version)?;
+        if self.list_of(to) >= version {
+            return Ok(());
         }
-        Ok(())
+        put(&mut self.lists, to, version)
     }
 
     /// A server learns that it was replaced.
     fn depose(&mut self, id: ServerId) -> Result<(), AllocError> {
-        self.deposed.insert(id, true)?;
-        Ok(())
+        put(&mut self.deposed, id, true)
     }
 
     /// Whether a backup has fenced a master.
@@ -228,18 +236,12 @@ impl Silence {
 }
 
 /// Why this message came to nothing.
-pub(crate) fn tell_silence(pen: &mut Pen<'_>, silence: Silence, message: &Message) {
+pub(crate) fn tell_silence(pen: &mut Pen, silence: Silence, message: &Message) {
     match silence {
-        Silence::NotRunning => {
-            pen.put_node("", message.to);
-            pen.say(" was not running");
-        }
+        Silence::NotRunning => tell_of(pen, "% was not running", message),
         Silence::Fenced(attempt) => tell_fence(pen, message, attempt),
         Silence::Freed(seg) => tell_freed(pen, message, seg),
-        Silence::NoReplica => {
-            pen.put_node("", message.to);
-            pen.say(" has no open replica that it fits");
-        }
+        Silence::NoReplica => tell_of(pen, "% has no open replica that it fits", message),
         Silence::OlderEpoch(epoch) => pen.number(
             "the segment had already epoch ",
             u64::from(epoch),
@@ -249,22 +251,31 @@ pub(crate) fn tell_silence(pen: &mut Pen<'_>, silence: Silence, message: &Messag
             u64::from(attempt),
         ),
         Silence::OlderList(version) => pen.number("it had already version ", u64::from(version)),
-        Silence::Deposed => {
-            pen.put_node("", message.to);
-            pen.say(" was deposed");
-        }
+        Silence::Deposed => tell_of(pen, "% was deposed", message),
     }
 }
 
+/// This of the addressee.
+fn tell_of(pen: &mut Pen, form: &str, message: &Message) {
+    pen.say_all(form, &[Piece::Node(message.to)]);
+}
+
 /// The addressee had fenced the sender.
-fn tell_fence(pen: &mut Pen<'_>, message: &Message, attempt: u32) {
-    pen.put_node("", message.to);
-    pen.put_node(" had fenced ", message.from);
-    pen.number(" for attempt ", u64::from(attempt));
+fn tell_fence(pen: &mut Pen, message: &Message, attempt: u32) {
+    pen.say_all(
+        "% had fenced % for attempt %",
+        &[
+            Piece::Node(message.to),
+            Piece::Node(message.from),
+            Piece::U32(attempt),
+        ],
+    );
 }
 
 /// The addressee had freed the segment.
-fn tell_freed(pen: &mut Pen<'_>, message: &Message, seg: u16) {
-    pen.put_node("", message.to);
-    pen.number(" had freed segment ", u64::from(seg));
+fn tell_freed(pen: &mut Pen, message: &Message, seg: u16) {
+    pen.say_all(
+        "% had freed segment %",
+        &[Piece::Node(message.to), Piece::U16(seg)],
+    );
 }
