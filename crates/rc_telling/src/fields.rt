@@ -162,13 +162,7 @@ fn tell_segment(pen: &mut Pen, body: &Body) {
             seg,
             offset,
             entries,
-        } => {
-            pen.say_all(
-                "seg % offset %, ",
-                &[Piece::U16(*seg), Piece::Size(*offset)],
-            );
-            tell_entries(pen, entries);
-        }
+        } => tell_appended(pen, *seg, *offset, entries),
         Body::Close { seg, len } => {
             pen.say_all("seg % length %", &[Piece::U16(*seg), Piece::Size(*len)]);
         }
@@ -177,21 +171,32 @@ fn tell_segment(pen: &mut Pen, body: &Body) {
             epoch,
             len,
             closed,
-        } => pen.say_all(
-            "seg % epoch % length %% closed| open|",
-            &[
-                Piece::U16(*seg),
-                Piece::U16(*epoch),
-                Piece::Size(*len),
-                Piece::Flag(*closed),
-            ],
-        ),
+        } => tell_replica(pen, *seg, *epoch, *len, *closed),
         Body::Commit { seg, epoch } | Body::CommitOk { seg, epoch } => {
             tell_epoch(pen, *seg, *epoch);
         }
         Body::Free { seg } => pen.number("seg ", u64::from(*seg)),
         _ => {}
     }
+}
+
+/// What is appended to a segment.
+fn tell_appended(pen: &mut Pen, seg: u16, offset: usize, entries: &Seq<Entry>) {
+    pen.say_all("seg % offset %, ", &[Piece::U16(seg), Piece::Size(offset)]);
+    tell_entries(pen, entries);
+}
+
+/// How a replica stands.
+fn tell_replica(pen: &mut Pen, seg: u16, epoch: u16, len: usize, closed: bool) {
+    pen.say_all(
+        "seg % epoch % length %% closed| open|",
+        &[
+            Piece::U16(seg),
+            Piece::U16(epoch),
+            Piece::Size(len),
+            Piece::Flag(closed),
+        ],
+    );
 }
 
 /// An attempt to recover a master.
@@ -312,16 +317,8 @@ fn tell_replicas(pen: &mut Pen, attempt: u32, rows: &Seq<Row>) {
 
 /// One of them.
 fn tell_row(pen: &mut Pen, place: usize, row: &Row) {
-    pen.say_all(
-        "%: |; |seg % epoch % length %% closed| open|",
-        &[
-            Piece::Flag(place == 0),
-            Piece::U16(row.seg),
-            Piece::U16(row.epoch),
-            Piece::Size(row.len),
-            Piece::Flag(row.closed),
-        ],
-    );
+    pen.either(place == 0, ": ", "; ");
+    tell_replica(pen, row.seg, row.epoch, row.len, row.closed);
     tell_digest(pen, &row.digest);
 }
 
