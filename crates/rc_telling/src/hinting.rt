@@ -4,7 +4,7 @@
 use crate::course::Course;
 use crate::ending::{Group, count, total_of};
 use crate::recoveries::{Recoveries, tell_recoveries};
-use indexmap::IndexMap;
+use crate::tables::Table;
 use rc_pen::{Pen, Piece, Spelling};
 use rc_types::{Addr, Event, Message};
 use std::alloc::{AllocError, Global};
@@ -49,7 +49,7 @@ fn tell_unrecovered(course: &Course, alloc: Global, pen: &mut Pen, messages: &[M
 
 /// Messages that wait.
 fn tell_waiting(course: &Course, alloc: Global, pen: &mut Pen, messages: &[Message]) {
-    let mut groups = IndexMap::new(alloc);
+    let mut groups = Table::new(alloc);
     pen.take(count_waiting(course, &mut groups, messages));
     tell_groups(pen, total_of(&groups), &groups);
 }
@@ -57,7 +57,7 @@ fn tell_waiting(course: &Course, alloc: Global, pen: &mut Pen, messages: &[Messa
 /// Counts the messages that wait, by kind and addressee.
 fn count_waiting(
     course: &Course,
-    groups: &mut IndexMap<(usize, Addr), Group>,
+    groups: &mut Table<(usize, Addr), Group>,
     messages: &[Message],
 ) -> Result<(), AllocError> {
     for (number, message) in messages.iter().enumerate() {
@@ -104,7 +104,7 @@ fn tell_few(course: &Course, pen: &mut Pen, factor: u8) {
 }
 
 /// How many messages wait, and the first kinds of them.
-fn tell_groups(pen: &mut Pen, waiting: u64, groups: &IndexMap<(usize, Addr), Group>) {
+fn tell_groups(pen: &mut Pen, waiting: u64, groups: &Table<(usize, Addr), Group>) {
     if waiting == 0 {
         return;
     }
@@ -113,13 +113,13 @@ fn tell_groups(pen: &mut Pen, waiting: u64, groups: &IndexMap<(usize, Addr), Gro
         &[Piece::U64(waiting)],
     );
     for place in 0..MOST_GROUPS {
-        if let Some((_, group)) = groups.get_index(place) {
+        if let Some((_, group)) = groups.entries.get_index(place) {
             tell_group(pen, place, group);
         }
     }
     pen.say_all(
         "%, ..||); a settle would deliver them\n",
-        &[Piece::Flag(groups.len() > MOST_GROUPS)],
+        &[Piece::Flag(groups.entries.len() > MOST_GROUPS)],
     );
 }
 

@@ -8,8 +8,8 @@ use crate::passages::Passage;
 use crate::servers::Server;
 use crate::silences::{Silence, tell_silence};
 use crate::story::{Step, Story, Turn};
+use crate::tables::Table;
 use crate::writes::{Unanswered, Writes, tell_fate};
-use indexmap::IndexMap;
 use rc_pen::{Pen, Piece, Spelling};
 use rc_types::{Addr, Event, Message};
 use std::alloc::{AllocError, Global};
@@ -173,9 +173,9 @@ fn put_ending(pen: &mut Pen, story: &Story<'_>, ending: &Ending, writes: &Writes
 }
 
 /// Messages by kind and addressee.
-fn put_groups(pen: &mut Pen, groups: &IndexMap<(usize, Addr), Group>) {
+fn put_groups(pen: &mut Pen, groups: &Table<(usize, Addr), Group>) {
     pen.put("],\"lost\":[");
-    for (place, group) in groups.values().enumerate() {
+    for (place, group) in groups.entries.values().enumerate() {
         put_group(pen, place, group);
     }
 }
@@ -227,7 +227,7 @@ fn number_or_null(number: Option<usize>) -> Piece {
 /// The last grant of each range.
 fn put_ranges(pen: &mut Pen, ending: &Ending) {
     pen.put("],\"ranges\":[");
-    for (place, range) in ending.ranges().values().enumerate() {
+    for (place, range) in ending.ranges().entries.values().enumerate() {
         put_range(pen, place, range);
     }
 }
@@ -250,7 +250,7 @@ fn put_range(pen: &mut Pen, place: usize, range: &Range) {
 /// The newest acknowledged version of each key.
 fn put_keys(pen: &mut Pen, ending: &Ending) {
     pen.put("],\"keys\":[");
-    for (place, newest) in ending.newest().values().enumerate() {
+    for (place, newest) in ending.newest().entries.values().enumerate() {
         put_newest(pen, place, newest);
     }
 }

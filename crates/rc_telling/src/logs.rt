@@ -7,8 +7,8 @@ use crate::servers::Server;
 use crate::silences::tell_silence;
 use crate::standings::tell_standing;
 use crate::story::{Step, Story, Turn};
+use crate::tables::Table;
 use crate::writes::{Writes, tell_fate};
-use indexmap::IndexMap;
 use rc_pen::{Pen, Piece, Spelling};
 use rc_types::{Addr, Body, Event, Message};
 use std::alloc::{AllocError, Global};
@@ -132,10 +132,10 @@ fn tell_ending(pen: &mut Pen, story: &Story<'_>, ending: &Ending, writes: &Write
 }
 
 /// Messages by kind and addressee.
-fn tell_groups(pen: &mut Pen, title: &str, groups: &IndexMap<(usize, Addr), Group>) {
+fn tell_groups(pen: &mut Pen, title: &str, groups: &Table<(usize, Addr), Group>) {
     pen.number(title, total_of(groups));
     pen.say("\n");
-    for group in groups.values() {
+    for group in groups.entries.values() {
         tell_group(pen, group);
     }
 }
@@ -189,8 +189,8 @@ fn tell_server(pen: &mut Pen, server: &Server) {
 
 /// The last grant of each range, and whether its owner was suspected, or it was granted once more in other ranges.
 fn tell_ranges(pen: &mut Pen, story: &Story<'_>, ending: &Ending) {
-    pen.number("\nranges ", ending.ranges().len() as u64);
-    for range in ending.ranges().values() {
+    pen.number("\nranges ", ending.ranges().entries.len() as u64);
+    for range in ending.ranges().entries.values() {
         tell_range(pen, range);
         if ending.is_passed_on(range) {
             pen.say(", passed on");
@@ -231,8 +231,8 @@ fn tell_owner(pen: &mut Pen, story: &Story<'_>, owner: Addr) {
 
 /// The newest acknowledged version of each key.
 fn tell_keys(pen: &mut Pen, ending: &Ending) {
-    pen.number("\nkeys ", ending.newest().len() as u64);
-    for newest in ending.newest().values() {
+    pen.number("\nkeys ", ending.newest().entries.len() as u64);
+    for newest in ending.newest().entries.values() {
         tell_newest(pen, newest);
     }
 }

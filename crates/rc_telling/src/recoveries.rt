@@ -1,8 +1,7 @@
 //! Recoveries that are not at their end, and what they wait for.
 
 use crate::course::Course;
-use crate::tables::{put, put_first};
-use indexmap::IndexMap;
+use crate::tables::Table;
 use rc_pen::{Pen, Piece};
 use rc_types::{Addr, Body, Message, Part, ServerId};
 use std::alloc::{AllocError, Global};
@@ -49,13 +48,13 @@ enum Stage {
 /// The recoveries of a run.
 pub(crate) struct Recoveries {
     /// By number of an attempt: the master.
-    masters: IndexMap<u32, ServerId>,
+    masters: Table<u32, ServerId>,
     /// By master.
-    newest: IndexMap<ServerId, Attempt>,
+    newest: Table<ServerId, Attempt>,
     /// By term.
-    parts: IndexMap<u32, Given>,
+    parts: Table<u32, Given>,
     /// By term and segment: from whom it is fetched, and whether it has come.
-    fetches: IndexMap<(u32, u16), (Addr, bool)>,
+    fetches: Table<(u32, u16), (Addr, bool)>,
 }
 
 impl Drop for Recoveries {
@@ -73,10 +72,10 @@ impl Recoveries {
     /// None yet.
     pub(crate) fn new(alloc: Global) -> Recoveries {
         Recoveries {
-            masters: IndexMap::new(alloc),
-            newest: IndexMap::new(alloc),
-            parts: IndexMap::new(alloc),
-            fetches: IndexMap::new(alloc),
+            masters: Table::new(alloc),
+            newest: Table::new(alloc),
+            parts: Table::new(alloc),
+            fetches: Table::new(alloc),
         }
     }
 
@@ -127,27 +126,27 @@ impl Recoveries {
 
     /// A segment is fetched for a part.
     fn fetch(&mut self, term: u32, seg: u16, from: Addr) -> Result<(), AllocError> {
-        put_first(&mut self.fetches, (term, seg), (from, false))
+        self.fetches.put_first((term, seg), (from, false))
     }
 
     /// A segment has come for a part.
     fn come(&mut self, term: u32, seg: u16) {
-        if let Some(fetch) = self.fetches.get_mut(&(term, seg)) {
+        if let Some(fetch) = self.fetches.get_mut((term, seg)) {
             fetch.1 = true;
         }
     }
 
     /// A part is recovered.
     fn recover(&mut self, term: u32) {
-        if let Some(part) = self.parts.get_mut(&term) {
+        if let Some(part) = self.parts.get_mut(term) {
             part.is_recovered = true;
         }
     }
 
     /// An attempt asks a server.
     fn ask(&mut self, number: u32, master: ServerId) -> Result<(), AllocError> {
-        put(&mut self.masters, number, master)?;
-        if let Some(attempt) = self.newest.get_mut(&master) {
+        self.masters.put(number, master)?;
+        if let Some(attempt) = self.newest.get_mut(master) {
             if attempt.number == number {
                 attempt.asked = attempt.asked.saturating_add(1);
                 return Ok(());
@@ -159,13 +158,13 @@ impl Recoveries {
             answers: 0,
             is_decided: false,
         };
-        put(&mut self.newest, master, attempt)
+        self.newest.put(master, attempt)
     }
 
     /// The newest attempt of its master, if this is one.
     fn current(&mut self, number: u32) -> Option<&mut Attempt> {
-        let master = self.masters.get(&number).copied()?;
-        let attempt = self.newest.get_mut(&master)?;
+        let master = self.masters.find(number)?;
+        let attempt = self.newest.get_mut(master)?;
         if attempt.number == number {
             Some(attempt)
         } else {
@@ -199,12 +198,12 @@ impl Recoveries {
             is_recovered: false,
             is_granted: false,
         };
-        put_first(&mut self.parts, term, given)
+        self.parts.put_first(term, given)
     }
 
     /// A part is granted.
     fn grant(&mut self, term: u32) {
-        if let Some(part) = self.parts.get_mut(&term) {
+        if let Some(part) = self.parts.get_mut(term) {
             part.is_granted = true;
         }
     }
@@ -213,7 +212,7 @@ impl Recoveries {
     fn missing(&self, attempt: u32) -> (u64, Option<(u32, Given)>) {
         let mut count = 0u64;
         let mut first = None;
-        for (term, part) in &self.parts {
+        for (term, part) in &self.parts.entries {
             if part.attempt == attempt && !part.is_granted {
                 count = count.saturating_add(1);
                 first = first.or(Some((*term, *part)));
@@ -228,7 +227,7 @@ impl Recoveries {
             return Stage::Recovered;
         }
         let mut stage = Stage::Planned;
-        for (place, fetch) in &self.fetches {
+        for (place, fetch) in &self.fetches.entries {
             if place.0 == term {
                 if !fetch.1 {
                     return Stage::Fetching(place.1, fetch.0);
@@ -242,7 +241,7 @@ impl Recoveries {
 
 /// Each recovery that is not at its end.
 pub(crate) fn tell_recoveries(pen: &mut Pen, recoveries: &Recoveries, course: &Course) {
-    for (master, attempt) in &recoveries.newest {
+    for (master, attempt) in &recoveries.newest.entries {
         if !attempt.is_decided {
             tell_undecided(pen, *master, attempt);
         } else if let (count, Some((term, part))) = recoveries.missing(attempt.number) {

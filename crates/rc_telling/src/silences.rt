@@ -1,8 +1,7 @@
 //! Why a delivery came to nothing: whom a backup had fenced by then, what it had freed, which epoch a segment had,
 //! which attempt to recover a master was the newest, and who was deposed.
 
-use crate::tables::{put, put_first};
-use indexmap::IndexMap;
+use crate::tables::Table;
 use rc_pen::{Pen, Piece};
 use rc_types::{Addr, Body, Code, Message, ServerId};
 use std::alloc::{AllocError, Global};
@@ -31,19 +30,19 @@ pub(crate) enum Silence {
 /// What has to be known of what was sent and delivered so far.
 pub(crate) struct Known {
     /// By backup and master: the attempt for which the one fenced the other.
-    fences: IndexMap<(ServerId, ServerId), u32>,
+    fences: Table<(ServerId, ServerId), u32>,
     /// By backup, master and segment: what was freed.
-    freed: IndexMap<(ServerId, ServerId, u16), bool>,
+    freed: Table<(ServerId, ServerId, u16), bool>,
     /// By master and segment: the epoch of the last Place.
-    epochs: IndexMap<(ServerId, u16), u16>,
+    epochs: Table<(ServerId, u16), u16>,
     /// By attempt: whose recovery it is.
-    attempts: IndexMap<u32, ServerId>,
+    attempts: Table<u32, ServerId>,
     /// By master: its newest attempt.
-    newest: IndexMap<ServerId, u32>,
+    newest: Table<ServerId, u32>,
     /// By server: the version of the greatest list that it was given.
-    lists: IndexMap<ServerId, u32>,
+    lists: Table<ServerId, u32>,
     /// By server: who was deposed.
-    deposed: IndexMap<ServerId, bool>,
+    deposed: Table<ServerId, bool>,
 }
 
 impl Drop for Known {
@@ -64,13 +63,13 @@ impl Known {
     /// Nothing yet.
     pub(crate) fn new(alloc: Global) -> Known {
         Known {
-            fences: IndexMap::new(alloc),
-            freed: IndexMap::new(alloc),
-            epochs: IndexMap::new(alloc),
-            attempts: IndexMap::new(alloc),
-            newest: IndexMap::new(alloc),
-            lists: IndexMap::new(alloc),
-            deposed: IndexMap::new(alloc),
+            fences: Table::new(alloc),
+            freed: Table::new(alloc),
+            epochs: Table::new(alloc),
+            attempts: Table::new(alloc),
+            newest: Table::new(alloc),
+            lists: Table::new(alloc),
+            deposed: Table::new(alloc),
         }
     }
 
@@ -87,13 +86,13 @@ impl Known {
 
     /// A master places a segment under this epoch.
     fn place(&mut self, master: ServerId, seg: u16, epoch: u16) -> Result<(), AllocError> {
-        put(&mut self.epochs, (master, seg), epoch)
+        self.epochs.put((master, seg), epoch)
     }
 
     /// An attempt asks for replicas of this master.
     fn attempt(&mut self, attempt: u32, master: ServerId) -> Result<(), AllocError> {
-        put(&mut self.attempts, attempt, master)?;
-        put(&mut self.newest, master, attempt)
+        self.attempts.put(attempt, master)?;
+        self.newest.put(master, attempt)
     }
 
     /// A message has reached its addressee, which runs.
@@ -122,7 +121,7 @@ impl Known {
         master: ServerId,
         attempt: u32,
     ) -> Result<(), AllocError> {
-        put_first(&mut self.fences, (backup, master), attempt)
+        self.fences.put_first((backup, master), attempt)
     }
 
     /// A backup frees a segment, if it has not fenced its master.
@@ -130,7 +129,7 @@ impl Known {
         if self.has_fenced(backup, master) {
             return Ok(());
         }
-        put(&mut self.freed, (backup, master, seg), true)
+        self.freed.put((backup, master, seg), true)
     }
 
     /// A server is given a list.
@@ -138,22 +137,22 @@ impl Known {
         if self.list_of(to) >= version {
             return Ok(());
         }
-        put(&mut self.lists, to, version)
+        self.lists.put(to, version)
     }
 
     /// A server learns that it was replaced.
     fn depose(&mut self, id: ServerId) -> Result<(), AllocError> {
-        put(&mut self.deposed, id, true)
+        self.deposed.put(id, true)
     }
 
     /// Whether a backup has fenced a master.
     pub(crate) fn has_fenced(&self, backup: ServerId, master: ServerId) -> bool {
-        self.fences.get(&(backup, master)).is_some()
+        self.fences.has((backup, master))
     }
 
     /// The version of the greatest list that this server was given.
     fn list_of(&self, id: ServerId) -> u32 {
-        self.lists.get(&id).copied().unwrap_or(0)
+        self.lists.find(id).unwrap_or(0)
     }
 
     /// Why this message, when it reaches its addressee, which runs, will come to nothing, if that can be told.
@@ -181,24 +180,24 @@ impl Known {
 
     /// Of what a backup is to store.
     fn why_not_stored(&self, master: ServerId, backup: ServerId, seg: u16) -> Option<Silence> {
-        match self.fences.get(&(backup, master)) {
-            Some(attempt) => Some(Silence::Fenced(*attempt)),
-            None if self.freed.get(&(backup, master, seg)).is_some() => Some(Silence::Freed(seg)),
+        match self.fences.find((backup, master)) {
+            Some(attempt) => Some(Silence::Fenced(attempt)),
+            None if self.freed.has((backup, master, seg)) => Some(Silence::Freed(seg)),
             None => Some(Silence::NoReplica),
         }
     }
 
     /// Of what a master is told of a segment.
     fn why_not_noted(&self, master: ServerId, seg: u16, epoch: u16) -> Option<Silence> {
-        match self.epochs.get(&(master, seg)) {
-            Some(newest) if *newest > epoch => Some(Silence::OlderEpoch(*newest)),
+        match self.epochs.find((master, seg)) {
+            Some(newest) if newest > epoch => Some(Silence::OlderEpoch(newest)),
             _ => self.why_not_heard(master),
         }
     }
 
     /// Of what comes to a master that may be deposed.
     fn why_not_heard(&self, master: ServerId) -> Option<Silence> {
-        if self.deposed.get(&master).is_some() {
+        if self.deposed.has(master) {
             Some(Silence::Deposed)
         } else {
             None
@@ -220,9 +219,9 @@ impl Known {
         let Body::Replicas { attempt, .. } = body else {
             return None;
         };
-        let master = self.attempts.get(attempt)?;
-        match self.newest.get(master) {
-            Some(newest) if *newest > *attempt => Some(Silence::StaleAttempt(*newest)),
+        let master = self.attempts.find(*attempt)?;
+        match self.newest.find(master) {
+            Some(newest) if newest > *attempt => Some(Silence::StaleAttempt(newest)),
             _ => None,
         }
     }

@@ -2,8 +2,7 @@
 
 use crate::fields::tell_code;
 use crate::story::{Step, Story, Turn};
-use crate::tables::put;
-use indexmap::IndexMap;
+use crate::tables::Table;
 use rc_pen::{Pen, Piece};
 use rc_types::{Addr, Body, Code, Event, Message, PlanRow, ServerId};
 use std::alloc::{AllocError, Global};
@@ -34,11 +33,11 @@ pub(crate) struct Unanswered {
 /// The writes of a story.
 pub(crate) struct Writes {
     /// By master, segment and offset: what was acknowledged.
-    acknowledged: IndexMap<(ServerId, u16, usize), bool>,
+    acknowledged: Table<(ServerId, u16, usize), bool>,
     /// By master: the newest attempt that has a plan.
-    plans: IndexMap<ServerId, u32>,
+    plans: Table<ServerId, u32>,
     /// By attempt and segment: the length that its plan has.
-    lengths: IndexMap<(u32, u16), usize>,
+    lengths: Table<(u32, u16), usize>,
     unanswered: Vec<Unanswered>,
 }
 
@@ -57,9 +56,9 @@ impl Writes {
     /// None yet.
     pub(crate) fn new(alloc: Global) -> Writes {
         Writes {
-            acknowledged: IndexMap::new(alloc),
-            plans: IndexMap::new(alloc),
-            lengths: IndexMap::new(alloc),
+            acknowledged: Table::new(alloc),
+            plans: Table::new(alloc),
+            lengths: Table::new(alloc),
             unanswered: Vec::new(alloc),
         }
     }
@@ -84,7 +83,7 @@ impl Writes {
     fn note(&mut self, message: &Message) -> Result<(), AllocError> {
         match (message.from, &message.body) {
             (Addr::Server(id), Body::WriteOk { seg, offset, .. }) => {
-                put(&mut self.acknowledged, (id, *seg, *offset), true)
+                self.acknowledged.put((id, *seg, *offset), true)
             }
             (
                 _,
@@ -101,9 +100,9 @@ impl Writes {
 
     /// Notes a plan to recover a master.
     fn plan(&mut self, attempt: u32, master: ServerId, rows: &[PlanRow]) -> Result<(), AllocError> {
-        put(&mut self.plans, master, attempt)?;
+        self.plans.put(master, attempt)?;
         for row in rows {
-            put(&mut self.lengths, (attempt, row.seg), row.len)?;
+            self.lengths.put((attempt, row.seg), row.len)?;
         }
         Ok(())
     }
@@ -141,13 +140,13 @@ impl Writes {
             return Some(Fate::Refused(code));
         }
         let (seg, offset) = step.log_end?;
-        if self.acknowledged.get(&(master, seg, offset)).is_some() {
+        if self.acknowledged.has((master, seg, offset)) {
             return None;
         }
-        let Some(attempt) = self.plans.get(&master).copied() else {
+        let Some(attempt) = self.plans.find(master) else {
             return Some(Fate::Placed(seg, offset));
         };
-        let len = self.lengths.get(&(attempt, seg)).copied().unwrap_or(0);
+        let len = self.lengths.find((attempt, seg)).unwrap_or(0);
         Some(Fate::Recovered(seg, offset, attempt, offset < len))
     }
 
