@@ -3,4 +3,4 @@
 
 mod pen;
 
-pub use pen::{Pen, Spelling};
+pub use pen::{Pen, Piece, Spelling};

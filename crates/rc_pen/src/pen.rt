@@ -1,7 +1,7 @@
 //! A pen, which needs no answer at each word.
 
 use rc_types::{Addr, Code, ServerId};
-use std::alloc::AllocError;
+use std::alloc::{AllocError, Global};
 
 /// How the letters of what is said are spelled.
 #[derive(Clone, Copy)]
@@ -14,21 +14,53 @@ pub enum Spelling {
     Mermaid,
 }
 
-/// Writes at the end of a text. Once it was refused memory it writes nothing more, and says so at the end.
+/// What stands in a form at one of its `%`.
+#[derive(Clone, Copy)]
+pub enum Piece {
+    /// A number.
+    U8(u8),
+    /// A number.
+    U16(u16),
+    /// A number.
+    U32(u32),
+    /// A number.
+    U64(u64),
+    /// A number.
+    Size(usize),
+    /// A server.
+    Id(ServerId),
+    /// A node.
+    Node(Addr),
+    /// A code.
+    Code(Code),
+    /// Words.
+    Words(&'static str),
+    /// One of the two that follow it in the form, each up to a `|`: the first, if it holds.
+    Flag(bool),
+}
+
+/// Writes a text. Once it was refused memory it writes nothing more, and says so at the end.
 #[derive(Drop)]
-pub struct Pen<'a> {
-    text: &'a mut String,
+pub struct Pen {
+    text: String,
     spelling: Spelling,
     refused: bool,
 }
 
-impl<'a> Pen<'a> {
-    /// A pen at the end of this text.
-    pub fn at(text: &'a mut String, spelling: Spelling) -> Pen<'a> {
+impl Pen {
+    /// A pen that has written nothing yet.
+    pub fn new(alloc: Global, spelling: Spelling) -> Pen {
         Pen {
-            text,
+            text: String::new(alloc),
             spelling,
             refused: false,
+        }
+    }
+
+    /// What else wanted memory: where it was refused, the pen writes nothing more.
+    pub fn take(&mut self, wanted: Result<(), AllocError>) {
+        if wanted.is_err() {
+            self.refused = true;
         }
     }
 
@@ -60,9 +92,8 @@ impl<'a> Pen<'a> {
         }
     }
 
-    /// Writes these letters as they are, and then a code.
-    pub fn put_code(&mut self, letters: &str, code: Code) {
-        self.put(letters);
+    /// Writes a code.
+    fn put_code(&mut self, code: Code) {
         if !self.refused {
             self.refused = write!(self.text, "{code}").is_err();
         }
@@ -142,15 +173,69 @@ impl<'a> Pen<'a> {
         }
     }
 
-    /// Whether all was written.
+    /// Fills a form, whose letters stand as they are: each `%` with the next piece.
+    pub fn put_all(&mut self, form: &str, pieces: &[Piece]) {
+        let spelling = self.spelling;
+        self.spelling = Spelling::Plain;
+        self.say_all(form, pieces);
+        self.spelling = spelling;
+    }
+
+    /// Spells a form, and fills it: each `%` with the next piece.
+    pub fn say_all(&mut self, form: &str, pieces: &[Piece]) {
+        let mut parts = form.split('%');
+        self.say(parts.next().unwrap_or(""));
+        for (piece, part) in pieces.iter().zip(parts) {
+            self.fill(*piece, part);
+        }
+    }
+
+    /// A piece, and the part of the form up to the next one.
+    fn fill(&mut self, piece: Piece, part: &str) {
+        match piece {
+            Piece::U8(number) => self.put_number("", u64::from(number)),
+            Piece::U16(number) => self.put_number("", u64::from(number)),
+            Piece::U32(number) => self.put_number("", u64::from(number)),
+            Piece::U64(number) => self.put_number("", number),
+            Piece::Size(number) => self.put_number("", number as u64),
+            Piece::Id(id) => self.put_node("", Addr::Server(id)),
+            Piece::Node(node) => self.put_node("", node),
+            Piece::Code(code) => self.put_code(code),
+            Piece::Words(words) => self.say(words),
+            Piece::Flag(is_first) => return self.choose(is_first, part),
+        }
+        self.say(part);
+    }
+
+    /// One of the two at the beginning of this part of a form, and what follows them.
+    fn choose(&mut self, is_first: bool, part: &str) {
+        let mut words = part.split('|');
+        let first = words.next().unwrap_or("");
+        let second = words.next().unwrap_or("");
+        self.either(is_first, first, second);
+        self.say(words.next().unwrap_or(""));
+    }
+
+    /// What was written.
     ///
     /// # Errors
     ///
     /// Memory was refused.
-    pub fn end(&self) -> Result<(), AllocError> {
-        if self.refused {
+    pub fn end(self) -> Result<String, AllocError> {
+        let Pen { text, refused, .. } = self;
+        if refused {
             return Err(AllocError);
         }
-        Ok(())
+        Ok(text)
+    }
+
+    /// What was written, at the end of another text.
+    ///
+    /// # Errors
+    ///
+    /// Memory was refused.
+    pub fn end_after(self, before: &mut String) -> Result<(), AllocError> {
+        let text = self.end()?;
+        before.push_str(text.as_str())
     }
 }

@@ -5,7 +5,7 @@ use crate::pieces::{Member, Piece, item, members, named};
 use crate::showing::{ask_for_nearest, show, show_quoted, tell_names, tell_place, tell_quoted};
 use crate::syntax::tell_text_fault;
 use crate::values::{Want, Wrong, tell_want, unquoted, wrong_in};
-use rc_pen::{Pen, Spelling};
+use rc_pen::{Pen, Piece as Told, Spelling};
 use std::alloc::{AllocError, Global};
 
 /// Why a text is wrong at this place, in a line or two. Fails only where memory was refused.
@@ -15,12 +15,11 @@ pub fn reason_of_fault(
     text: &[u8],
     place: usize,
 ) -> Result<String, AllocError> {
-    let mut said = String::new(alloc);
-    let mut pen = Pen::at(&mut said, Spelling::Plain);
-    tell_fault(alloc, dialect, text, place, &mut pen)?;
+    let mut pen = Pen::new(alloc, Spelling::Plain);
+    let told = tell_fault(alloc, dialect, text, place, &mut pen);
+    pen.take(told);
     pen.say("\n`ramseg explain F17` says what the place stands for.\n");
-    pen.end()?;
-    Ok(said)
+    pen.end()
 }
 
 /// Why a text is wrong at this place.
@@ -29,7 +28,7 @@ fn tell_fault(
     dialect: Dialect,
     text: &[u8],
     place: usize,
-    pen: &mut Pen<'_>,
+    pen: &mut Pen,
 ) -> Result<(), AllocError> {
     match place {
         0 => tell_text_fault(alloc, dialect, text, pen),
@@ -43,14 +42,15 @@ fn tell_whole_fault(
     alloc: Global,
     dialect: Dialect,
     text: &[u8],
-    pen: &mut Pen<'_>,
+    pen: &mut Pen,
 ) -> Result<(), AllocError> {
     let whole = Piece::all(text);
     if whole.first(text) != b'{' {
         tell_place(pen, text, whole.from);
-        pen.say(dialect.whole());
-        pen.say(" has to be an object, as ");
-        pen.say(dialect.example());
+        pen.say_all(
+            "% has to be an object, as %",
+            &[Told::Words(dialect.whole()), Told::Words(dialect.example())],
+        );
         return Ok(());
     }
     let found = members(alloc, text, whole)?;
@@ -63,7 +63,7 @@ fn tell_outer_fault(
     dialect: Dialect,
     text: &[u8],
     found: &[Member],
-    pen: &mut Pen<'_>,
+    pen: &mut Pen,
 ) -> Result<(), AllocError> {
     let whole = Piece::all(text);
     let is_first = is_first(dialect, text, named(text, found, "format"));
@@ -117,7 +117,7 @@ struct Object<'a> {
 }
 
 /// What the object is called.
-fn tell_name(pen: &mut Pen<'_>, object: &Object<'_>) {
+fn tell_name(pen: &mut Pen, object: &Object<'_>) {
     match object.name {
         Name::Whole(dialect) => pen.say(dialect.whole()),
         Name::Item(dialect, number, kind) => {
@@ -130,9 +130,8 @@ fn tell_name(pen: &mut Pen<'_>, object: &Object<'_>) {
 }
 
 /// An item, by its number.
-fn tell_item(pen: &mut Pen<'_>, dialect: Dialect, number: usize) {
-    pen.say(dialect.item());
-    pen.number(" ", number as u64);
+fn tell_item(pen: &mut Pen, dialect: Dialect, number: usize) {
+    pen.say_all("% %", &[Told::Words(dialect.item()), Told::Size(number)]);
 }
 
 /// Tells of the first member that is strange, missing or wrong.
@@ -141,7 +140,7 @@ fn tell_members_fault(
     text: &[u8],
     object: &Object<'_>,
     found: &[Member],
-    pen: &mut Pen<'_>,
+    pen: &mut Pen,
 ) -> Result<(), AllocError> {
     if let Some(member) = strange_member(text, object, found) {
         return tell_strange(alloc, text, object, &member, pen);
@@ -177,7 +176,7 @@ fn tell_member_fault(
     object: &Object<'_>,
     found: &[Member],
     wanted: &str,
-    pen: &mut Pen<'_>,
+    pen: &mut Pen,
 ) -> Result<bool, AllocError> {
     let want = Want::of(object.kind, wanted);
     let Some(member) = named(text, found, wanted) else {
@@ -192,13 +191,7 @@ fn tell_member_fault(
 }
 
 /// Tells that a member is absent, unless it may be; gives whether it has told that.
-fn tell_absent(
-    text: &[u8],
-    object: &Object<'_>,
-    wanted: &str,
-    want: Want,
-    pen: &mut Pen<'_>,
-) -> bool {
+fn tell_absent(text: &[u8], object: &Object<'_>, wanted: &str, want: Want, pen: &mut Pen) -> bool {
     if may_be_absent(wanted) {
         return false;
     }
@@ -217,7 +210,7 @@ fn tell_strange(
     text: &[u8],
     object: &Object<'_>,
     member: &Member,
-    pen: &mut Pen<'_>,
+    pen: &mut Pen,
 ) -> Result<(), AllocError> {
     tell_place(pen, text, member.name.from.saturating_sub(1));
     tell_name(pen, object);
@@ -231,7 +224,7 @@ fn tell_strange(
 /// Asks whether the nearest of these names was meant, or tells all of them.
 fn tell_nearest(
     alloc: Global,
-    pen: &mut Pen<'_>,
+    pen: &mut Pen,
     spelt: &str,
     before: &str,
     names: &[&str],
@@ -243,7 +236,7 @@ fn tell_nearest(
 }
 
 /// Tells of a value that is not what it has to be.
-fn tell_wrong(pen: &mut Pen<'_>, text: &[u8], object: &Object<'_>, member: &Member, wrong: &Wrong) {
+fn tell_wrong(pen: &mut Pen, text: &[u8], object: &Object<'_>, member: &Member, wrong: &Wrong) {
     tell_place(pen, text, wrong.at);
     tell_name(pen, object);
     pen.say(": ");
@@ -257,12 +250,7 @@ fn tell_wrong(pen: &mut Pen<'_>, text: &[u8], object: &Object<'_>, member: &Memb
 }
 
 /// Asks whether another name was meant.
-fn tell_meant(
-    alloc: Global,
-    text: &[u8],
-    wrong: &Wrong,
-    pen: &mut Pen<'_>,
-) -> Result<(), AllocError> {
+fn tell_meant(alloc: Global, text: &[u8], wrong: &Wrong, pen: &mut Pen) -> Result<(), AllocError> {
     if let Want::Name = wrong.want {
         let spelt = unquoted(wrong.shown.text(text)).unwrap_or("");
         ask_for_nearest(alloc, pen, spelt, &MESSAGES)?;
@@ -300,7 +288,7 @@ fn tell_item_fault(
     dialect: Dialect,
     text: &[u8],
     number: usize,
-    pen: &mut Pen<'_>,
+    pen: &mut Pen,
 ) -> Result<(), AllocError> {
     let Some(whole) = item_of(alloc, dialect, text, number)? else {
         tell_item(pen, dialect, number);
@@ -316,7 +304,7 @@ fn tell_item_fault(
 }
 
 /// An item is no object.
-fn tell_no_object(pen: &mut Pen<'_>, dialect: Dialect, text: &[u8], number: usize, whole: Piece) {
+fn tell_no_object(pen: &mut Pen, dialect: Dialect, text: &[u8], number: usize, whole: Piece) {
     tell_place(pen, text, whole.from);
     tell_item(pen, dialect, number);
     pen.say(" is ");
@@ -336,7 +324,7 @@ fn tell_object_fault(
     number: usize,
     whole: Piece,
     found: &[Member],
-    pen: &mut Pen<'_>,
+    pen: &mut Pen,
 ) -> Result<(), AllocError> {
     let Some(member) = named(text, found, dialect.kind()) else {
         tell_no_kind(pen, dialect, text, number, whole);
@@ -358,7 +346,7 @@ fn tell_object_fault(
 }
 
 /// An item does not say what it is.
-fn tell_no_kind(pen: &mut Pen<'_>, dialect: Dialect, text: &[u8], number: usize, whole: Piece) {
+fn tell_no_kind(pen: &mut Pen, dialect: Dialect, text: &[u8], number: usize, whole: Piece) {
     tell_place(pen, text, whole.from);
     tell_item(pen, dialect, number);
     pen.say(" lacks the member ");
@@ -368,19 +356,12 @@ fn tell_no_kind(pen: &mut Pen<'_>, dialect: Dialect, text: &[u8], number: usize,
 }
 
 /// An item is of a kind that is not known.
-fn tell_strange_kind(
-    pen: &mut Pen<'_>,
-    dialect: Dialect,
-    text: &[u8],
-    number: usize,
-    member: &Member,
-) {
+fn tell_strange_kind(pen: &mut Pen, dialect: Dialect, text: &[u8], number: usize, member: &Member) {
     tell_place(pen, text, member.value.from);
     tell_item(pen, dialect, number);
     pen.say(": ");
     tell_quoted(pen, dialect.kind());
     pen.say(" is ");
     show(pen, text, member.value);
-    pen.say(", which is no kind of ");
-    pen.say(dialect.item());
+    pen.say_all(", which is no kind of %", &[Told::Words(dialect.item())]);
 }

@@ -6,7 +6,7 @@ use crate::histories::{History, Host};
 use crate::pieces::{Piece, members, named};
 use crate::showing::tell_place;
 use crate::values::unquoted;
-use rc_pen::{Pen, Spelling};
+use rc_pen::{Pen, Piece as Told, Spelling};
 use rc_reading::{ReadFault, ScenarioEvent, read_scenario};
 use rc_types::limits::MAX_EVENTS;
 use rc_types::{Addr, ServerId};
@@ -20,27 +20,21 @@ pub fn reason_of_stop(
     number: usize,
     sent: usize,
 ) -> Result<String, AllocError> {
-    let mut said = String::new(alloc);
-    let mut pen = Pen::at(&mut said, Spelling::Plain);
-    tell_event(alloc, text, number, &mut pen)?;
-    tell_stop(alloc, text, number, sent, &mut pen)?;
+    let mut pen = Pen::new(alloc, Spelling::Plain);
+    let told = tell_event(alloc, text, number, &mut pen);
+    pen.take(told);
+    let told = tell_stop(alloc, text, number, sent, &mut pen);
+    pen.take(told);
     pen.say("\n`ramseg explain F18` says more.\n");
-    pen.end()?;
-    Ok(said)
+    pen.end()
 }
 
 /// Names the event, and where it stands.
-fn tell_event(
-    alloc: Global,
-    text: &[u8],
-    number: usize,
-    pen: &mut Pen<'_>,
-) -> Result<(), AllocError> {
+fn tell_event(alloc: Global, text: &[u8], number: usize, pen: &mut Pen) -> Result<(), AllocError> {
     match item_of(alloc, Dialect::Scenario, text, number)? {
         Some(whole) => tell_kind(alloc, text, number, whole, pen),
         None => {
-            pen.number("event ", number as u64);
-            pen.say(": ");
+            pen.say_all("event %: ", &[Told::Size(number)]);
             Ok(())
         }
     }
@@ -52,7 +46,7 @@ fn tell_kind(
     text: &[u8],
     number: usize,
     whole: Piece,
-    pen: &mut Pen<'_>,
+    pen: &mut Pen,
 ) -> Result<(), AllocError> {
     let found = members(alloc, text, whole)?;
     let kind = match named(text, found.as_slice(), "e") {
@@ -60,8 +54,7 @@ fn tell_kind(
         None => "",
     };
     tell_place(pen, text, whole.from);
-    pen.number("event ", number as u64);
-    pen.say(" (");
+    pen.say_all("event % (", &[Told::Size(number)]);
     pen.say(kind);
     pen.say("): ");
     Ok(())
@@ -73,7 +66,7 @@ fn tell_stop(
     text: &[u8],
     number: usize,
     sent: usize,
-    pen: &mut Pen<'_>,
+    pen: &mut Pen,
 ) -> Result<(), AllocError> {
     match read_scenario(alloc, text) {
         Ok(scenario) => {
@@ -89,13 +82,13 @@ fn tell_stop(
 }
 
 /// Says why the event of this number was not possible, of these.
-fn tell_stop_in(events: &[ScenarioEvent], number: usize, sent: usize, pen: &mut Pen<'_>) {
+fn tell_stop_in(events: &[ScenarioEvent], number: usize, sent: usize, pen: &mut Pen) {
     let history = History::of(&events[..number.min(events.len())]);
     tell_cause(events.get(number), &history, sent, pen);
 }
 
 /// Says why the event was not possible.
-fn tell_cause(event: Option<&ScenarioEvent>, history: &History, sent: usize, pen: &mut Pen<'_>) {
+fn tell_cause(event: Option<&ScenarioEvent>, history: &History, sent: usize, pen: &mut Pen) {
     match event {
         Some(ScenarioEvent::Start { host, .. }) => tell_running(*host, history, pen),
         Some(ScenarioEvent::Stop(id) | ScenarioEvent::Tick(Addr::Server(id))) => {
@@ -107,36 +100,37 @@ fn tell_cause(event: Option<&ScenarioEvent>, history: &History, sent: usize, pen
 }
 
 /// A message that is to be delivered was not sent.
-fn tell_unsent(number: u32, sent: usize, pen: &mut Pen<'_>) {
-    pen.number("message ", u64::from(number));
-    pen.say(" was not sent; ");
+fn tell_unsent(number: u32, sent: usize, pen: &mut Pen) {
+    pen.say_all("message % was not sent; ", &[Told::U32(number)]);
     match sent {
         0 => pen.say("none was until then"),
         1 => pen.say("only message 0 was until then"),
-        _ => {
-            pen.number("", sent as u64);
-            pen.number(" were until then, 0 to ", sent.saturating_sub(1) as u64);
-        }
+        _ => pen.say_all(
+            "% were until then, 0 to %",
+            &[Told::Size(sent), Told::Size(sent.saturating_sub(1))],
+        ),
     }
 }
 
 /// No event is possible any more.
-fn tell_limit(pen: &mut Pen<'_>) {
-    pen.number("", MAX_EVENTS as u64);
-    pen.say(
-        " events have happened, of which each delivery of a settle is one; a world takes no more",
+fn tell_limit(pen: &mut Pen) {
+    pen.say_all(
+        "% events have happened, of which each delivery of a settle is one; a world takes no more",
+        &[Told::Size(MAX_EVENTS)],
     );
 }
 
 /// A host that is to start runs.
-fn tell_running(index: u8, history: &History, pen: &mut Pen<'_>) {
+fn tell_running(index: u8, history: &History, pen: &mut Pen) {
     match history.host(index) {
-        Some(host) if host.is_running => {
-            pen.number("host ", u64::from(index));
-            pen.id(" runs already, as ", newest(index, host));
-            pen.number(", since event ", host.since as u64);
-            pen.say("; it can start again once that is stopped");
-        }
+        Some(host) if host.is_running => pen.say_all(
+            "host % runs already, as %, since event %; it can start again once that is stopped",
+            &[
+                Told::U8(index),
+                Told::Id(newest(index, host)),
+                Told::Size(host.since),
+            ],
+        ),
         _ => tell_limit(pen),
     }
 }
@@ -150,12 +144,14 @@ fn newest(index: u8, host: Host) -> ServerId {
 }
 
 /// A server that is to stop or to tick does not run.
-fn tell_absent(id: ServerId, history: &History, pen: &mut Pen<'_>) {
+fn tell_absent(id: ServerId, history: &History, pen: &mut Pen) {
     match history.host(id.index) {
         Some(host) if host.is_running && host.generation == id.generation => tell_limit(pen),
         Some(host) => {
-            pen.id("", id);
-            pen.number(" does not run: host ", u64::from(id.index));
+            pen.say_all(
+                "% does not run: host %",
+                &[Told::Id(id), Told::U8(id.index)],
+            );
             tell_instead(id.index, host, pen);
         }
         None => tell_limit(pen),
@@ -163,15 +159,16 @@ fn tell_absent(id: ServerId, history: &History, pen: &mut Pen<'_>) {
 }
 
 /// What runs on a host, or ran last.
-fn tell_instead(index: u8, host: Host, pen: &mut Pen<'_>) {
-    if host.generation == 0 {
-        pen.say(" has never been started");
+fn tell_instead(index: u8, host: Host, pen: &mut Pen) {
+    let form = if host.generation == 0 {
+        " has never been started"
     } else if host.is_running {
-        pen.id(" runs as ", newest(index, host));
-        pen.number(", since event ", host.since as u64);
+        " runs as %, since event %"
     } else {
-        pen.id(" ran last as ", newest(index, host));
-        pen.number(", which event ", host.since as u64);
-        pen.say(" stopped");
-    }
+        " ran last as %, which event % stopped"
+    };
+    pen.say_all(
+        form,
+        &[Told::Id(newest(index, host)), Told::Size(host.since)],
+    );
 }

@@ -3,7 +3,7 @@
 use crate::dialects::Dialect;
 use crate::pieces::Piece;
 use crate::showing::tell_place;
-use rc_pen::Pen;
+use rc_pen::{Pen, Piece as Told};
 use rc_reading::limits::MOST_BYTES;
 use serde_json::Value;
 use std::alloc::{AllocError, Global};
@@ -16,15 +16,17 @@ pub(crate) fn tell_text_fault(
     alloc: Global,
     dialect: Dialect,
     text: &[u8],
-    pen: &mut Pen<'_>,
+    pen: &mut Pen,
 ) -> Result<(), AllocError> {
     if text.len() > MOST_BYTES {
         tell_too_long(dialect, pen);
         return Ok(());
     }
     if Piece::all(text).of(text).is_empty() {
-        pen.say("the input is empty; expected an object, as ");
-        pen.say(dialect.example());
+        pen.say_all(
+            "the input is empty; expected an object, as %",
+            &[Told::Words(dialect.example())],
+        );
         return Ok(());
     }
     match std::str::from_utf8(text) {
@@ -38,10 +40,11 @@ pub(crate) fn tell_text_fault(
 }
 
 /// The text has too many bytes.
-fn tell_too_long(dialect: Dialect, pen: &mut Pen<'_>) {
-    pen.say(dialect.whole());
-    pen.number(" has more than ", MOST_BYTES as u64);
-    pen.say(" bytes");
+fn tell_too_long(dialect: Dialect, pen: &mut Pen) {
+    pen.say_all(
+        "% has more than % bytes",
+        &[Told::Words(dialect.whole()), Told::Size(MOST_BYTES)],
+    );
 }
 
 /// Why characters are no JSON text.
@@ -49,7 +52,7 @@ fn tell_json_fault(
     alloc: Global,
     text: &[u8],
     characters: &str,
-    pen: &mut Pen<'_>,
+    pen: &mut Pen,
 ) -> Result<(), AllocError> {
     match Value::from_str(alloc, characters) {
         Ok(_) => pen.say("the bytes are no JSON text"),
@@ -63,7 +66,7 @@ fn tell_json_fault(
 }
 
 /// What may be wrong at this line and this column, both from 1, where a column is a byte.
-fn tell_guess(text: &[u8], line: usize, column: usize, pen: &mut Pen<'_>) {
+fn tell_guess(text: &[u8], line: usize, column: usize, pen: &mut Pen) {
     let at = offset_of(text, line, column);
     match first_too_deep(text) {
         Some(deep) if deep <= at => {

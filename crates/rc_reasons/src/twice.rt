@@ -13,13 +13,25 @@ const MOST_BYTES: usize = 65_536;
 /// A hint, as a line, at the first member that comes twice in the outermost object or in an item of the list; else
 /// nothing. Fails only where memory was refused.
 pub fn hint_of_twice(alloc: Global, dialect: Dialect, text: &[u8]) -> Result<String, AllocError> {
-    let mut said = String::new(alloc);
-    let mut pen = Pen::at(&mut said, Spelling::Plain);
-    if text.len() <= MOST_BYTES && !tell_twice(alloc, text, Piece::all(text), &mut pen)? {
-        tell_twice_in_list(alloc, dialect, text, &mut pen)?;
+    let mut pen = Pen::new(alloc, Spelling::Plain);
+    if text.len() <= MOST_BYTES {
+        let told = tell_twice_in(alloc, dialect, text, &mut pen);
+        pen.take(told);
     }
-    pen.end()?;
-    Ok(said)
+    pen.end()
+}
+
+/// Tells of the first member that comes twice in the outermost object or in an item of the list.
+fn tell_twice_in(
+    alloc: Global,
+    dialect: Dialect,
+    text: &[u8],
+    pen: &mut Pen,
+) -> Result<(), AllocError> {
+    if tell_twice(alloc, text, Piece::all(text), pen)? {
+        return Ok(());
+    }
+    tell_twice_in_list(alloc, dialect, text, pen)
 }
 
 /// Tells of the first item in which a member comes twice.
@@ -27,7 +39,7 @@ fn tell_twice_in_list(
     alloc: Global,
     dialect: Dialect,
     text: &[u8],
-    pen: &mut Pen<'_>,
+    pen: &mut Pen,
 ) -> Result<(), AllocError> {
     match list_of(alloc, dialect, text)? {
         Some(list) => tell_twice_in_items(alloc, text, list, pen),
@@ -40,7 +52,7 @@ fn tell_twice_in_items(
     alloc: Global,
     text: &[u8],
     list: Piece,
-    pen: &mut Pen<'_>,
+    pen: &mut Pen,
 ) -> Result<(), AllocError> {
     let mut walk = ItemWalk::of(list);
     for byte in list.of(text) {
@@ -54,12 +66,7 @@ fn tell_twice_in_items(
 }
 
 /// Tells of the first member of this object that comes twice, and gives whether one does.
-fn tell_twice(
-    alloc: Global,
-    text: &[u8],
-    whole: Piece,
-    pen: &mut Pen<'_>,
-) -> Result<bool, AllocError> {
+fn tell_twice(alloc: Global, text: &[u8], whole: Piece, pen: &mut Pen) -> Result<bool, AllocError> {
     let Some(member) = second(alloc, text, whole)? else {
         return Ok(false);
     };

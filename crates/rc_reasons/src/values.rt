@@ -2,7 +2,7 @@
 
 use crate::dialects::MESSAGES;
 use crate::pieces::{Piece, items};
-use rc_pen::Pen;
+use rc_pen::{Pen, Piece as Told};
 use std::alloc::{AllocError, Global};
 
 /// What a value has to be.
@@ -129,12 +129,14 @@ impl Want {
 }
 
 /// What a value has to be.
-pub(crate) fn tell_want(pen: &mut Pen<'_>, want: Want) {
+pub(crate) fn tell_want(pen: &mut Pen, want: Want) {
     match want {
         Want::Whole(least, most) if least == most => pen.number("", least),
         Want::Whole(least, most) => {
-            pen.number("a whole number from ", least);
-            pen.number(" to ", most);
+            pen.say_all(
+                "a whole number from % to %",
+                &[Told::U64(least), Told::U64(most)],
+            );
         }
         want => pen.say(want.words()),
     }

@@ -8,7 +8,7 @@ use rc_types::{Seq, ServerId, Setup};
 const HOSTS: u8 = 64;
 
 /// What precedes the events.
-pub(crate) fn begin(pen: &mut Pen<'_>, setup: &Setup) {
+pub(crate) fn begin(pen: &mut Pen, setup: &Setup) {
     pen.put_number("{\"format\":2,\"factor\":", u64::from(setup.factor));
     pen.put(",\"factors\":[");
     for (number, factor) in setup.factors.as_slice().iter().enumerate() {
@@ -20,17 +20,17 @@ pub(crate) fn begin(pen: &mut Pen<'_>, setup: &Setup) {
 }
 
 /// What stands before an event.
-pub(crate) fn separate(pen: &mut Pen<'_>, is_first: bool) {
+pub(crate) fn separate(pen: &mut Pen, is_first: bool) {
     pen.put_either(is_first, "\n", ",\n");
 }
 
 /// What follows the events.
-pub(crate) fn end(pen: &mut Pen<'_>) {
+pub(crate) fn end(pen: &mut Pen) {
     pen.put("\n]}\n");
 }
 
 /// An id.
-fn put_id(pen: &mut Pen<'_>, letters: &str, id: ServerId) {
+fn put_id(pen: &mut Pen, letters: &str, id: ServerId) {
     pen.put(letters);
     pen.put_number("[", u64::from(id.index));
     pen.put_number(",", u64::from(id.generation));
@@ -38,7 +38,7 @@ fn put_id(pen: &mut Pen<'_>, letters: &str, id: ServerId) {
 }
 
 /// An event of a kind that names a server alone.
-pub(crate) fn put_named(pen: &mut Pen<'_>, kind: &str, id: ServerId) {
+pub(crate) fn put_named(pen: &mut Pen, kind: &str, id: ServerId) {
     pen.put("{\"e\":\"");
     pen.put(kind);
     put_id(pen, "\",\"id\":", id);
@@ -46,13 +46,13 @@ pub(crate) fn put_named(pen: &mut Pen<'_>, kind: &str, id: ServerId) {
 }
 
 /// A delivery.
-pub(crate) fn put_deliver(pen: &mut Pen<'_>, number: u64) {
+pub(crate) fn put_deliver(pen: &mut Pen, number: u64) {
     pen.put_number("{\"e\":\"deliver\",\"n\":", number);
     pen.put("}");
 }
 
 /// A start.
-pub(crate) fn put_start(pen: &mut Pen<'_>, host: u8, kept: &Seq<(ServerId, u16)>) {
+pub(crate) fn put_start(pen: &mut Pen, host: u8, kept: &Seq<(ServerId, u16)>) {
     pen.put_number("{\"e\":\"start\",\"host\":", u64::from(host));
     if !kept.is_empty() {
         pen.put(",\"kept\":[");
@@ -67,35 +67,35 @@ pub(crate) fn put_start(pen: &mut Pen<'_>, host: u8, kept: &Seq<(ServerId, u16)>
 }
 
 /// The creation of a table.
-pub(crate) fn put_create(pen: &mut Pen<'_>, table: u32, owner: ServerId) {
+pub(crate) fn put_create(pen: &mut Pen, table: u32, owner: ServerId) {
     pen.put_number("{\"e\":\"create\",\"table\":", u64::from(table));
     put_id(pen, ",\"owner\":", owner);
     pen.put("}");
 }
 
 /// A split.
-pub(crate) fn put_split(pen: &mut Pen<'_>, table: u32, at: u64) {
+pub(crate) fn put_split(pen: &mut Pen, table: u32, at: u64) {
     pen.put_number("{\"e\":\"split\",\"table\":", u64::from(table));
     pen.put_number(",\"at\":", at);
     pen.put("}");
 }
 
 /// Whom a request asks, and for what.
-fn put_request(pen: &mut Pen<'_>, letters: &str, to: ServerId, table: u32, key: u64) {
+fn put_request(pen: &mut Pen, letters: &str, to: ServerId, table: u32, key: u64) {
     put_id(pen, letters, to);
     pen.put_number(",\"table\":", u64::from(table));
     pen.put_number(",\"key\":", key);
 }
 
 /// A read.
-pub(crate) fn put_read(pen: &mut Pen<'_>, to: ServerId, table: u32, key: u64) {
+pub(crate) fn put_read(pen: &mut Pen, to: ServerId, table: u32, key: u64) {
     put_request(pen, "{\"e\":\"read\",\"to\":", to, table, key);
     pen.put("}");
 }
 
 /// A write.
 pub(crate) fn put_write(
-    pen: &mut Pen<'_>,
+    pen: &mut Pen,
     to: ServerId,
     table: u32,
     key: u64,
@@ -113,7 +113,7 @@ pub(crate) fn put_write(
 }
 
 /// A value. Those of scenarios and those that are drawn are UTF-8.
-fn put_text(pen: &mut Pen<'_>, bytes: &[u8]) {
+fn put_text(pen: &mut Pen, bytes: &[u8]) {
     let Ok(text) = str::from_utf8(bytes) else {
         return;
     };
@@ -129,7 +129,7 @@ fn put_text(pen: &mut Pen<'_>, bytes: &[u8]) {
 }
 
 /// A pass over the messages.
-pub(crate) fn put_settle(pen: &mut Pen<'_>, kinds: Kinds, hosts: Hosts) {
+pub(crate) fn put_settle(pen: &mut Pen, kinds: Kinds, hosts: Hosts) {
     pen.put("{\"e\":\"settle\"");
     put_kinds(pen, kinds);
     put_hosts(pen, hosts);
@@ -137,7 +137,7 @@ pub(crate) fn put_settle(pen: &mut Pen<'_>, kinds: Kinds, hosts: Hosts) {
 }
 
 /// The kinds that it passes over, if there are any.
-fn put_kinds(pen: &mut Pen<'_>, kinds: Kinds) {
+fn put_kinds(pen: &mut Pen, kinds: Kinds) {
     let mut some = false;
     for kind in &Kind::ALL {
         if kinds.has(*kind) {
@@ -153,7 +153,7 @@ fn put_kinds(pen: &mut Pen<'_>, kinds: Kinds) {
 }
 
 /// The hosts that it passes over, if there are any.
-fn put_hosts(pen: &mut Pen<'_>, hosts: Hosts) {
+fn put_hosts(pen: &mut Pen, hosts: Hosts) {
     let mut some = false;
     for host in 0..HOSTS {
         if hosts.has(host) {

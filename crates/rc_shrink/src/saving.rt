@@ -21,16 +21,14 @@ pub struct Left {
 ///
 /// Memory was refused.
 pub fn saved_events(alloc: Global, setup: &Setup, events: &[Event]) -> Result<String, AllocError> {
-    let mut text = String::new(alloc);
-    let mut pen = Pen::at(&mut text, Spelling::Json);
+    let mut pen = Pen::new(alloc, Spelling::Json);
     lines::begin(&mut pen, setup);
     for (number, event) in events.iter().enumerate() {
         lines::separate(&mut pen, number == 0);
         put_event(&mut pen, event);
     }
     lines::end(&mut pen);
-    pen.end()?;
-    Ok(text)
+    pen.end()
 }
 
 /// A scenario of format 2 with those of these events that are left: one event in each line.
@@ -44,8 +42,7 @@ pub fn saved_scenario(
     events: &[ScenarioEvent],
     left: &[Left],
 ) -> Result<String, AllocError> {
-    let mut text = String::new(alloc);
-    let mut pen = Pen::at(&mut text, Spelling::Json);
+    let mut pen = Pen::new(alloc, Spelling::Json);
     lines::begin(&mut pen, setup);
     for (number, one) in left.iter().enumerate() {
         if let Some(event) = events.get(one.place) {
@@ -54,12 +51,11 @@ pub fn saved_scenario(
         }
     }
     lines::end(&mut pen);
-    pen.end()?;
-    Ok(text)
+    pen.end()
 }
 
 /// An event of a world.
-fn put_event(pen: &mut Pen<'_>, event: &Event) {
+fn put_event(pen: &mut Pen, event: &Event) {
     match event {
         Event::Ask { to, body } => match body {
             Body::Write { table, key, value } => {
@@ -80,7 +76,7 @@ fn put_event(pen: &mut Pen<'_>, event: &Event) {
 }
 
 /// An event of a scenario; if it is a delivery, of this message.
-fn put_scenario_event(pen: &mut Pen<'_>, event: &ScenarioEvent, message: usize) {
+fn put_scenario_event(pen: &mut Pen, event: &ScenarioEvent, message: usize) {
     match event {
         ScenarioEvent::Write {
             to,
@@ -102,7 +98,7 @@ fn put_scenario_event(pen: &mut Pen<'_>, event: &ScenarioEvent, message: usize) 
 }
 
 /// A timer that goes off.
-fn put_tick(pen: &mut Pen<'_>, addr: Addr) {
+fn put_tick(pen: &mut Pen, addr: Addr) {
     match addr {
         Addr::Server(id) => lines::put_named(pen, "tick", id),
         _ => pen.put("{\"e\":\"tick\",\"id\":\"c\"}"),

@@ -87,25 +87,44 @@ impl Servers {
         kept: &Seq<(ServerId, u16)>,
     ) -> Result<Restart, AllocError> {
         let start = self.starts(host);
-        let mut restart = Restart {
-            keeps_named: false,
-            drops_unnamed: false,
+        let keeps_named = self.name_all(host, start, kept);
+        let told = self.take_open(host);
+        let drops_unnamed = self.keep_named(host, start, told.as_slice())?;
+        Ok(Restart {
+            keeps_named,
+            drops_unnamed,
             keeps_closed: self.has_closed(host),
-        };
+        })
+    }
+
+    /// Notes at this start of the host which replicas are named among those that are kept: whether one of them is open.
+    fn name_all(&mut self, host: u8, start: usize, kept: &Seq<(ServerId, u16)>) -> bool {
+        let mut keeps = false;
         for (master, seg) in kept.as_slice() {
             if let Some(segment) = self.segment_mut(*master, *seg) {
-                restart.keeps_named = segment.name(host, start) || restart.keeps_named;
+                keeps = segment.name(host, start) || keeps;
             }
         }
-        for (master, seg) in &self.take_open(host) {
+        keeps
+    }
+
+    /// Of these replicas that were open at the host those stay so that were named at this start: whether others do not.
+    fn keep_named(
+        &mut self,
+        host: u8,
+        start: usize,
+        told: &[(ServerId, u16)],
+    ) -> Result<bool, AllocError> {
+        let mut drops = false;
+        for (master, seg) in told {
             if let Some(segment) = self.segment_mut(*master, *seg) {
                 if segment.is_named(host, start) {
                     self.open(host, *master, *seg)?;
                 } else {
-                    restart.drops_unnamed = segment.lose(host) || restart.drops_unnamed;
+                    drops = segment.lose(host) || drops;
                 }
             }
         }
-        Ok(restart)
+        Ok(drops)
     }
 }

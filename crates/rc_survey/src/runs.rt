@@ -14,9 +14,9 @@ impl Counts {
     ///
     /// Memory was refused.
     pub fn tell(&self, text: &mut String) -> Result<(), AllocError> {
-        let mut pen = Pen::at(text, Spelling::Plain);
+        let mut pen = Pen::new(*text.allocator(), Spelling::Plain);
         tell_counts(&mut pen, self);
-        pen.end()
+        pen.end_after(text)
     }
 
     /// The line of it among those of other seeds.
@@ -25,7 +25,7 @@ impl Counts {
     ///
     /// Memory was refused.
     pub fn tell_seed(&self, text: &mut String, seed: u64, clean: bool) -> Result<(), AllocError> {
-        let mut pen = Pen::at(text, Spelling::Plain);
+        let mut pen = Pen::new(*text.allocator(), Spelling::Plain);
         pen.put_number("seed ", seed);
         tell_count(&mut pen, "events", self.events());
         tell_count(&mut pen, "messages", self.messages());
@@ -37,6 +37,6 @@ impl Counts {
         tell_count(&mut pen, "rules", self.rules());
         pen.put_number("/", RULES as u64);
         pen.put_either(clean, " clean\n", " breach\n");
-        pen.end()
+        pen.end_after(text)
     }
 }

@@ -2,8 +2,8 @@
 
 use crate::counts::{Counts, OUTCOMES, more, more_at};
 use crate::rules::{RULE_NAMES, RULES, Rule};
-use crate::telling::{tell_count, tell_counts};
-use rc_pen::{Pen, Spelling};
+use crate::telling::{tell_count, tell_counts, tell_named};
+use rc_pen::{Pen, Piece, Spelling};
 use std::alloc::AllocError;
 
 /// What several runs have reached together, and in how many of them.
@@ -60,22 +60,23 @@ impl Sum {
     ///
     /// Memory was refused.
     pub fn tell(&self, text: &mut String) -> Result<(), AllocError> {
-        let mut pen = Pen::at(text, Spelling::Plain);
+        let mut pen = Pen::new(*text.allocator(), Spelling::Plain);
         tell_counts(&mut pen, &self.total);
+        self.tell_outcomes(&mut pen);
+        tell_named(&mut pen, "rules-in-runs", &RULE_NAMES, &self.rules);
+        pen.put_all(
+            "runs %\nbreaches %\n",
+            &[Piece::U64(self.runs), Piece::U64(self.breaches)],
+        );
+        pen.end_after(text)
+    }
+
+    /// In how many runs what came of the events was reached.
+    fn tell_outcomes(&self, pen: &mut Pen) {
         pen.put("in-runs");
         for ((name, _), count) in self.total.outcomes().iter().zip(&self.outcomes) {
-            tell_count(&mut pen, name, *count);
+            tell_count(pen, name, *count);
         }
-        pen.put_number(" all-three ", self.full);
-        pen.put("\nrules-in-runs");
-        for (name, count) in RULE_NAMES.iter().zip(&self.rules) {
-            if *count > 0 {
-                tell_count(&mut pen, name, *count);
-            }
-        }
-        pen.put_number("\nruns ", self.runs);
-        pen.put_number("\nbreaches ", self.breaches);
-        pen.put("\n");
-        pen.end()
+        pen.put_all(" all-three %\n", &[Piece::U64(self.full)]);
     }
 }

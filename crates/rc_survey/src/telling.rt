@@ -2,7 +2,7 @@
 
 use crate::counts::{BODIES, Counts, EVENTS};
 use crate::rules::RULE_NAMES;
-use rc_pen::Pen;
+use rc_pen::{Pen, Piece};
 
 /// The kinds of events, in the order in which they are counted.
 const EVENT_NAMES: [&str; EVENTS] = [
@@ -38,30 +38,33 @@ const BODY_NAMES: [&str; BODIES] = [
 
 /// The lines of what was counted: the events, the messages and the refusals by kind, what came of them, and what was
 /// not reached.
-pub(crate) fn tell_counts(pen: &mut Pen<'_>, counts: &Counts) {
+pub(crate) fn tell_counts(pen: &mut Pen, counts: &Counts) {
     tell_named(pen, "events", &EVENT_NAMES, &counts.events);
     tell_named(pen, "messages", &BODY_NAMES, &counts.bodies);
     tell_refusals(pen, &counts.refused);
-    pen.put("reached");
-    for (name, count) in &counts.outcomes() {
-        tell_count(pen, name, *count);
-    }
-    pen.put("\n");
+    tell_reached(pen, counts);
     tell_unreached(pen, counts);
     pen.put("unreached-rules");
     tell_missing(pen, &RULE_NAMES, &counts.rules);
     pen.put("\n");
 }
 
+/// A line of what came of the events.
+fn tell_reached(pen: &mut Pen, counts: &Counts) {
+    pen.put("reached");
+    for (name, count) in &counts.outcomes() {
+        tell_count(pen, name, *count);
+    }
+    pen.put("\n");
+}
+
 /// A name and its count.
-pub(crate) fn tell_count(pen: &mut Pen<'_>, name: &str, count: u64) {
-    pen.put(" ");
-    pen.put(name);
-    pen.put_number(" ", count);
+pub(crate) fn tell_count(pen: &mut Pen, name: &'static str, count: u64) {
+    pen.put_all(" % %", &[Piece::Words(name), Piece::U64(count)]);
 }
 
 /// A line of counts by name; where one is 0, it is left out.
-fn tell_named(pen: &mut Pen<'_>, word: &str, names: &[&str], counts: &[u64]) {
+pub(crate) fn tell_named(pen: &mut Pen, word: &str, names: &[&'static str], counts: &[u64]) {
     pen.put(word);
     for (name, count) in names.iter().zip(counts) {
         if *count > 0 {
@@ -72,19 +75,18 @@ fn tell_named(pen: &mut Pen<'_>, word: &str, names: &[&str], counts: &[u64]) {
 }
 
 /// A line of the codes with which something was refused.
-fn tell_refusals(pen: &mut Pen<'_>, counts: &[u64]) {
+fn tell_refusals(pen: &mut Pen, counts: &[u64]) {
     pen.put("refusals");
     for (code, count) in counts.iter().enumerate() {
         if *count > 0 {
-            pen.put_number(" F", code as u64);
-            pen.put_number(" ", *count);
+            pen.put_all(" F% %", &[Piece::Size(code), Piece::U64(*count)]);
         }
     }
     pen.put("\n");
 }
 
 /// A line of all that has not been reached: kinds of messages that were never sent, and what never came of the events.
-fn tell_unreached(pen: &mut Pen<'_>, counts: &Counts) {
+fn tell_unreached(pen: &mut Pen, counts: &Counts) {
     pen.put("unreached");
     tell_missing(pen, &BODY_NAMES, &counts.bodies);
     for (name, count) in &counts.outcomes() {
@@ -97,7 +99,7 @@ fn tell_unreached(pen: &mut Pen<'_>, counts: &Counts) {
 }
 
 /// The names whose count is 0.
-fn tell_missing(pen: &mut Pen<'_>, names: &[&str], counts: &[u64]) {
+fn tell_missing(pen: &mut Pen, names: &[&str], counts: &[u64]) {
     for (name, count) in names.iter().zip(counts) {
         if *count == 0 {
             pen.put(" ");

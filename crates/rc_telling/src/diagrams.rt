@@ -4,8 +4,8 @@ use crate::fields::{tell_event, tell_fields_if_any};
 use crate::kinds::body_name;
 use crate::silences::tell_silence;
 use crate::story::{Step, Story, Turn};
-use rc_pen::{Pen, Spelling};
-use rc_types::{Addr, Event, Message};
+use rc_pen::{Pen, Piece, Spelling};
+use rc_types::{Addr, Event, Message, ServerId};
 use std::alloc::{AllocError, Global};
 
 /// The story as a sequence diagram: an arrow for each message where it is delivered, or, where it goes to the outside
@@ -15,40 +15,48 @@ use std::alloc::{AllocError, Global};
 ///
 /// Memory was refused.
 pub fn mermaid(alloc: Global, story: &Story<'_>) -> Result<String, AllocError> {
-    let mut text = String::new(alloc);
-    let mut pen = Pen::at(&mut text, Spelling::Mermaid);
+    let mut pen = Pen::new(alloc, Spelling::Mermaid);
     pen.put("sequenceDiagram\n    participant out as Outside\n    participant c as Coordinator\n");
     for server in story.notes.servers().as_slice() {
-        put_name(&mut pen, "    participant ", Addr::Server(server.id));
-        pen.put_node(" as ", Addr::Server(server.id));
-        pen.put("\n");
+        put_server(&mut pen, server.id);
     }
     for (number, (event, turn)) in story.events.iter().zip(story.notes.turns()).enumerate() {
         put_turn(&mut pen, story, number, event, turn);
     }
     if let Some((place, code)) = story.stopped {
-        pen.put_code("    Note over out,c: stopped ", code);
-        pen.put_number(" at event ", place as u64);
-        pen.put("\n");
+        pen.put_all(
+            "    Note over out,c: stopped % at event %\n",
+            &[Piece::Code(code), Piece::Size(place)],
+        );
     }
-    pen.end()?;
-    Ok(text)
+    pen.end()
+}
+
+/// A server.
+fn put_server(pen: &mut Pen, id: ServerId) {
+    pen.put_all(
+        "    participant s%_% as %\n",
+        &[
+            Piece::U8(id.index),
+            Piece::U32(id.generation),
+            Piece::Id(id),
+        ],
+    );
 }
 
 /// These letters, and a node as Mermaid names it.
-fn put_name(pen: &mut Pen<'_>, letters: &str, node: Addr) {
+fn put_name(pen: &mut Pen, letters: &str, node: Addr) {
     pen.put(letters);
     match node {
         Addr::Server(id) => {
-            pen.put_number("s", u64::from(id.index));
-            pen.put_number("_", u64::from(id.generation));
+            pen.put_all("s%_%", &[Piece::U8(id.index), Piece::U32(id.generation)]);
         }
         Addr::Coordinator | Addr::Outside => pen.put_node("", node),
     }
 }
 
 /// An event, and those messages that it sent which no event delivers.
-fn put_turn(pen: &mut Pen<'_>, story: &Story<'_>, number: usize, event: &Event, turn: &Turn) {
+fn put_turn(pen: &mut Pen, story: &Story<'_>, number: usize, event: &Event, turn: &Turn) {
     match event {
         Event::Ask { .. } => {}
         Event::Deliver(message) => put_delivery(pen, story, number, *message, turn),
@@ -58,7 +66,7 @@ fn put_turn(pen: &mut Pen<'_>, story: &Story<'_>, number: usize, event: &Event, 
 }
 
 /// The messages that an event sent and that no event delivers.
-fn put_sent(pen: &mut Pen<'_>, story: &Story<'_>, step: &Step) {
+fn put_sent(pen: &mut Pen, story: &Story<'_>, step: &Step) {
     for place in step.first..step.end {
         if let Some(message) = story.messages.get(place) {
             put_undelivered(pen, story, place, message);
@@ -67,7 +75,7 @@ fn put_sent(pen: &mut Pen<'_>, story: &Story<'_>, step: &Step) {
 }
 
 /// A message, if no event delivers it.
-fn put_undelivered(pen: &mut Pen<'_>, story: &Story<'_>, place: usize, message: &Message) {
+fn put_undelivered(pen: &mut Pen, story: &Story<'_>, place: usize, message: &Message) {
     if message.to == Addr::Outside {
         put_arrow(pen, "->>", place, message);
         pen.put("\n");
@@ -78,7 +86,7 @@ fn put_undelivered(pen: &mut Pen<'_>, story: &Story<'_>, place: usize, message: 
 }
 
 /// A delivery. What goes to the outside stands where it was sent.
-fn put_delivery(pen: &mut Pen<'_>, story: &Story<'_>, number: usize, message: usize, turn: &Turn) {
+fn put_delivery(pen: &mut Pen, story: &Story<'_>, number: usize, message: usize, turn: &Turn) {
     let Some(delivered) = story.messages.get(message) else {
         return;
     };
@@ -101,7 +109,7 @@ fn put_delivery(pen: &mut Pen<'_>, story: &Story<'_>, number: usize, message: us
 }
 
 /// An event that is no message.
-fn put_note(pen: &mut Pen<'_>, event: &Event, step: &Step) {
+fn put_note(pen: &mut Pen, event: &Event, step: &Step) {
     let at = match (event, step.started) {
         (_, Some(id)) => Addr::Server(id),
         (Event::Stop(id), None) => Addr::Server(*id),
@@ -115,11 +123,12 @@ fn put_note(pen: &mut Pen<'_>, event: &Event, step: &Step) {
 }
 
 /// A message as an arrow of this form.
-fn put_arrow(pen: &mut Pen<'_>, arrow: &str, number: usize, message: &Message) {
+fn put_arrow(pen: &mut Pen, arrow: &str, number: usize, message: &Message) {
     put_name(pen, "    ", message.from);
     put_name(pen, arrow, message.to);
-    pen.put_number(": ", number as u64);
-    pen.put(" ");
-    pen.put(body_name(&message.body));
+    pen.put_all(
+        ": % %",
+        &[Piece::Size(number), Piece::Words(body_name(&message.body))],
+    );
     tell_fields_if_any(pen, &message.body);
 }

@@ -2,8 +2,9 @@
 //! and what was last acknowledged of each key.
 
 use crate::kinds::{body_name, body_place};
+use crate::passages::Passages;
 use crate::story::Story;
-use indexmap::IndexMap;
+use crate::tables::Table;
 use rc_types::{Addr, Body, Message};
 use std::alloc::{AllocError, Global};
 
@@ -84,34 +85,61 @@ pub(crate) struct Newest {
 }
 
 /// How things stand at the end.
-#[derive(Drop)]
 pub(crate) struct Ending {
     /// What was never delivered to a server or to the coordinator, by kind and addressee.
-    lost: IndexMap<(usize, Addr), Group>,
+    lost: Table<(usize, Addr), Group>,
     /// What was sent to the outside, by kind.
-    told: IndexMap<(usize, Addr), Group>,
-    ranges: IndexMap<(u32, u64, u64), Range>,
-    newest: IndexMap<(u32, u64), Newest>,
+    told: Table<(usize, Addr), Group>,
+    ranges: Table<(u32, u64, u64), Range>,
+    newest: Table<(u32, u64), Newest>,
+}
+
+impl Drop for Ending {
+    fn drop(self) {
+        let Ending {
+            lost: _,
+            told: _,
+            ranges: _,
+            newest: _,
+        } = self;
+    }
 }
 
 impl Ending {
-    /// How things stand at the end of this story.
-    pub(crate) fn of(alloc: Global, story: &Story<'_>) -> Result<Ending, AllocError> {
-        let mut ending = Ending {
-            lost: IndexMap::new(alloc),
-            told: IndexMap::new(alloc),
-            ranges: IndexMap::new(alloc),
-            newest: IndexMap::new(alloc),
-        };
-        for (number, message) in story.messages.iter().enumerate() {
-            if message.to == Addr::Outside {
-                count(&mut ending.told, number, message)?;
-            } else if story.notes.passages().is_lost(number) {
-                count(&mut ending.lost, number, message)?;
-            }
-            ending.note(message)?;
+    /// Of no message yet.
+    pub(crate) fn new(alloc: Global) -> Ending {
+        Ending {
+            lost: Table::new(alloc),
+            told: Table::new(alloc),
+            ranges: Table::new(alloc),
+            newest: Table::new(alloc),
         }
-        Ok(ending)
+    }
+
+    /// Notes all messages of a story.
+    pub(crate) fn note_all(&mut self, story: &Story<'_>) -> Result<(), AllocError> {
+        let passages = story.notes.passages();
+        for (number, message) in story.messages.iter().enumerate() {
+            self.group(passages, number, message)?;
+            self.note(message)?;
+        }
+        Ok(())
+    }
+
+    /// Counts a message, where it goes to the outside or was never delivered.
+    fn group(
+        &mut self,
+        passages: &Passages,
+        number: usize,
+        message: &Message,
+    ) -> Result<(), AllocError> {
+        if message.to == Addr::Outside {
+            count(&mut self.told, number, message)
+        } else if passages.is_lost(number) {
+            count(&mut self.lost, number, message)
+        } else {
+            Ok(())
+        }
     }
 
     /// Notes what a message grants or acknowledges.
@@ -131,8 +159,7 @@ impl Ending {
                     term: *term,
                     owner: message.to,
                 };
-                self.ranges.insert((*table, *lo, *hi), range)?;
-                Ok(())
+                self.ranges.put((*table, *lo, *hi), range)
             }
             Body::WriteOk {
                 term,
@@ -154,33 +181,32 @@ impl Ending {
     /// A version of a key was acknowledged. It counts where no greater one was.
     fn acknowledge(&mut self, newest: Newest) -> Result<(), AllocError> {
         let place = (newest.table, newest.key);
-        if let Some(before) = self.newest.get(&place) {
+        if let Some(before) = self.newest.find(place) {
             if before.version > newest.version {
                 return Ok(());
             }
         }
-        self.newest.insert(place, newest)?;
-        Ok(())
+        self.newest.put(place, newest)
     }
 
     /// What was never delivered to a server or to the coordinator, by kind and addressee.
-    pub(crate) fn lost(&self) -> &IndexMap<(usize, Addr), Group> {
+    pub(crate) fn lost(&self) -> &Table<(usize, Addr), Group> {
         &self.lost
     }
 
     /// What was sent to the outside, by kind.
-    pub(crate) fn told(&self) -> &IndexMap<(usize, Addr), Group> {
+    pub(crate) fn told(&self) -> &Table<(usize, Addr), Group> {
         &self.told
     }
 
     /// The last grant of each range, in order of its first one.
-    pub(crate) fn ranges(&self) -> &IndexMap<(u32, u64, u64), Range> {
+    pub(crate) fn ranges(&self) -> &Table<(u32, u64, u64), Range> {
         &self.ranges
     }
 
     /// Whether a later term has taken a key of this range.
     pub(crate) fn is_passed_on(&self, range: &Range) -> bool {
-        for other in self.ranges.values() {
+        for other in self.ranges.entries.values() {
             if other.table == range.table
                 && other.term > range.term
                 && other.lo <= range.hi
@@ -193,23 +219,31 @@ impl Ending {
     }
 
     /// The newest acknowledged version of each key, in order of its first one.
-    pub(crate) fn newest(&self) -> &IndexMap<(u32, u64), Newest> {
+    pub(crate) fn newest(&self) -> &Table<(u32, u64), Newest> {
         &self.newest
     }
 }
 
 /// One more message, of this number, in its group.
 pub(crate) fn count(
-    groups: &mut IndexMap<(usize, Addr), Group>,
+    groups: &mut Table<(usize, Addr), Group>,
     number: usize,
     message: &Message,
 ) -> Result<(), AllocError> {
     let place = (body_place(&message.body), message.to);
-    let mut group = match groups.get(&place) {
-        Some(group) => *group,
+    let mut group = match groups.find(place) {
+        Some(group) => group,
         None => Group::of(message),
     };
     group.add(number);
-    groups.insert(place, group)?;
-    Ok(())
+    groups.put(place, group)
+}
+
+/// How many messages all groups have.
+pub(crate) fn total_of(groups: &Table<(usize, Addr), Group>) -> u64 {
+    let mut total = 0u64;
+    for group in groups.entries.values() {
+        total = total.saturating_add(group.count);
+    }
+    total
 }

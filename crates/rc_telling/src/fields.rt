@@ -1,7 +1,7 @@
 //! Events and messages as text: what they say, in a line.
 
 use crate::kinds::{body_name, code_name, event_name};
-use rc_pen::Pen;
+use rc_pen::{Pen, Piece};
 use rc_types::{Body, Code, Entry, Event, Message, Part, PlanRow, Row, Seq, ServerId};
 
 /// How many entries of a message are told one by one.
@@ -11,17 +11,21 @@ const MOST_ENTRIES: usize = 4;
 const MOST_BYTES: usize = 32;
 
 /// A message: its number, its kind, from where to where, and what it says.
-pub(crate) fn tell_message(pen: &mut Pen<'_>, number: usize, message: &Message) {
-    pen.number("", number as u64);
-    pen.say(" ");
-    pen.say(body_name(&message.body));
-    pen.put_node(" ", message.from);
-    pen.put_node(" -> ", message.to);
+pub(crate) fn tell_message(pen: &mut Pen, number: usize, message: &Message) {
+    pen.put_all(
+        "% % % -> %",
+        &[
+            Piece::Size(number),
+            Piece::Words(body_name(&message.body)),
+            Piece::Node(message.from),
+            Piece::Node(message.to),
+        ],
+    );
     tell_fields_if_any(pen, &message.body);
 }
 
 /// What a message says, after a space.
-pub(crate) fn tell_fields_if_any(pen: &mut Pen<'_>, body: &Body) {
+pub(crate) fn tell_fields_if_any(pen: &mut Pen, body: &Body) {
     match body {
         Body::Enlist | Body::Ready => {}
         body => {
@@ -32,7 +36,7 @@ pub(crate) fn tell_fields_if_any(pen: &mut Pen<'_>, body: &Body) {
 }
 
 /// An event other than a delivery: its kind, and what it says.
-pub(crate) fn tell_event(pen: &mut Pen<'_>, event: &Event, started: Option<ServerId>) {
+pub(crate) fn tell_event(pen: &mut Pen, event: &Event, started: Option<ServerId>) {
     pen.say(event_name(event));
     match event {
         Event::Ask { to, body } => {
@@ -44,18 +48,16 @@ pub(crate) fn tell_event(pen: &mut Pen<'_>, event: &Event, started: Option<Serve
         Event::Stop(id) | Event::Suspect(id) | Event::Decide(id) => pen.id(" ", *id),
         Event::Start { host, kept } => tell_start(pen, *host, kept, started),
         Event::Create { table, owner } => {
-            pen.number(" table ", u64::from(*table));
-            pen.id(" owner ", *owner);
+            pen.say_all(" table % owner %", &[Piece::U32(*table), Piece::Id(*owner)]);
         }
         Event::Split { table, at } => {
-            pen.number(" table ", u64::from(*table));
-            pen.number(" at ", *at);
+            pen.say_all(" table % at %", &[Piece::U32(*table), Piece::U64(*at)]);
         }
     }
 }
 
 /// A start: the host, the new server, and what is kept.
-fn tell_start(pen: &mut Pen<'_>, host: u8, kept: &Seq<(ServerId, u16)>, started: Option<ServerId>) {
+fn tell_start(pen: &mut Pen, host: u8, kept: &Seq<(ServerId, u16)>, started: Option<ServerId>) {
     pen.number(" host ", u64::from(host));
     if let Some(id) = started {
         pen.id(" as ", id);
@@ -64,13 +66,12 @@ fn tell_start(pen: &mut Pen<'_>, host: u8, kept: &Seq<(ServerId, u16)>, started:
         pen.say(" kept");
     }
     for (id, seg) in kept.as_slice() {
-        pen.id(" ", *id);
-        pen.number(":", u64::from(*seg));
+        pen.say_all(" %:%", &[Piece::Id(*id), Piece::U16(*seg)]);
     }
 }
 
 /// What a message says.
-pub(crate) fn tell_fields(pen: &mut Pen<'_>, body: &Body) {
+pub(crate) fn tell_fields(pen: &mut Pen, body: &Body) {
     match body {
         Body::Write { .. } | Body::Read { .. } | Body::WriteOk { .. } | Body::ReadOk { .. } => {
             tell_client(pen, body)
@@ -93,7 +94,7 @@ pub(crate) fn tell_fields(pen: &mut Pen<'_>, body: &Body) {
 }
 
 /// What clients and servers say to each other.
-fn tell_client(pen: &mut Pen<'_>, body: &Body) {
+fn tell_client(pen: &mut Pen, body: &Body) {
     match body {
         Body::Write { table, key, value } => {
             tell_key(pen, *table, *key);
@@ -107,14 +108,17 @@ fn tell_client(pen: &mut Pen<'_>, body: &Body) {
             table,
             key,
             version,
-        } => {
-            pen.number("seg ", u64::from(*seg));
-            pen.number(" offset ", *offset as u64);
-            pen.number(" term ", u64::from(*term));
-            pen.say(" ");
-            tell_key(pen, *table, *key);
-            pen.number(" version ", *version);
-        }
+        } => pen.say_all(
+            "seg % offset % term % table % key % version %",
+            &[
+                Piece::U16(*seg),
+                Piece::Size(*offset),
+                Piece::U32(*term),
+                Piece::U32(*table),
+                Piece::U64(*key),
+                Piece::U64(*version),
+            ],
+        ),
         Body::ReadOk {
             table,
             key,
@@ -130,19 +134,17 @@ fn tell_client(pen: &mut Pen<'_>, body: &Body) {
 }
 
 /// A key of a table.
-fn tell_key(pen: &mut Pen<'_>, table: u32, key: u64) {
-    pen.number("table ", u64::from(table));
-    pen.number(" key ", key);
+fn tell_key(pen: &mut Pen, table: u32, key: u64) {
+    pen.say_all("table % key %", &[Piece::U32(table), Piece::U64(key)]);
 }
 
 /// A segment and its epoch.
-fn tell_epoch(pen: &mut Pen<'_>, seg: u16, epoch: u16) {
-    pen.number("seg ", u64::from(seg));
-    pen.number(" epoch ", u64::from(epoch));
+fn tell_epoch(pen: &mut Pen, seg: u16, epoch: u16) {
+    pen.say_all("seg % epoch %", &[Piece::U16(seg), Piece::U16(epoch)]);
 }
 
 /// What masters, backups and the coordinator say of segments.
-fn tell_segment(pen: &mut Pen<'_>, body: &Body) {
+fn tell_segment(pen: &mut Pen, body: &Body) {
     match body {
         Body::Place {
             seg,
@@ -160,26 +162,16 @@ fn tell_segment(pen: &mut Pen<'_>, body: &Body) {
             seg,
             offset,
             entries,
-        } => {
-            pen.number("seg ", u64::from(*seg));
-            pen.number(" offset ", *offset as u64);
-            pen.say(", ");
-            tell_entries(pen, entries);
-        }
+        } => tell_appended(pen, *seg, *offset, entries),
         Body::Close { seg, len } => {
-            pen.number("seg ", u64::from(*seg));
-            pen.number(" length ", *len as u64);
+            pen.say_all("seg % length %", &[Piece::U16(*seg), Piece::Size(*len)]);
         }
         Body::Stored {
             seg,
             epoch,
             len,
             closed,
-        } => {
-            tell_epoch(pen, *seg, *epoch);
-            pen.number(" length ", *len as u64);
-            pen.either(*closed, " closed", " open");
-        }
+        } => tell_replica(pen, *seg, *epoch, *len, *closed),
         Body::Commit { seg, epoch } | Body::CommitOk { seg, epoch } => {
             tell_epoch(pen, *seg, *epoch);
         }
@@ -188,21 +180,35 @@ fn tell_segment(pen: &mut Pen<'_>, body: &Body) {
     }
 }
 
+/// What is appended to a segment.
+fn tell_appended(pen: &mut Pen, seg: u16, offset: usize, entries: &Seq<Entry>) {
+    pen.say_all("seg % offset %, ", &[Piece::U16(seg), Piece::Size(offset)]);
+    tell_entries(pen, entries);
+}
+
+/// How a replica stands.
+fn tell_replica(pen: &mut Pen, seg: u16, epoch: u16, len: usize, closed: bool) {
+    pen.say_all(
+        "seg % epoch % length %% closed| open|",
+        &[
+            Piece::U16(seg),
+            Piece::U16(epoch),
+            Piece::Size(len),
+            Piece::Flag(closed),
+        ],
+    );
+}
+
 /// An attempt to recover a master.
-fn tell_attempt(pen: &mut Pen<'_>, attempt: u32, master: ServerId) {
-    pen.number("attempt ", u64::from(attempt));
-    pen.id(" of ", master);
+fn tell_attempt(pen: &mut Pen, attempt: u32, master: ServerId) {
+    pen.say_all("attempt % of %", &[Piece::U32(attempt), Piece::Id(master)]);
 }
 
 /// What is said in a recovery.
-fn tell_recovery(pen: &mut Pen<'_>, body: &Body) {
+fn tell_recovery(pen: &mut Pen, body: &Body) {
     match body {
         Body::Gather { attempt, master } => tell_attempt(pen, *attempt, *master),
-        Body::Replicas { attempt, rows } => {
-            pen.number("attempt ", u64::from(*attempt));
-            pen.say(", ");
-            tell_replicas(pen, rows);
-        }
+        Body::Replicas { attempt, rows } => tell_replicas(pen, *attempt, rows),
         Body::Plan {
             attempt,
             master,
@@ -211,9 +217,7 @@ fn tell_recovery(pen: &mut Pen<'_>, body: &Body) {
             parts,
         } => {
             tell_attempt(pen, *attempt, *master);
-            pen.number(" head ", u64::from(*head));
-            pen.say(" rows");
-            tell_plan(pen, rows);
+            tell_plan(pen, *head, rows);
             tell_parts(pen, parts);
         }
         Body::Fetch {
@@ -224,10 +228,7 @@ fn tell_recovery(pen: &mut Pen<'_>, body: &Body) {
             part,
         } => {
             tell_attempt(pen, *attempt, *master);
-            pen.number(" seg ", u64::from(*seg));
-            pen.number(" length ", *len as u64);
-            pen.say(", part ");
-            tell_part(pen, part);
+            tell_fetched(pen, *seg, *len, part);
         }
         Body::Data {
             attempt,
@@ -235,28 +236,24 @@ fn tell_recovery(pen: &mut Pen<'_>, body: &Body) {
             term,
             entries,
         } => {
-            pen.number("attempt ", u64::from(*attempt));
-            pen.number(" seg ", u64::from(*seg));
-            pen.number(" term ", u64::from(*term));
-            pen.say(", ");
+            tell_data(pen, *attempt, *seg, *term);
             tell_entries(pen, entries);
         }
         Body::Recovered { attempt, term } => {
-            pen.number("attempt ", u64::from(*attempt));
-            pen.number(" term ", u64::from(*term));
+            pen.say_all(
+                "attempt % term %",
+                &[Piece::U32(*attempt), Piece::U32(*term)],
+            );
         }
         _ => {}
     }
 }
 
 /// What is said of refusals, of the server list, and of ranges.
-fn tell_other(pen: &mut Pen<'_>, body: &Body) {
+fn tell_other(pen: &mut Pen, body: &Body) {
     match body {
-        Body::Refused { code } => tell_code(pen, "", *code),
-        Body::List { version, rows } => {
-            pen.number("version ", u64::from(*version));
-            tell_list(pen, rows);
-        }
+        Body::Refused { code } => tell_code(pen, *code),
+        Body::List { version, rows } => tell_list(pen, *version, rows),
         Body::Own {
             table,
             lo,
@@ -264,44 +261,39 @@ fn tell_other(pen: &mut Pen<'_>, body: &Body) {
             term,
             previous,
             attempt,
-        } => {
-            pen.number("table ", u64::from(*table));
-            tell_keys(pen, *lo, *hi);
-            pen.number(" term ", u64::from(*term));
-            pen.number(" after ", u64::from(*previous));
-            pen.number(" attempt ", u64::from(*attempt));
-        }
+        } => pen.say_all(
+            "table % keys %..% term % after % attempt %",
+            &[
+                Piece::U32(*table),
+                Piece::U64(*lo),
+                Piece::U64(*hi),
+                Piece::U32(*term),
+                Piece::U32(*previous),
+                Piece::U32(*attempt),
+            ],
+        ),
         Body::SplitOk { table, at } => {
-            pen.number("table ", u64::from(*table));
-            pen.number(" at ", *at);
+            pen.say_all("table % at %", &[Piece::U32(*table), Piece::U64(*at)]);
         }
         _ => {}
     }
 }
 
-/// These letters, a code, and its name.
-pub(crate) fn tell_code(pen: &mut Pen<'_>, letters: &str, code: Code) {
-    pen.put_code(letters, code);
-    pen.say(" ");
-    pen.say(code_name(code));
-}
-
-/// A range of keys.
-fn tell_keys(pen: &mut Pen<'_>, lo: u64, hi: u64) {
-    pen.number(" keys ", lo);
-    pen.number("..", hi);
+/// A code, and its name.
+pub(crate) fn tell_code(pen: &mut Pen, code: Code) {
+    pen.say_all("% %", &[Piece::Code(code), Piece::Words(code_name(code))]);
 }
 
 /// Who is on the server list, and who of them is up.
-fn tell_list(pen: &mut Pen<'_>, rows: &Seq<(ServerId, bool)>) {
+fn tell_list(pen: &mut Pen, version: u32, rows: &Seq<(ServerId, bool)>) {
+    pen.number("version ", u64::from(version));
     for (id, up) in rows.as_slice() {
-        pen.id(" ", *id);
-        pen.either(*up, " up", " down");
+        pen.say_all(" %% up| down|", &[Piece::Id(*id), Piece::Flag(*up)]);
     }
 }
 
 /// The segments of a digest.
-fn tell_digest(pen: &mut Pen<'_>, digest: &Seq<u16>) {
+fn tell_digest(pen: &mut Pen, digest: &Seq<u16>) {
     pen.say(" digest");
     for seg in digest.as_slice() {
         pen.number(" ", u64::from(*seg));
@@ -309,28 +301,49 @@ fn tell_digest(pen: &mut Pen<'_>, digest: &Seq<u16>) {
 }
 
 /// The replicas that a backup holds.
-fn tell_replicas(pen: &mut Pen<'_>, rows: &Seq<Row>) {
-    tell_count(pen, rows.len(), " replica", " replicas");
+fn tell_replicas(pen: &mut Pen, attempt: u32, rows: &Seq<Row>) {
+    pen.say_all(
+        "attempt %, %% replica| replicas|",
+        &[
+            Piece::U32(attempt),
+            Piece::Size(rows.len()),
+            Piece::Flag(rows.len() == 1),
+        ],
+    );
     for (place, row) in rows.as_slice().iter().enumerate() {
-        pen.either(place == 0, ": ", "; ");
-        tell_epoch(pen, row.seg, row.epoch);
-        pen.number(" length ", row.len as u64);
-        pen.either(row.closed, " closed", " open");
-        tell_digest(pen, &row.digest);
+        tell_row(pen, place, row);
     }
 }
 
-/// The rows of a plan: segment, holder and length.
-fn tell_plan(pen: &mut Pen<'_>, rows: &Seq<PlanRow>) {
+/// One of them.
+fn tell_row(pen: &mut Pen, place: usize, row: &Row) {
+    pen.either(place == 0, ": ", "; ");
+    tell_replica(pen, row.seg, row.epoch, row.len, row.closed);
+    tell_digest(pen, &row.digest);
+}
+
+/// The head and the rows of a plan.
+fn tell_plan(pen: &mut Pen, head: u16, rows: &Seq<PlanRow>) {
+    pen.say_all(" head % rows", &[Piece::U16(head)]);
     for row in rows.as_slice() {
-        pen.number(" ", u64::from(row.seg));
-        pen.id(":", row.holder);
-        pen.number(":", row.len as u64);
+        tell_plan_row(pen, row);
     }
+}
+
+/// A row of a plan: segment, holder and length.
+fn tell_plan_row(pen: &mut Pen, row: &PlanRow) {
+    pen.say_all(
+        " %:%:%",
+        &[
+            Piece::U16(row.seg),
+            Piece::Id(row.holder),
+            Piece::Size(row.len),
+        ],
+    );
 }
 
 /// The parts of a plan.
-fn tell_parts(pen: &mut Pen<'_>, parts: &Seq<Part>) {
+fn tell_parts(pen: &mut Pen, parts: &Seq<Part>) {
     pen.say(", ");
     tell_count(pen, parts.len(), " part", " parts");
     for (place, part) in parts.as_slice().iter().enumerate() {
@@ -340,15 +353,38 @@ fn tell_parts(pen: &mut Pen<'_>, parts: &Seq<Part>) {
 }
 
 /// One part.
-fn tell_part(pen: &mut Pen<'_>, part: &Part) {
-    pen.number("table ", u64::from(part.table));
-    tell_keys(pen, part.lo, part.hi);
-    pen.number(" term ", u64::from(part.previous));
-    pen.number(" to ", u64::from(part.term));
+fn tell_part(pen: &mut Pen, part: &Part) {
+    pen.say_all(
+        "table % keys %..% term % to %",
+        &[
+            Piece::U32(part.table),
+            Piece::U64(part.lo),
+            Piece::U64(part.hi),
+            Piece::U32(part.previous),
+            Piece::U32(part.term),
+        ],
+    );
+}
+
+/// What is fetched.
+fn tell_fetched(pen: &mut Pen, seg: u16, len: usize, part: &Part) {
+    pen.say_all(
+        " seg % length %, part ",
+        &[Piece::U16(seg), Piece::Size(len)],
+    );
+    tell_part(pen, part);
+}
+
+/// Where data comes from, and for which term.
+fn tell_data(pen: &mut Pen, attempt: u32, seg: u16, term: u32) {
+    pen.say_all(
+        "attempt % seg % term %, ",
+        &[Piece::U32(attempt), Piece::U16(seg), Piece::U32(term)],
+    );
 }
 
 /// How many entries there are, and what the first of them are.
-fn tell_entries(pen: &mut Pen<'_>, entries: &Seq<Entry>) {
+fn tell_entries(pen: &mut Pen, entries: &Seq<Entry>) {
     tell_count(pen, entries.len(), " entry", " entries");
     for (place, entry) in entries.as_slice().iter().take(MOST_ENTRIES).enumerate() {
         pen.either(place == 0, ": ", "; ");
@@ -360,22 +396,27 @@ fn tell_entries(pen: &mut Pen<'_>, entries: &Seq<Entry>) {
 }
 
 /// One entry.
-fn tell_entry(pen: &mut Pen<'_>, entry: &Entry) {
-    pen.number("term ", u64::from(entry.term));
-    pen.say(" ");
-    tell_key(pen, entry.table, entry.key);
-    pen.number(" version ", entry.version);
+fn tell_entry(pen: &mut Pen, entry: &Entry) {
+    pen.say_all(
+        "term % table % key % version %",
+        &[
+            Piece::U32(entry.term),
+            Piece::U32(entry.table),
+            Piece::U64(entry.key),
+            Piece::U64(entry.version),
+        ],
+    );
     tell_value(pen, entry.value.as_ref());
 }
 
 /// So many of them.
-fn tell_count(pen: &mut Pen<'_>, count: usize, one: &str, many: &str) {
+fn tell_count(pen: &mut Pen, count: usize, one: &str, many: &str) {
     pen.number("", count as u64);
     pen.either(count == 1, one, many);
 }
 
 /// A value: as text, where it is short and of plain letters, else as hexadecimal digits; or a deletion.
-fn tell_value(pen: &mut Pen<'_>, value: Option<&Seq<u8>>) {
+fn tell_value(pen: &mut Pen, value: Option<&Seq<u8>>) {
     match value {
         None => pen.say(" no value"),
         Some(value) => {
@@ -390,7 +431,7 @@ fn tell_value(pen: &mut Pen<'_>, value: Option<&Seq<u8>>) {
 }
 
 /// Plain letters between quotation marks.
-fn tell_letters(pen: &mut Pen<'_>, bytes: &[u8]) {
+fn tell_letters(pen: &mut Pen, bytes: &[u8]) {
     pen.say(" \"");
     for byte in bytes {
         pen.letter(*byte as char);
@@ -399,7 +440,7 @@ fn tell_letters(pen: &mut Pen<'_>, bytes: &[u8]) {
 }
 
 /// How many bytes there are, and the first of them as hexadecimal digits.
-fn tell_bytes(pen: &mut Pen<'_>, bytes: &[u8]) {
+fn tell_bytes(pen: &mut Pen, bytes: &[u8]) {
     pen.say(" ");
     tell_count(pen, bytes.len(), " byte 0x", " bytes 0x");
     for byte in bytes.iter().take(MOST_BYTES) {

@@ -2,10 +2,10 @@
 //! not run, too few hosts, and recoveries that are not at their end.
 
 use crate::course::Course;
-use crate::ending::{Group, count};
+use crate::ending::{Group, count, total_of};
 use crate::recoveries::{Recoveries, tell_recoveries};
-use indexmap::IndexMap;
-use rc_pen::{Pen, Spelling};
+use crate::tables::Table;
+use rc_pen::{Pen, Piece, Spelling};
 use rc_types::{Addr, Event, Message};
 use std::alloc::{AllocError, Global};
 
@@ -24,112 +24,114 @@ pub fn hints(
     events: &[Event],
     messages: &[Message],
 ) -> Result<String, AllocError> {
-    let mut text = String::new(alloc);
-    let mut pen = Pen::at(&mut text, Spelling::Plain);
-    tell_hints(alloc, factor, events, messages, &mut pen)?;
-    pen.end()?;
-    Ok(text)
+    let mut pen = Pen::new(alloc, Spelling::Plain);
+    tell_hints(alloc, factor, events, messages, &mut pen);
+    pen.end()
 }
 
 /// All hints.
-fn tell_hints(
-    alloc: Global,
-    factor: u8,
-    events: &[Event],
-    messages: &[Message],
-    pen: &mut Pen<'_>,
-) -> Result<(), AllocError> {
+fn tell_hints(alloc: Global, factor: u8, events: &[Event], messages: &[Message], pen: &mut Pen) {
     let mut course = Course::new(alloc);
-    course.begin(messages.len())?;
+    pen.take(course.begin(messages.len()));
     course.take_all(events);
-    tell_waiting(&course, alloc, pen, messages)?;
+    tell_waiting(&course, alloc, pen, messages);
     tell_unheard(&course, pen);
     tell_few(&course, pen, factor);
-    tell_unrecovered(&course, alloc, pen, messages)
+    tell_unrecovered(&course, alloc, pen, messages);
 }
 
 /// Recoveries that are not at their end.
-fn tell_unrecovered(
-    course: &Course,
-    alloc: Global,
-    pen: &mut Pen<'_>,
-    messages: &[Message],
-) -> Result<(), AllocError> {
+fn tell_unrecovered(course: &Course, alloc: Global, pen: &mut Pen, messages: &[Message]) {
     let mut recoveries = Recoveries::new(alloc);
-    recoveries.note_all(messages, course.delivered.as_slice())?;
+    pen.take(recoveries.note_all(messages, course.delivered.as_slice()));
     tell_recoveries(pen, &recoveries, course);
-    Ok(())
 }
 
 /// Messages that wait.
-fn tell_waiting(
-    course: &Course,
-    alloc: Global,
-    pen: &mut Pen<'_>,
-    messages: &[Message],
-) -> Result<(), AllocError> {
-    let mut groups = IndexMap::new(alloc);
-    let waiting = count_waiting(course, &mut groups, messages)?;
-    tell_groups(pen, waiting, &groups);
-    Ok(())
+fn tell_waiting(course: &Course, alloc: Global, pen: &mut Pen, messages: &[Message]) {
+    let mut groups = Table::new(alloc);
+    pen.take(count_waiting(course, &mut groups, messages));
+    tell_groups(pen, total_of(&groups), &groups);
 }
 
 /// Counts the messages that wait, by kind and addressee.
 fn count_waiting(
     course: &Course,
-    groups: &mut IndexMap<(usize, Addr), Group>,
+    groups: &mut Table<(usize, Addr), Group>,
     messages: &[Message],
-) -> Result<u64, AllocError> {
-    let mut waiting = 0u64;
+) -> Result<(), AllocError> {
     for (number, message) in messages.iter().enumerate() {
         if course.waits(number, message) {
             count(groups, number, message)?;
-            waiting = waiting.saturating_add(1);
         }
     }
-    Ok(waiting)
+    Ok(())
 }
 
 /// Requests that nobody heard.
-fn tell_unheard(course: &Course, pen: &mut Pen<'_>) {
+fn tell_unheard(course: &Course, pen: &mut Pen) {
     let Some(id) = course.unheard else {
         return;
     };
-    pen.id("hint: ", id);
-    pen.say(" was asked while it did not run: nothing comes of that");
+    pen.say_all(
+        "hint: % was asked while it did not run: nothing comes of that",
+        &[Piece::Id(id)],
+    );
     if course.requests > 1 {
-        pen.number("; so it was with ", course.requests);
-        pen.say(" requests in all");
+        pen.say_all(
+            "; so it was with % requests in all",
+            &[Piece::U64(course.requests)],
+        );
     }
     pen.say("\n");
 }
 
 /// Too few hosts for the factor.
-fn tell_few(course: &Course, pen: &mut Pen<'_>, factor: u8) {
+fn tell_few(course: &Course, pen: &mut Pen, factor: u8) {
     let running = course.running();
     if running == 0 || running > usize::from(factor) {
         return;
     }
-    pen.number("hint: hosts that run at the end: ", running as u64);
-    pen.number("; with factor ", u64::from(factor));
-    pen.number(" it takes ", u64::from(factor).saturating_add(1));
-    pen.say(" for a master to open a segment or to replace a backup\n");
+    pen.say_all(
+        "hint: hosts that run at the end: %; with factor % it takes % for a master to open a segment or to replace a \
+         backup\n",
+        &[
+            Piece::Size(running),
+            Piece::U8(factor),
+            Piece::U64(u64::from(factor).saturating_add(1)),
+        ],
+    );
 }
 
 /// How many messages wait, and the first kinds of them.
-fn tell_groups(pen: &mut Pen<'_>, waiting: u64, groups: &IndexMap<(usize, Addr), Group>) {
+fn tell_groups(pen: &mut Pen, waiting: u64, groups: &Table<(usize, Addr), Group>) {
     if waiting == 0 {
         return;
     }
-    pen.number("hint: messages that wait at the end: ", waiting);
-    pen.say(" (");
-    for (place, group) in groups.values().take(MOST_GROUPS).enumerate() {
-        pen.either(place == 0, "", ", ");
-        pen.number("", group.count);
-        pen.say(" ");
-        pen.say(group.kind);
-        pen.put_node(" to ", group.to);
+    pen.say_all(
+        "hint: messages that wait at the end: % (",
+        &[Piece::U64(waiting)],
+    );
+    for place in 0..MOST_GROUPS {
+        if let Some((_, group)) = groups.entries.get_index(place) {
+            tell_group(pen, place, group);
+        }
     }
-    pen.either(groups.len() > MOST_GROUPS, ", ..", "");
-    pen.say("); a settle would deliver them\n");
+    pen.say_all(
+        "%, ..||); a settle would deliver them\n",
+        &[Piece::Flag(groups.entries.len() > MOST_GROUPS)],
+    );
+}
+
+/// One of the kinds.
+fn tell_group(pen: &mut Pen, place: usize, group: &Group) {
+    pen.put_all(
+        "%|, |% % to %",
+        &[
+            Piece::Flag(place == 0),
+            Piece::U64(group.count),
+            Piece::Words(group.kind),
+            Piece::Node(group.to),
+        ],
+    );
 }

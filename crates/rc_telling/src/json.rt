@@ -1,6 +1,6 @@
 //! The story as one JSON value.
 
-use crate::ending::{Ending, Group};
+use crate::ending::{Ending, Group, Newest, Range};
 use crate::fields::{tell_event, tell_fields};
 use crate::json_standing::{put_changes, put_standing};
 use crate::kinds::{body_name, event_name};
@@ -8,9 +8,9 @@ use crate::passages::Passage;
 use crate::servers::Server;
 use crate::silences::{Silence, tell_silence};
 use crate::story::{Step, Story, Turn};
-use crate::writes::{Writes, tell_fate};
-use indexmap::IndexMap;
-use rc_pen::{Pen, Spelling};
+use crate::tables::Table;
+use crate::writes::{Unanswered, Writes, tell_fate};
+use rc_pen::{Pen, Piece, Spelling};
 use rc_types::{Addr, Event, Message};
 use std::alloc::{AllocError, Global};
 
@@ -21,46 +21,58 @@ use std::alloc::{AllocError, Global};
 ///
 /// Memory was refused.
 pub fn log_json(alloc: Global, story: &Story<'_>) -> Result<String, AllocError> {
-    let ending = Ending::of(alloc, story)?;
-    let writes = Writes::of(alloc, story)?;
-    let mut text = String::new(alloc);
-    let mut pen = Pen::at(&mut text, Spelling::Json);
+    let mut pen = Pen::new(alloc, Spelling::Json);
+    put_story(alloc, &mut pen, story);
+    pen.end()
+}
+
+/// The story.
+pub(crate) fn put_story(alloc: Global, pen: &mut Pen, story: &Story<'_>) {
+    put_turns(pen, story);
+    put_messages(pen, story);
+    let mut ending = Ending::new(alloc);
+    pen.take(ending.note_all(story));
+    let mut writes = Writes::new(alloc);
+    pen.take(writes.note_all(story));
+    put_ending(pen, story, &ending, &writes);
+}
+
+/// All events.
+fn put_turns(pen: &mut Pen, story: &Story<'_>) {
     pen.put("{\"format\":1,\"events\":[");
     for (number, (event, turn)) in story.events.iter().zip(story.notes.turns()).enumerate() {
-        put_turn(&mut pen, story, number, event, turn);
+        put_turn(pen, story, number, event, turn);
     }
+}
+
+/// All messages.
+fn put_messages(pen: &mut Pen, story: &Story<'_>) {
     pen.put("],\"messages\":[");
     let passages = story.notes.passages().as_slice();
     for (number, (message, passage)) in story.messages.iter().zip(passages).enumerate() {
-        put_message(&mut pen, number, message, passage);
+        put_message(pen, number, message, passage);
     }
-    put_ending(&mut pen, story, &ending, &writes);
-    pen.end()?;
-    Ok(text)
-}
-
-/// A comma, but before the first element, and what follows it.
-pub(crate) fn put_next(pen: &mut Pen<'_>, place: usize, letters: &str) {
-    pen.put_either(place == 0, "", ",");
-    pen.put(letters);
 }
 
 /// Numbers, in order.
-fn put_numbers(pen: &mut Pen<'_>, numbers: &[usize]) {
+fn put_numbers(pen: &mut Pen, numbers: &[usize]) {
     for (place, number) in numbers.iter().enumerate() {
-        put_next(pen, place, "");
-        pen.put_number("", *number as u64);
+        pen.put_all("%|,|%", &[Piece::Flag(place == 0), Piece::Size(*number)]);
     }
 }
 
 /// One event: its number, its place in the scenario, its kind, what it says, and the numbers of what it sent.
-fn put_turn(pen: &mut Pen<'_>, story: &Story<'_>, number: usize, event: &Event, turn: &Turn) {
+fn put_turn(pen: &mut Pen, story: &Story<'_>, number: usize, event: &Event, turn: &Turn) {
     let step = &turn.step;
-    put_next(pen, number, "\n{\"n\":");
-    pen.put_number("", number as u64);
-    pen.put_number(",\"place\":", step.place as u64);
-    pen.put(",\"kind\":\"");
-    pen.put(event_name(event));
+    pen.put_all(
+        "%|,|\n{\"n\":%,\"place\":%,\"kind\":\"%",
+        &[
+            Piece::Flag(number == 0),
+            Piece::Size(number),
+            Piece::Size(step.place),
+            Piece::Words(event_name(event)),
+        ],
+    );
     match event {
         Event::Deliver(message) => {
             pen.put_number("\",\"message\":", *message as u64);
@@ -68,30 +80,38 @@ fn put_turn(pen: &mut Pen<'_>, story: &Story<'_>, number: usize, event: &Event, 
         }
         _ => put_happening(pen, event, step),
     }
+    put_sent(pen, step);
+}
+
+/// The numbers of what an event sent.
+fn put_sent(pen: &mut Pen, step: &Step) {
     pen.put(",\"sent\":[");
     for message in step.first..step.end {
-        put_next(pen, message.saturating_sub(step.first), "");
-        pen.put_number("", message as u64);
+        pen.put_all(
+            "%|,|%",
+            &[Piece::Flag(message == step.first), Piece::Size(message)],
+        );
     }
     pen.put("]}");
 }
 
 /// Why a delivery came to nothing, if it did.
-fn put_silence(pen: &mut Pen<'_>, message: Option<&Message>, silence: Option<Silence>) {
+fn put_silence(pen: &mut Pen, message: Option<&Message>, silence: Option<Silence>) {
     if let (Some(message), Some(silence)) = (message, silence) {
-        pen.put_either(silence.is_running(), "", ",\"running\":false");
-        pen.put(",\"why\":\"");
+        pen.put_all(
+            "%|,\"running\":false|,\"why\":\"",
+            &[Piece::Flag(silence.is_running())],
+        );
         tell_silence(pen, silence, message);
         pen.put("\"");
     }
 }
 
 /// What an event other than a delivery says, and at which node it happens.
-fn put_happening(pen: &mut Pen<'_>, event: &Event, step: &Step) {
+fn put_happening(pen: &mut Pen, event: &Event, step: &Step) {
     pen.put("\",\"text\":\"");
     tell_event(pen, event, step.started);
-    pen.put_node("\",\"at\":\"", node_of(event, step));
-    pen.put("\"");
+    pen.put_all("\",\"at\":\"%\"", &[Piece::Node(node_of(event, step))]);
 }
 
 /// The node at which an event happens.
@@ -109,109 +129,165 @@ fn node_of(event: &Event, step: &Step) -> Addr {
 }
 
 /// A message: its number, its kind, from where to where, what it says, and the events that sent and delivered it.
-fn put_message(pen: &mut Pen<'_>, number: usize, message: &Message, passage: &Passage) {
-    put_next(pen, number, "\n{\"n\":");
-    pen.put_number("", number as u64);
-    pen.put(",\"kind\":\"");
-    pen.put(body_name(&message.body));
-    pen.put_node("\",\"from\":\"", message.from);
-    pen.put_node("\",\"to\":\"", message.to);
-    pen.put("\",\"text\":\"");
+fn put_message(pen: &mut Pen, number: usize, message: &Message, passage: &Passage) {
+    pen.put_all(
+        "%|,|\n{\"n\":%,\"kind\":\"%\",\"from\":\"%\",\"to\":\"%\",\"text\":\"",
+        &[
+            Piece::Flag(number == 0),
+            Piece::Size(number),
+            Piece::Words(body_name(&message.body)),
+            Piece::Node(message.from),
+            Piece::Node(message.to),
+        ],
+    );
     tell_fields(pen, &message.body);
-    pen.put_number("\",\"sent\":", passage.sent as u64);
-    pen.put(",\"delivered\":[");
+    put_passage(pen, passage);
+}
+
+/// The events that sent and delivered a message.
+fn put_passage(pen: &mut Pen, passage: &Passage) {
+    pen.put_all(
+        "\",\"sent\":%,\"delivered\":[",
+        &[Piece::Size(passage.sent)],
+    );
     put_numbers(pen, passage.delivered.as_slice());
     pen.put("]}");
 }
 
 /// How things stand at the end.
-fn put_ending(pen: &mut Pen<'_>, story: &Story<'_>, ending: &Ending, writes: &Writes) {
+fn put_ending(pen: &mut Pen, story: &Story<'_>, ending: &Ending, writes: &Writes) {
     put_groups(pen, ending.lost());
-    pen.put("],\"servers\":[");
-    for (place, server) in story.notes.servers().as_slice().iter().enumerate() {
-        put_server(pen, place, server);
-    }
+    put_servers(pen, story.notes.servers().as_slice());
     put_standing(pen, story);
     put_changes(pen, story.changes);
     put_ranges(pen, ending);
     put_keys(pen, ending);
     put_writes(pen, writes);
     match story.stopped {
-        Some((place, code)) => {
-            pen.put_code("],\"stopped\":{\"code\":\"", code);
-            pen.put_number("\",\"place\":", place as u64);
-            pen.put("}}\n");
-        }
+        Some((place, code)) => pen.put_all(
+            "],\"stopped\":{\"code\":\"%\",\"place\":%}}\n",
+            &[Piece::Code(code), Piece::Size(place)],
+        ),
         None => pen.put("],\"stopped\":null}\n"),
     }
 }
 
 /// Messages by kind and addressee.
-fn put_groups(pen: &mut Pen<'_>, groups: &IndexMap<(usize, Addr), Group>) {
+fn put_groups(pen: &mut Pen, groups: &Table<(usize, Addr), Group>) {
     pen.put("],\"lost\":[");
-    for (place, group) in groups.values().enumerate() {
-        put_next(pen, place, "\n{\"kind\":\"");
-        pen.put(group.kind);
-        pen.put_node("\",\"to\":\"", group.to);
-        pen.put_number("\",\"count\":", group.count);
-        pen.put("}");
+    for (place, group) in groups.entries.values().enumerate() {
+        put_group(pen, place, group);
+    }
+}
+
+/// A group of messages.
+fn put_group(pen: &mut Pen, place: usize, group: &Group) {
+    pen.put_all(
+        "%|,|\n{\"kind\":\"%\",\"to\":\"%\",\"count\":%}",
+        &[
+            Piece::Flag(place == 0),
+            Piece::Words(group.kind),
+            Piece::Node(group.to),
+            Piece::U64(group.count),
+        ],
+    );
+}
+
+/// The servers.
+fn put_servers(pen: &mut Pen, servers: &[Server]) {
+    pen.put("],\"servers\":[");
+    for (place, server) in servers.iter().enumerate() {
+        put_server(pen, place, server);
     }
 }
 
 /// One of the servers.
-fn put_server(pen: &mut Pen<'_>, place: usize, server: &Server) {
-    put_next(pen, place, "\n{\"id\":\"");
-    pen.put_node("", Addr::Server(server.id));
-    pen.put_number("\",\"started\":", server.started as u64);
-    match server.stopped {
-        Some(event) => pen.put_number(",\"stopped\":", event as u64),
-        None => pen.put(",\"stopped\":null"),
+fn put_server(pen: &mut Pen, place: usize, server: &Server) {
+    pen.put_all(
+        "%|,|\n{\"id\":\"%\",\"started\":%,\"stopped\":%,\"suspected\":%,\"acknowledged\":%}",
+        &[
+            Piece::Flag(place == 0),
+            Piece::Id(server.id),
+            Piece::Size(server.started),
+            number_or_null(server.stopped),
+            number_or_null(server.suspected),
+            Piece::U64(server.acknowledged),
+        ],
+    );
+}
+
+/// A number that there may not be.
+fn number_or_null(number: Option<usize>) -> Piece {
+    match number {
+        Some(number) => Piece::Size(number),
+        None => Piece::Words("null"),
     }
-    match server.suspected {
-        Some(event) => pen.put_number(",\"suspected\":", event as u64),
-        None => pen.put(",\"suspected\":null"),
-    }
-    pen.put_number(",\"acknowledged\":", server.acknowledged);
-    pen.put("}");
 }
 
 /// The last grant of each range.
-fn put_ranges(pen: &mut Pen<'_>, ending: &Ending) {
+fn put_ranges(pen: &mut Pen, ending: &Ending) {
     pen.put("],\"ranges\":[");
-    for (place, range) in ending.ranges().values().enumerate() {
-        put_next(pen, place, "\n{\"table\":");
-        pen.put_number("", u64::from(range.table));
-        pen.put_number(",\"lo\":\"", range.lo);
-        pen.put_number("\",\"hi\":\"", range.hi);
-        pen.put_number("\",\"term\":", u64::from(range.term));
-        pen.put_node(",\"owner\":\"", range.owner);
-        pen.put("\"}");
+    for (place, range) in ending.ranges().entries.values().enumerate() {
+        put_range(pen, place, range);
     }
+}
+
+/// A range and its owner.
+fn put_range(pen: &mut Pen, place: usize, range: &Range) {
+    pen.put_all(
+        "%|,|\n{\"table\":%,\"lo\":\"%\",\"hi\":\"%\",\"term\":%,\"owner\":\"%\"}",
+        &[
+            Piece::Flag(place == 0),
+            Piece::U32(range.table),
+            Piece::U64(range.lo),
+            Piece::U64(range.hi),
+            Piece::U32(range.term),
+            Piece::Node(range.owner),
+        ],
+    );
 }
 
 /// The newest acknowledged version of each key.
-fn put_keys(pen: &mut Pen<'_>, ending: &Ending) {
+fn put_keys(pen: &mut Pen, ending: &Ending) {
     pen.put("],\"keys\":[");
-    for (place, newest) in ending.newest().values().enumerate() {
-        put_next(pen, place, "\n{\"table\":");
-        pen.put_number("", u64::from(newest.table));
-        pen.put_number(",\"key\":\"", newest.key);
-        pen.put_number("\",\"version\":\"", newest.version);
-        pen.put_number("\",\"term\":", u64::from(newest.term));
-        pen.put_node(",\"by\":\"", newest.by);
-        pen.put("\"}");
+    for (place, newest) in ending.newest().entries.values().enumerate() {
+        put_newest(pen, place, newest);
     }
 }
 
+/// The newest version of a key.
+fn put_newest(pen: &mut Pen, place: usize, newest: &Newest) {
+    pen.put_all(
+        "%|,|\n{\"table\":%,\"key\":\"%\",\"version\":\"%\",\"term\":%,\"by\":\"%\"}",
+        &[
+            Piece::Flag(place == 0),
+            Piece::U32(newest.table),
+            Piece::U64(newest.key),
+            Piece::U64(newest.version),
+            Piece::U32(newest.term),
+            Piece::Node(newest.by),
+        ],
+    );
+}
+
 /// The writes that were not acknowledged, and what became of them.
-fn put_writes(pen: &mut Pen<'_>, writes: &Writes) {
+fn put_writes(pen: &mut Pen, writes: &Writes) {
     pen.put("],\"unacknowledged\":[");
     for (place, write) in writes.unanswered().iter().enumerate() {
-        put_next(pen, place, "\n{\"event\":");
-        pen.put_number("", write.event as u64);
-        pen.put_number(",\"message\":", write.message as u64);
-        pen.put(",\"fate\":\"");
-        tell_fate(pen, write);
-        pen.put("\"}");
+        put_write(pen, place, write);
     }
+}
+
+/// A write, and what became of it.
+fn put_write(pen: &mut Pen, place: usize, write: &Unanswered) {
+    pen.put_all(
+        "%|,|\n{\"event\":%,\"message\":%,\"fate\":\"",
+        &[
+            Piece::Flag(place == 0),
+            Piece::Size(write.event),
+            Piece::Size(write.message),
+        ],
+    );
+    tell_fate(pen, write);
+    pen.put("\"}");
 }

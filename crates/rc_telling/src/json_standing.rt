@@ -1,80 +1,91 @@
 //! How the masters and the backups stand at the end, and how they came to it, as JSON.
 
 use crate::changes::{Changes, PhaseChange, ReplicaChange};
-use crate::json::put_next;
-use crate::standing::{MasterStanding, ReplicaStanding, SegmentStanding, Standing};
+use crate::standing::{MasterStanding, ReplicaStanding, SegmentStanding};
 use crate::story::Story;
 use crate::waits::{tell_wait, wait_of};
-use rc_pen::Pen;
-use rc_types::{Addr, Member};
+use rc_pen::{Pen, Piece};
+use rc_types::Member;
 
 /// The masters with their segments, and the replicas.
-pub(crate) fn put_standing(pen: &mut Pen<'_>, story: &Story<'_>) {
-    let standing = story.standing;
+pub(crate) fn put_standing(pen: &mut Pen, story: &Story<'_>) {
     pen.put("],\"masters\":[");
-    for (place, master) in standing.masters.iter().enumerate() {
-        put_next(pen, place, "\n");
-        put_master(pen, master);
+    for (place, master) in story.standing.masters.iter().enumerate() {
+        put_master(pen, place, master);
         put_wait(pen, story, master);
-        put_segments(pen, standing, master);
-        pen.put("]}");
+        put_segments(pen, story.standing.segments_of(master));
     }
+    put_replicas(pen, story.standing.replicas.as_slice());
+}
+
+/// The replicas.
+fn put_replicas(pen: &mut Pen, replicas: &[ReplicaStanding]) {
     pen.put("],\"replicas\":[");
-    for (place, replica) in standing.replicas.iter().enumerate() {
-        put_next(pen, place, "\n");
+    for (place, replica) in replicas.iter().enumerate() {
+        pen.put_all("%|,|\n{", &[Piece::Flag(place == 0)]);
         put_replica(pen, replica);
     }
 }
 
 /// How masters and replicas have changed.
-pub(crate) fn put_changes(pen: &mut Pen<'_>, changes: &Changes) {
-    pen.put("],\"phases\":[");
-    for (place, change) in changes.phases().iter().enumerate() {
-        put_next(pen, place, "\n");
-        put_phase(pen, change);
-    }
+pub(crate) fn put_changes(pen: &mut Pen, changes: &Changes) {
+    put_phases(pen, changes.phases());
     pen.put("],\"copies\":[");
     for (place, change) in changes.replicas().iter().enumerate() {
-        put_next(pen, place, "\n");
-        put_change(pen, change);
+        put_change(pen, place, change);
+    }
+}
+
+/// How the phases of masters have changed.
+fn put_phases(pen: &mut Pen, phases: &[PhaseChange]) {
+    pen.put("],\"phases\":[");
+    for (place, change) in phases.iter().enumerate() {
+        put_phase(pen, place, change);
     }
 }
 
 /// A change of a phase.
-fn put_phase(pen: &mut Pen<'_>, change: &PhaseChange) {
-    pen.put_number("{\"event\":", change.event as u64);
-    pen.put_node(",\"id\":\"", Addr::Server(change.id));
-    pen.put("\",\"phase\":\"");
-    pen.put(change.phase);
-    pen.put("\"}");
+fn put_phase(pen: &mut Pen, place: usize, change: &PhaseChange) {
+    pen.put_all(
+        "%|,|\n{\"event\":%,\"id\":\"%\",\"phase\":\"%\"}",
+        &[
+            Piece::Flag(place == 0),
+            Piece::Size(change.event),
+            Piece::Id(change.id),
+            Piece::Words(change.phase),
+        ],
+    );
 }
 
 /// A change of a replica.
-fn put_change(pen: &mut Pen<'_>, change: &ReplicaChange) {
-    pen.put_number("{\"event\":", change.event as u64);
-    put_flag(pen, ",\"gone\":", change.is_gone);
-    pen.put(",");
-    put_replica_members(pen, &change.replica);
-    pen.put("}");
-}
-
-/// A flag after its name.
-fn put_flag(pen: &mut Pen<'_>, letters: &str, flag: bool) {
-    pen.put(letters);
-    pen.put_either(flag, "true", "false");
+fn put_change(pen: &mut Pen, place: usize, change: &ReplicaChange) {
+    pen.put_all(
+        "%|,|\n{\"event\":%,\"gone\":%true|false|,",
+        &[
+            Piece::Flag(place == 0),
+            Piece::Size(change.event),
+            Piece::Flag(change.is_gone),
+        ],
+    );
+    put_replica(pen, &change.replica);
 }
 
 /// A master, up to its segments.
-fn put_master(pen: &mut Pen<'_>, master: &MasterStanding) {
-    pen.put_node("{\"id\":\"", Addr::Server(master.id));
-    pen.put("\",\"phase\":\"");
-    pen.put(master.phase_name());
-    pen.put_number("\",\"head\":", u64::from(master.head));
-    pen.put_number(",\"durable\":", master.durable as u64);
+fn put_master(pen: &mut Pen, place: usize, master: &MasterStanding) {
+    pen.put_all(
+        "%|,|\n{\"id\":\"%\",\"phase\":\"%\",\"head\":%,\"durable\":%",
+        &[
+            Piece::Flag(place == 0),
+            Piece::Id(master.id),
+            Piece::Words(master.phase_name()),
+            Piece::U16(master.head),
+            Piece::Size(master.durable),
+        ],
+    );
 }
 
 /// What a master waits for, and the beginning of its segments.
-fn put_wait(pen: &mut Pen<'_>, story: &Story<'_>, master: &MasterStanding) {
+fn put_wait(pen: &mut Pen, story: &Story<'_>, master: &MasterStanding) {
     match wait_of(master, story.standing.segments_of(master)) {
         Some(wait) => {
             pen.put(",\"waits\":\"");
@@ -86,62 +97,73 @@ fn put_wait(pen: &mut Pen<'_>, story: &Story<'_>, master: &MasterStanding) {
     pen.put(",\"segments\":[");
 }
 
-/// The segments of a master.
-fn put_segments(pen: &mut Pen<'_>, standing: &Standing, master: &MasterStanding) {
-    for (place, segment) in standing.segments_of(master).iter().enumerate() {
-        put_next(pen, place, "\n");
-        put_segment(pen, segment);
+/// The segments of a master, and its end.
+fn put_segments(pen: &mut Pen, segments: &[SegmentStanding]) {
+    for (place, segment) in segments.iter().enumerate() {
+        put_segment(pen, place, segment);
         put_members(pen, segment);
-        pen.put("]}");
     }
+    pen.put("]}");
 }
 
 /// A segment, up to its members.
-fn put_segment(pen: &mut Pen<'_>, segment: &SegmentStanding) {
-    pen.put_number("{\"seg\":", u64::from(segment.seg));
-    pen.put_number(",\"epoch\":", u64::from(segment.epoch));
-    put_flag(pen, ",\"committed\":", segment.is_committed);
-    pen.put_number(",\"len\":", segment.len as u64);
-    put_flag(pen, ",\"shut\":", segment.is_shut);
-    pen.put(",\"members\":[");
+fn put_segment(pen: &mut Pen, place: usize, segment: &SegmentStanding) {
+    pen.put_all(
+        "%|,|\n{\"seg\":%,\"epoch\":%,\"committed\":%true|false|,\"len\":%,\"shut\":%true|false|,\"members\":[",
+        &[
+            Piece::Flag(place == 0),
+            Piece::U16(segment.seg),
+            Piece::U16(segment.epoch),
+            Piece::Flag(segment.is_committed),
+            Piece::Size(segment.len),
+            Piece::Flag(segment.is_shut),
+        ],
+    );
 }
 
-/// The members of a segment.
-fn put_members(pen: &mut Pen<'_>, segment: &SegmentStanding) {
-    for (place, member) in segment.members.iter().flatten().enumerate() {
-        put_next(pen, place, "");
-        put_member(pen, member);
+/// The members of a segment, and its end.
+fn put_members(pen: &mut Pen, segment: &SegmentStanding) {
+    let mut is_first = true;
+    for slot in &segment.members {
+        if let Some(member) = slot {
+            put_member(pen, is_first, member);
+            is_first = false;
+        }
     }
+    pen.put("]}");
 }
 
 /// A member, and what it has told.
-fn put_member(pen: &mut Pen<'_>, member: &Member) {
-    pen.put_node("{\"id\":\"", Addr::Server(member.id));
-    put_flag(pen, "\",\"lost\":", member.lost);
-    match member.told {
-        Some(told) => {
-            pen.put_number(",\"told\":", told.len as u64);
-            put_flag(pen, ",\"closed\":", told.closed);
-        }
-        None => pen.put(",\"told\":null,\"closed\":false"),
-    }
-    pen.put("}");
+fn put_member(pen: &mut Pen, is_first: bool, member: &Member) {
+    let (told, is_closed) = match member.told {
+        Some(told) => (Piece::Size(told.len), told.closed),
+        None => (Piece::Words("null"), false),
+    };
+    pen.put_all(
+        "%|,|{\"id\":\"%\",\"lost\":%true|false|,\"told\":%,\"closed\":%true|false|}",
+        &[
+            Piece::Flag(is_first),
+            Piece::Id(member.id),
+            Piece::Flag(member.lost),
+            told,
+            Piece::Flag(is_closed),
+        ],
+    );
 }
 
-/// A replica.
-fn put_replica(pen: &mut Pen<'_>, replica: &ReplicaStanding) {
-    pen.put("{");
-    put_replica_members(pen, replica);
-    pen.put("}");
-}
-
-/// The members of a replica.
-fn put_replica_members(pen: &mut Pen<'_>, replica: &ReplicaStanding) {
-    pen.put_node("\"at\":\"", Addr::Server(replica.holder));
-    pen.put_node("\",\"of\":\"", Addr::Server(replica.master));
-    pen.put_number("\",\"seg\":", u64::from(replica.seg));
-    pen.put_number(",\"epoch\":", u64::from(replica.epoch));
-    pen.put_number(",\"len\":", replica.len as u64);
-    put_flag(pen, ",\"closed\":", replica.is_closed);
-    put_flag(pen, ",\"fenced\":", replica.is_fenced);
+/// The members of a replica, and its end.
+fn put_replica(pen: &mut Pen, replica: &ReplicaStanding) {
+    pen.put_all(
+        "\"at\":\"%\",\"of\":\"%\",\"seg\":%,\"epoch\":%,\"len\":%,\"closed\":%true|false|,\
+         \"fenced\":%true|false|}",
+        &[
+            Piece::Id(replica.holder),
+            Piece::Id(replica.master),
+            Piece::U16(replica.seg),
+            Piece::U16(replica.epoch),
+            Piece::Size(replica.len),
+            Piece::Flag(replica.is_closed),
+            Piece::Flag(replica.is_fenced),
+        ],
+    );
 }

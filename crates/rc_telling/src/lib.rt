@@ -7,7 +7,8 @@
 //! `servers`, who ran when; `standing`, how masters and backups stand at the end; `changes`, what became of them on
 //! the way; `story`, the whole; `kinds` and `fields`, a message as text; `ending`, what else stands at the end;
 //! `waits`, what a master waits for; `writes`, what became of those that were not acknowledged; then the four ways to
-//! tell it: `logs` with `standings`, `json` with `json_standing`, `diagrams` and `pages`.
+//! tell it: `logs` with `standings`, `json` with `json_standing`, `diagrams` and `pages`. `tables` has what all of them
+//! put into maps.
 //! Apart from all this stands `hinting`, with `course` and `recoveries`: what may not have been meant in a run.
 #![tactic(auto)]
 
@@ -30,6 +31,7 @@ mod silences;
 mod standing;
 mod standings;
 mod story;
+mod tables;
 mod waits;
 mod writes;
 

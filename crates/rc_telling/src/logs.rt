@@ -1,15 +1,15 @@
 //! The story as lines for a reader.
 
 use crate::changes::PhaseChange;
-use crate::ending::{Ending, Group};
+use crate::ending::{Ending, Group, Newest, Range, total_of};
 use crate::fields::{tell_event, tell_message};
 use crate::servers::Server;
 use crate::silences::tell_silence;
 use crate::standings::tell_standing;
 use crate::story::{Step, Story, Turn};
+use crate::tables::Table;
 use crate::writes::{Writes, tell_fate};
-use indexmap::IndexMap;
-use rc_pen::{Pen, Spelling};
+use rc_pen::{Pen, Piece, Spelling};
 use rc_types::{Addr, Body, Event, Message};
 use std::alloc::{AllocError, Global};
 
@@ -20,26 +20,32 @@ use std::alloc::{AllocError, Global};
 ///
 /// Memory was refused.
 pub fn log(alloc: Global, story: &Story<'_>) -> Result<String, AllocError> {
-    let ending = Ending::of(alloc, story)?;
-    let writes = Writes::of(alloc, story)?;
-    let mut text = String::new(alloc);
-    let mut pen = Pen::at(&mut text, Spelling::Plain);
+    let mut pen = Pen::new(alloc, Spelling::Plain);
+    tell_turns(&mut pen, story);
+    let mut ending = Ending::new(alloc);
+    pen.take(ending.note_all(story));
+    let mut writes = Writes::new(alloc);
+    pen.take(writes.note_all(story));
+    tell_ending(&mut pen, story, &ending, &writes);
+    pen.end()
+}
+
+/// All events.
+fn tell_turns(pen: &mut Pen, story: &Story<'_>) {
     let mut told = 0usize;
     for (number, (event, turn)) in story.events.iter().zip(story.notes.turns()).enumerate() {
-        tell_turn(&mut pen, story, number, event, turn);
-        told = tell_phases(&mut pen, story.changes.phases(), told, number);
+        tell_turn(pen, story, number, event, turn);
+        told = tell_phases(pen, story.changes.phases(), told, number);
     }
-    tell_ending(&mut pen, story, &ending, &writes);
-    pen.end()?;
-    Ok(text)
 }
 
 /// An event, and the messages that it sent.
-fn tell_turn(pen: &mut Pen<'_>, story: &Story<'_>, number: usize, event: &Event, turn: &Turn) {
+fn tell_turn(pen: &mut Pen, story: &Story<'_>, number: usize, event: &Event, turn: &Turn) {
     let step = &turn.step;
-    pen.number("event ", number as u64);
-    pen.number(" at ", step.place as u64);
-    pen.say(": ");
+    pen.say_all(
+        "event % at %: ",
+        &[Piece::Size(number), Piece::Size(step.place)],
+    );
     match event {
         Event::Deliver(message) => tell_delivery(pen, story, number, *message, turn),
         _ => tell_event(pen, event, step.started),
@@ -50,7 +56,7 @@ fn tell_turn(pen: &mut Pen<'_>, story: &Story<'_>, number: usize, event: &Event,
 
 /// The phases that masters have from this event on, where this is the first one that was not told yet. Gives the place
 /// of the next one.
-fn tell_phases(pen: &mut Pen<'_>, phases: &[PhaseChange], first: usize, number: usize) -> usize {
+fn tell_phases(pen: &mut Pen, phases: &[PhaseChange], first: usize, number: usize) -> usize {
     for place in first..phases.len() {
         let Some(change) = phases.get(place) else {
             return place;
@@ -58,16 +64,16 @@ fn tell_phases(pen: &mut Pen<'_>, phases: &[PhaseChange], first: usize, number: 
         if change.event > number {
             return place;
         }
-        pen.id("    ", change.id);
-        pen.say(" is now ");
-        pen.say(change.phase);
-        pen.say("\n");
+        pen.say_all(
+            "    % is now %\n",
+            &[Piece::Id(change.id), Piece::Words(change.phase)],
+        );
     }
     phases.len()
 }
 
 /// The messages that an event sent.
-fn tell_sent(pen: &mut Pen<'_>, step: &Step, messages: &[Message]) {
+fn tell_sent(pen: &mut Pen, step: &Step, messages: &[Message]) {
     for place in step.first..step.end {
         if let Some(message) = messages.get(place) {
             pen.say("    ");
@@ -78,7 +84,7 @@ fn tell_sent(pen: &mut Pen<'_>, step: &Step, messages: &[Message]) {
 }
 
 /// A delivery, and whether anything came of it.
-fn tell_delivery(pen: &mut Pen<'_>, story: &Story<'_>, number: usize, message: usize, turn: &Turn) {
+fn tell_delivery(pen: &mut Pen, story: &Story<'_>, number: usize, message: usize, turn: &Turn) {
     let Some(delivered) = story.messages.get(message) else {
         return;
     };
@@ -98,65 +104,79 @@ fn tell_delivery(pen: &mut Pen<'_>, story: &Story<'_>, number: usize, message: u
 }
 
 /// Whom the addressee of a message fences.
-fn tell_fence(pen: &mut Pen<'_>, message: &Message) {
+fn tell_fence(pen: &mut Pen, message: &Message) {
     if let Body::Gather { master, .. } = &message.body {
-        pen.put_node(", ", message.to);
-        pen.id(" fences ", *master);
+        pen.say_all(
+            ", % fences %",
+            &[Piece::Node(message.to), Piece::Id(*master)],
+        );
     }
 }
 
 /// How things stand at the end.
-fn tell_ending(pen: &mut Pen<'_>, story: &Story<'_>, ending: &Ending, writes: &Writes) {
+fn tell_ending(pen: &mut Pen, story: &Story<'_>, ending: &Ending, writes: &Writes) {
     tell_groups(pen, "never delivered ", ending.lost());
     tell_groups(pen, "to the outside ", ending.told());
-    let servers = story.notes.servers().as_slice();
-    pen.number("servers ", servers.len() as u64);
-    for server in servers {
-        tell_server(pen, server);
-    }
+    tell_servers(pen, story.notes.servers().as_slice());
     tell_standing(pen, story);
     tell_ranges(pen, story, ending);
     tell_keys(pen, ending);
     tell_writes(pen, story, writes);
     if let Some((place, code)) = story.stopped {
-        pen.put_code("\nstopped ", code);
-        pen.number(" at event ", place as u64);
+        pen.say_all(
+            "\nstopped % at event %",
+            &[Piece::Code(code), Piece::Size(place)],
+        );
     }
     pen.say("\n");
 }
 
 /// Messages by kind and addressee.
-fn tell_groups(pen: &mut Pen<'_>, title: &str, groups: &IndexMap<(usize, Addr), Group>) {
-    let mut total = 0u64;
-    for group in groups.values() {
-        total = total.saturating_add(group.count);
-    }
-    pen.number(title, total);
+fn tell_groups(pen: &mut Pen, title: &str, groups: &Table<(usize, Addr), Group>) {
+    pen.number(title, total_of(groups));
     pen.say("\n");
-    for group in groups.values() {
-        pen.number("    ", group.count);
-        pen.say(" ");
-        pen.say(group.kind);
-        pen.put_node(" to ", group.to);
-        tell_numbers(pen, group);
-        pen.say("\n");
+    for group in groups.entries.values() {
+        tell_group(pen, group);
     }
 }
 
+/// A group.
+fn tell_group(pen: &mut Pen, group: &Group) {
+    pen.say_all(
+        "    % % to %",
+        &[
+            Piece::U64(group.count),
+            Piece::Words(group.kind),
+            Piece::Node(group.to),
+        ],
+    );
+    tell_numbers(pen, group);
+}
+
 /// The numbers of the first messages of a group.
-fn tell_numbers(pen: &mut Pen<'_>, group: &Group) {
+fn tell_numbers(pen: &mut Pen, group: &Group) {
     let numbers = group.numbers();
     pen.say(":");
     for number in numbers {
         pen.number(" ", *number as u64);
     }
-    pen.either(group.count > numbers.len() as u64, " ..", "");
+    pen.either(group.count > numbers.len() as u64, " ..\n", "\n");
+}
+
+/// The servers.
+fn tell_servers(pen: &mut Pen, servers: &[Server]) {
+    pen.number("servers ", servers.len() as u64);
+    for server in servers {
+        tell_server(pen, server);
+    }
 }
 
 /// One of the servers.
-fn tell_server(pen: &mut Pen<'_>, server: &Server) {
-    pen.id("\n    ", server.id);
-    pen.number(" started at event ", server.started as u64);
+fn tell_server(pen: &mut Pen, server: &Server) {
+    pen.say_all(
+        "\n    % started at event %",
+        &[Piece::Id(server.id), Piece::Size(server.started)],
+    );
     match server.stopped {
         Some(event) => pen.number(", stopped at event ", event as u64),
         None => pen.say(", runs"),
@@ -168,14 +188,10 @@ fn tell_server(pen: &mut Pen<'_>, server: &Server) {
 }
 
 /// The last grant of each range, and whether its owner was suspected, or it was granted once more in other ranges.
-fn tell_ranges(pen: &mut Pen<'_>, story: &Story<'_>, ending: &Ending) {
-    pen.number("\nranges ", ending.ranges().len() as u64);
-    for range in ending.ranges().values() {
-        pen.number("\n    table ", u64::from(range.table));
-        pen.number(" keys ", range.lo);
-        pen.number("..", range.hi);
-        pen.number(" term ", u64::from(range.term));
-        pen.put_node(" owner ", range.owner);
+fn tell_ranges(pen: &mut Pen, story: &Story<'_>, ending: &Ending) {
+    pen.number("\nranges ", ending.ranges().entries.len() as u64);
+    for range in ending.ranges().entries.values() {
+        tell_range(pen, range);
         if ending.is_passed_on(range) {
             pen.say(", passed on");
         } else {
@@ -184,38 +200,66 @@ fn tell_ranges(pen: &mut Pen<'_>, story: &Story<'_>, ending: &Ending) {
     }
 }
 
+/// A range and its owner.
+fn tell_range(pen: &mut Pen, range: &Range) {
+    pen.say_all(
+        "\n    table % keys %..% term % owner %",
+        &[
+            Piece::U32(range.table),
+            Piece::U64(range.lo),
+            Piece::U64(range.hi),
+            Piece::U32(range.term),
+            Piece::Node(range.owner),
+        ],
+    );
+}
+
 /// Whether the owner of a range was suspected, or does not run.
-fn tell_owner(pen: &mut Pen<'_>, story: &Story<'_>, owner: Addr) {
+fn tell_owner(pen: &mut Pen, story: &Story<'_>, owner: Addr) {
     let Addr::Server(id) = owner else {
         return;
     };
     let servers = story.notes.servers();
-    pen.either(servers.is_suspected(id), ", suspected", "");
-    pen.either(servers.runs(id), "", ", does not run");
+    pen.say_all(
+        "%, suspected||%|, does not run|",
+        &[
+            Piece::Flag(servers.is_suspected(id)),
+            Piece::Flag(servers.runs(id)),
+        ],
+    );
 }
 
 /// The newest acknowledged version of each key.
-fn tell_keys(pen: &mut Pen<'_>, ending: &Ending) {
-    pen.number("\nkeys ", ending.newest().len() as u64);
-    for newest in ending.newest().values() {
-        pen.number("\n    table ", u64::from(newest.table));
-        pen.number(" key ", newest.key);
-        pen.number(" version ", newest.version);
-        pen.number(" term ", u64::from(newest.term));
-        pen.put_node(" by ", newest.by);
+fn tell_keys(pen: &mut Pen, ending: &Ending) {
+    pen.number("\nkeys ", ending.newest().entries.len() as u64);
+    for newest in ending.newest().entries.values() {
+        tell_newest(pen, newest);
     }
 }
 
+/// The newest version of a key.
+fn tell_newest(pen: &mut Pen, newest: &Newest) {
+    pen.say_all(
+        "\n    table % key % version % term % by %",
+        &[
+            Piece::U32(newest.table),
+            Piece::U64(newest.key),
+            Piece::U64(newest.version),
+            Piece::U32(newest.term),
+            Piece::Node(newest.by),
+        ],
+    );
+}
+
 /// The writes that were not acknowledged, and what became of them.
-fn tell_writes(pen: &mut Pen<'_>, story: &Story<'_>, writes: &Writes) {
+fn tell_writes(pen: &mut Pen, story: &Story<'_>, writes: &Writes) {
     pen.number(
         "\nwrites delivered and not acknowledged ",
         writes.unanswered().len() as u64,
     );
     for write in writes.unanswered() {
         if let Some(message) = story.messages.get(write.message) {
-            pen.number("\n    by event ", write.event as u64);
-            pen.say(": ");
+            pen.say_all("\n    by event %: ", &[Piece::Size(write.event)]);
             tell_message(pen, write.message, message);
             pen.say(", ");
             tell_fate(pen, write);

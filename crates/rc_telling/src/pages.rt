@@ -1,8 +1,9 @@
 //! The story as a page for a browser.
 
-use crate::json::log_json;
+use crate::json::put_story;
 use crate::page_parts::{DRAWING, ENDING, HEAD, MIDDLE, MOVING};
 use crate::story::Story;
+use rc_pen::{Pen, Spelling};
 use std::alloc::{AllocError, Global};
 
 /// The story as one page that needs nothing else: the JSON of the story, and what draws it.
@@ -11,12 +12,12 @@ use std::alloc::{AllocError, Global};
 ///
 /// Memory was refused.
 pub fn page(alloc: Global, story: &Story<'_>) -> Result<String, AllocError> {
-    let mut text = String::new(alloc);
-    let json = log_json(alloc, story)?;
-    text.push_str(HEAD)?;
-    text.push_str(json.as_str())?;
-    for part in [MIDDLE, DRAWING, MOVING, ENDING] {
-        text.push_str(part)?;
-    }
-    Ok(text)
+    let mut pen = Pen::new(alloc, Spelling::Json);
+    pen.put(HEAD);
+    put_story(alloc, &mut pen, story);
+    pen.put(MIDDLE);
+    pen.put(DRAWING);
+    pen.put(MOVING);
+    pen.put(ENDING);
+    pen.end()
 }

@@ -1,8 +1,8 @@
 //! Recoveries that are not at their end, and what they wait for.
 
 use crate::course::Course;
-use indexmap::IndexMap;
-use rc_pen::Pen;
+use crate::tables::Table;
+use rc_pen::{Pen, Piece};
 use rc_types::{Addr, Body, Message, Part, ServerId};
 use std::alloc::{AllocError, Global};
 
@@ -46,26 +46,36 @@ enum Stage {
 }
 
 /// The recoveries of a run.
-#[derive(Drop)]
 pub(crate) struct Recoveries {
     /// By number of an attempt: the master.
-    masters: IndexMap<u32, ServerId>,
+    masters: Table<u32, ServerId>,
     /// By master.
-    newest: IndexMap<ServerId, Attempt>,
+    newest: Table<ServerId, Attempt>,
     /// By term.
-    parts: IndexMap<u32, Given>,
+    parts: Table<u32, Given>,
     /// By term and segment: from whom it is fetched, and whether it has come.
-    fetches: IndexMap<(u32, u16), (Addr, bool)>,
+    fetches: Table<(u32, u16), (Addr, bool)>,
+}
+
+impl Drop for Recoveries {
+    fn drop(self) {
+        let Recoveries {
+            masters: _,
+            newest: _,
+            parts: _,
+            fetches: _,
+        } = self;
+    }
 }
 
 impl Recoveries {
     /// None yet.
     pub(crate) fn new(alloc: Global) -> Recoveries {
         Recoveries {
-            masters: IndexMap::new(alloc),
-            newest: IndexMap::new(alloc),
-            parts: IndexMap::new(alloc),
-            fetches: IndexMap::new(alloc),
+            masters: Table::new(alloc),
+            newest: Table::new(alloc),
+            parts: Table::new(alloc),
+            fetches: Table::new(alloc),
         }
     }
 
@@ -116,51 +126,45 @@ impl Recoveries {
 
     /// A segment is fetched for a part.
     fn fetch(&mut self, term: u32, seg: u16, from: Addr) -> Result<(), AllocError> {
-        if self.fetches.get(&(term, seg)).is_none() {
-            self.fetches.insert((term, seg), (from, false))?;
-        }
-        Ok(())
+        self.fetches.put_first((term, seg), (from, false))
     }
 
     /// A segment has come for a part.
     fn come(&mut self, term: u32, seg: u16) {
-        if let Some(fetch) = self.fetches.get_mut(&(term, seg)) {
+        if let Some(fetch) = self.fetches.get_mut((term, seg)) {
             fetch.1 = true;
         }
     }
 
     /// A part is recovered.
     fn recover(&mut self, term: u32) {
-        if let Some(part) = self.parts.get_mut(&term) {
+        if let Some(part) = self.parts.get_mut(term) {
             part.is_recovered = true;
         }
     }
 
     /// An attempt asks a server.
     fn ask(&mut self, number: u32, master: ServerId) -> Result<(), AllocError> {
-        self.masters.insert(number, master)?;
-        if let Some(attempt) = self.newest.get_mut(&master) {
+        self.masters.put(number, master)?;
+        if let Some(attempt) = self.newest.get_mut(master) {
             if attempt.number == number {
                 attempt.asked = attempt.asked.saturating_add(1);
                 return Ok(());
             }
         }
-        self.newest.insert(
-            master,
-            Attempt {
-                number,
-                asked: 1,
-                answers: 0,
-                is_decided: false,
-            },
-        )?;
-        Ok(())
+        let attempt = Attempt {
+            number,
+            asked: 1,
+            answers: 0,
+            is_decided: false,
+        };
+        self.newest.put(master, attempt)
     }
 
     /// The newest attempt of its master, if this is one.
     fn current(&mut self, number: u32) -> Option<&mut Attempt> {
-        let master = self.masters.get(&number).copied()?;
-        let attempt = self.newest.get_mut(&master)?;
+        let master = self.masters.find(number)?;
+        let attempt = self.newest.get_mut(master)?;
         if attempt.number == number {
             Some(attempt)
         } else {
@@ -181,30 +185,25 @@ impl Recoveries {
             attempt.is_decided = true;
         }
         for part in parts {
-            if self.parts.get(&part.term).is_none() {
-                self.give(number, to, part.term)?;
-            }
+            self.give(number, to, part.term)?;
         }
         Ok(())
     }
 
-    /// A part is given to a server.
+    /// A part is given to a server, for the first time or once more.
     fn give(&mut self, attempt: u32, to: Addr, term: u32) -> Result<(), AllocError> {
-        self.parts.insert(
-            term,
-            Given {
-                attempt,
-                to,
-                is_recovered: false,
-                is_granted: false,
-            },
-        )?;
-        Ok(())
+        let given = Given {
+            attempt,
+            to,
+            is_recovered: false,
+            is_granted: false,
+        };
+        self.parts.put_first(term, given)
     }
 
     /// A part is granted.
     fn grant(&mut self, term: u32) {
-        if let Some(part) = self.parts.get_mut(&term) {
+        if let Some(part) = self.parts.get_mut(term) {
             part.is_granted = true;
         }
     }
@@ -213,7 +212,7 @@ impl Recoveries {
     fn missing(&self, attempt: u32) -> (u64, Option<(u32, Given)>) {
         let mut count = 0u64;
         let mut first = None;
-        for (term, part) in &self.parts {
+        for (term, part) in &self.parts.entries {
             if part.attempt == attempt && !part.is_granted {
                 count = count.saturating_add(1);
                 first = first.or(Some((*term, *part)));
@@ -228,7 +227,7 @@ impl Recoveries {
             return Stage::Recovered;
         }
         let mut stage = Stage::Planned;
-        for (place, fetch) in &self.fetches {
+        for (place, fetch) in &self.fetches.entries {
             if place.0 == term {
                 if !fetch.1 {
                     return Stage::Fetching(place.1, fetch.0);
@@ -241,8 +240,8 @@ impl Recoveries {
 }
 
 /// Each recovery that is not at its end.
-pub(crate) fn tell_recoveries(pen: &mut Pen<'_>, recoveries: &Recoveries, course: &Course) {
-    for (master, attempt) in &recoveries.newest {
+pub(crate) fn tell_recoveries(pen: &mut Pen, recoveries: &Recoveries, course: &Course) {
+    for (master, attempt) in &recoveries.newest.entries {
         if !attempt.is_decided {
             tell_undecided(pen, *master, attempt);
         } else if let (count, Some((term, part))) = recoveries.missing(attempt.number) {
@@ -258,20 +257,31 @@ pub(crate) fn tell_recoveries(pen: &mut Pen<'_>, recoveries: &Recoveries, course
 }
 
 /// An attempt without a plan.
-fn tell_undecided(pen: &mut Pen<'_>, master: ServerId, attempt: &Attempt) {
-    pen.id("hint: the recovery of ", master);
-    pen.number(" (attempt ", u64::from(attempt.number));
-    pen.number(") has no plan: answers have come to ", attempt.answers);
-    pen.number(" of ", attempt.asked);
-    pen.say(" Gathers; it takes a decide, once they suffice\n");
+fn tell_undecided(pen: &mut Pen, master: ServerId, attempt: &Attempt) {
+    pen.say_all(
+        "hint: the recovery of % (attempt %) has no plan: answers have come to % of % Gathers; it takes a decide, \
+         once they suffice\n",
+        &[
+            Piece::Id(master),
+            Piece::U32(attempt.number),
+            Piece::U64(attempt.answers),
+            Piece::U64(attempt.asked),
+        ],
+    );
 }
 
 /// A plan of which parts were not granted.
-fn tell_missing(pen: &mut Pen<'_>, master: ServerId, attempt: &Attempt, count: u64, to: Addr) {
-    pen.id("hint: the recovery of ", master);
-    pen.number(" (attempt ", u64::from(attempt.number));
-    pen.number(") is not at its end: parts that were not granted: ", count);
-    pen.put_node("; the first is to be recovered by ", to);
+fn tell_missing(pen: &mut Pen, master: ServerId, attempt: &Attempt, count: u64, to: Addr) {
+    pen.say_all(
+        "hint: the recovery of % (attempt %) is not at its end: parts that were not granted: %; the first is to be \
+         recovered by %",
+        &[
+            Piece::Id(master),
+            Piece::U32(attempt.number),
+            Piece::U64(count),
+            Piece::Node(to),
+        ],
+    );
 }
 
 /// Whether a node is a server that does not run.
@@ -283,18 +293,22 @@ fn is_gone(node: Addr, course: &Course) -> bool {
 }
 
 /// Who is needed for the recovery of this master is gone.
-fn tell_gone(pen: &mut Pen<'_>, master: ServerId) {
-    pen.id(", which runs no longer: suspect ", master);
-    pen.say(" once more");
+fn tell_gone(pen: &mut Pen, master: ServerId) {
+    pen.say_all(
+        ", which runs no longer: suspect % once more",
+        &[Piece::Id(master)],
+    );
 }
 
 /// How far a part has come, and what it waits for.
-fn tell_stage(pen: &mut Pen<'_>, master: ServerId, stage: Stage, course: &Course) {
+fn tell_stage(pen: &mut Pen, master: ServerId, stage: Stage, course: &Course) {
     match stage {
         Stage::Planned => pen.say(", which the plan has not reached"),
         Stage::Fetching(seg, from) => {
-            pen.number(", which waits for segment ", u64::from(seg));
-            pen.put_node(" from ", from);
+            pen.say_all(
+                ", which waits for segment % from %",
+                &[Piece::U16(seg), Piece::Node(from)],
+            );
             if is_gone(from, course) {
                 tell_gone(pen, master);
             }
@@ -310,9 +324,11 @@ fn tell_stage(pen: &mut Pen<'_>, master: ServerId, stage: Stage, course: &Course
 }
 
 /// A server that has stopped, and of which the coordinator was not told.
-fn tell_unsuspected(pen: &mut Pen<'_>, course: &Course) {
+fn tell_unsuspected(pen: &mut Pen, course: &Course) {
     if let Some(id) = course.unsuspected() {
-        pen.id("; ", id);
-        pen.say(" has stopped and was not suspected, so its place is not filled");
+        pen.say_all(
+            "; % has stopped and was not suspected, so its place is not filled",
+            &[Piece::Id(id)],
+        );
     }
 }

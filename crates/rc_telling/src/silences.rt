@@ -1,8 +1,8 @@
 //! Why a delivery came to nothing: whom a backup had fenced by then, what it had freed, which epoch a segment had,
 //! which attempt to recover a master was the newest, and who was deposed.
 
-use indexmap::IndexMap;
-use rc_pen::Pen;
+use crate::tables::Table;
+use rc_pen::{Pen, Piece};
 use rc_types::{Addr, Body, Code, Message, ServerId};
 use std::alloc::{AllocError, Global};
 
@@ -28,35 +28,48 @@ pub(crate) enum Silence {
 }
 
 /// What has to be known of what was sent and delivered so far.
-#[derive(Drop)]
 pub(crate) struct Known {
     /// By backup and master: the attempt for which the one fenced the other.
-    fences: IndexMap<(ServerId, ServerId), u32>,
+    fences: Table<(ServerId, ServerId), u32>,
     /// By backup, master and segment: what was freed.
-    freed: IndexMap<(ServerId, ServerId, u16), bool>,
+    freed: Table<(ServerId, ServerId, u16), bool>,
     /// By master and segment: the epoch of the last Place.
-    epochs: IndexMap<(ServerId, u16), u16>,
+    epochs: Table<(ServerId, u16), u16>,
     /// By attempt: whose recovery it is.
-    attempts: IndexMap<u32, ServerId>,
+    attempts: Table<u32, ServerId>,
     /// By master: its newest attempt.
-    newest: IndexMap<ServerId, u32>,
+    newest: Table<ServerId, u32>,
     /// By server: the version of the greatest list that it was given.
-    lists: IndexMap<ServerId, u32>,
+    lists: Table<ServerId, u32>,
     /// By server: who was deposed.
-    deposed: IndexMap<ServerId, bool>,
+    deposed: Table<ServerId, bool>,
+}
+
+impl Drop for Known {
+    fn drop(self) {
+        let Known {
+            fences: _,
+            freed: _,
+            epochs: _,
+            attempts: _,
+            newest: _,
+            lists: _,
+            deposed: _,
+        } = self;
+    }
 }
 
 impl Known {
     /// Nothing yet.
     pub(crate) fn new(alloc: Global) -> Known {
         Known {
-            fences: IndexMap::new(alloc),
-            freed: IndexMap::new(alloc),
-            epochs: IndexMap::new(alloc),
-            attempts: IndexMap::new(alloc),
-            newest: IndexMap::new(alloc),
-            lists: IndexMap::new(alloc),
-            deposed: IndexMap::new(alloc),
+            fences: Table::new(alloc),
+            freed: Table::new(alloc),
+            epochs: Table::new(alloc),
+            attempts: Table::new(alloc),
+            newest: Table::new(alloc),
+            lists: Table::new(alloc),
+            deposed: Table::new(alloc),
         }
     }
 
@@ -73,15 +86,13 @@ impl Known {
 
     /// A master places a segment under this epoch.
     fn place(&mut self, master: ServerId, seg: u16, epoch: u16) -> Result<(), AllocError> {
-        self.epochs.insert((master, seg), epoch)?;
-        Ok(())
+        self.epochs.put((master, seg), epoch)
     }
 
     /// An attempt asks for replicas of this master.
     fn attempt(&mut self, attempt: u32, master: ServerId) -> Result<(), AllocError> {
-        self.attempts.insert(attempt, master)?;
-        self.newest.insert(master, attempt)?;
-        Ok(())
+        self.attempts.put(attempt, master)?;
+        self.newest.put(master, attempt)
     }
 
     /// A message has reached its addressee, which runs.
@@ -110,42 +121,38 @@ impl Known {
         master: ServerId,
         attempt: u32,
     ) -> Result<(), AllocError> {
-        if self.fences.get(&(backup, master)).is_none() {
-            self.fences.insert((backup, master), attempt)?;
-        }
-        Ok(())
+        self.fences.put_first((backup, master), attempt)
     }
 
     /// A backup frees a segment, if it has not fenced its master.
     fn free(&mut self, backup: ServerId, master: ServerId, seg: u16) -> Result<(), AllocError> {
-        if self.fences.get(&(backup, master)).is_none() {
-            self.freed.insert((backup, master, seg), true)?;
+        if self.has_fenced(backup, master) {
+            return Ok(());
         }
-        Ok(())
+        self.freed.put((backup, master, seg), true)
     }
 
     /// A server is given a list.
     fn list(&mut self, to: ServerId, version: u32) -> Result<(), AllocError> {
-        if self.list_of(to) < version {
-            self.lists.insert(to, version)?;
+        if self.list_of(to) >= version {
+            return Ok(());
         }
-        Ok(())
+        self.lists.put(to, version)
     }
 
     /// A server learns that it was replaced.
     fn depose(&mut self, id: ServerId) -> Result<(), AllocError> {
-        self.deposed.insert(id, true)?;
-        Ok(())
+        self.deposed.put(id, true)
     }
 
     /// Whether a backup has fenced a master.
     pub(crate) fn has_fenced(&self, backup: ServerId, master: ServerId) -> bool {
-        self.fences.get(&(backup, master)).is_some()
+        self.fences.has((backup, master))
     }
 
     /// The version of the greatest list that this server was given.
     fn list_of(&self, id: ServerId) -> u32 {
-        self.lists.get(&id).copied().unwrap_or(0)
+        self.lists.find(id).unwrap_or(0)
     }
 
     /// Why this message, when it reaches its addressee, which runs, will come to nothing, if that can be told.
@@ -173,24 +180,24 @@ impl Known {
 
     /// Of what a backup is to store.
     fn why_not_stored(&self, master: ServerId, backup: ServerId, seg: u16) -> Option<Silence> {
-        match self.fences.get(&(backup, master)) {
-            Some(attempt) => Some(Silence::Fenced(*attempt)),
-            None if self.freed.get(&(backup, master, seg)).is_some() => Some(Silence::Freed(seg)),
+        match self.fences.find((backup, master)) {
+            Some(attempt) => Some(Silence::Fenced(attempt)),
+            None if self.freed.has((backup, master, seg)) => Some(Silence::Freed(seg)),
             None => Some(Silence::NoReplica),
         }
     }
 
     /// Of what a master is told of a segment.
     fn why_not_noted(&self, master: ServerId, seg: u16, epoch: u16) -> Option<Silence> {
-        match self.epochs.get(&(master, seg)) {
-            Some(newest) if *newest > epoch => Some(Silence::OlderEpoch(*newest)),
+        match self.epochs.find((master, seg)) {
+            Some(newest) if newest > epoch => Some(Silence::OlderEpoch(newest)),
             _ => self.why_not_heard(master),
         }
     }
 
     /// Of what comes to a master that may be deposed.
     fn why_not_heard(&self, master: ServerId) -> Option<Silence> {
-        if self.deposed.get(&master).is_some() {
+        if self.deposed.has(master) {
             Some(Silence::Deposed)
         } else {
             None
@@ -212,9 +219,9 @@ impl Known {
         let Body::Replicas { attempt, .. } = body else {
             return None;
         };
-        let master = self.attempts.get(attempt)?;
-        match self.newest.get(master) {
-            Some(newest) if *newest > *attempt => Some(Silence::StaleAttempt(*newest)),
+        let master = self.attempts.find(*attempt)?;
+        match self.newest.find(master) {
+            Some(newest) if newest > *attempt => Some(Silence::StaleAttempt(newest)),
             _ => None,
         }
     }
@@ -228,18 +235,12 @@ impl Silence {
 }
 
 /// Why this message came to nothing.
-pub(crate) fn tell_silence(pen: &mut Pen<'_>, silence: Silence, message: &Message) {
+pub(crate) fn tell_silence(pen: &mut Pen, silence: Silence, message: &Message) {
     match silence {
-        Silence::NotRunning => {
-            pen.put_node("", message.to);
-            pen.say(" was not running");
-        }
+        Silence::NotRunning => tell_of(pen, "% was not running", message),
         Silence::Fenced(attempt) => tell_fence(pen, message, attempt),
         Silence::Freed(seg) => tell_freed(pen, message, seg),
-        Silence::NoReplica => {
-            pen.put_node("", message.to);
-            pen.say(" has no open replica that it fits");
-        }
+        Silence::NoReplica => tell_of(pen, "% has no open replica that it fits", message),
         Silence::OlderEpoch(epoch) => pen.number(
             "the segment had already epoch ",
             u64::from(epoch),
@@ -249,22 +250,31 @@ pub(crate) fn tell_silence(pen: &mut Pen<'_>, silence: Silence, message: &Messag
             u64::from(attempt),
         ),
         Silence::OlderList(version) => pen.number("it had already version ", u64::from(version)),
-        Silence::Deposed => {
-            pen.put_node("", message.to);
-            pen.say(" was deposed");
-        }
+        Silence::Deposed => tell_of(pen, "% was deposed", message),
     }
 }
 
+/// This of the addressee.
+fn tell_of(pen: &mut Pen, form: &str, message: &Message) {
+    pen.say_all(form, &[Piece::Node(message.to)]);
+}
+
 /// The addressee had fenced the sender.
-fn tell_fence(pen: &mut Pen<'_>, message: &Message, attempt: u32) {
-    pen.put_node("", message.to);
-    pen.put_node(" had fenced ", message.from);
-    pen.number(" for attempt ", u64::from(attempt));
+fn tell_fence(pen: &mut Pen, message: &Message, attempt: u32) {
+    pen.say_all(
+        "% had fenced % for attempt %",
+        &[
+            Piece::Node(message.to),
+            Piece::Node(message.from),
+            Piece::U32(attempt),
+        ],
+    );
 }
 
 /// The addressee had freed the segment.
-fn tell_freed(pen: &mut Pen<'_>, message: &Message, seg: u16) {
-    pen.put_node("", message.to);
-    pen.number(" had freed segment ", u64::from(seg));
+fn tell_freed(pen: &mut Pen, message: &Message, seg: u16) {
+    pen.say_all(
+        "% had freed segment %",
+        &[Piece::Node(message.to), Piece::U16(seg)],
+    );
 }

@@ -3,37 +3,51 @@
 use crate::standing::{MasterStanding, ReplicaStanding, SegmentStanding};
 use crate::story::Story;
 use crate::waits::{tell_wait, wait_of};
-use rc_pen::Pen;
+use rc_pen::{Pen, Piece};
 use rc_types::Member;
 
 /// The masters with their segments, and the replicas.
-pub(crate) fn tell_standing(pen: &mut Pen<'_>, story: &Story<'_>) {
+pub(crate) fn tell_standing(pen: &mut Pen, story: &Story<'_>) {
     let standing = story.standing;
     pen.number("\nmasters ", standing.masters.len() as u64);
     for master in &standing.masters {
         tell_master(pen, master);
         tell_waits(pen, story, master);
-        for segment in standing.segments_of(master) {
-            tell_segment(pen, segment);
-        }
+        tell_segments(pen, standing.segments_of(master));
     }
-    pen.number("\nreplicas ", standing.replicas.len() as u64);
-    for replica in &standing.replicas {
+    tell_replicas(pen, standing.replicas.as_slice());
+}
+
+/// The segments of a master.
+fn tell_segments(pen: &mut Pen, segments: &[SegmentStanding]) {
+    for segment in segments {
+        tell_segment(pen, segment);
+    }
+}
+
+/// The replicas.
+fn tell_replicas(pen: &mut Pen, replicas: &[ReplicaStanding]) {
+    pen.number("\nreplicas ", replicas.len() as u64);
+    for replica in replicas {
         tell_replica(pen, replica);
     }
 }
 
 /// A master.
-fn tell_master(pen: &mut Pen<'_>, master: &MasterStanding) {
-    pen.id("\n    ", master.id);
-    pen.say(" ");
-    pen.say(master.phase_name());
-    pen.number(", head ", u64::from(master.head));
-    pen.number(", durable places ", master.durable as u64);
+fn tell_master(pen: &mut Pen, master: &MasterStanding) {
+    pen.say_all(
+        "\n    % %, head %, durable places %",
+        &[
+            Piece::Id(master.id),
+            Piece::Words(master.phase_name()),
+            Piece::U16(master.head),
+            Piece::Size(master.durable),
+        ],
+    );
 }
 
 /// What a master waits for, if it waits for something.
-fn tell_waits(pen: &mut Pen<'_>, story: &Story<'_>, master: &MasterStanding) {
+fn tell_waits(pen: &mut Pen, story: &Story<'_>, master: &MasterStanding) {
     if let Some(wait) = wait_of(master, story.standing.segments_of(master)) {
         pen.say(", waits ");
         tell_wait(pen, wait, master.id, story.notes);
@@ -41,38 +55,51 @@ fn tell_waits(pen: &mut Pen<'_>, story: &Story<'_>, master: &MasterStanding) {
 }
 
 /// A segment, and its members.
-fn tell_segment(pen: &mut Pen<'_>, segment: &SegmentStanding) {
-    pen.number("\n        segment ", u64::from(segment.seg));
-    pen.number(" epoch ", u64::from(segment.epoch));
-    pen.either(segment.is_committed, "", " not committed");
-    pen.number(", entries ", segment.len as u64);
-    pen.either(segment.is_shut, ", shut", ", open");
-    pen.say(", members");
-    for member in segment.members.iter().flatten() {
-        tell_member(pen, member);
+fn tell_segment(pen: &mut Pen, segment: &SegmentStanding) {
+    pen.say_all(
+        "\n        segment % epoch %%| not committed|, entries %%, shut|, open|, members",
+        &[
+            Piece::U16(segment.seg),
+            Piece::U16(segment.epoch),
+            Piece::Flag(segment.is_committed),
+            Piece::Size(segment.len),
+            Piece::Flag(segment.is_shut),
+        ],
+    );
+    for slot in &segment.members {
+        if let Some(member) = slot {
+            tell_member(pen, member);
+        }
     }
 }
 
 /// A member, and what it has told.
-fn tell_member(pen: &mut Pen<'_>, member: &Member) {
+fn tell_member(pen: &mut Pen, member: &Member) {
     pen.id(" ", member.id);
     match member.told {
         _ if member.lost => pen.say(":lost"),
         Some(told) => {
-            pen.number(":", told.len as u64);
-            pen.either(told.closed, ":closed", "");
+            pen.say_all(
+                ":%%:closed||",
+                &[Piece::Size(told.len), Piece::Flag(told.closed)],
+            );
         }
         None => pen.say(":nothing"),
     }
 }
 
 /// A replica.
-fn tell_replica(pen: &mut Pen<'_>, replica: &ReplicaStanding) {
-    pen.id("\n    at ", replica.holder);
-    pen.id(" of ", replica.master);
-    pen.number(" segment ", u64::from(replica.seg));
-    pen.number(" epoch ", u64::from(replica.epoch));
-    pen.number(", entries ", replica.len as u64);
-    pen.either(replica.is_closed, ", closed", ", open");
-    pen.either(replica.is_fenced, ", fenced", "");
+fn tell_replica(pen: &mut Pen, replica: &ReplicaStanding) {
+    pen.say_all(
+        "\n    at % of % segment % epoch %, entries %%, closed|, open|%, fenced||",
+        &[
+            Piece::Id(replica.holder),
+            Piece::Id(replica.master),
+            Piece::U16(replica.seg),
+            Piece::U16(replica.epoch),
+            Piece::Size(replica.len),
+            Piece::Flag(replica.is_closed),
+            Piece::Flag(replica.is_fenced),
+        ],
+    );
 }

@@ -2,7 +2,7 @@
 
 use crate::standing::{MasterStanding, SegmentStanding};
 use crate::story::Notes;
-use rc_pen::Pen;
+use rc_pen::{Pen, Piece};
 use rc_types::{Member, Phase, ServerId};
 
 /// What a member may not have told.
@@ -85,9 +85,11 @@ fn told_or(missing: Missing) -> Missing {
 
 /// Whether a member is lost.
 fn has_lost(segment: &SegmentStanding) -> bool {
-    for member in segment.members.iter().flatten() {
-        if member.lost {
-            return true;
+    for slot in &segment.members {
+        if let Some(member) = slot {
+            if member.lost {
+                return true;
+            }
         }
     }
     false
@@ -95,9 +97,11 @@ fn has_lost(segment: &SegmentStanding) -> bool {
 
 /// Whether a member has not told this.
 fn has_missing(segment: &SegmentStanding, missing: Missing) -> bool {
-    for member in segment.members.iter().flatten() {
-        if is_missing(member, missing) {
-            return true;
+    for slot in &segment.members {
+        if let Some(member) = slot {
+            if is_missing(member, missing) {
+                return true;
+            }
         }
     }
     false
@@ -114,7 +118,7 @@ fn is_missing(member: &Member, missing: Missing) -> bool {
 }
 
 /// What a master waits for, to be read after `waits`.
-pub(crate) fn tell_wait(pen: &mut Pen<'_>, wait: Wait<'_>, master: ServerId, notes: &Notes) {
+pub(crate) fn tell_wait(pen: &mut Pen, wait: Wait<'_>, master: ServerId, notes: &Notes) {
     match wait {
         Wait::Servers => pen.say("until enough servers are up in its list"),
         Wait::Replacements(segment) => tell_lost(pen, segment),
@@ -126,40 +130,53 @@ pub(crate) fn tell_wait(pen: &mut Pen<'_>, wait: Wait<'_>, master: ServerId, not
 }
 
 /// The lost members of a segment.
-fn tell_lost(pen: &mut Pen<'_>, segment: &SegmentStanding) {
+fn tell_lost(pen: &mut Pen, segment: &SegmentStanding) {
     pen.say("for other servers in place of");
-    for member in segment.members.iter().flatten() {
-        if member.lost {
-            pen.id(" ", member.id);
+    for slot in &segment.members {
+        if let Some(member) = slot {
+            tell_if_lost(pen, member);
         }
     }
     pen.number(" (lost) for segment ", u64::from(segment.seg));
 }
 
+/// A member, if it is lost.
+fn tell_if_lost(pen: &mut Pen, member: &Member) {
+    if member.lost {
+        pen.id(" ", member.id);
+    }
+}
+
 /// Which members of a segment have not told something, and why they may never do so.
 fn tell_missing(
-    pen: &mut Pen<'_>,
+    pen: &mut Pen,
     segment: &SegmentStanding,
     missing: Missing,
     master: ServerId,
     notes: &Notes,
 ) {
-    pen.number("until segment ", u64::from(segment.seg));
-    pen.say(match missing {
-        Missing::Told => " is placed at",
-        Missing::Closed => " is closed at",
-        Missing::Length(_) => " is stored whole at",
-    });
-    for member in segment.members.iter().flatten() {
-        if is_missing(member, missing) {
-            pen.id(" ", member.id);
-            tell_hindrance(pen, member.id, master, notes);
+    pen.say_all(form_of(missing), &[Piece::U16(segment.seg)]);
+    for slot in &segment.members {
+        if let Some(member) = slot {
+            if is_missing(member, missing) {
+                tell_hindrance(pen, member.id, master, notes);
+            }
         }
     }
 }
 
-/// Why a member may never tell a master anything.
-fn tell_hindrance(pen: &mut Pen<'_>, member: ServerId, master: ServerId, notes: &Notes) {
+/// How it is told what members of a segment have not told.
+fn form_of(missing: Missing) -> &'static str {
+    match missing {
+        Missing::Told => "until segment % is placed at",
+        Missing::Closed => "until segment % is closed at",
+        Missing::Length(_) => "until segment % is stored whole at",
+    }
+}
+
+/// A member, and why it may never tell a master anything.
+fn tell_hindrance(pen: &mut Pen, member: ServerId, master: ServerId, notes: &Notes) {
+    pen.id(" ", member);
     if !notes.servers().runs(member) {
         pen.say(" (does not run)");
     } else if notes.has_fenced(member, master) {

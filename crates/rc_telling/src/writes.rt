@@ -2,8 +2,8 @@
 
 use crate::fields::tell_code;
 use crate::story::{Step, Story, Turn};
-use indexmap::IndexMap;
-use rc_pen::Pen;
+use crate::tables::Table;
+use rc_pen::{Pen, Piece};
 use rc_types::{Addr, Body, Code, Event, Message, PlanRow, ServerId};
 use std::alloc::{AllocError, Global};
 
@@ -31,41 +31,59 @@ pub(crate) struct Unanswered {
 }
 
 /// The writes of a story.
-#[derive(Drop)]
 pub(crate) struct Writes {
     /// By master, segment and offset: what was acknowledged.
-    acknowledged: IndexMap<(ServerId, u16, usize), bool>,
+    acknowledged: Table<(ServerId, u16, usize), bool>,
     /// By master: the newest attempt that has a plan.
-    plans: IndexMap<ServerId, u32>,
+    plans: Table<ServerId, u32>,
     /// By attempt and segment: the length that its plan has.
-    lengths: IndexMap<(u32, u16), usize>,
+    lengths: Table<(u32, u16), usize>,
     unanswered: Vec<Unanswered>,
 }
 
+impl Drop for Writes {
+    fn drop(self) {
+        let Writes {
+            acknowledged: _,
+            plans: _,
+            lengths: _,
+            unanswered: _,
+        } = self;
+    }
+}
+
 impl Writes {
-    /// Those of this story.
-    pub(crate) fn of(alloc: Global, story: &Story<'_>) -> Result<Writes, AllocError> {
-        let mut writes = Writes {
-            acknowledged: IndexMap::new(alloc),
-            plans: IndexMap::new(alloc),
-            lengths: IndexMap::new(alloc),
+    /// None yet.
+    pub(crate) fn new(alloc: Global) -> Writes {
+        Writes {
+            acknowledged: Table::new(alloc),
+            plans: Table::new(alloc),
+            lengths: Table::new(alloc),
             unanswered: Vec::new(alloc),
-        };
+        }
+    }
+
+    /// Notes those of a story.
+    pub(crate) fn note_all(&mut self, story: &Story<'_>) -> Result<(), AllocError> {
         for message in story.messages {
-            writes.note(message)?;
+            self.note(message)?;
         }
+        self.judge_all(story)
+    }
+
+    /// Notes the events of a story that deliver writes.
+    fn judge_all(&mut self, story: &Story<'_>) -> Result<(), AllocError> {
         for (number, (event, turn)) in story.events.iter().zip(story.notes.turns()).enumerate() {
-            writes.judge(story.messages, number, event, turn)?;
+            self.judge(story.messages, number, event, turn)?;
         }
-        Ok(writes)
+        Ok(())
     }
 
     /// Notes what a message acknowledges, or which log it plans to recover.
     fn note(&mut self, message: &Message) -> Result<(), AllocError> {
         match (message.from, &message.body) {
             (Addr::Server(id), Body::WriteOk { seg, offset, .. }) => {
-                self.acknowledged.insert((id, *seg, *offset), true)?;
-                Ok(())
+                self.acknowledged.put((id, *seg, *offset), true)
             }
             (
                 _,
@@ -82,9 +100,9 @@ impl Writes {
 
     /// Notes a plan to recover a master.
     fn plan(&mut self, attempt: u32, master: ServerId, rows: &[PlanRow]) -> Result<(), AllocError> {
-        self.plans.insert(master, attempt)?;
+        self.plans.put(master, attempt)?;
         for row in rows {
-            self.lengths.insert((attempt, row.seg), row.len)?;
+            self.lengths.put((attempt, row.seg), row.len)?;
         }
         Ok(())
     }
@@ -122,13 +140,13 @@ impl Writes {
             return Some(Fate::Refused(code));
         }
         let (seg, offset) = step.log_end?;
-        if self.acknowledged.get(&(master, seg, offset)).is_some() {
+        if self.acknowledged.has((master, seg, offset)) {
             return None;
         }
-        let Some(attempt) = self.plans.get(&master).copied() else {
+        let Some(attempt) = self.plans.find(master) else {
             return Some(Fate::Placed(seg, offset));
         };
-        let len = self.lengths.get(&(attempt, seg)).copied().unwrap_or(0);
+        let len = self.lengths.find((attempt, seg)).unwrap_or(0);
         Some(Fate::Recovered(seg, offset, attempt, offset < len))
     }
 
@@ -160,21 +178,25 @@ fn refusal(messages: &[Message], step: &Step) -> Option<Code> {
 }
 
 /// What became of a write that was not acknowledged.
-pub(crate) fn tell_fate(pen: &mut Pen<'_>, write: &Unanswered) {
+pub(crate) fn tell_fate(pen: &mut Pen, write: &Unanswered) {
     match write.fate {
         Fate::Unheard => pen.say("its server did not run"),
-        Fate::Refused(code) => tell_code(pen, "refused ", code),
+        Fate::Refused(code) => {
+            pen.say("refused ");
+            tell_code(pen, code);
+        }
         Fate::Placed(seg, offset) => tell_place(pen, seg, offset),
         Fate::Recovered(seg, offset, attempt, is_in) => {
             tell_place(pen, seg, offset);
-            pen.either(is_in, ", in", ", not in");
-            pen.number(" the recovered log of attempt ", u64::from(attempt));
+            pen.say_all(
+                "%, in|, not in| the recovered log of attempt %",
+                &[Piece::Flag(is_in), Piece::U32(attempt)],
+            );
         }
     }
 }
 
 /// A place of a log.
-fn tell_place(pen: &mut Pen<'_>, seg: u16, offset: usize) {
-    pen.number("at seg ", u64::from(seg));
-    pen.number(" offset ", offset as u64);
+fn tell_place(pen: &mut Pen, seg: u16, offset: usize) {
+    pen.say_all("at seg % offset %", &[Piece::U16(seg), Piece::Size(offset)]);
 }
