@@ -3,7 +3,7 @@
 ghost use Rattle.std.specs.Prelude.{◌≡◌, List, IfOk, IfErr};
 ghost use Rattle.rc_types.specs.declared.faults.Fault.TheVariants.{OutOfMemory};
 ghost use Rattle.rc_types.specs.declared.messages.Message.{Message};
-ghost use Rattle.rc_model.specs.Pick.{ascending};
+ghost use Rattle.rc_model.specs.Ascending.{ascending};
 ghost use Rattle.rc_model.specs.Recovered.{accepted};
 ghost use Rattle.rc_model.specs.Breach.{first_invented, first_invented_from};
 ghost use Rattle.rc_model.specs.Breach.{invented_of, segments_of};

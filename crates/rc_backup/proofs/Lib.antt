@@ -1,4 +1,2 @@
-pub mod HeldLemmas
-pub mod MapLemmas
 pub mod NameLemmas
 pub mod TableLemmas

@@ -12,11 +12,11 @@ use Rattle.std.specs.Map.{keys_of, lookup, set_value}
 use Rattle.std.specs.Ordering.{is_eq, match_ordering, ordering_then}
 use Rattle.std.specs.declared.cmp.Ordering.TheVariants.{Less, Equal, Greater}
 use Rattle.rc_model.specs.Model.{ServerId, Message, Body, same_id, id_before, insert_id_once, put_id, between, Replica, Backup, Held}
-use Rattle.rc_model.specs.Model.{nothing_held, with_held, replica_of, replica_after, without_replica, insert_number, is_refused}
+use Rattle.rc_model.specs.Model.{nothing_held, with_held, replica_of, replica_after, without_replica, insert_once, is_refused}
 use Rattle.rc_model.specs.Model.{stored_of, keeps, stores, frees, restarted, restart}
 use Rattle.rc_backup.specs.BackupView.{Holdings, held_in, backup_of, id_order, put_first}
-use Rattle.rc_backup.specs.HeldAfter.{next_replica, with_replica, stored_after, held_without}
-use Rattle.rc_backup.proofs.MapLemmas.{set_value-inserted, with_each, keys-with_each}
+use Rattle.rc_replica.specs.HeldAfter.{next_replica, with_replica, stored_after, held_without}
+use Rattle.rc_replica.proofs.MapLemmas.{set_value-inserted, with_each, keys-with_each}
 
 abbrev pub Table : Type 0
 Table = List (ServerId × Held)
@@ -185,7 +185,7 @@ frees-held backup m seg held is =
     freed = record {
       fenced = false;
       replicas = without_replica seg (backup.held m).replicas;
-      freed = insert_number seg (backup.held m).freed;
+      freed = insert_once seg (backup.held m).freed;
     }
 
     by : (b : Bool) → (backup.held m).fenced ≡ b →
@@ -209,7 +209,7 @@ frees-found old own table new m seg found held view sorted there is e =
         ap (λ b. cond b found (record {
           fenced = false;
           replicas = without_replica seg found.replicas;
-          freed = insert_number seg found.freed;
+          freed = insert_once seg found.freed;
         })) fenced in
         ap backup_of (unwritten own table new m found held there e (is ∙ same))
     by false fenced = written own table new m found (held_without found seg) sorted there (e ∙ ap (set_value (is_at (id_order m)) table) is)

@@ -8,7 +8,7 @@ use Rattle.rc_types.specs.declared.ids.ServerId.{ServerId}
 use Rattle.rc_model.specs.Ids.{same_id}
 use Rattle.rc_model.specs.Replica.{Replica}
 use Rattle.rc_model.specs.Backup.{Held, Backup, nothing_held}
-use Rattle.rc_backup.specs.HeldAfter.{with_replica}
+use Rattle.rc_replica.specs.HeldAfter.{with_replica}
 
 -- of each master what the table has, and nothing of a master that is not in it
 abbrev pub held_in : List (ServerId × Held) → ServerId → Held

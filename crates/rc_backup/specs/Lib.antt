@@ -1,3 +1,1 @@
 pub mod BackupView
-pub mod HeldAfter
-pub mod Sizes

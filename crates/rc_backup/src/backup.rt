@@ -8,10 +8,9 @@ ghost use Rattle.rc_model.specs.Backup.{restart, open_names, rows_of_replicas, a
 ghost use Rattle.rc_model.specs.Backup.{replica_of, replica_after};
 ghost use Rattle.rc_model.specs.Messages.{between};
 ghost use Rattle.rc_backup.specs.BackupView.{backup_of, id_order, put_first};
-ghost use Rattle.rc_backup.specs.HeldAfter.{next_replica, stored_after, held_without, fetched};
+ghost use Rattle.rc_replica.specs.HeldAfter.{next_replica, stored_after, held_without, fetched};
 
-use crate::held::Held;
-use crate::replicas::Request;
+use rc_replica::{Held, Request};
 use rc_types::{Addr, Body, Fault, Message, Row, Seq, ServerId};
 use std::alloc::{AllocError, Global};
 use std::collections::BTreeMap;

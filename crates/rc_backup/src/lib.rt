@@ -1,12 +1,9 @@
 //! One backup: what it keeps of each master's log, the masters that it has fenced, and the segments
-//! that were freed. "Backup" in `docs/PROTOCOL.md` has its rules; the words of the contracts are
+//! that were freed. What it keeps of one master is of `rc_replica`. "Backup" in `docs/PROTOCOL.md` has its rules; the words of the contracts are
 //! those of `rc_model`'s `Backup`.
 #![tactic(auto)]
 
 mod backup;
-mod held;
-mod replicas;
-mod sizes;
 
 pub use backup::Backup;
-pub use held::Held;
+pub use rc_replica::Held;

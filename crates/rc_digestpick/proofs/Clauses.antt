@@ -3,9 +3,9 @@ use Rattle.std.proofs.Common.{◌≡◌, ◌≢◌, ◌⊎◌, ℕ, ⊎_elim, in
 use Rattle.rc_model.specs.Model.{ServerId, Pair, Row, Fault, HeadMissing, SegmentMissing, HeldRow, head_row, pick, IsPickable}
 use Rattle.rc_types.specs.declared.rows.Plan.{Plan}
 use Rattle.rc_types.specs.declared.faults.Fault.TheVariants.{OutOfMemory}
-use Rattle.rc_digestpick.specs.Missing.{HasNoHead, IsLeastMissing}
-use Rattle.rc_digestpick.proofs.Pickable.{pick_none, picked-from_pickable, pickable-from_picked}
-use Rattle.rc_digestpick.proofs.NonePickable.{head_none, head_missing, segment_missing, missing_segment}
+use Rattle.rc_model.specs.PickMissing.{HasNoHead, IsLeastMissing}
+use Rattle.rc_model.proofs.Pickable.{pick_none, picked-from_pickable, pickable-from_picked}
+use Rattle.rc_model.proofs.NonePickable.{head_none, head_missing, segment_missing, missing_segment}
 
 given_ok : (picked result : Result Plan Fault) → IfOk result (λ plan. picked ≡ Ok plan) →
     IfErr result (λ e. (e ≡ OutOfMemory) ⊎ (picked ≡ Err e)) → (plan : Plan) → picked ≡ Ok plan →

@@ -1,9 +1,2 @@
 pub mod First
-pub mod Ascending
-pub mod PlanRows
-pub mod Orders
-pub mod Firsts
-pub mod Pickable
-pub mod NonePickable
 pub mod Clauses
-pub mod Columns

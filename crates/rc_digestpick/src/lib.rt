@@ -6,12 +6,11 @@
 ghost use Rattle.std.specs.Prelude.{◌≡◌, ℕ, ◌⊎◌, ◌↔◌, IfOk, IfErr};
 ghost use Rattle.rc_types.specs.declared.rows.Plan.{Plan as PlanRecord};
 ghost use Rattle.rc_model.specs.Pick.{pick as model_pick, IsPickable};
-ghost use Rattle.rc_digestpick.specs.Missing.{HasNoHead, IsLeastMissing};
+ghost use Rattle.rc_model.specs.PickMissing.{HasNoHead, IsLeastMissing};
 
 mod best;
 mod head;
 mod held;
-pub mod laws;
 mod segments;
 mod taken;
 

@@ -1,7 +1,7 @@
 //! The different segments of a digest, ascending.
 
 ghost use Rattle.std.specs.Prelude.{◌≡◌, IfOk, IfErr};
-ghost use Rattle.rc_model.specs.Pick.{ascending};
+ghost use Rattle.rc_model.specs.Ascending.{ascending};
 
 use rc_types::Fault;
 use std::alloc::Global;

@@ -4,7 +4,8 @@ ghost use Rattle.std.specs.Prelude.{◌≡◌, ◌≢◌, ◌⊎◌, IfOk, IfErr
 ghost use Rattle.std.specs.BTreeMap.{get};
 ghost use Rattle.std.specs.Option.{option_map};
 ghost use Rattle.std.specs.Ordering.{nat_cmp};
-ghost use Rattle.rc_model.specs.Pick.{pick, head_row, taken_rows, ascending};
+ghost use Rattle.rc_model.specs.Pick.{pick, head_row, taken_rows};
+ghost use Rattle.rc_model.specs.Ascending.{ascending};
 ghost use Rattle.rc_digestpick.specs.Held.{held_row};
 
 use crate::best::best_rows;

@@ -3,7 +3,7 @@ use Rattle.std.specs.Prelude.{◌≡◌, ℕ, nat_eq, max, if◌then◌else◌, 
 use Rattle.std.specs.Ordering.{nat_cmp}
 use Rattle.std.specs.BTreeMap.{BTreeMap, get, keys}
 use Rattle.rc_types.specs.declared.rows.PlanRow.{PlanRow}
-use Rattle.rc_model.specs.Pick.{ascending}
+use Rattle.rc_model.specs.Ascending.{ascending}
 use Rattle.rc_model.specs.Recovered.{Accepted, reach}
 use Rattle.rc_model.specs.Breach.{segments_of}
 use Rattle.rc_evidence.specs.declared.recoveries.Recovery.{Recovery}

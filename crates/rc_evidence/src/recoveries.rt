@@ -5,7 +5,7 @@ ghost use Rattle.std.specs.Option.{option_map, option_to_list};
 ghost use Rattle.std.specs.Ordering.{nat_cmp};
 ghost use Rattle.std.specs.BTreeMap.{get, keys};
 ghost use Rattle.rc_types.specs.declared.faults.Fault.TheVariants.{OutOfMemory};
-ghost use Rattle.rc_model.specs.Pick.{insert_once};
+ghost use Rattle.rc_model.specs.Ascending.{insert_once};
 ghost use Rattle.rc_model.specs.Recovered.{plan_in};
 ghost use Rattle.rc_evidence.specs.Recoveries.{accepted_of, HasReaches, Raises};
 

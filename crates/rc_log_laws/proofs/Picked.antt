@@ -3,10 +3,11 @@ use Rattle.std.proofs.Common.{◌≡◌, ◌⊎◌, ℕ, Bool, true, false, cond
 use Rattle.std.proofs.Common.{Some, None, Result, Ok, Err, refl, sym, ap, ◌∙◌, subst, inl, inr}
 use Rattle.std.proofs.lemmas.Bool.{eqb-true, and_parts, not-true}
 use Rattle.rc_model.specs.Model.{ServerId, Pair, Row, PlanRow, Fault, HeldRow, rows_of, held_rows, is_valid, is_open_valid, is_valid_of}
-use Rattle.rc_model.specs.Model.{head_first, closed_first, first_by_from, first_by, head_row, row_of, insert_once, ascending, plan_row}
+use Rattle.rc_model.specs.Model.{head_first, closed_first, first_by_from, first_by, head_row, row_of, ascending, plan_row}
 use Rattle.rc_model.specs.Model.{taken_row, row_then, taken_rows, plan_of, pick_by, pick, In}
 use Rattle.rc_types.specs.declared.rows.Plan.{Plan}
 use Rattle.rc_model.proofs.Members.{In-append, In-filter}
+use Rattle.rc_model.proofs.Ascending.{In-ascending, In-from_ascending}
 use Rattle.rc_model.proofs.Tests.{either}
 
 -- The first by an order is one of the list
@@ -157,56 +158,6 @@ taken_rows-are min replies head is_head (seg ∷ segs) rows e =
         subst (AreAllTaken min replies (seg ∷ segs)) same (done held here some (rec some refl))
     by (Some held) (Err fault) here rec it = cc
 
--- sorting keeps the members
-insert_once-in : (n : ℕ) (ns : List ℕ) (t : ℕ) → (t ≡ n) ⊎ In t ns → In t (insert_once n ns)
-insert_once-in n [] t at = at
-insert_once-in n (m ∷ ms) t at =
-    either (In t) (nat_lt n m) (n ∷ m ∷ ms) (cond (nat_eq n m) (m ∷ ms) (m ∷ insert_once n ms)) (λ _. first at)
-    (λ _. either (In t) (nat_eq n m) (m ∷ ms) (m ∷ insert_once n ms) (λ same. second (eqb-true n m same) at)
-    (λ _. third (insert_once-in n ms t) at))
-  where
-    first : (t ≡ n) ⊎ In t (m ∷ ms) → In t (n ∷ m ∷ ms)
-    first p = p
-
-    second : n ≡ m → (t ≡ n) ⊎ In t (m ∷ ms) → In t (m ∷ ms)
-    second same (inl e) = inl (e ∙ same)
-    second same (inr p) = p
-
-    third : ((t ≡ n) ⊎ In t ms → In t (insert_once n ms)) → (t ≡ n) ⊎ In t (m ∷ ms) → In t (m ∷ insert_once n ms)
-    third rec (inl e) = inr (rec (inl e))
-    third rec (inr (inl e)) = inl e
-    third rec (inr (inr p)) = inr (rec (inr p))
-
-pub ascending-in : (ns : List ℕ) (t : ℕ) → In t ns → In t (ascending ns)
-ascending-in [] t at = absurd at
-ascending-in (n ∷ ns) t (inl e) = insert_once-in n (ascending ns) t (inl e)
-ascending-in (n ∷ ns) t (inr p) = insert_once-in n (ascending ns) t (inr (ascending-in ns t p))
-
--- and adds none
-of-insert_once : (n : ℕ) (ns : List ℕ) (t : ℕ) → In t (insert_once n ns) → (t ≡ n) ⊎ In t ns
-of-insert_once n [] t at = at
-of-insert_once n (m ∷ ms) t at =
-    either (λ now. In t now → (t ≡ n) ⊎ ((t ≡ m) ⊎ In t ms)) (nat_lt n m) (n ∷ m ∷ ms)
-    (cond (nat_eq n m) (m ∷ ms) (m ∷ insert_once n ms)) (λ _ there. there)
-    (λ _. either (λ now. In t now → (t ≡ n) ⊎ ((t ≡ m) ⊎ In t ms)) (nat_eq n m) (m ∷ ms) (m ∷ insert_once n ms) (λ _ there. inr there)
-    (λ _ there. by (of-insert_once n ms t) there)) at
-  where
-    further : (t ≡ n) ⊎ In t ms → (t ≡ n) ⊎ ((t ≡ m) ⊎ In t ms)
-    further (inl e) = inl e
-    further (inr p) = inr (inr p)
-
-    by : (In t (insert_once n ms) → (t ≡ n) ⊎ In t ms) → (t ≡ m) ⊎ In t (insert_once n ms) → (t ≡ n) ⊎ ((t ≡ m) ⊎ In t ms)
-    by rec (inl e) = inr (inl e)
-    by rec (inr p) = further (rec p)
-
-of-ascending : (ns : List ℕ) (t : ℕ) → In t (ascending ns) → In t ns
-of-ascending [] t at = at
-of-ascending (n ∷ ns) t at = by (of-ascending ns t) (of-insert_once n (ascending ns) t at)
-  where
-    by : (In t (ascending ns) → In t ns) → (t ≡ n) ⊎ In t (ascending ns) → (t ≡ n) ⊎ In t ns
-    by rec (inl e) = inl e
-    by rec (inr p) = inr (rec p)
-
 -- A picked plan
 pub record IsPicked (min : Pair) (replies : List (ServerId × List Row)) (plan : Plan) : Type 0 where
   pub head : HeldRow
@@ -233,8 +184,8 @@ picked-is min replies plan e = by (head_row min replies) refl e
           head_is = sym (ap (λ (one : Plan). one.head) same);
           is_head = head-is min replies head here;
           each = are_now.each;
-          within = λ row at. of-ascending head.row.digest row.seg (are_now.within row at);
-          all = λ seg at. are_now.all seg (ascending-in head.row.digest seg at);
+          within = λ row at. In-from_ascending row.seg head.row.digest (are_now.within row at);
+          all = λ seg at. are_now.all seg (In-ascending seg head.row.digest at);
         }
     with_rows head here (Err fault) taken it = cc
 

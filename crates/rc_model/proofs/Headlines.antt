@@ -11,7 +11,8 @@ use Rattle.rc_model.specs.Model.{first_invented_from, or_else, first_invented, s
 use Rattle.rc_model.specs.Model.{falls_of, breach, In, IsHeld, IsOfAck, IsSuperseded, IsThere, IsOneEntry, RisesOver, Headline}
 use Rattle.rc_model.specs.Model.{NothingDroppedIsNothingMissing, NoBreachIsTheHeadline}
 use Rattle.rc_model.proofs.Befores.{is_before-finds, is_before-found}
-use Rattle.rc_model.proofs.Members.{In-ascending, is_recovered-held, held-is_recovered, held-reaches, held-from_reach, held-segment}
+use Rattle.rc_model.proofs.Ascending.{In-ascending}
+use Rattle.rc_model.proofs.Members.{is_recovered-held, held-is_recovered, held-reaches, held-from_reach, held-segment}
 use Rattle.rc_model.proofs.Said.{is_server-true, is_server-from, HasMade-from, HasMade-in, HasAcknowledged-from, HasAcknowledged-in}
 use Rattle.rc_model.proofs.Said.{WasAcknowledged-from, WasAcknowledged-in, WasAccepted-from, WasAccepted-in}
 

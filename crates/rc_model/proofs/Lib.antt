@@ -9,7 +9,13 @@ pub mod Sending
 pub mod Walk
 pub mod Phases
 pub mod Measures
-mod Picks
+pub mod Ascending
+pub mod PickRows
+pub mod PickOrders
+pub mod PickFirsts
+pub mod Pickable
+pub mod PickColumns
+pub mod NonePickable
 pub mod Befores
 pub mod Members
 pub mod Said

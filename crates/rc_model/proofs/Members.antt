@@ -3,7 +3,7 @@ use Rattle.std.proofs.Common.{◌≡◌, ◌⊎◌, ℕ, zero, suc, ◌<◌, Boo
 use Rattle.std.proofs.Common.{nat_lt, Option, Some, None, slice_get, refl, sym, ap, ◌∙◌, subst, inl, inr, arith}
 use Rattle.std.specs.Option.{option_to_list}
 use Rattle.std.proofs.lemmas.Bool.{eqb-true, eq-eqb, ltb-true, lt-ltb}
-use Rattle.rc_model.specs.Model.{PlanRow, insert_once, ascending, reach, is_recovered, segments_of, In, IsHeld}
+use Rattle.rc_model.specs.Model.{PlanRow, reach, is_recovered, segments_of, In, IsHeld}
 use Rattle.rc_model.proofs.Tests.{either, true_false}
 
 pub In-left : {X : Type 0} (x : X) (xs ys : List X) → In x xs → In x (xs ++ ys)
@@ -95,28 +95,6 @@ pub map-In : {X Y : Type 0} (f : X → Y) (x : X) (xs : List X) → In x xs → 
 map-In f x [] at = absurd at
 map-In f x (z ∷ xs) (inl e) = inl (ap f e)
 map-In f x (z ∷ xs) (inr rest) = inr (map-In f x xs rest)
-
--- the different numbers of a list are its numbers
-
-In-insert_once_new : (n : ℕ) (ms : List ℕ) → In n (insert_once n ms)
-In-insert_once_new n [] = inl refl
-In-insert_once_new n (m ∷ ms) =
-    either (In n) (nat_lt n m) (n ∷ m ∷ ms) (cond (nat_eq n m) (m ∷ ms) (m ∷ insert_once n ms)) (λ _. inl refl) (λ _.
-    either (In n) (nat_eq n m) (m ∷ ms) (m ∷ insert_once n ms) (λ e. inl (eqb-true n m e)) (λ _. inr (In-insert_once_new n ms)))
-
-In-insert_once_old : (k n : ℕ) (ms : List ℕ) → In k ms → In k (insert_once n ms)
-In-insert_once_old k n [] at = absurd at
-In-insert_once_old k n (m ∷ ms) (inl e) =
-    either (In k) (nat_lt n m) (n ∷ m ∷ ms) (cond (nat_eq n m) (m ∷ ms) (m ∷ insert_once n ms)) (λ _. inr (inl e)) (λ _.
-    either (In k) (nat_eq n m) (m ∷ ms) (m ∷ insert_once n ms) (λ _. inl e) (λ _. inl e))
-In-insert_once_old k n (m ∷ ms) (inr rest) =
-    either (In k) (nat_lt n m) (n ∷ m ∷ ms) (cond (nat_eq n m) (m ∷ ms) (m ∷ insert_once n ms)) (λ _. inr (inr rest)) (λ _.
-    either (In k) (nat_eq n m) (m ∷ ms) (m ∷ insert_once n ms) (λ _. inr rest) (λ _. inr (In-insert_once_old k n ms rest)))
-
-pub In-ascending : (k : ℕ) (ns : List ℕ) → In k ns → In k (ascending ns)
-In-ascending k [] at = absurd at
-In-ascending k (n ∷ ns) (inl e) = subst (λ m. In m (insert_once n (ascending ns))) (sym e) (In-insert_once_new n (ascending ns))
-In-ascending k (n ∷ ns) (inr rest) = In-insert_once_old k n (ascending ns) (In-ascending k ns rest)
 
 -- the rows reach above a place exactly where one of them holds it
 

@@ -6,7 +6,7 @@ use Rattle.std.proofs.lemmas.Bool.{and_parts, eqb-true, eq-eqb, or_left}
 use Rattle.std.proofs.lemmas.List.{append-nil}
 use Rattle.rc_model.specs.Model.{ServerId, Addr, Server, Outside, Entry, Body, Place, Append, Close, Free, Gather, Fetch, Replica, grown}
 use Rattle.rc_model.specs.Model.{placed, placed_open, appended, closes, closed_at, Backup, Held, with_held, put_replica, without_replica}
-use Rattle.rc_model.specs.Model.{insert_number, is_freed, replica_of, replica_after, is_refused, keeps, stores, frees, backup_takes}
+use Rattle.rc_model.specs.Model.{insert_once, is_freed, replica_of, replica_after, is_refused, keeps, stores, frees, backup_takes}
 use Rattle.rc_model.specs.Model.{stays, closing_length, is_closed_replica, is_storing}
 use Rattle.rc_types.specs.declared.ids.Addr.TheVariants.{Coordinator}
 use Rattle.rc_model.proofs.Tests.{either, true_false}
@@ -200,7 +200,7 @@ fenced_stay-frees backup master seg =
     let freed : Held = record {
       fenced = false;
       replicas = without_replica seg (backup.held master).replicas;
-      freed = insert_number seg (backup.held master).freed;
+      freed = insert_once seg (backup.held master).freed;
     } in
     either (AllFencedStay backup) (backup.held master).fenced backup (with_held master freed backup)
     (λ _. fenced_stay-same backup) (λ isn't. fenced_stay-held backup master freed (not_fenced (backup.held master) isn't))
@@ -230,12 +230,12 @@ gather-fences backup (Server from) attempt master =
 -- Freed segments
 
 -- a number that was put in is there
-inserted : (n : ℕ) (numbers : List ℕ) → list_any (nat_eq n) (insert_number n numbers) ≡ true
+pub inserted : (n : ℕ) (numbers : List ℕ) → list_any (nat_eq n) (insert_once n numbers) ≡ true
 inserted n [] = rw (eq-eqb n n refl) refl
 inserted n (m ∷ ms) = by (nat_lt n m) (nat_eq n m) refl (inserted n ms)
   where
-    by : (less same : Bool) → nat_eq n m ≡ same → list_any (nat_eq n) (insert_number n ms) ≡ true →
-        list_any (nat_eq n) (cond less (n ∷ m ∷ ms) (cond same (m ∷ ms) (m ∷ insert_number n ms))) ≡ true
+    by : (less same : Bool) → nat_eq n m ≡ same → list_any (nat_eq n) (insert_once n ms) ≡ true →
+        list_any (nat_eq n) (cond less (n ∷ m ∷ ms) (cond same (m ∷ ms) (m ∷ insert_once n ms))) ≡ true
     by true same e rec = rw (eq-eqb n n refl) refl
     by false true e rec = rw e refl
     by false false e rec = rw e rec
@@ -257,7 +257,7 @@ freed-marked backup master seg isn't =
     let after : Held = record {
       fenced = false;
       replicas = without_replica seg (backup.held master).replicas;
-      freed = insert_number seg (backup.held master).freed;
+      freed = insert_once seg (backup.held master).freed;
     } in
     let stands : (frees backup master seg).held master ≡ after =
     ap (λ b. (cond b backup (with_held master after backup)).held master) isn't ∙ put_id-same backup.held master after in (

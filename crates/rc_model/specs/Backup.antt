@@ -14,6 +14,7 @@ use Rattle.rc_types.specs.declared.messages.Body.TheVariants.{Place, Append, Clo
 use Rattle.rc_types.specs.declared.messages.Body.TheVariants.{Replicas, Data}
 use Rattle.rc_model.specs.Ids.{same_id, insert_id_once}
 use Rattle.rc_model.specs.Tables.{put_id}
+use Rattle.rc_model.specs.Ascending.{insert_once}
 use Rattle.rc_model.specs.Messages.{between, to_coordinator}
 use Rattle.rc_model.specs.Replica.{Replica, placed, appended, closed_at}
 
@@ -94,11 +95,6 @@ stores backup master seg body =
     if is_refused seg (backup.held master) then (backup, [])
     else keeps backup master seg (replica_after (replica_of seg (backup.held master).replicas) body)
 
--- the number is put into an ascending list, once
-abbrev pub insert_number : ℕ → List ℕ → List ℕ
-insert_number n [] = n ∷ []
-insert_number n (m ∷ ms) = if nat_lt n m then n ∷ m ∷ ms else (if nat_eq n m then m ∷ ms else m ∷ insert_number n ms)
-
 -- a Free: the replica goes, and the segment is marked, so that no late Place opens it anew; a fenced master's does
 -- nothing
 abbrev pub frees : Backup → ServerId → ℕ → Backup
@@ -107,7 +103,7 @@ frees backup master seg =
     else with_held master (record {
       fenced = false;
       replicas = without_replica seg (backup.held master).replicas;
-      freed = insert_number seg (backup.held master).freed;
+      freed = insert_once seg (backup.held master).freed;
     }) backup
 
 -- Answering

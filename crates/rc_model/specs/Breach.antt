@@ -9,7 +9,7 @@ use Rattle.rc_types.specs.declared.messages.Body.TheVariants.{Place, Append}
 use Rattle.rc_types.specs.declared.verdicts.Breach.{Breach}
 use Rattle.rc_types.specs.declared.verdicts.Breach.TheVariants.{Missing, Invented, Version}
 use Rattle.rc_model.specs.Ids.{is_server}
-use Rattle.rc_model.specs.Pick.{ascending}
+use Rattle.rc_model.specs.Ascending.{ascending}
 use Rattle.rc_model.specs.Made.{made}
 use Rattle.rc_model.specs.Recovered.{Ack, acknowledged, all_acknowledged, Accepted, accepted, reach, is_recovered}
 use Rattle.rc_model.specs.Owners.{is_earlier}

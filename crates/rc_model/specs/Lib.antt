@@ -1,5 +1,6 @@
 pub mod Ids
 pub mod Tables
+pub mod Ascending
 pub mod Tablets
 pub mod ServerList
 pub mod Messages
@@ -18,6 +19,8 @@ pub mod FollowUps
 pub mod MasterTick
 pub mod MasterStep
 pub mod Pick
+pub mod PickOrders
+pub mod PickMissing
 pub mod PickClaims
 pub mod Attempts
 pub mod Coordinator

@@ -44,11 +44,12 @@ pub use Rattle.rc_types.specs.declared.rows.Row.{Row}
 pub use Rattle.rc_types.specs.declared.rows.Tablet.{Tablet}
 pub use Rattle.rc_types.specs.declared.verdicts.Breach.{Breach}
 pub use Rattle.rc_types.specs.declared.verdicts.Breach.TheVariants.{Invented, Missing, Version}
+pub use Rattle.rc_model.specs.Ascending.{ascending, insert_once}
 pub use Rattle.rc_model.specs.Attempts.{Attempt, Decision, GivenPart, given_to, gives_parts, has_answered}
 pub use Rattle.rc_model.specs.Attempts.{is_gathering, is_undecided, new_attempt, part_of, parts_of, plan_message}
 pub use Rattle.rc_model.specs.Attempts.{plan_messages}
 pub use Rattle.rc_model.specs.Backup.{Backup, Held, answers_fetch, backup_takes, data_of, fences, frees}
-pub use Rattle.rc_model.specs.Backup.{insert_number, is_freed, is_in_part, is_kept, is_refused, keeps, new_backup}
+pub use Rattle.rc_model.specs.Backup.{is_freed, is_in_part, is_kept, is_refused, keeps, new_backup}
 pub use Rattle.rc_model.specs.Backup.{nothing_held, open_names, open_names_among, open_names_of, put_replica}
 pub use Rattle.rc_model.specs.Backup.{replica_after, replica_of, restart, restarted, row_of_replica, rows_of_replicas}
 pub use Rattle.rc_model.specs.Backup.{stays, stored_of, stores, with_held, without_replica}
@@ -134,11 +135,16 @@ pub use Rattle.rc_model.specs.Ownership.{insert_row, is_awaited, is_complete, is
 pub use Rattle.rc_model.specs.Ownership.{knows_term, new_part, owns_nothing, owns_term, part_with_row, put_data}
 pub use Rattle.rc_model.specs.Ownership.{replay_in, rows_in_order, term_of, to_answer, under_term, with_row}
 pub use Rattle.rc_model.specs.Ownership.{without_first}
-pub use Rattle.rc_model.specs.Pick.{AreTaken, HeldRow, IsPickable, ascending, closed_first, first_by, first_by_from}
-pub use Rattle.rc_model.specs.Pick.{greater_pair, head_first, head_row, held_rows, insert_once, is_below}
-pub use Rattle.rc_model.specs.Pick.{is_open_valid, is_valid, is_valid_of, longer_first, pick, pick_by, plan_of}
-pub use Rattle.rc_model.specs.Pick.{plan_row, row_of, row_then, rows_of, taken_row, taken_rows}
-pub use Rattle.rc_model.specs.PickClaims.{ClosedRowsAreValid, OnePlanIsPickable}
+pub use Rattle.rc_model.specs.Pick.{AreTaken, HeldRow, IsPickable, closed_before_open, closed_first, first_by}
+pub use Rattle.rc_model.specs.Pick.{first_by_from, greater_epoch, greater_length, greater_pair, greater_segment}
+pub use Rattle.rc_model.specs.Pick.{head_first, head_row, held_rows, is_below, is_open_valid, is_valid, is_valid_of}
+pub use Rattle.rc_model.specs.Pick.{least_holder, longer_first, pick, pick_by, plan_of, plan_row, row_of, row_then}
+pub use Rattle.rc_model.specs.Pick.{rows_of, taken_row, taken_rows, then_by}
+pub use Rattle.rc_model.specs.PickClaims.{AscendingIncreases, AscendingListsTheSame, ClosedRowsAreValid, FirstByIsFirst}
+pub use Rattle.rc_model.specs.PickClaims.{FirstByOfNone, HeadIsMissing, HeadRowIsFirst, OnePlanIsPickable}
+pub use Rattle.rc_model.specs.PickClaims.{PickableIsPicked, RowOfIsFirst, RowsAreOfSegments, SegmentIsMissing, Tells}
+pub use Rattle.rc_model.specs.PickMissing.{HasNoHead, IsLeastMissing}
+pub use Rattle.rc_model.specs.PickOrders.{IsBetter, IsFirst, IsHigher, IsLonger, IsLower}
 pub use Rattle.rc_model.specs.Recovered.{Accepted, Ack, accepted, ack_in, acknowledged, all_acknowledged}
 pub use Rattle.rc_model.specs.Recovered.{is_recovered, least_pair, pair_in, plan_in, reach}
 pub use Rattle.rc_model.specs.Replica.{Replica, appended, closed_at, closes, grown, placed, placed_open}

@@ -9,6 +9,7 @@ use Rattle.rc_types.specs.declared.rows.Plan.{Plan}
 use Rattle.rc_types.specs.declared.faults.Fault.{Fault}
 use Rattle.rc_types.specs.declared.faults.Fault.TheVariants.{HeadMissing, SegmentMissing}
 use Rattle.rc_model.specs.Ids.{id_before}
+use Rattle.rc_model.specs.Ascending.{ascending}
 
 -- a row with the backup that told it
 pub record HeldRow : Type 0 where
@@ -42,20 +43,36 @@ is_open_valid min held = not held.row.closed && is_valid min held.row
 abbrev pub is_valid_of : Pair → ℕ → HeldRow → Bool
 is_valid_of min seg held = nat_eq held.row.seg seg && is_valid min held.row
 
+-- by the one test, and where it puts neither row before the other by the next
+abbrev pub then_by : (HeldRow → HeldRow → Bool) → (HeldRow → HeldRow → Bool) → HeldRow → HeldRow → Bool
+then_by first next a b = first a b || (not (first b a) && next a b)
+
+abbrev pub greater_segment : HeldRow → HeldRow → Bool
+greater_segment a b = nat_lt b.row.seg a.row.seg
+
+abbrev pub greater_epoch : HeldRow → HeldRow → Bool
+greater_epoch a b = nat_lt b.row.epoch a.row.epoch
+
+abbrev pub greater_length : HeldRow → HeldRow → Bool
+greater_length a b = nat_lt b.row.len a.row.len
+
+abbrev pub closed_before_open : HeldRow → HeldRow → Bool
+closed_before_open a b = a.row.closed && not b.row.closed
+
+abbrev pub least_holder : HeldRow → HeldRow → Bool
+least_holder a b = id_before a.holder b.holder
+
 -- by greater epoch, then greater length, then least holder
 abbrev pub longer_first : HeldRow → HeldRow → Bool
-longer_first a b =
-    nat_lt b.row.epoch a.row.epoch ||
-    (nat_eq a.row.epoch b.row.epoch &&
-    (nat_lt b.row.len a.row.len || (nat_eq a.row.len b.row.len && id_before a.holder b.holder)))
+longer_first = then_by greater_epoch (then_by greater_length least_holder)
 
 -- a greater segment, and in one segment as above
 abbrev pub head_first : HeldRow → HeldRow → Bool
-head_first a b = nat_lt b.row.seg a.row.seg || (nat_eq a.row.seg b.row.seg && longer_first a b)
+head_first = then_by greater_segment longer_first
 
 -- closed before open, and then as above
 abbrev pub closed_first : HeldRow → HeldRow → Bool
-closed_first a b = (a.row.closed && not b.row.closed) || (not (not a.row.closed && b.row.closed) && longer_first a b)
+closed_first = then_by closed_before_open longer_first
 
 -- the first by an order, and of those that are alike the one that stands first in the list
 abbrev pub first_by_from : (HeldRow → HeldRow → Bool) → HeldRow → List HeldRow → HeldRow
@@ -73,15 +90,6 @@ head_row min replies = first_by head_first (filter (is_open_valid min) (held_row
 -- the row that is taken of a segment other than the head's
 abbrev pub row_of : Pair → List (ServerId × List Row) → ℕ → Option HeldRow
 row_of min replies seg = first_by closed_first (filter (is_valid_of min seg) (held_rows replies))
-
--- the different numbers of a list, ascending
-abbrev pub insert_once : ℕ → List ℕ → List ℕ
-insert_once n [] = n ∷ []
-insert_once n (m ∷ ms) = if nat_lt n m then n ∷ m ∷ ms else (if nat_eq n m then m ∷ ms else m ∷ insert_once n ms)
-
-abbrev pub ascending : List ℕ → List ℕ
-ascending [] = []
-ascending (n ∷ ns) = insert_once n (ascending ns)
 
 -- as a row of a plan
 abbrev pub plan_row : HeldRow → PlanRow

@@ -2,13 +2,6 @@
 
 ghost use Rattle.rc_model.specs.Headline.{NoBreachIsTheHeadline, NothingDroppedIsNothingMissing};
 ghost use Rattle.rc_model.specs.Headline.{TheTestSaysWhatIsBefore};
-ghost use Rattle.rc_model.specs.PickClaims.{ClosedRowsAreValid, OnePlanIsPickable};
-
-/// The choice of the log: a closed row needs no epoch, and at most one plan is pickable.
-pub fn picks_are_determined()
-    ensures closed { ClosedRowsAreValid }
-    ensures one_plan { OnePlanIsPickable }
-{}
 
 /// The headline, as the judge of messages finds it: no breach in a list of messages says exactly
 /// that for each accepted recovery nothing acknowledged is missing and nothing recovered is

@@ -3,6 +3,7 @@
 #![tactic(auto)]
 
 pub mod backups;
+pub mod choices;
 pub mod coordinators;
 pub mod laws;
 pub mod masters;

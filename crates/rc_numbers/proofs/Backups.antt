@@ -6,7 +6,7 @@ use Rattle.std.proofs.lemmas.List.Elements.{All-nil, All-cons, All-head, All-tai
 use Rattle.rc_model.specs.Model.{ServerId, Addr, Server, Entry, Part, Message, Body, Place, Append, Close, Free, Gather, Fetch, Data}
 use Rattle.rc_model.specs.Model.{Replicas, between, to_coordinator, Replica, grown, placed_open, placed, appended, closes, closed_at}
 use Rattle.rc_model.specs.Model.{Held, Backup, with_held, replica_of, put_replica, without_replica, replica_after, stored_of, is_refused}
-use Rattle.rc_model.specs.Model.{keeps, stores, insert_number, frees, rows_of_replicas, is_in_part, data_of, answers_fetch, backup_takes}
+use Rattle.rc_model.specs.Model.{keeps, stores, insert_once, frees, rows_of_replicas, is_in_part, data_of, answers_fetch, backup_takes}
 use Rattle.rc_model.specs.Model.{stays, restart}
 use Rattle.rc_numbers.specs.Numbers.{VersionsUpTo, body_within, MessagesWithin, BackupWithin}
 use Rattle.rc_numbers.proofs.Entries.{versions-more, none-within, one-within, All-one}
@@ -116,14 +116,14 @@ module _ (n : ℕ) where
       (with_held master (record {
         fenced = false;
         replicas = without_replica seg (backup.held master).replicas;
-        freed = insert_number seg (backup.held master).freed;
+        freed = insert_once seg (backup.held master).freed;
       }) backup)
       (λ e. h)
       (λ e. held-within backup master
       (record {
         fenced = false;
         replicas = without_replica seg (backup.held master).replicas;
-        freed = insert_number seg (backup.held master).freed;
+        freed = insert_once seg (backup.held master).freed;
       }) h
       (All-filter (λ (one : ℕ × Replica). not (nat_eq seg one.0)) (λ (one : ℕ × Replica). VersionsUpTo n one.1.entries)
       (backup.held master).replicas (h master)))

@@ -11,7 +11,7 @@ use Rattle.rc_model.proofs.Members.{In-left}
 use Rattle.rc_step_laws.specs.Words.{Begins, log_in}
 use Rattle.rc_step_laws.proofs.Tests.{In-take, get-map}
 use Rattle.rc_step_laws.proofs.Places.{IsOf, places_to-are, place-logged}
-use Rattle.rc_digestpick.proofs.Ascending.{IsAscending}
+use Rattle.rc_model.proofs.Ascending.{IsAscending}
 use Rattle.rc_owner_laws.specs.Grants.{IsDecided, IsPlanOf, own_said}
 use Rattle.rc_owner_laws.specs.Terms.{IsGivenBy}
 use Rattle.rc_owner_laws.specs.Data.{IsCut}

@@ -5,9 +5,9 @@ use Rattle.rc_model.specs.Model.{ServerId, Pair, Entry, Message, Row, PlanRow, p
 use Rattle.rc_model.specs.Model.{insert_row, rows_in_order, In}
 use Rattle.rc_types.specs.declared.rows.Plan.{Plan}
 use Rattle.rc_model.proofs.Members.{In-left, In-right}
-use Rattle.rc_digestpick.proofs.Ascending.{IsBelow, IsAscending, IsAscending-ascending}
-use Rattle.rc_digestpick.proofs.Columns.{segs-taken}
-use Rattle.rc_digestpick.proofs.Pickable.{pickable-from_picked}
+use Rattle.rc_model.proofs.Ascending.{IsBelow, IsAscending, IsAscending-ascending}
+use Rattle.rc_model.proofs.PickColumns.{segs-taken}
+use Rattle.rc_model.proofs.Pickable.{pickable-from_picked}
 use Rattle.rc_owner_laws.specs.Parts.{HasSent, AllCame}
 use Rattle.rc_model.proofs.Tests.{either}
 

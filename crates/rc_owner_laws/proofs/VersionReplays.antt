@@ -14,7 +14,7 @@ use Rattle.rc_owner_laws.proofs.DataReplays.{data-world}
 use Rattle.rc_owner_laws.specs.VersionClaims.{MayFree, Frees, AllFactsHold, DataIsThePlanCutToThePart, GrantsStartFromTheirBase}
 use Rattle.rc_owner_laws.specs.VersionClaims.{HandoversKeepWhatWasAcknowledged, HandoversKeepWhatIsDurable, PreviousIsEarlier}
 use Rattle.rc_owner_laws.specs.VersionClaims.{VersionsRiseOverOwners, VersionsAlwaysRiseWithThePlace, NoVersionIsAcknowledgedTwice}
-use Rattle.rc_owner_laws.specs.VersionClaims.{ThereIsNoBreach}
+use Rattle.rc_owner_laws.specs.VersionClaims.{NoBreach}
 use Rattle.rc_owner_laws.proofs.PartWorlds.{parts-world-by}
 use Rattle.rc_owner_laws.proofs.Rising.{IsKeptIn, Covers, covers-anyhow}
 use Rattle.rc_owner_laws.proofs.Kept.{later-keeps, later-keeps-acked, no-version-twice, previous-earlier}
@@ -101,7 +101,7 @@ versions-rise-over-owners setup events =
     facts-let-versions-rise (replay setup events).sent (replay setup events).masters (replay setup events).hosts
     (replay setup events).coordinator (all-world setup events)
 
-pub there-is-no-breach : ThereIsNoBreach
+pub there-is-no-breach : NoBreach
 there-is-no-breach setup events = (breach_is_headline (replay setup events).sent).1 (record {
   there = nothing-is-missing setup events;
   one_entry = nothing-is-invented setup events;

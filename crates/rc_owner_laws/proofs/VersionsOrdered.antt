@@ -11,7 +11,7 @@ use Rattle.rc_model.proofs.Members.{In-left, In-right, In-append, In-get, place_
 use Rattle.rc_step_laws.specs.All.{Begins, log_in, GoodMaster}
 use Rattle.rc_step_laws.proofs.Lists.{get-take}
 use Rattle.rc_step_laws.proofs.Tests.{get-map}
-use Rattle.rc_digestpick.proofs.Ascending.{IsAscending}
+use Rattle.rc_model.proofs.Ascending.{IsAscending}
 use Rattle.rc_owner_laws.specs.Parts.{part_view, logged, under, AllCame, IsWaiting, HasJoined, IsPart, IsClients, IsReplayed}
 use Rattle.rc_owner_laws.proofs.PartLists.{under-append, under-here, In-under, logged-append, begins-within}
 use Rattle.rc_owner_laws.specs.Worlds.{AllHold}

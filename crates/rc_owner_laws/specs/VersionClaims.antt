@@ -129,5 +129,5 @@ abbrev pub NoVersionIsAcknowledgedTwice : Type 0
 NoVersionIsAcknowledgedTwice = (setup : Setup) (events : List Event) → NoVersionTwice (replay setup events).sent
 
 -- so no list of events leads to a breach
-abbrev pub ThereIsNoBreach : Type 0
-ThereIsNoBreach = (setup : Setup) (events : List Event) → breach (replay setup events).sent ≡ None
+abbrev pub NoBreach : Type 0
+NoBreach = (setup : Setup) (events : List Event) → breach (replay setup events).sent ≡ None

@@ -1,6 +1,6 @@
 //! The headline's third clause, and the whole of it.
 
-ghost use Rattle.rc_owner_laws.specs.VersionClaims.{VersionsRiseOverOwners, ThereIsNoBreach};
+ghost use Rattle.rc_owner_laws.specs.VersionClaims.{VersionsRiseOverOwners, NoBreach};
 ghost use Rattle.rc_owner_laws.specs.VersionClaims.{VersionsAlwaysRiseWithThePlace, NoVersionIsAcknowledgedTwice};
 
 /// After any list of events of the whole protocol, a write that was acknowledged under a later
@@ -8,7 +8,7 @@ ghost use Rattle.rc_owner_laws.specs.VersionClaims.{VersionsAlwaysRiseWithThePla
 /// under an earlier one. With the first two clauses: no list of events leads to a breach.
 pub fn versions_rise_over_owners()
     ensures rises { VersionsRiseOverOwners }
-    ensures no_breach { ThereIsNoBreach }
+    ensures no_breach { NoBreach }
 {}
 
 /// After any list of events, under one term a key's versions rise with the place, in each log,

@@ -7,9 +7,8 @@ use Rattle.rc_model.specs.Breach.{breach}
 use Rattle.rc_model.specs.Headline.{NothingIsDropped}
 use Rattle.rc_history.specs.Apart.{Step, sent_by, TakenApart}
 
--- the messages sent hold no breach
-abbrev pub NoBreach : Type 0
-NoBreach = (setup : Setup) (events : List Event) → breach (replay setup events).sent ≡ None
+-- no list of events leads to a breach
+pub use Rattle.rc_owner_laws.specs.VersionClaims.{NoBreach}
 
 -- and where masters free nothing, each accepted recovery has every acknowledged write of its master at its own place
 abbrev pub Strong : Type 0

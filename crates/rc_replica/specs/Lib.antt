@@ -1,2 +1,4 @@
 pub mod Laws
 pub mod Sizes
+pub mod HeldAfter
+pub mod HeldSizes

@@ -5,11 +5,12 @@ use Rattle.std.proofs.lemmas.Bool.{cases_eq, eq-eqb, or_cases, or_right, or_part
 use Rattle.std.specs.List.{list_any}
 use Rattle.rc_model.specs.Model.{ServerId, Addr, Server, Entry, Row, Part, Message, Body, Place, Append, Close, Free, Gather, Fetch}
 use Rattle.rc_model.specs.Model.{Stored, Replicas, Data, same_id, between, to_coordinator, Replica, Backup, Held, replica_of}
-use Rattle.rc_model.specs.Model.{without_replica, replica_after, with_held, is_freed, is_refused, keeps, stores, insert_number, frees}
+use Rattle.rc_model.specs.Model.{without_replica, replica_after, with_held, is_freed, is_refused, keeps, stores, insert_once, frees}
 use Rattle.rc_model.specs.Model.{row_of_replica, rows_of_replicas, fences, is_in_part, data_of, answers_fetch, backup_takes, restarted}
 use Rattle.rc_model.specs.Model.{Master, HostNode, server_of, In}
 use Rattle.rc_model.specs.Coordinator.{Coordinator}
 use Rattle.rc_model.proofs.Members.{In-left, In-append}
+use Rattle.rc_model.proofs.Storing.{inserted}
 use Rattle.rc_step_laws.specs.All.{IsOf, held_at, IsCopy, IsAnswer, IsStored, StillStands, GoodHeld, GoodReplica, GoodHost, Good}
 use Rattle.rc_step_laws.specs.All.{HeldLater, OwnFine, BackupMoved, backup_body_said}
 use Rattle.rc_step_laws.proofs.ReplicaLists.{replica_of-row, Ascending-filter, replica_of-filter, replica_of-without}
@@ -102,34 +103,24 @@ moved-stores sent masters hosts c host m seg body own good changed =
 
 -- Freeing
 
-any-insert-same : (n : ℕ) (ns : List ℕ) → list_any (nat_eq n) (insert_number n ns) ≡ true
-any-insert-same n [] = ap (λ b. b || false) (eq-eqb n n refl)
-any-insert-same n (k ∷ ns) =
-    either (λ (all : List ℕ). list_any (nat_eq n) all ≡ true) (nat_lt n k) (n ∷ k ∷ ns)
-    (cond (nat_eq n k) (k ∷ ns) (k ∷ insert_number n ns))
-    (λ _. ap (λ b. b || list_any (nat_eq n) (k ∷ ns)) (eq-eqb n n refl))
-    (λ _. either (λ (all : List ℕ). list_any (nat_eq n) all ≡ true) (nat_eq n k) (k ∷ ns) (k ∷ insert_number n ns)
-    (λ e. ap (λ b. b || list_any (nat_eq n) ns) e)
-    (λ e. ap (λ b. b || list_any (nat_eq n) (insert_number n ns)) e ∙ any-insert-same n ns))
-
-any-insert-old : (s n : ℕ) (ns : List ℕ) → list_any (nat_eq s) ns ≡ true → list_any (nat_eq s) (insert_number n ns) ≡ true
+any-insert-old : (s n : ℕ) (ns : List ℕ) → list_any (nat_eq s) ns ≡ true → list_any (nat_eq s) (insert_once n ns) ≡ true
 any-insert-old s n [] e = absurd (true_false (sym e))
 any-insert-old s n (k ∷ ns) e =
     either (λ (all : List ℕ). list_any (nat_eq s) all ≡ true) (nat_lt n k) (n ∷ k ∷ ns)
-    (cond (nat_eq n k) (k ∷ ns) (k ∷ insert_number n ns))
+    (cond (nat_eq n k) (k ∷ ns) (k ∷ insert_once n ns))
     (λ _. or_right (nat_eq s n) (list_any (nat_eq s) (k ∷ ns)) e)
-    (λ _. either (λ (all : List ℕ). list_any (nat_eq s) all ≡ true) (nat_eq n k) (k ∷ ns) (k ∷ insert_number n ns)
+    (λ _. either (λ (all : List ℕ). list_any (nat_eq s) all ≡ true) (nat_eq n k) (k ∷ ns) (k ∷ insert_once n ns)
     (λ _. e) (λ _. either_part (or_cases (nat_eq s k) (list_any (nat_eq s) ns) e) (any-insert-old s n ns)))
   where
     either_part : (nat_eq s k ≡ true) ⊎ (list_any (nat_eq s) ns ≡ true) →
-        (list_any (nat_eq s) ns ≡ true → list_any (nat_eq s) (insert_number n ns) ≡ true) →
-        (nat_eq s k || list_any (nat_eq s) (insert_number n ns)) ≡ true
-    either_part (inl first) rec = ap (λ b. b || list_any (nat_eq s) (insert_number n ns)) first
-    either_part (inr rest) rec = or_right (nat_eq s k) (list_any (nat_eq s) (insert_number n ns)) (rec rest)
+        (list_any (nat_eq s) ns ≡ true → list_any (nat_eq s) (insert_once n ns) ≡ true) →
+        (nat_eq s k || list_any (nat_eq s) (insert_once n ns)) ≡ true
+    either_part (inl first) rec = ap (λ b. b || list_any (nat_eq s) (insert_once n ns)) first
+    either_part (inr rest) rec = or_right (nat_eq s k) (list_any (nat_eq s) (insert_once n ns)) (rec rest)
 
 -- what a master has freed
 abbrev pub freed_held : ℕ → Held → Held
-freed_held seg held = record { fenced = false; replicas = without_replica seg held.replicas; freed = insert_number seg held.freed }
+freed_held seg held = record { fenced = false; replicas = without_replica seg held.replicas; freed = insert_once seg held.freed }
 
 freed-good : (sent : List Message) (masters : ServerId → Master) (m : ServerId) (index generation seg : ℕ)
     (held : Held) → GoodHeld sent m (masters m).log index generation held →
@@ -149,7 +140,7 @@ freed-later seg held unfenced = record {
     by : (s : ℕ) (replica : Replica) → replica_of s held.replicas ≡ Some replica → (s ≡ seg) ⊎ (s ≡ seg → ⊥) →
         StillStands (freed_held seg held) s replica.epoch (length replica.entries) replica.closed ⊎
         (is_freed s (freed_held seg held) ≡ true)
-    by s replica at (inl same) = inr (ap (λ t. list_any (nat_eq t) (insert_number seg held.freed)) same ∙ any-insert-same seg held.freed)
+    by s replica at (inl same) = inr (ap (λ t. list_any (nat_eq t) (insert_once seg held.freed)) same ∙ inserted seg held.freed)
     by s replica at (inr differs) = inl (record {
       replica = replica;
       kept = replica_of-without s seg replica held.replicas differs at;

@@ -1,7 +1,7 @@
 use Rattle.std.proofs.Common.{◌≡◌, ◌∙◌, ap, rules}
 use Rattle.std.proofs.lemmas.List.Filters.{dedup_is}
-use Rattle.rc_model.specs.Pick.{ascending}
-use Rattle.rc_digestpick.proofs.Ascending.{ascending-sorted}
+use Rattle.rc_model.specs.Ascending.{ascending}
+use Rattle.rc_model.proofs.Ascending.{ascending-sorted}
 use Rattle.rc_digestpick.proofs.segments.ascending.Goals as goal
 
 pub returns-clause-ok : goal.returns-clause-ok

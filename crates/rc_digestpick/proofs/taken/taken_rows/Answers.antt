@@ -1,8 +1,9 @@
 use Rattle.std.proofs.Common.{◌≡◌, ◌<◌, length, get_or, Some, None, inr, [], ◌∷◌, ◌++◌, refl, ap, ◌∙◌, arith}
 use Rattle.std.specs.Option.{option_map}
-use Rattle.rc_model.specs.Pick.{taken_row, plan_row, ascending}
+use Rattle.rc_model.specs.Pick.{taken_row, plan_row}
+use Rattle.rc_model.specs.Ascending.{ascending}
 use Rattle.rc_digestpick.specs.Held.{held_row}
-use Rattle.rc_digestpick.proofs.PlanRows.{taken_row_from, taken_rows_more, taken_rows_missing}
+use Rattle.rc_model.proofs.PickRows.{taken_row_from, taken_rows_more, taken_rows_missing}
 use Rattle.rc_digestpick.proofs.taken.taken_rows.Goals as goal
 
 pub returns-in_default-clause-err : goal.returns-in_default-clause-err

@@ -1,7 +1,7 @@
 use Rattle.std.proofs.Common.{Some, ap, ◌∙◌}
 use Rattle.std.proofs.lemmas.Result.{IfOk-weaker}
 use Rattle.rc_backup.specs.BackupView.{held_in}
-use Rattle.rc_backup.specs.HeldAfter.{fetched}
+use Rattle.rc_replica.specs.HeldAfter.{fetched}
 use Rattle.rc_backup.proofs.TableLemmas.{found-held}
 use Rattle.rc_backup.proofs.backup.Backup.data.Goals as goal
 

@@ -3,7 +3,7 @@ use Rattle.std.proofs.lemmas.Result.{on_ok_weaker, on_err_weaker}
 use Rattle.std.specs.BTreeMap.{insert_entry}
 use Rattle.rc_model.specs.Backup.{nothing_held}
 use Rattle.rc_backup.specs.BackupView.{id_order}
-use Rattle.rc_backup.specs.HeldAfter.{held_without}
+use Rattle.rc_replica.specs.HeldAfter.{held_without}
 use Rattle.rc_backup.proofs.TableLemmas.{frees-found, frees-first, unwritten}
 use Rattle.rc_backup.proofs.backup.Backup.free.Goals as goal
 

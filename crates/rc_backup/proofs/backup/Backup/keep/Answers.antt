@@ -2,7 +2,7 @@ use Rattle.std.proofs.Common.{Some, None, ap, ◌∙◌}
 use Rattle.std.proofs.lemmas.Result.{on_ok_weaker, on_err_weaker, IfOk-weaker}
 use Rattle.rc_model.specs.Backup.{replica_after}
 use Rattle.rc_backup.specs.BackupView.{held_in, put_first}
-use Rattle.rc_backup.specs.HeldAfter.{next_replica, stored_after}
+use Rattle.rc_replica.specs.HeldAfter.{next_replica, stored_after}
 use Rattle.rc_backup.proofs.TableLemmas.{found-held, stores-found, stores-first, unwritten}
 use Rattle.rc_backup.proofs.backup.Backup.keep.Goals as goal
 

@@ -1,6 +1,0 @@
-use Rattle.std.proofs.Common.{rules}
-use Rattle.std.proofs.iter.runs.Made.{chains}
-use Rattle.rc_backup.proofs.held.Held.count_open.Goals as goal
-
-pub returns : goal.returns
-returns c = search (rules, chains)

@@ -1,7 +1,0 @@
-use Rattle.std.proofs.Common.{◌≡◌, take, filter}
-use Rattle.rc_model.specs.Backup.{is_in_part}
-use Rattle.rc_backup.proofs.replicas.entries_in_part.Given as goal
-
--- those that belong to the part among the entries so far
-abbrev pub invariant-loop-entry : goal.invariant-loop-entry
-invariant-loop-entry l = l.chosen.items ≡ filter (is_in_part l.part) (take l.entry-index l.entries)

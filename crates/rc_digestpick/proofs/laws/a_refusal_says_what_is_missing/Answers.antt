@@ -1,8 +1,0 @@
-use Rattle.rc_digestpick.proofs.NonePickable.{head_missing, missing_head, segment_missing, missing_segment}
-use Rattle.rc_digestpick.proofs.laws.a_refusal_says_what_is_missing.Goals as goal
-
-pub returns-clause-head : goal.returns-clause-head
-returns-clause-head c = λ min replies. (head_missing min replies, missing_head min replies)
-
-pub returns-clause-segment : goal.returns-clause-segment
-returns-clause-segment c = λ min replies seg. (segment_missing min replies seg, missing_segment min replies seg)

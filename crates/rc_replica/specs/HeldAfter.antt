@@ -1,0 +1,45 @@
+-- What becomes of the part that a backup keeps of one master, and what it answers, by a message about one segment.
+use Rattle.std.specs.Prelude.{ℕ, false, nat_le, if◌then◌else◌, List, length, filter, take, Option, Some, None}
+use Rattle.rc_types.specs.declared.rows.Part.{Part}
+use Rattle.rc_types.specs.declared.messages.Body.{Body}
+use Rattle.rc_types.specs.declared.messages.Body.TheVariants.{Data}
+use Rattle.rc_model.specs.Replica.{Replica}
+use Rattle.rc_model.specs.Backup.{Held, replica_of, put_replica, without_replica, replica_after, stored_of}
+use Rattle.rc_model.specs.Backup.{is_refused, is_in_part}
+use Rattle.rc_model.specs.Ascending.{insert_once}
+
+-- the segment's replica after a Place, an Append or a Close; none: the message does nothing
+abbrev pub next_replica : Held → ℕ → Body → Option Replica
+next_replica held seg body = if is_refused seg held then None else replica_after (replica_of seg held.replicas) body
+
+-- the replicas with this one of the segment
+abbrev pub put_after : List (ℕ × Replica) → ℕ → Option Replica → List (ℕ × Replica)
+put_after replicas seg None = replicas
+put_after replicas seg (Some replica) = put_replica seg replica replicas
+
+abbrev pub with_replica : Held → ℕ → Option Replica → Held
+with_replica held seg after = record held { replicas = put_after held.replicas seg after }
+
+-- the answer, where there is one: the replica as it now is
+abbrev pub stored_after : ℕ → Option Replica → Option Body
+stored_after seg None = None
+stored_after seg (Some replica) = Some (stored_of seg replica)
+
+-- after a Free of the segment
+abbrev pub held_without : Held → ℕ → Held
+held_without held seg =
+    if held.fenced then held
+    else record { fenced = false; replicas = without_replica seg held.replicas; freed = insert_once seg held.freed }
+
+-- the answer to a Fetch, by the replica that is asked for
+abbrev pub data_from : ℕ → ℕ → ℕ → Part → Option Replica → Option Body
+data_from attempt seg len part None = None
+data_from attempt seg len part (Some replica) =
+    if nat_le len (length replica.entries)
+    then Some (Data attempt seg part.term (filter (is_in_part part) (take len replica.entries)))
+    else None
+
+-- nothing is sent of a master that is not fenced
+abbrev pub fetched : Held → ℕ → ℕ → ℕ → Part → Option Body
+fetched held attempt seg len part =
+    if held.fenced then data_from attempt seg len part (replica_of seg held.replicas) else None
