@@ -26,7 +26,7 @@ use crate::threading::threads;
 use crate::verdicts::{Output, SimFault, Verdict};
 use linked_list_allocator::LocalHeap;
 use rc_commands::{Asked, asked_for};
-use rc_explore::Options;
+use rc_study::Options;
 use rc_reasons::{Dialect, explain};
 use std::alloc::{Allocator, Global};
 use std::io::{Read, Write};

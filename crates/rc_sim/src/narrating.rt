@@ -17,7 +17,7 @@ use crate::playing::Kept;
 use crate::simulating::write_answer;
 use crate::verdicts::{SimFault, Verdict};
 use rc_reading::{ReadFault, Scenario, read_scenario};
-use rc_story::Played;
+use rc_study::Played;
 use rc_telling::{Story, log, log_json, mermaid, page};
 use rc_types::Code;
 use std::alloc::Global;

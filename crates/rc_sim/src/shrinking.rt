@@ -67,7 +67,7 @@ fn smallest(alloc: Global, scenario: &Scenario, keep: &str) -> Result<Answer, Si
     ensures ok { IfOk result (λ answer. IsShrunk answer.verdict (string_bytes answer.text)) }
     ensures fault { IfErr result (λ fault. fault ≡ Memory) }
 {
-    match rc_shrink::shrink(alloc, scenario, keep) {
+    match rc_study::shrink(alloc, scenario, keep) {
         Ok(Some(text)) => Ok(Answer {
             verdict: Verdict::Clean,
             text,

@@ -14,7 +14,7 @@ use crate::exploring::add_sizes;
 use crate::simulating::write_answer;
 use crate::verdicts::{SimFault, Verdict};
 use rc_audit::audit;
-use rc_explore::{Exploration, Options};
+use rc_study::{Exploration, Options};
 use rc_survey::Sum;
 use rc_world::World;
 use std::alloc::{AllocError, Global};

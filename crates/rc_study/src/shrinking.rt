@@ -9,7 +9,6 @@
 //!
 //! To be read in this order: `courses`, what is left; `trying`, how it is played; `searching`; `saving`, a scenario as
 //! text, with its `lines`.
-#![tactic(auto)]
 
 mod courses;
 mod lines;

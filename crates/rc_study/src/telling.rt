@@ -1,7 +1,6 @@
 //! The story of a scenario's run: which event of the world came from where, what it sent, and what became of each
 //! message. It is what a run of the scenario leads to, and no more, read from the world's own events and messages.
 //! `rc_telling` tells it.
-#![tactic(auto)]
 
 mod changing;
 mod played;

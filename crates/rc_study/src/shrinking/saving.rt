@@ -1,6 +1,6 @@
 //! A setup and events as a text.
 
-use crate::lines;
+use crate::shrinking::lines;
 use rc_pen::{Pen, Spelling};
 use rc_reading::ScenarioEvent;
 use rc_types::{Addr, Body, Event, Setup};

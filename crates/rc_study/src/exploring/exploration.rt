@@ -1,9 +1,9 @@
 //! A run that is drawn so that much happens.
 
-use crate::choosing::{Choice, Words};
-use crate::mail::Mail;
-use crate::options::Options;
-use crate::roster::{KEYS, Roster};
+use crate::exploring::choosing::{Choice, Words};
+use crate::exploring::mail::Mail;
+use crate::exploring::options::Options;
+use crate::exploring::roster::{KEYS, Roster};
 use rand_pcg::Pcg32;
 use rc_survey::{Counts, Survey};
 use rc_types::{Addr, Body, Event, Fault, Seq, ServerId};

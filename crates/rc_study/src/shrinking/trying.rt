@@ -2,7 +2,7 @@
 
 ghost use Rattle.rc_world.specs.HostView.{IsWithinLimits};
 
-use crate::courses::{Course, Item, Move};
+use crate::shrinking::courses::{Course, Item, Move};
 use rc_audit::audit;
 use rc_reading::ScenarioEvent;
 use rc_report::{add_stopped, report_of};

@@ -1,6 +1,6 @@
 //! What is left of a scenario, and which event sent which message.
 
-use crate::saving::Left;
+use crate::shrinking::saving::Left;
 use std::alloc::{AllocError, Global};
 
 /// An event that is left.

@@ -1,6 +1,6 @@
 //! Which servers there are, and who owns what, as far as the messages tell.
 
-use crate::options::MOST_HOSTS;
+use crate::exploring::options::MOST_HOSTS;
 use rc_types::{Addr, Body, Message, ServerId};
 use rc_world::World;
 use std::alloc::{AllocError, Global};

@@ -3,8 +3,8 @@
 ghost use Rattle.std.specs.Prelude.{◌≡◌, IfOk};
 ghost use Rattle.rc_world.specs.HostView.{IsWithinLimits};
 
-use crate::retelling::{Retold, retell};
-use crate::standing::add_standing;
+use crate::telling::retelling::{Retold, retell};
+use crate::telling::standing::add_standing;
 use rc_reading::ScenarioEvent;
 use rc_runs::Run;
 use rc_telling::{Standing, Story};

@@ -2,9 +2,9 @@
 
 ghost use Rattle.rc_world.specs.HostView.{IsWithinLimits};
 
-use crate::courses::Course;
-use crate::saving::saved_scenario;
-use crate::trying::{Cut, Task, without};
+use crate::shrinking::courses::Course;
+use crate::shrinking::saving::saved_scenario;
+use crate::shrinking::trying::{Cut, Task, without};
 use rc_reading::{Scenario, ScenarioEvent};
 use rc_types::Fault;
 use std::alloc::{AllocError, Global};

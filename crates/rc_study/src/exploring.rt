@@ -6,14 +6,13 @@
 //! from its events and its messages alone, by `rc_survey`.
 //!
 //! To be read in this order: `options`; `choosing`, which kind of event comes next; `mail`, what waits to be
-//! delivered; `roster`, which servers there are and who owns what; `exploring`, the run.
-#![tactic(auto)]
+//! delivered; `roster`, which servers there are and who owns what; `exploration`, the run.
 
 mod choosing;
-mod exploring;
+mod exploration;
 mod mail;
 mod options;
 mod roster;
 
-pub use exploring::Exploration;
+pub use exploration::Exploration;
 pub use options::Options;

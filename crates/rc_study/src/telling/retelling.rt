@@ -1,6 +1,6 @@
 //! The events of a run once more, one after another, with a note of what each of them did.
 
-use crate::changing::Watch;
+use crate::telling::changing::Watch;
 use rc_telling::{Changes, Notes, Step};
 use rc_types::{Addr, Event, ServerId};
 use rc_world::World;
