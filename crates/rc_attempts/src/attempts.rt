@@ -1,11 +1,12 @@
 //! An attempt to recover a crashed master, with the answers of the backups and what was decided.
 
-ghost use Rattle.std.specs.Prelude.{◌≡◌, ◌++◌, ◌∷◌, [], length};
+ghost use Rattle.std.specs.Prelude.{◌≡◌, ◌++◌, ◌∷◌, [], nat_eq, true, length, find};
 ghost use Rattle.std.specs.Prelude.{Some, OnOk, OnErr, IfErr};
 ghost use Rattle.std.specs.Option.{option_copied};
 ghost use Rattle.rc_types.specs.declared.faults.Fault.TheVariants.{OutOfMemory};
-ghost use Rattle.rc_model.specs.Attempts.{new_attempt, has_answered, is_gathering};
+ghost use Rattle.rc_model.specs.Attempts.{new_attempt, has_answered, is_gathering, parts_of};
 ghost use Rattle.rc_model.specs.Deciding.{part_in};
+ghost use Rattle.rc_attempts.specs.Terms.{terms_rise, part_if};
 
 use rc_types::{Fault, Part, Plan, Row, Seq, ServerId};
 use std::alloc::Global;
@@ -28,11 +29,13 @@ impl Model for GivenPart {
     ghost view = { λ g. record { to = g.to; part = g.part } };
 }
 
-/// What was decided on an attempt: where the log is, and who recovers which part.
+/// What was decided on an attempt: where the log is, and who recovers which part. Parts get their terms in the order in
+/// which they are given, so each is looked up by halving; only those of a save may stand in another order.
 #[derive(Drop)]
 pub struct Decision {
     plan: Plan,
     parts: Vec<GivenPart>,
+    rising: bool,
 }
 
 impl Model for Decision {
@@ -40,7 +43,12 @@ impl Model for Decision {
 
     ghost Value = { Decided };
 
+    ghost use Rattle.std.specs.Prelude.{◌≡◌};
+    ghost use Rattle.rc_attempts.specs.Terms.{terms_rise};
+
     ghost view = { λ d. record { plan = d.plan; parts = d.parts.items } };
+
+    ghost invariant = { λ d. d.rising ≡ terms_rise d.parts.items };
 }
 
 impl Decision {
@@ -48,7 +56,12 @@ impl Decision {
     pub fn new(plan: Plan, parts: Vec<GivenPart>) -> Decision
         ensures { result ≡ record { plan = plan; parts = parts.items } }
     {
-        Decision { plan, parts }
+        let rising = terms_rise(&parts);
+        Decision {
+            plan,
+            parts,
+            rising,
+        }
     }
 
     /// Where the log is.
@@ -62,12 +75,11 @@ impl Decision {
     pub fn part_in(&self, id: ServerId, term: u32) -> Option<Part>
         ensures { result ≡ part_in id term (Some self.now) }
     {
-        for given in &self.parts {
-            if id == given.to && given.part.term == term {
-                return Some(given.part);
-            }
+        if self.rising {
+            part_among_rising(&self.parts, id, term)
+        } else {
+            first_part(&self.parts, id, term)
         }
-        None
     }
 
     /// The parts, in the order in which they were given.
@@ -83,6 +95,44 @@ impl Decision {
     {
         self.parts.len()
     }
+}
+
+/// Whether each part has a greater term than the one before it.
+fn terms_rise(parts: &[GivenPart]) -> bool
+    ensures { result ≡ terms_rise parts.now }
+{
+    parts.is_sorted_by(|one, next| one.part.term < next.part.term)
+}
+
+/// The part of this term that was given to this recovery master, of parts whose terms rise: by halving.
+fn part_among_rising(parts: &[GivenPart], id: ServerId, term: u32) -> Option<Part>
+    requires { terms_rise parts.now ≡ true }
+    ensures { result ≡ find (λ part. nat_eq part.term term) (parts_of id parts.now) }
+{
+    let place = parts.partition_point(|given| given.part.term < term);
+    part_if(parts.get(place), id, term)
+}
+
+/// The part, if it has this term and was given to this recovery master.
+fn part_if(given: Option<&GivenPart>, id: ServerId, term: u32) -> Option<Part>
+    ensures { result ≡ part_if id term (option_copied given.entry) }
+{
+    match given {
+        Some(given) if id == given.to && given.part.term == term => Some(given.part),
+        _ => None,
+    }
+}
+
+/// The first part of this term among those of this recovery master.
+fn first_part(parts: &[GivenPart], id: ServerId, term: u32) -> Option<Part>
+    ensures { result ≡ find (λ part. nat_eq part.term term) (parts_of id parts.now) }
+{
+    for given in parts {
+        if id == given.to && given.part.term == term {
+            return Some(given.part);
+        }
+    }
+    None
 }
 
 /// An attempt to recover a crashed master: the answers of the backups, in the order of their
