@@ -6,3 +6,4 @@ pub mod GrantLemmas
 pub mod AskedLemmas
 pub mod NewLemmas
 pub mod ListLemmas
+mod ReadyLemmas

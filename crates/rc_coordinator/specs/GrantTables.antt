@@ -2,7 +2,7 @@
 use Rattle.std.specs.Prelude.{◌≡◌, ℕ, ◌<◌, Bool, true, nat_eq, List, Vec, find, vec_len, vec_capacity}
 use Rattle.std.specs.List.{list_any}
 use Rattle.indexmap.specs.IndexMap.{get, spare}
-use Rattle.indexmap.specs.IndexSet.{contains, spare as set_spare}
+use Rattle.std.specs.HashSet.{contains, spare as set_spare}
 use Rattle.rc_types.specs.declared.kept.Grant.{Grant}
 use Rattle.rc_model.specs.Deciding.{is_grant_to}
 use Rattle.rc_coordinator.specs.declared.grants.Claim.{Claim}

@@ -3,7 +3,7 @@ use Rattle.std.specs.Prelude.{ℕ, Bool, nat_eq, ◌&&◌}
 use Rattle.std.specs.declared.hash.FoldHasher.{FoldHasher}
 use Rattle.std.specs.declared.hash.BuildHasherDefault.{BuildHasherDefault}
 use Rattle.indexmap.specs.IndexMap.{IndexMap}
-use Rattle.indexmap.specs.IndexSet.{IndexSet}
+use Rattle.std.specs.HashSet.{HashSet}
 use Rattle.rc_types.specs.declared.kept.Grant.{Grant}
 use Rattle.rc_model.specs.Ids.{same_id}
 use Rattle.rc_coordinator.specs.declared.grants.Claim.{Claim}
@@ -19,4 +19,4 @@ abbrev pub ClaimTable : Type 0
 ClaimTable = IndexMap Claim Grant (BuildHasherDefault FoldHasher)
 
 abbrev pub TermTable : Type 0
-TermTable = IndexSet ℕ (BuildHasherDefault FoldHasher)
+TermTable = HashSet ℕ (BuildHasherDefault FoldHasher)

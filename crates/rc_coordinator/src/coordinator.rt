@@ -11,8 +11,9 @@ ghost use Rattle.rc_coordinator.specs.declared.lists.ListsFault.TheVariants.{NoC
 
 use crate::lists::{Lists, ListsFault};
 use crate::making;
+use crate::ready::Ready;
 use crate::state::State;
-use indexmap::{IndexMap, IndexSet};
+use indexmap::IndexMap;
 use rc_attempts::Attempt;
 use rc_serverlist::ServerList;
 use rc_types::{Fault, Grant, Input, Message, Pair, ServerId, Tablet};
@@ -168,8 +169,8 @@ impl<A: Allocator + Clone> Coordinator<A> {
     }
 
     /// Who has said that it is ready, in the order of saying so.
-    pub fn ready(&self) -> &IndexSet<ServerId>
-        ensures { result.now.keys ≡ self.now.ready }
+    pub fn ready(&self) -> &Ready
+        ensures { result.now ≡ self.now.ready }
     {
         &self.state.ready
     }

@@ -70,7 +70,7 @@ impl<A: Allocator + Clone> State<A> {
         ensures no_memory { IfErr result (λ fault. fault ≡ OutOfMemory) }
     {
         let mut ids = self.servers.up(self.alloc)?;
-        ids.retain(|id| self.ready.contains(id));
+        ids.retain(|id| self.ready.has(*id));
         Ok(ids)
     }
 

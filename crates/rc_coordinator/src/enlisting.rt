@@ -131,7 +131,7 @@ impl<A: Allocator + Clone> State<A> {
         ensures no_memory { IfErr result (λ fault. fault ≡ OutOfMemory) }
     {
         if self.servers.is_up(id) {
-            self.ready.insert(id)?;
+            self.ready.note(id)?;
         } else {
             sent.push(notices::refusal_to(id, Fault::Deposed))?;
         }

@@ -54,7 +54,7 @@ impl<A: Allocator + Clone> State<A> {
         ensures unsent { OnErr result (sent.new.items ≡ sent.old.items) }
         ensures no_memory { IfErr result (λ fault. fault ≡ OutOfMemory) }
     {
-        let refused = if !(self.servers.is_up(owner) && self.ready.contains(&owner)) {
+        let refused = if !(self.servers.is_up(owner) && self.ready.has(owner)) {
             Fault::NotReady
         } else if self.tablets.find(table, 0).is_some() {
             Fault::TableExists

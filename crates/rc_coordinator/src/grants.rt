@@ -7,15 +7,16 @@ ghost use Rattle.std.specs.Prelude.{OnOk, IfOk};
 ghost use Rattle.std.specs.Option.{option_or};
 ghost use Rattle.std.specs.List.{list_any};
 ghost use Rattle.indexmap.specs.IndexMap.{get, spare};
-ghost use Rattle.indexmap.specs.IndexSet.{contains, spare as set_spare};
+ghost use Rattle.std.specs.HashSet.{contains, spare as set_spare};
 ghost use Rattle.rc_model.specs.Deciding.{is_grant_to, grant_of, range_of};
 ghost use Rattle.rc_model.specs.CoordinatorStep.{first_grant};
 ghost use Rattle.rc_coordinator.specs.Grants.{same_claim, claim_of};
 
-use indexmap::{IndexMap, IndexSet};
+use indexmap::IndexMap;
 use rc_types::limits::LAST_KEY;
 use rc_types::{Grant, KeyRange, Part, ServerId};
 use std::alloc::{AllocError, Global};
+use std::collections::HashSet;
 use std::marker::Model;
 
 /// What a grant is asked for by: its term and its owner.
@@ -33,7 +34,7 @@ pub(crate) struct Claim {
 pub(crate) struct Grants {
     list: Vec<Grant>,
     claims: IndexMap<Claim, Grant>,
-    terms: IndexSet<u32>,
+    terms: HashSet<u32>,
     ready: bool,
 }
 
@@ -55,7 +56,7 @@ impl Grants {
         Grants {
             list: Vec::new(alloc),
             claims: IndexMap::new(alloc),
-            terms: IndexSet::new(alloc),
+            terms: HashSet::new(alloc),
             ready: false,
         }
     }
@@ -134,7 +135,7 @@ fn note_claim(claims: &mut IndexMap<Claim, Grant>, grant: Grant)
 }
 
 /// Notes a granted term.
-fn note_term(terms: &mut IndexSet<u32>, term: u32)
+fn note_term(terms: &mut HashSet<u32>, term: u32)
     requires { 0 < set_spare terms.old }
     ensures { (other : ℕ) → contains nat_eq terms.new other ≡ (contains nat_eq terms.old other || nat_eq term other) }
 {

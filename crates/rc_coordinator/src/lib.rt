@@ -5,7 +5,7 @@
 //!
 //! To be read in this order: `coordinator`, the calls; `state`, which input is taken how; the rules by topic:
 //! `enlisting`, who is up; `deciding`, which log is chosen; `granting`, who owns what; `asking`, what the timer asks
-//! for again; `recoveries`, what is remembered of recoveries; `plans`, which tablet goes to whom; `grants`; `notices`,
+//! for again; `ready`, who is; `recoveries`, what is remembered of recoveries; `plans`, which tablet goes to whom; `grants`; `notices`,
 //! all other messages; `lists` and `making`, a coordinator of a save. Attempts and least pairs are in `rc_attempts`.
 #![tactic(auto)]
 
@@ -19,9 +19,11 @@ mod lists;
 mod making;
 mod notices;
 mod plans;
+mod ready;
 mod recoveries;
 mod state;
 
 pub use coordinator::Coordinator;
 pub use lists::{Lists, ListsFault};
 pub use rc_attempts::{Attempt, Decision, GivenPart};
+pub use ready::Ready;

@@ -11,9 +11,10 @@ ghost use Rattle.rc_coordinator.specs.View.{book_of};
 ghost use Rattle.rc_coordinator.specs.declared.lists.ListsFault.TheVariants.{NoCoordinator};
 
 use crate::lists::{Lists, ListsFault};
+use crate::ready::Ready;
 use crate::recoveries::Recoveries;
 use crate::state::State;
-use indexmap::{IndexMap, IndexSet};
+use indexmap::IndexMap;
 use rc_attempts::Attempt;
 use rc_rangetree::{RangeTree, are_tablets};
 use rc_serverlist::ServerList;
@@ -24,7 +25,7 @@ use std::alloc::{Allocator, Global};
 #[derive(Drop)]
 struct Tables {
     servers: ServerList,
-    ready: IndexSet<ServerId>,
+    ready: Ready,
     least: IndexMap<ServerId, Pair>,
 }
 
@@ -119,19 +120,19 @@ fn servers_of(
     Ok(servers)
 }
 
-/// The set of these ids, in this order, where none stands there twice.
-fn set_of(alloc: Global, ids: &[ServerId]) -> Result<IndexSet<ServerId>, ListsFault>
-    ensures ok { IfOk result (λ set. set.keys ≡ ids.now) }
+/// These ids as ready, in this order, where none stands there twice.
+fn ready_of(alloc: Global, ids: &[ServerId]) -> Result<Ready, ListsFault>
+    ensures ok { IfOk result (λ ready. ready ≡ ids.now) }
     ensures refused { IfErr result (λ fault. fault ≡ NoCoordinator → IsDistinct same_id ids.now → ⊥) }
 {
-    let mut set = IndexSet::new(alloc);
+    let mut ready = Ready::new(alloc);
     for id in ids {
-        if set.contains(id) {
+        if ready.has(*id) {
             return Err(ListsFault::NoCoordinator);
         }
-        set.insert(*id)?;
+        ready.note(*id)?;
     }
-    Ok(set)
+    Ok(ready)
 }
 
 /// The map of these entries, in this order, where no id stands there twice.
@@ -202,7 +203,7 @@ fn tables_of(
     least: &[(ServerId, Pair)],
 ) -> Result<Tables, ListsFault>
     ensures servers { IfOk result (λ made. made.servers ≡ record { version = version; rows = rows.now }) }
-    ensures ready { IfOk result (λ made. made.ready.keys ≡ ready.now) }
+    ensures ready { IfOk result (λ made. made.ready ≡ ready.now) }
     ensures least { IfOk result (λ made. made.least.entries ≡ least.now) }
     ensures refused { IfErr result (λ fault. fault ≡ NoCoordinator → IsDistinct same_id (keys_of rows.now) →
         IsDistinct same_id ready.now → IsDistinct same_id (keys_of least.now) → ⊥) }
@@ -211,7 +212,7 @@ fn tables_of(
         Ok(servers) => servers,
         Err(fault) => return Err(fault),
     };
-    let ready = match set_of(alloc, ready) {
+    let ready = match ready_of(alloc, ready) {
         Ok(ready) => ready,
         Err(fault) => return Err(fault),
     };

@@ -7,8 +7,9 @@ ghost use Rattle.rc_model.specs.CoordinatorStep.{coordinator_takes};
 ghost use Rattle.rc_coordinator.specs.View.{book_of, state_view};
 ghost use Rattle.rc_coordinator.specs.Steps.{steps, HasNumbers};
 
+use crate::ready::Ready;
 use crate::recoveries::Recoveries;
-use indexmap::{IndexMap, IndexSet};
+use indexmap::IndexMap;
 use rc_rangetree::RangeTree;
 use rc_serverlist::ServerList;
 use rc_types::{Addr, Body, Fault, Input, Message, Pair, ServerId};
@@ -19,7 +20,7 @@ use std::alloc::{Allocator, Global};
 pub(crate) struct State<A: Allocator> {
     pub(crate) alloc: Global,
     pub(crate) servers: ServerList,
-    pub(crate) ready: IndexSet<ServerId>,
+    pub(crate) ready: Ready,
     pub(crate) tablets: RangeTree<A>,
     pub(crate) least: IndexMap<ServerId, Pair>,
     pub(crate) recoveries: Recoveries,
@@ -34,7 +35,7 @@ impl<A: Allocator + Clone> State<A> {
         State {
             alloc,
             servers: ServerList::new(alloc),
-            ready: IndexSet::new(alloc),
+            ready: Ready::new(alloc),
             tablets: RangeTree::new_in(tablets_alloc),
             least: IndexMap::new(alloc),
             recoveries: Recoveries::new(alloc),

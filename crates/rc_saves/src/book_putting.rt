@@ -13,9 +13,9 @@ ghost use Rattle.rc_saves.specs.Saved.{CoordinatorSave, given_code, decision_cod
 ghost use Rattle.rc_saves.specs.Saved.{begun_code, coded};
 
 use crate::putting::put_list;
-use indexmap::{IndexMap, IndexSet};
+use indexmap::IndexMap;
 use rc_codec::Put;
-use rc_coordinator::{Attempt, Coordinator, Decision, GivenPart};
+use rc_coordinator::{Attempt, Coordinator, Decision, GivenPart, Ready};
 use rc_serverlist::ServerList;
 use rc_types::ServerId;
 use std::alloc::{AllocError, Allocator, Global};
@@ -33,12 +33,15 @@ fn put_servers(alloc: Global, servers: &ServerList, out: &mut Vec<u8>) -> Result
     }
 }
 
-/// Each id of a set, in its order.
-fn put_set(ids: &IndexSet<ServerId>, out: &mut Vec<u8>) -> Result<(), AllocError>
-    ensures written { OnOk result (out.new.items ≡ out.old.items ++ listed id_code ids.now.keys) }
-    ensures distinct { OnOk result (IsDistinct same_id ids.now.keys) }
+/// Each id that is ready, in their order.
+fn put_ready(alloc: Global, ready: &Ready, out: &mut Vec<u8>) -> Result<(), AllocError>
+    ensures written { OnOk result (out.new.items ≡ out.old.items ++ listed id_code ready.now) }
+    ensures distinct { OnOk result (IsDistinct same_id ready.now) }
 {
-    put_list(ids.as_slice(), out)
+    match ready.ids(alloc) {
+        Ok(ids) => put_list(ids.as_slice(), out),
+        Err(refused) => Err(refused),
+    }
 }
 
 /// Each id of a map, and what it has there, in the map's order.
@@ -141,7 +144,7 @@ fn put_known<A: Allocator + Clone>(
     ensures least { OnOk result (IsDistinct same_id (keys_of coordinator.now.least)) }
 {
     put_servers(alloc, coordinator.servers(), out)?;
-    put_set(coordinator.ready(), out)?;
+    put_ready(alloc, coordinator.ready(), out)?;
     put_tablets(alloc, coordinator, out)?;
     put_map(coordinator.least(), out)
 }

@@ -1,10 +1,9 @@
 use Rattle.std.proofs.Common.{filter, rules, tests, ap, ◌∙◌}
 use Rattle.std.proofs.lemmas.Fn.{filter_same}
-use Rattle.indexmap.specs.IndexSet.{contains}
-use Rattle.rc_model.specs.Ids.{same_id}
+use Rattle.rc_coordinator.specs.View.{is_among}
 use Rattle.rc_coordinator.proofs.state.State.ready_ids.Goals as goal
 
 pub returns-clause-ok : goal.returns-clause-ok
 returns-clause-ok g c =
-    filter_same _ (contains same_id c.args.self.now.ready) _ (λ x b f k. search (rules, tests)) _ _ c.retain.ensures.filtered
-    ∙ ap (filter (contains same_id c.args.self.now.ready)) c.in_ok-ids.ensures.ok
+    filter_same _ (is_among c.args.self.now.ready) _ (λ x b f k. search (rules, tests)) _ _ c.retain.ensures.filtered
+    ∙ ap (filter (is_among c.args.self.now.ready)) c.in_ok-ids.ensures.ok
