@@ -1,4 +1,4 @@
-pub mod SegmentTables
+pub mod LogTables
 pub mod SoundLogs
 pub mod LogChanges
 pub mod LogSteps

@@ -1,7 +1,7 @@
 -- What a master's list rules do about a segment that the list doesn't concern.
 use Rattle.std.proofs.Common.{◌≡◌, ℕ, Bool, true, false, cond, List, [], ap, ◌∙◌, refl}
 use Rattle.rc_model.specs.Model.{Message, Master, places_segment, replaces_lost}
-use Rattle.rc_headroll.specs.Concerned.{is_concerned}
+use Rattle.rc_segment.specs.Concerned.{is_concerned}
 use Rattle.rc_headroll.proofs.ConcernedLemmas.{loses-unconcerned}
 
 either : {X : Type 0} (b : Bool) (x : X) → cond b x x ≡ x

@@ -7,14 +7,16 @@ use Rattle.std.proofs.lemmas.Bool.{and_parts, and_from, cases_eq, cond_both, con
 use Rattle.std.proofs.lemmas.List.{length-set, length_push}
 use Rattle.rc_model.specs.Model.{ServerId, Member, Phase, same_id, ServerList, has_crashed, put, Config, is_placed, all_placed, is_heard}
 use Rattle.rc_model.specs.Model.{told_with, told_if_heard, noted, committed_at, Segment, Log, has_segment}
-use Rattle.rc_headroll.specs.LogData.{LogData, segment_at, log_of, before_of}
-use Rattle.rc_headroll.specs.Concerned.{is_concerned}
-use Rattle.rc_headroll.specs.Watching.{Watched, is_among, is_awake, is_filed, is_on_file, wants_nothing, is_watched, AreWatched}
+use Rattle.rc_segment.specs.Lists.{segment_at}
+use Rattle.rc_headroll.specs.LogData.{LogData, log_of, before_of}
+use Rattle.rc_segment.specs.Concerned.{is_concerned}
+use Rattle.rc_segment.specs.Resting.{wants_nothing}
+use Rattle.rc_headroll.specs.Watching.{Watched, is_among, is_awake, is_filed, is_on_file, is_watched, AreWatched}
 use Rattle.rc_headroll.specs.Watching.{AreRoused}
 use Rattle.rc_headroll.specs.Soundness.{IsSoundLog, IsWatchedLog}
 use Rattle.rc_headroll.specs.Freeing.{freed_in}
 use Rattle.rc_headroll.specs.Before.{Mark}
-use Rattle.rc_headroll.proofs.SegmentTables.{put_each, put-other, segment_at-set, segment_at-read, segment_at-push}
+use Rattle.rc_segment.proofs.SegmentTables.{put_each, put-other, segment_at-set, segment_at-read, segment_at-push}
 use Rattle.rc_headroll.proofs.LogChanges.{seg_place}
 
 or-from : (a b b' : Bool) → (b ≡ true → b' ≡ true) → (a || b) ≡ true → (a || b') ≡ true

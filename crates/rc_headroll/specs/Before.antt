@@ -1,35 +1,13 @@
 -- Where a log goes back to: how it was when a step began.
 use Rattle.std.specs.Prelude.{◌≡◌, ℕ, ◌+◌, ◌<◌, ◌≤◌, Bool, true, nat_eq, nat_lt, nat_le, ◌&&◌, if◌then◌else◌, Option}
-use Rattle.std.specs.Prelude.{Some, None, is_some, is_none, List, [], ◌∷◌, ◌++◌, length, take, ◌-◌, slice_get}
+use Rattle.std.specs.Prelude.{Some, None, is_some, is_none, List, [], ◌∷◌, ◌++◌, length, ◌-◌, slice_get}
 use Rattle.std.specs.Prelude.{option_map}
 use Rattle.std.specs.Map.{lookup}
 use Rattle.rc_types.specs.declared.kept.Phase.{Phase}
 use Rattle.rc_types.specs.declared.kept.Phase.TheVariants.{Opening}
 use Rattle.rc_model.specs.Segment.{Segment, no_segment}
-use Rattle.rc_headroll.specs.declared.state.SegmentState.{SegmentState}
-
--- what a step can change of a segment
-abbrev pub state_of : Segment → SegmentState
-state_of segment = record {
-  len = length segment.entries;
-  config = segment.config;
-  commit_sent = segment.commit_sent;
-  closes_sent = segment.closes_sent;
-  shut = segment.shut;
-  freed = segment.freed;
-}
-
--- the segment as it was: entries were added at most
-abbrev pub with_state : SegmentState → Segment → Segment
-with_state state segment = record {
-  digest = segment.digest;
-  entries = take state.len segment.entries;
-  config = state.config;
-  commit_sent = state.commit_sent;
-  closes_sent = state.closes_sent;
-  shut = state.shut;
-  freed = state.freed;
-}
+use Rattle.rc_segment.specs.declared.state.SegmentState.{SegmentState}
+use Rattle.rc_segment.specs.States.{state_of, with_state}
 
 -- a segment of which nothing was kept is as it was
 abbrev pub as_it_was : Option SegmentState → Segment → Segment

@@ -1,8 +1,6 @@
-pub mod Losing
 pub mod LogData
 pub mod Soundness
 pub mod Freeing
 pub mod Places
 pub mod Before
-pub mod Concerned
 pub mod Watching

@@ -1,9 +1,10 @@
 -- What the code keeps of a log: its segments stand in a list, of which the first is segment 1.
-use Rattle.std.specs.Prelude.{ℕ, zero, suc, List, length, slice_index_or}
+use Rattle.std.specs.Prelude.{ℕ, List, length}
 use Rattle.rc_types.specs.declared.ids.ServerId.{ServerId}
 use Rattle.rc_types.specs.declared.kept.Phase.{Phase}
-use Rattle.rc_model.specs.Segment.{Segment, no_segment}
+use Rattle.rc_model.specs.Segment.{Segment}
 use Rattle.rc_model.specs.Log.{Log}
+use Rattle.rc_segment.specs.Lists.{segment_at}
 use Rattle.rc_headroll.specs.Before.{Mark, segments_before}
 use Rattle.rc_headroll.specs.Watching.{Watched}
 
@@ -18,11 +19,6 @@ pub record LogData : Type 0 where
   pub mark : Mark
   -- which segments the timer goes over
   pub watch : Watched
-
--- the segment of this number; one that was never opened has none
-unfoldable pub segment_at : List Segment → ℕ → Segment
-segment_at segments zero = no_segment zero
-segment_at segments (suc place) = slice_index_or segments place (no_segment (suc place))
 
 -- the log of the definitions
 abbrev pub log_of : LogData → Log

@@ -7,9 +7,9 @@ use Rattle.std.specs.BTreeMap.{is_at}
 use Rattle.rc_types.specs.declared.ids.ServerId.{ServerId}
 use Rattle.rc_model.specs.Ids.{same_id}
 use Rattle.rc_model.specs.ServerList.{ServerList}
-use Rattle.rc_model.specs.Config.{all_placed}
 use Rattle.rc_model.specs.Segment.{Segment}
-use Rattle.rc_headroll.specs.Concerned.{is_concerned}
+use Rattle.rc_segment.specs.Concerned.{is_concerned}
+use Rattle.rc_segment.specs.Resting.{wants_nothing}
 
 -- the number is one of these
 abbrev pub has_number : List ℕ → ℕ → Bool
@@ -40,10 +40,6 @@ is_filed watch id seg = is_under watch.filed id seg
 -- the segment was freed, or is filed under each of its members
 abbrev pub is_on_file : Watched → ℕ → Segment → Bool
 is_on_file watch seg segment = segment.freed || list_all (λ member. is_filed watch member.id seg) segment.config.members
-
--- the segment is shut under a committed epoch, and was freed or is placed on all its members
-abbrev pub wants_nothing : Segment → Bool
-wants_nothing segment = segment.shut && (segment.config.committed && (segment.freed || all_placed segment.config))
 
 -- the segment is gone over, or it wants nothing and is on file
 abbrev pub is_watched : Watched → ℕ → Segment → Bool

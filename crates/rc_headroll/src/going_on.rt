@@ -2,18 +2,19 @@
 
 ghost use Rattle.std.specs.Prelude.{◌≡◌, ◌<◌, true, length, filter, not, nat_eq, OnOk, OnErr, IfOk, All};
 ghost use Rattle.std.specs.List.{list_any};
-ghost use Rattle.rc_model.specs.Log.{is_opening, is_closing, has_segment, has_old_head, with_segment};
+ghost use Rattle.rc_model.specs.Log.{has_segment, with_segment};
 ghost use Rattle.rc_model.specs.Heads.{shuts, with_shut, may_start, may_close, may_write, starts, closes_old};
 ghost use Rattle.rc_model.specs.Heads.{left_out, writes_on};
 ghost use Rattle.rc_model.specs.FollowUps.{close_is_due, close_marked};
 ghost use Rattle.rc_headroll.specs.Before.{IsKept};
-ghost use Rattle.rc_headroll.specs.LogData.{log_of, before_of, segment_at};
+ghost use Rattle.rc_segment.specs.Lists.{segment_at};
+ghost use Rattle.rc_headroll.specs.LogData.{log_of, before_of};
 ghost use Rattle.rc_headroll.specs.Soundness.{IsKnown};
 ghost use Rattle.rc_headroll.specs.Freeing.{freed_in};
 
 use crate::log::LogHead;
 use crate::opening::has_number;
-use crate::segment::Segment;
+use rc_segment::{Segment, heads};
 use rc_types::Phase;
 use std::alloc::{AllocError, Global};
 
@@ -22,7 +23,7 @@ impl LogHead {
     pub fn shuts(&self) -> bool
         ensures { result ≡ shuts (log_of self.now) }
     {
-        self.segments.len() > 1 && self.previous().is_all_closed()
+        heads::shuts(self.segments.as_slice())
     }
 
     /// Marks the old head shut where it is closed on all its members, under a committed epoch.
@@ -40,7 +41,7 @@ impl LogHead {
     pub fn may_start(&self) -> bool
         ensures { result ≡ may_start (log_of self.now) }
     {
-        is_opening(self.phase) && (self.segments.len() == 1 && self.newest().is_ready())
+        heads::may_start(self.phase, self.segments.as_slice())
     }
 
     /// The first head writes.
@@ -56,7 +57,7 @@ impl LogHead {
     pub fn may_close(&self) -> bool
         ensures { result ≡ may_close (log_of self.now) }
     {
-        is_opening(self.phase) && (self.segments.len() > 1 && self.newest().config().all_placed())
+        heads::may_close(self.phase, self.segments.as_slice())
     }
 
     /// The old head is being closed.
@@ -73,9 +74,7 @@ impl LogHead {
     pub fn close_is_due(&self) -> bool
         ensures { result ≡ close_is_due (log_of self.now) }
     {
-        is_closing(self.phase)
-            && (self.segments.len() > 1
-                && (self.previous().config().is_committed() && self.previous().has_unclosed()))
+        heads::close_is_due(self.phase, self.segments.as_slice())
     }
 
     /// Marks that a Close was sent to each of the old head's members.
@@ -119,8 +118,7 @@ impl LogHead {
     pub fn may_write(&self) -> bool
         ensures { result ≡ may_write (log_of self.now) }
     {
-        is_closing(self.phase)
-            && (self.segments.len() > 1 && (self.previous().is_shut() && self.newest().is_ready()))
+        heads::may_write(self.phase, self.segments.as_slice())
     }
 
     /// The segments that the old head's digest has and the new one's lacks.
@@ -197,23 +195,5 @@ fn mark_freed(segments: &mut [Segment], numbers: &[u16])
 {
     for number in numbers {
         segments[usize::from(*number) - 1].mark_freed();
-    }
-}
-
-fn is_opening(phase: Phase) -> bool
-    ensures { result ≡ is_opening phase }
-{
-    match phase {
-        Phase::Opening => true,
-        Phase::Closing | Phase::Writing => false,
-    }
-}
-
-fn is_closing(phase: Phase) -> bool
-    ensures { result ≡ is_closing phase }
-{
-    match phase {
-        Phase::Closing => true,
-        Phase::Opening | Phase::Writing => false,
     }
 }

@@ -11,12 +11,10 @@ mod going_on;
 mod log;
 mod numbers;
 mod opening;
-mod segment;
-mod state;
 mod telling;
 mod watch;
 mod watching;
 
 pub use durable::Place;
 pub use log::LogHead;
-pub use segment::Segment;
+pub use rc_segment::Segment;

@@ -5,8 +5,8 @@ ghost use Rattle.std.specs.Prelude.{if◌then◌else◌, OnOk, OnErr, IfOk, IfEr
 ghost use Rattle.std.specs.Option.{option_copied};
 
 use crate::before::Before;
-use crate::segment::Segment;
 use crate::watch::Watch;
+use rc_segment::{Segment, heads};
 use rc_types::{Phase, ServerId};
 use std::alloc::Global;
 use std::marker::Model;
@@ -179,7 +179,7 @@ impl LogHead {
         ensures newest { result.now ≡ head_of (log_of self.now) }
         ensures known { All (IsKnown (log_of self.now).head) result.now.digest }
     {
-        &self.segments[self.segments.len() - 1]
+        heads::newest(self.segments.as_slice())
     }
 
     /// The segment before the newest one.
@@ -187,7 +187,7 @@ impl LogHead {
         requires { 1 < (log_of self.now).head }
         ensures { result.now ≡ old_head_of (log_of self.now) }
     {
-        &self.segments[self.segments.len() - 2]
+        heads::previous(self.segments.as_slice())
     }
 
     /// Whether the head takes no further entry.

@@ -11,8 +11,8 @@ ghost use Rattle.rc_headroll.specs.LogData.{log_of, before_of};
 ghost use Rattle.rc_headroll.specs.Soundness.{IsKnown};
 
 use crate::log::LogHead;
-use crate::segment::Segment;
 use rc_config::{MAX_MEMBERS, choose};
+use rc_segment::Segment;
 use rc_serverlist::ServerList;
 use rc_types::limits::LAST_SEGMENT;
 use rc_types::{Entry, Fault, Phase, ServerId};

@@ -16,7 +16,8 @@ use Rattle.rc_model.proofs.Tests.{either, true_false}
 use Rattle.rc_model.proofs.Tables.{put_each, put-same, put-other}
 use Rattle.rc_model.proofs.LogParts.{places_to-agrees, total, total-places, durable-within, marked, with_freed-marked, marked-alone}
 use Rattle.rc_model.proofs.Numbering.{places-push}
-use Rattle.rc_headroll.specs.LogData.{LogData, segment_at, log_of}
+use Rattle.rc_segment.specs.Lists.{segment_at}
+use Rattle.rc_headroll.specs.LogData.{LogData, log_of}
 use Rattle.rc_headroll.proofs.LogSteps.{may_start-parts}
 use Rattle.rc_master.specs.Notes.{AreNotes}
 

@@ -7,7 +7,7 @@ use Rattle.std.proofs.Math.Numerals.{add-one}
 use Rattle.rc_model.specs.Model.{ServerId, Part, PlanRow, Message, Fault, loses, Log, numbers_to, Master, with_log, then_does}
 use Rattle.rc_model.specs.Model.{places_segment, replaces_lost, replaces_lost_of, task_of, begins_task, takes_plan}
 use Rattle.rc_types.specs.declared.faults.Fault.TheVariants.{OutOfMemory}
-use Rattle.rc_headroll.specs.Concerned.{is_concerned}
+use Rattle.rc_segment.specs.Concerned.{is_concerned}
 use Rattle.rc_headroll.specs.Watching.{Watched, is_awake}
 use Rattle.rc_headroll.proofs.ListRuleLemmas.{replaces-unconcerned}
 

@@ -1,7 +1,7 @@
 use Rattle.std.proofs.Common.{◌≡◌, ◌+◌, ◌-◌, ◌<◌, ℕ, List, ◌∷◌, length, get_or, drop, sym, ap, ◌∙◌, arith}
 use Rattle.std.proofs.lemmas.List.{drop_more, get_or_default}
 use Rattle.rc_model.specs.Segment.{Segment}
-use Rattle.rc_headroll.specs.LogData.{segment_at}
+use Rattle.rc_segment.specs.Lists.{segment_at}
 use Rattle.rc_headroll.specs.Soundness.{IsKnown}
 use Rattle.rc_headroll.specs.Freeing.{freed_in}
 use Rattle.rc_headroll.proofs.LogSteps.{freed-more}

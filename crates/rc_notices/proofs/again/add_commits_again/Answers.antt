@@ -3,7 +3,7 @@ use Rattle.std.proofs.lemmas.Grind.{common_steps}
 use Rattle.rc_model.specs.Log.{Log}
 use Rattle.rc_headroll.specs.LogData.{log_of}
 use Rattle.rc_notices.specs.Reminders.{commit_again}
-use Rattle.rc_headroll.proofs.SegmentTables.{has-parts}
+use Rattle.rc_headroll.proofs.LogTables.{has-parts}
 use Rattle.rc_notices.proofs.SegmentLists.{adds-more, skips, skips-to, commits_to, commits-more, commit-none}
 use Rattle.rc_notices.proofs.again.add_commits_again.Goals as goal
 

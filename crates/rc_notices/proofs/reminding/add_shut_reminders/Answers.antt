@@ -3,7 +3,7 @@ use Rattle.std.proofs.lemmas.Grind.{common_steps}
 use Rattle.rc_model.specs.Model.{Log, numbers_to, reminds_shut}
 use Rattle.rc_headroll.specs.LogData.{log_of, before_of}
 use Rattle.rc_notices.specs.Reminders.{reminds_if_shut}
-use Rattle.rc_headroll.proofs.SegmentTables.{has-parts}
+use Rattle.rc_headroll.proofs.LogTables.{has-parts}
 use Rattle.rc_notices.proofs.SegmentLists.{adds-more, skips, skips-to, shut-more, shut-none}
 use Rattle.rc_notices.proofs.reminding.add_shut_reminders.Goals as goal
 

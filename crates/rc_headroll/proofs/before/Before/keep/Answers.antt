@@ -1,6 +1,7 @@
 use Rattle.std.proofs.Common.{◌≡◌, ◌∷◌, [], ◌++◌, None, ap, ◌∙◌, arith, eqb}
 use Rattle.indexmap.proofs.CallerLemmas.{insert_entry-new}
-use Rattle.rc_headroll.specs.Before.{state_of, other_of}
+use Rattle.rc_segment.specs.States.{state_of}
+use Rattle.rc_headroll.specs.Before.{other_of}
 use Rattle.rc_headroll.specs.contracts.before.Before.{the_view}
 use Rattle.rc_headroll.proofs.GoingBack.{kept-is, none-from}
 use Rattle.rc_headroll.proofs.before.Before.keep.Goals as goal

@@ -1,7 +1,8 @@
 use Rattle.std.proofs.Common.{◌≡◌, ◌+◌, ◌<◌, ◌≤◌, ℕ, true, false, length, sym, arith}
-use Rattle.rc_headroll.specs.LogData.{log_of, segment_at}
+use Rattle.rc_segment.specs.Lists.{segment_at}
+use Rattle.rc_headroll.specs.LogData.{log_of}
 use Rattle.rc_headroll.specs.contracts.log.LogHead.{the_view}
-use Rattle.rc_headroll.proofs.SegmentTables.{data-segments}
+use Rattle.rc_headroll.proofs.LogTables.{data-segments}
 use Rattle.rc_headroll.proofs.DurableLogs.{first_open-some, has-from_below}
 use Rattle.rc_headroll.proofs.log.LogHead.first_open.Goals as goal
 

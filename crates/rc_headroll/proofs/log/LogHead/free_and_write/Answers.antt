@@ -3,7 +3,8 @@ use Rattle.std.specs.List.{All}
 use Rattle.std.proofs.lemmas.List.{with_items_is}
 use Rattle.rc_model.specs.Model.{Writing, Segment, left_out, may_write, writes_on}
 use Rattle.rc_headroll.specs.Before.{IsKept}
-use Rattle.rc_headroll.specs.LogData.{log_of, before_of, segment_at}
+use Rattle.rc_segment.specs.Lists.{segment_at}
+use Rattle.rc_headroll.specs.LogData.{log_of, before_of}
 use Rattle.rc_headroll.specs.Soundness.{IsKnown, IsSoundLog, IsWatchedLog}
 use Rattle.rc_headroll.specs.Freeing.{freed_in}
 use Rattle.rc_headroll.specs.contracts.log.LogHead.{the_view}

@@ -1,8 +1,10 @@
 use Rattle.std.proofs.Common.{◌≡◌, true, length, sym}
 use Rattle.rc_model.specs.Log.{has_segment}
-use Rattle.rc_headroll.specs.LogData.{log_of, segment_at}
+use Rattle.rc_segment.specs.Lists.{segment_at}
+use Rattle.rc_headroll.specs.LogData.{log_of}
 use Rattle.rc_headroll.specs.contracts.log.LogHead.{the_view}
-use Rattle.rc_headroll.proofs.SegmentTables.{segment_at-read, has-parts}
+use Rattle.rc_segment.proofs.SegmentTables.{segment_at-read}
+use Rattle.rc_headroll.proofs.LogTables.{has-parts}
 use Rattle.rc_headroll.proofs.LogChanges.{seg_place}
 use Rattle.rc_headroll.proofs.KeptSegments.{keep-keeps, keep-kept, before_of-kept, sound-kept}
 use Rattle.rc_headroll.proofs.WatchLemmas.{watched-kept}

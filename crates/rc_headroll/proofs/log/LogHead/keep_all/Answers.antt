@@ -2,7 +2,7 @@ use Rattle.std.proofs.Common.{◌≡◌, ◌<◌, ℕ, get_or, length, ap, arith
 use Rattle.rc_model.specs.Log.{Log}
 use Rattle.rc_headroll.specs.LogData.{log_of}
 use Rattle.rc_headroll.specs.Soundness.{IsKnown}
-use Rattle.rc_headroll.proofs.SegmentTables.{has-from}
+use Rattle.rc_headroll.proofs.LogTables.{has-from}
 use Rattle.rc_headroll.proofs.log.LogHead.keep_all.Goals as goal
 
 pub keep-requires : goal.keep-requires

@@ -1,6 +1,6 @@
 use Rattle.std.proofs.Common.{length, ap}
 use Rattle.rc_headroll.specs.Before.{Mark}
-use Rattle.rc_headroll.proofs.SegmentTables.{log_of-nil}
+use Rattle.rc_headroll.proofs.LogTables.{log_of-nil}
 use Rattle.rc_headroll.proofs.SoundBefore.{before_of-nil, sound_log-new}
 use Rattle.rc_headroll.proofs.WatchLemmas.{watched-none}
 use Rattle.rc_headroll.proofs.log.LogHead.new.Goals as goal

@@ -1,7 +1,7 @@
 use Rattle.std.proofs.Common.{◌≡◌, ◌+◌, ◌∷◌, ◌++◌, [], ◌<◌, ℕ, true, length, ap, arith}
 use Rattle.std.specs.List.{All}
 use Rattle.rc_model.specs.Model.{Opening, LAST_SEGMENT}
-use Rattle.rc_headroll.specs.LogData.{segment_at}
+use Rattle.rc_segment.specs.Lists.{segment_at}
 use Rattle.rc_headroll.specs.Soundness.{IsKnown}
 use Rattle.rc_headroll.specs.contracts.log.LogHead.{the_view}
 use Rattle.rc_headroll.proofs.LogChanges.{sound-opened, opened-is}

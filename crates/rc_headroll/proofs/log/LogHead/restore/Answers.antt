@@ -1,7 +1,7 @@
 use Rattle.std.proofs.Common.{◌≡◌, ℕ, length, take, List, refl, ap, ◌∙◌, sym}
 use Rattle.std.proofs.lemmas.List.{with_items_is}
 use Rattle.rc_model.specs.Segment.{Segment}
-use Rattle.rc_headroll.specs.LogData.{segment_at}
+use Rattle.rc_segment.specs.Lists.{segment_at}
 use Rattle.rc_headroll.specs.Before.{mark_of, segments_before}
 use Rattle.rc_headroll.specs.contracts.log.LogHead.{the_view}
 use Rattle.rc_headroll.proofs.SoundBefore.{restored-log, restored-before, restored-sound}

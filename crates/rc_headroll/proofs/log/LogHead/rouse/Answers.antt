@@ -1,6 +1,6 @@
 use Rattle.std.proofs.Common.{length}
 use Rattle.std.proofs.lemmas.Result.{on_ok_weaker}
-use Rattle.rc_headroll.specs.LogData.{segment_at}
+use Rattle.rc_segment.specs.Lists.{segment_at}
 use Rattle.rc_headroll.specs.contracts.log.LogHead.{the_view}
 use Rattle.rc_headroll.proofs.WatchLemmas.{IsMore, sound-watch, watched-woken, roused-from}
 use Rattle.rc_headroll.proofs.log.LogHead.rouse.Goals as goal

@@ -1,6 +1,6 @@
 use Rattle.std.proofs.Common.{◌≡◌, ◌≤◌, ◌++◌, ℕ, sym, ◌∙◌, subst, arith}
 use Rattle.rc_model.specs.Model.{numbers_to, Master, replaces_lost_of}
-use Rattle.rc_headroll.proofs.SegmentTables.{has-parts}
+use Rattle.rc_headroll.proofs.LogTables.{has-parts}
 use Rattle.rc_master.specs.View.{state_view}
 use Rattle.rc_master.proofs.Repeating.{lost-step-to, lost-skips, passed-over}
 use Rattle.rc_master.proofs.state.State.replace_all_lost.Goals as goal

@@ -58,13 +58,13 @@ impl Segment {
     ghost use Rattle.rc_model.specs.Segment.{is_ready, is_all_closed, durable_in};
     ghost use Rattle.rc_model.specs.FollowUps.{wants_commit};
     ghost use Rattle.rc_model.specs.MasterTick.{awaits_commit};
-    ghost use Rattle.rc_headroll.specs.Watching.{wants_nothing};
-    ghost use Rattle.rc_headroll.specs.Losing.{segment_loses};
-    ghost use Rattle.rc_headroll.specs.Before.{state_of, with_state};
-    ghost use Rattle.rc_headroll.specs.Concerned.{is_concerned};
+    ghost use Rattle.rc_segment.specs.Resting.{wants_nothing};
+    ghost use Rattle.rc_segment.specs.Losing.{segment_loses};
+    ghost use Rattle.rc_segment.specs.States.{state_of, with_state};
+    ghost use Rattle.rc_segment.specs.Concerned.{is_concerned};
 
     /// A segment as it is opened with this digest on these members. It takes no memory.
-    pub(crate) fn new(alloc: Global, seg: u16, digest: Vec<u16>, ids: &[ServerId]) -> Segment
+    pub fn new(alloc: Global, seg: u16, digest: Vec<u16>, ids: &[ServerId]) -> Segment
         requires { length ids.now ≤ MAX_MEMBERS }
         ensures { result ≡ new_segment seg digest.items ids.now }
     {
@@ -207,7 +207,7 @@ impl Segment {
     }
 
     /// Adds an entry at the end. Where memory is refused, the segment is as it was.
-    pub(crate) fn push(&mut self, entry: Entry, client: bool) -> Result<(), AllocError>
+    pub fn push(&mut self, entry: Entry, client: bool) -> Result<(), AllocError>
         ensures ok { OnOk result (self.new ≡ with_entry entry client self.old) }
         ensures err { OnErr result (self.new ≡ self.old) }
     {
@@ -216,7 +216,7 @@ impl Segment {
     }
 
     /// Notes what a server has told, as the members do.
-    pub(crate) fn stored(&mut self, from: ServerId, epoch: u16, len: usize, closed: bool) -> bool
+    pub fn stored(&mut self, from: ServerId, epoch: u16, len: usize, closed: bool) -> bool
         ensures notes { result ≡ notes from epoch self.old.config }
         ensures noted { self.new ≡ record self.old { config = noted from epoch len closed self.old.config } }
     {
@@ -224,42 +224,42 @@ impl Segment {
     }
 
     /// Notes that an epoch is committed.
-    pub(crate) fn committed_at(&mut self, epoch: u16)
+    pub fn committed_at(&mut self, epoch: u16)
         ensures { self.new ≡ record self.old { config = committed_at epoch self.old.config } }
     {
         self.config.committed_at(epoch);
     }
 
     /// Marks that a Commit was sent.
-    pub(crate) fn mark_commit_sent(&mut self)
+    pub fn mark_commit_sent(&mut self)
         ensures { self.new ≡ record self.old { commit_sent = true } }
     {
         self.commit_sent = true;
     }
 
     /// Marks that a Close was sent to each member.
-    pub(crate) fn mark_close_sent(&mut self)
+    pub fn mark_close_sent(&mut self)
         ensures { self.new ≡ with_closes_sent self.old }
     {
         self.closes_sent = self.config.ids();
     }
 
     /// Marks the segment shut.
-    pub(crate) fn mark_shut(&mut self)
+    pub fn mark_shut(&mut self)
         ensures { self.new ≡ record self.old { shut = true } }
     {
         self.shut = true;
     }
 
     /// Marks the segment freed.
-    pub(crate) fn mark_freed(&mut self)
+    pub fn mark_freed(&mut self)
         ensures { self.new ≡ record self.old { freed = true } }
     {
         self.freed = true;
     }
 
     /// What a step can change of it.
-    pub(crate) fn state(&self) -> SegmentState
+    pub fn state(&self) -> SegmentState
         ensures { result ≡ state_of self.now }
     {
         SegmentState {
@@ -273,7 +273,7 @@ impl Segment {
     }
 
     /// It is as it was, but for its digest.
-    pub(crate) fn put_back(&mut self, state: &SegmentState)
+    pub fn put_back(&mut self, state: &SegmentState)
         ensures { self.new ≡ with_state state.now self.old }
     {
         self.entries.truncate(state.len);
@@ -285,7 +285,7 @@ impl Segment {
     }
 
     /// Replaces members that have crashed, as `LogHead::lose` says.
-    pub(crate) fn lose(
+    pub fn lose(
         &mut self,
         alloc: Global,
         own: ServerId,

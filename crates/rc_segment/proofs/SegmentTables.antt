@@ -1,15 +1,12 @@
 -- Segments in a list, as the definitions see them.
-use Rattle.std.proofs.Common.{◌≡◌, ◌≢◌, ⊎_elim, ℕ, ◌+◌, ◌-◌, ◌<◌, ◌≤◌, zero, suc, true, false, eqb, ltb, leb, List, []}
-use Rattle.std.proofs.Common.{◌∷◌, ◌++◌, length, get_or, set, refl, ap, sym, ◌∙◌, subst, arith}
+use Rattle.std.proofs.Common.{◌≡◌, ◌≢◌, ⊎_elim, ℕ, ◌+◌, ◌-◌, ◌<◌, ◌≤◌, zero, suc, false, eqb, List, []}
+use Rattle.std.proofs.Common.{◌∷◌, ◌++◌, length, get_or, set, refl, sym, ◌∙◌, subst, arith}
 use Rattle.std.proofs.Math.Path.{fun_ext}
-use Rattle.std.proofs.lemmas.Bool.{cases_eq, cases_lt, eq-eqb, ne_eqb, eqb-true, cond_both, and_parts, and_from}
-use Rattle.std.proofs.lemmas.Bool.{ltb-true, leb-true, lt-ltb, le-leb}
+use Rattle.std.proofs.lemmas.Bool.{cases_eq, cases_lt, eq-eqb, ne_eqb, eqb-true, cond_both}
 use Rattle.std.proofs.lemmas.List.{get_or-set_same, get_or-set_other, get_or_push, get_or_append_left, get_or_past}
-use Rattle.std.proofs.lemmas.List.{get_or_default, length-set, length_push}
-use Rattle.rc_model.specs.Model.{put, Segment, no_segment, ServerId, Opening, Log, new_log, with_segment, has_segment}
-use Rattle.rc_headroll.specs.Before.{first_mark}
-use Rattle.rc_headroll.specs.Watching.{Watched}
-use Rattle.rc_headroll.specs.LogData.{LogData, segment_at, log_of}
+use Rattle.std.proofs.lemmas.List.{get_or_default, length_push}
+use Rattle.rc_model.specs.Model.{put, Segment, no_segment}
+use Rattle.rc_segment.specs.Lists.{segment_at}
 
 -- Tables
 
@@ -106,49 +103,12 @@ pub segment_at-push : (segments : List Segment) (x : Segment) (seg : ℕ) → se
     segment_at (segments ++ x ∷ []) ≡ put (segment_at segments) seg x
 segment_at-push segments x seg e = fun_ext (segment_at-push_at segments x seg e)
 
--- Logs
-
-pub log_of-set : (kept : LogData) (place : ℕ) (x : Segment) (seg : ℕ) → seg ≡ place + 1 → place < length kept.segments →
-    log_of (record kept { segments = set kept.segments place x }) ≡ with_segment seg x (log_of kept)
-log_of-set kept place x seg e inside =
-    let head : length (set kept.segments place x) ≡ length kept.segments = length-set kept.segments place x in
-    let table : segment_at (set kept.segments place x) ≡ put (segment_at kept.segments) seg x =
-    segment_at-set kept.segments place x seg e inside in
-    rw (head, table) refl
-
 -- a segment that is read at a place of the list
 pub segment_at-read : (segments : List Segment) (seg place : ℕ) (x : Segment) → seg ≡ place + 1 →
     place < length segments → x ≡ get_or segments place x →
     x ≡ segment_at segments seg
 segment_at-read segments seg place x e inside read = read ∙ sym (segment_at-within segments seg place x e inside)
 
--- a log with no segment is a new one
-pub log_of-nil : (own : ServerId) (factor size : ℕ) (watch : Watched) →
-    log_of (record {
-      own = own;
-      factor = factor;
-      size = size;
-      segments = [];
-      phase = Opening;
-      durable = 0;
-      mark = first_mark;
-      watch = watch;
-    }) ≡ new_log own factor size
-log_of-nil own factor size watch = rw segment_at-nil refl
-
--- what is behind a model, at a segment
-pub data-segments : (a b : LogData) → a ≡ b → a.segments ≡ b.segments
-data-segments a b e = ap (λ (kept : LogData). kept.segments) e
-
--- a segment that the log has
-pub has-parts : (log : Log) (seg : ℕ) → has_segment log seg ≡ true → (0 < seg) × (seg ≤ log.head)
-has-parts log seg has =
-    let parts : (ltb 0 seg ≡ true) × (leb seg log.head ≡ true) = and_parts (ltb 0 seg) (leb seg log.head) has in
-    (ltb-true 0 seg parts.0, leb-true seg log.head parts.1)
-
-pub has-from : (log : Log) (seg : ℕ) → 0 < seg → seg ≤ log.head → has_segment log seg ≡ true
-has-from log seg above within = and_from (ltb 0 seg) (leb seg log.head) (lt-ltb 0 seg above) (le-leb seg log.head within)
-
--- the head of a log with no segment
+-- where there is no segment, the newest is none
 pub head-none : (segments : List Segment) → length segments ≡ 0 → segment_at segments (length segments) ≡ no_segment 0
 head-none segments none = rw none (segment_at-zero segments)
