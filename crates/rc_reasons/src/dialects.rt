@@ -1,7 +1,7 @@
 //! The two texts that the program reads: what their parts are called, and which members these have.
 
 /// A scenario or a trace.
-#[derive(Clone, Copy, PartialEq)]
+#[derive(Clone, Copy)]
 pub enum Dialect {
     /// A scenario, of either format.
     Scenario,
@@ -92,17 +92,27 @@ impl Dialect {
         }
     }
 
-    /// The members of the whole, apart from spaces.
-    pub fn members(self, is_second: bool) -> &'static str {
+    /// The first of the kinds of items.
+    pub fn first_kind(self) -> &'static str {
         match self {
-            Dialect::Scenario if is_second => "format factor factors free segment events",
-            Dialect::Scenario => "format factor segment events",
-            Dialect::Trace => "format messages",
+            Dialect::Scenario => EVENTS[0],
+            Dialect::Trace => TRACED[0],
         }
     }
 
-    /// The further members of an item of this kind, apart from spaces.
-    pub fn members_of(self, kind: &str) -> Option<&'static str> {
+    /// The members of the whole.
+    pub fn members(self, is_second: bool) -> &'static [&'static str] {
+        match self {
+            Dialect::Scenario if is_second => {
+                &["format", "factor", "factors", "free", "segment", "events"]
+            }
+            Dialect::Scenario => &["format", "factor", "segment", "events"],
+            Dialect::Trace => &["format", "messages"],
+        }
+    }
+
+    /// The further members of an item of this kind; none, where there is no such kind.
+    pub fn members_of(self, kind: &str) -> &'static [&'static str] {
         match self {
             Dialect::Scenario => members_of_event(kind),
             Dialect::Trace => members_of_message(kind),
@@ -110,28 +120,30 @@ impl Dialect {
     }
 }
 
-fn members_of_event(kind: &str) -> Option<&'static str> {
+/// The members of an event.
+fn members_of_event(kind: &str) -> &'static [&'static str] {
     match kind {
-        "start" => Some("host kept"),
-        "stop" | "suspect" | "decide" | "tick" => Some("id"),
-        "write" => Some("to table key value"),
-        "read" => Some("to table key"),
-        "deliver" => Some("n"),
-        "settle" => Some("kinds hosts"),
-        "create" => Some("table owner"),
-        "split" => Some("table at"),
-        _ => None,
+        "start" => &["host", "kept"],
+        "stop" | "suspect" | "decide" | "tick" => &["id"],
+        "write" => &["to", "table", "key", "value"],
+        "read" => &["to", "table", "key"],
+        "deliver" => &["n"],
+        "settle" => &["kinds", "hosts"],
+        "create" => &["table", "owner"],
+        "split" => &["table", "at"],
+        _ => &[],
     }
 }
 
-fn members_of_message(kind: &str) -> Option<&'static str> {
+/// The members of a message.
+fn members_of_message(kind: &str) -> &'static [&'static str] {
     match kind {
-        "place" => Some("from seg entries"),
-        "append" => Some("from seg offset entries"),
-        "ok" => Some("from seg offset term table key version"),
-        "plan" => Some("attempt of rows"),
-        "own" => Some("to table lo hi term previous attempt"),
-        _ => None,
+        "place" => &["from", "seg", "entries"],
+        "append" => &["from", "seg", "offset", "entries"],
+        "ok" => &["from", "seg", "offset", "term", "table", "key", "version"],
+        "plan" => &["attempt", "of", "rows"],
+        "own" => &["to", "table", "lo", "hi", "term", "previous", "attempt"],
+        _ => &[],
     }
 }
 

@@ -1,67 +1,101 @@
 //! The text that is told of a code, or of all.
 
 use crate::topics::{TOPICS, Topic};
+use rc_pen::{Pen, Piece, Spelling};
 use std::alloc::{AllocError, Global};
 
 /// How long a line gets, save where a word is longer.
 const WIDTH: usize = 80;
 
+/// How long the longest name of a code is.
+const LONGEST: usize = 15;
+
 /// What there is to say of the code of this number; where it is none, or none is given, a line for each
 /// code. Fails only where memory was refused.
 pub fn explain(alloc: Global, code: Option<u8>) -> Result<String, AllocError> {
-    let mut text = String::new(alloc);
-    match topic_of(code) {
-        Some(topic) => add_topic(&mut text, topic)?,
-        None => add_list(&mut text)?,
+    let mut pen = Pen::new(alloc, Spelling::Plain);
+    tell(&mut pen, &TOPICS, code);
+    pen.end()
+}
+
+/// What there is to say of the code of this number, if one is given; else a line for each of these.
+fn tell(pen: &mut Pen, topics: &[Topic], code: Option<u8>) {
+    match code {
+        Some(number) => tell_code(pen, topics, number),
+        None => tell_list(pen, topics),
     }
-    Ok(text)
 }
 
-/// The topic of this code.
-fn topic_of(code: Option<u8>) -> Option<&'static Topic> {
-    let number = code?;
-    TOPICS.iter().find(|topic| topic.number == number)
-}
-
-/// Adds a line for each code.
-fn add_list(text: &mut String) -> Result<(), AllocError> {
-    for topic in &TOPICS {
-        let gap = if topic.number < 10 { " " } else { "" };
-        write!(
-            text,
-            "F{}{gap}  {:<15}  {}\n",
-            topic.number, topic.name, topic.short
-        )?;
+/// What there is to say of this code; where it is none of these, a line for each of them.
+fn tell_code(pen: &mut Pen, topics: &[Topic], number: u8) {
+    for topic in topics {
+        if topic.number == number {
+            tell_topic(pen, topic);
+            return;
+        }
     }
-    text.push_str("\n`ramseg explain F18` says more of one.\n")
+    tell_list(pen, topics);
 }
 
-/// Adds what there is to say of one.
-fn add_topic(text: &mut String, topic: &Topic) -> Result<(), AllocError> {
-    write!(text, "F{} {}: {}\n", topic.number, topic.name, topic.short)?;
-    text.push_str("\nWhen it comes\n")?;
-    add_wrapped(text, topic.when)?;
-    text.push_str("\nWhat to do\n")?;
-    add_wrapped(text, topic.remedy)
+/// A line for each of these codes.
+fn tell_list(pen: &mut Pen, topics: &[Topic]) {
+    for topic in topics {
+        tell_line(pen, topic);
+    }
+    pen.put("\n`ramseg explain F18` says more of one.\n");
 }
 
-/// Adds the words in lines that begin with two spaces.
-fn add_wrapped(text: &mut String, words: &str) -> Result<(), AllocError> {
+/// The line of a code.
+fn tell_line(pen: &mut Pen, topic: &Topic) {
+    pen.put_all(
+        "F%%   |  |%",
+        &[
+            Piece::U8(topic.number),
+            Piece::Flag(topic.number < 10),
+            Piece::Words(topic.name),
+        ],
+    );
+    for _ in topic.name.len()..LONGEST {
+        pen.put(" ");
+    }
+    pen.put_all("  %\n", &[Piece::Words(topic.short)]);
+}
+
+/// What there is to say of one.
+fn tell_topic(pen: &mut Pen, topic: &Topic) {
+    pen.put_all(
+        "F% %: %\n\nWhen it comes\n",
+        &[
+            Piece::U8(topic.number),
+            Piece::Words(topic.name),
+            Piece::Words(topic.short),
+        ],
+    );
+    tell_wrapped(pen, topic.when);
+    pen.put("\nWhat to do\n");
+    tell_wrapped(pen, topic.remedy);
+}
+
+/// The words in lines that begin with two spaces.
+fn tell_wrapped(pen: &mut Pen, words: &str) {
     let mut column = 0usize;
     for word in words.split_whitespace() {
-        let length = word.len();
-        if column == 0 {
-            text.push_str("  ")?;
-            column = 2;
-        } else if column.saturating_add(length) >= WIDTH {
-            text.push_str("\n  ")?;
-            column = 2;
-        } else {
-            text.push_str(" ")?;
-            column = column.saturating_add(1);
-        }
-        text.push_str(word)?;
-        column = column.saturating_add(length);
+        column = tell_word(pen, word, column);
     }
-    text.push_str("\n")
+    pen.put("\n");
+}
+
+/// A word, where the line has so many columns already, or in a new line; gives how many that then has.
+fn tell_word(pen: &mut Pen, word: &str, column: usize) -> usize {
+    let length = word.len();
+    let (gap, begun) = if column == 0 {
+        ("  ", 2usize)
+    } else if column.saturating_add(length) >= WIDTH {
+        ("\n  ", 2)
+    } else {
+        (" ", column.saturating_add(1))
+    };
+    pen.put(gap);
+    pen.put(word);
+    begun.saturating_add(length)
 }

@@ -1,8 +1,8 @@
 //! Why a scenario or a trace is wrong at a place (F17).
 
 use crate::dialects::{Dialect, MESSAGES, may_be_absent};
-use crate::pieces::{Member, Piece, item, members, named};
-use crate::showing::{ask_for_nearest, show, show_quoted, tell_names, tell_place, tell_quoted};
+use crate::pieces::{Member, Members, Piece, item};
+use crate::showing::{ask_for_nearest, show, show_quoted, tell_names, tell_place};
 use crate::syntax::tell_text_fault;
 use crate::values::{Want, Wrong, tell_want, unquoted, wrong_in};
 use rc_pen::{Pen, Piece as Told, Spelling};
@@ -16,61 +16,38 @@ pub fn reason_of_fault(
     place: usize,
 ) -> Result<String, AllocError> {
     let mut pen = Pen::new(alloc, Spelling::Plain);
-    let told = tell_fault(alloc, dialect, text, place, &mut pen);
-    pen.take(told);
+    match place {
+        0 => tell_text_fault(alloc, dialect, text, &mut pen),
+        1 => tell_whole_fault(alloc, dialect, text, &mut pen),
+        _ => tell_item_fault(alloc, dialect, text, place - 2, &mut pen),
+    }
     pen.say("\n`ramseg explain F17` says what the place stands for.\n");
     pen.end()
 }
 
-/// Why a text is wrong at this place.
-fn tell_fault(
-    alloc: Global,
-    dialect: Dialect,
-    text: &[u8],
-    place: usize,
-    pen: &mut Pen,
-) -> Result<(), AllocError> {
-    match place {
-        0 => tell_text_fault(alloc, dialect, text, pen),
-        1 => tell_whole_fault(alloc, dialect, text, pen),
-        _ => tell_item_fault(alloc, dialect, text, place - 2, pen),
-    }
-}
-
 /// Why what stands round the list is wrong.
-fn tell_whole_fault(
-    alloc: Global,
-    dialect: Dialect,
-    text: &[u8],
-    pen: &mut Pen,
-) -> Result<(), AllocError> {
+fn tell_whole_fault(alloc: Global, dialect: Dialect, text: &[u8], pen: &mut Pen) {
     let whole = Piece::all(text);
-    if whole.first(text) != b'{' {
+    if whole.first(text) == b'{' {
+        let found = Members::of(text, whole);
+        tell_outer_fault(alloc, dialect, text, &found, pen);
+    } else {
         tell_place(pen, text, whole.from);
         pen.say_all(
             "% has to be an object, as %",
             &[Told::Words(dialect.whole()), Told::Words(dialect.example())],
         );
-        return Ok(());
     }
-    let found = members(alloc, text, whole)?;
-    tell_outer_fault(alloc, dialect, text, found.as_slice(), pen)
 }
 
 /// Why the outermost object is wrong, which has these members.
-fn tell_outer_fault(
-    alloc: Global,
-    dialect: Dialect,
-    text: &[u8],
-    found: &[Member],
-    pen: &mut Pen,
-) -> Result<(), AllocError> {
+fn tell_outer_fault(alloc: Global, dialect: Dialect, text: &[u8], found: &Members, pen: &mut Pen) {
     let whole = Piece::all(text);
-    let is_first = is_first(dialect, text, named(text, found, "format"));
+    let is_first = is_first(dialect, text, found);
     if is_first && has_second_alone(text, found) {
         tell_place(pen, text, whole.from);
         pen.say("the members \"factors\" and \"free\" belong to format 2; this is \"format\":1");
-        return Ok(());
+        return;
     }
     let object = Object {
         whole,
@@ -79,20 +56,20 @@ fn tell_outer_fault(
         wanted: dialect.members(!is_first),
         first: "",
     };
-    tell_members_fault(alloc, text, &object, found, pen)
+    tell_members_fault(alloc, text, &object, found, pen);
 }
 
-/// Whether this is the format of a scenario of format 1.
-fn is_first(dialect: Dialect, text: &[u8], format: Option<Member>) -> bool {
-    match format {
-        Some(member) => dialect == Dialect::Scenario && member.value.text(text) == "1",
+/// Whether this is a scenario of format 1.
+fn is_first(dialect: Dialect, text: &[u8], found: &Members) -> bool {
+    match found.named(text, "format") {
+        Some(member) => { matches!(dialect, Dialect::Scenario) && member.value.text(text) == "1" }
         None => false,
     }
 }
 
 /// Whether there is a member that format 2 alone has.
-fn has_second_alone(text: &[u8], members: &[Member]) -> bool {
-    named(text, members, "factors").is_some() || named(text, members, "free").is_some()
+fn has_second_alone(text: &[u8], found: &Members) -> bool {
+    found.named(text, "factors").is_some() || found.named(text, "free").is_some()
 }
 
 /// What an object is called.
@@ -110,8 +87,8 @@ struct Object<'a> {
     whole: Piece,
     name: Name<'a>,
     kind: &'a str,
-    /// The names of its members, apart from spaces.
-    wanted: &'static str,
+    /// The names of its members.
+    wanted: &'static [&'static str],
     /// A member that it has beside these.
     first: &'static str,
 }
@@ -139,34 +116,52 @@ fn tell_members_fault(
     alloc: Global,
     text: &[u8],
     object: &Object<'_>,
-    found: &[Member],
+    found: &Members,
     pen: &mut Pen,
-) -> Result<(), AllocError> {
-    if let Some(member) = strange_member(text, object, found) {
-        return tell_strange(alloc, text, object, &member, pen);
+) {
+    if let Some(member) = strange_member(text, object, found.as_slice()) {
+        tell_strange(alloc, text, object, &member, pen);
+    } else if !tell_first_fault(alloc, text, object, found, pen) {
+        tell_place(pen, text, object.whole.from);
+        tell_name(pen, object);
+        pen.say(" is wrong");
     }
-    for wanted in object.wanted.split(' ') {
-        if tell_member_fault(alloc, text, object, found, wanted, pen)? {
-            return Ok(());
-        }
-    }
-    tell_place(pen, text, object.whole.from);
-    tell_name(pen, object);
-    pen.say(" is wrong");
-    Ok(())
 }
 
 /// The first member that the object does not have.
 fn strange_member(text: &[u8], object: &Object<'_>, found: &[Member]) -> Option<Member> {
-    found
-        .iter()
-        .find(|member| !is_member(object, member.name.text(text)))
-        .copied()
+    for member in found {
+        if !is_member(object, member.name.text(text)) {
+            return Some(*member);
+        }
+    }
+    None
 }
 
 /// Whether the object has a member of this name.
 fn is_member(object: &Object<'_>, name: &str) -> bool {
-    name == object.first || object.wanted.split(' ').any(|other| other == name)
+    for other in object.wanted {
+        if *other == name {
+            return true;
+        }
+    }
+    name == object.first
+}
+
+/// Tells of the first member that is missing or wrong, and gives whether one is.
+fn tell_first_fault(
+    alloc: Global,
+    text: &[u8],
+    object: &Object<'_>,
+    found: &Members,
+    pen: &mut Pen,
+) -> bool {
+    for wanted in object.wanted {
+        if tell_member_fault(alloc, text, object, found, wanted, pen) {
+            return true;
+        }
+    }
+    false
 }
 
 /// Tells what is wrong with the member of this name, and gives whether something is.
@@ -174,74 +169,77 @@ fn tell_member_fault(
     alloc: Global,
     text: &[u8],
     object: &Object<'_>,
-    found: &[Member],
-    wanted: &str,
+    found: &Members,
+    wanted: &'static str,
     pen: &mut Pen,
-) -> Result<bool, AllocError> {
+) -> bool {
     let want = Want::of(object.kind, wanted);
-    let Some(member) = named(text, found, wanted) else {
-        return Ok(tell_absent(text, object, wanted, want, pen));
-    };
-    let Some(wrong) = wrong_in(alloc, text, member.value, want)? else {
-        return Ok(false);
-    };
-    tell_wrong(pen, text, object, &member, &wrong);
-    tell_meant(alloc, text, &wrong, pen)?;
-    Ok(true)
+    match found.named(text, wanted) {
+        Some(member) => tell_if_wrong(alloc, text, object, &member, want, pen),
+        None => tell_absent(text, object, wanted, want, pen),
+    }
+}
+
+/// Tells what is wrong with a member that has to be this, and gives whether something is.
+fn tell_if_wrong(
+    alloc: Global,
+    text: &[u8],
+    object: &Object<'_>,
+    member: &Member,
+    want: Want,
+    pen: &mut Pen,
+) -> bool {
+    match wrong_in(text, member.value, want) {
+        Some(wrong) => {
+            tell_wrong(pen, text, object, member, &wrong);
+            tell_meant(alloc, text, &wrong, pen);
+            true
+        }
+        None => false,
+    }
 }
 
 /// Tells that a member is absent, unless it may be; gives whether it has told that.
-fn tell_absent(text: &[u8], object: &Object<'_>, wanted: &str, want: Want, pen: &mut Pen) -> bool {
+fn tell_absent(
+    text: &[u8],
+    object: &Object<'_>,
+    wanted: &'static str,
+    want: Want,
+    pen: &mut Pen,
+) -> bool {
     if may_be_absent(wanted) {
         return false;
     }
     tell_place(pen, text, object.whole.from);
     tell_name(pen, object);
-    pen.say(" lacks the member ");
-    tell_quoted(pen, wanted);
-    pen.say(": ");
+    pen.say_all(" lacks the member \"%\": ", &[Told::Words(wanted)]);
     tell_want(pen, want);
     true
 }
 
 /// Tells of a member that does not belong here.
-fn tell_strange(
-    alloc: Global,
-    text: &[u8],
-    object: &Object<'_>,
-    member: &Member,
-    pen: &mut Pen,
-) -> Result<(), AllocError> {
+fn tell_strange(alloc: Global, text: &[u8], object: &Object<'_>, member: &Member, pen: &mut Pen) {
     tell_place(pen, text, member.name.from.saturating_sub(1));
     tell_name(pen, object);
     pen.say(" has no member ");
     show_quoted(pen, text, member.name);
-    let names: Vec<&str> = object.wanted.split(' ').collect(alloc)?;
     let spelt = member.name.text(text);
-    tell_nearest(alloc, pen, spelt, "; its members are", names.as_slice())
+    tell_nearest(alloc, pen, spelt, "; its members are", object.wanted);
 }
 
 /// Asks whether the nearest of these names was meant, or tells all of them.
-fn tell_nearest(
-    alloc: Global,
-    pen: &mut Pen,
-    spelt: &str,
-    before: &str,
-    names: &[&str],
-) -> Result<(), AllocError> {
-    if !ask_for_nearest(alloc, pen, spelt, names)? {
+fn tell_nearest(alloc: Global, pen: &mut Pen, spelt: &str, before: &str, names: &[&'static str]) {
+    if !ask_for_nearest(alloc, pen, spelt, names) {
         tell_names(pen, before, names);
     }
-    Ok(())
 }
 
 /// Tells of a value that is not what it has to be.
 fn tell_wrong(pen: &mut Pen, text: &[u8], object: &Object<'_>, member: &Member, wrong: &Wrong) {
+    let is_whole = wrong.shown.from == member.value.from;
     tell_place(pen, text, wrong.at);
     tell_name(pen, object);
-    pen.say(": ");
-    let is_whole = wrong.shown.from == member.value.from;
-    pen.either(is_whole, "", "in ");
+    pen.either(is_whole, ": ", ": in ");
     show_quoted(pen, text, member.name);
     pen.either(is_whole, " is ", " stands ");
     show(pen, text, wrong.shown);
@@ -250,57 +248,41 @@ fn tell_wrong(pen: &mut Pen, text: &[u8], object: &Object<'_>, member: &Member, 
 }
 
 /// Asks whether another name was meant.
-fn tell_meant(alloc: Global, text: &[u8], wrong: &Wrong, pen: &mut Pen) -> Result<(), AllocError> {
+fn tell_meant(alloc: Global, text: &[u8], wrong: &Wrong, pen: &mut Pen) {
     if let Want::Name = wrong.want {
         let spelt = unquoted(wrong.shown.text(text)).unwrap_or("");
-        ask_for_nearest(alloc, pen, spelt, &MESSAGES)?;
+        ask_for_nearest(alloc, pen, spelt, &MESSAGES);
     }
-    Ok(())
 }
 
 /// The item of this number.
-pub(crate) fn item_of(
-    alloc: Global,
-    dialect: Dialect,
-    text: &[u8],
-    number: usize,
-) -> Result<Option<Piece>, AllocError> {
-    match list_of(alloc, dialect, text)? {
-        Some(list) => Ok(item(text, list, number)),
-        None => Ok(None),
+pub(crate) fn item_of(dialect: Dialect, text: &[u8], number: usize) -> Option<Piece> {
+    match list_of(dialect, text) {
+        Some(list) => item(text, list, number),
+        None => None,
     }
 }
 
 /// The list of items.
-pub(crate) fn list_of(
-    alloc: Global,
-    dialect: Dialect,
-    text: &[u8],
-) -> Result<Option<Piece>, AllocError> {
-    let found = members(alloc, text, Piece::all(text))?;
-    let list = named(text, found.as_slice(), dialect.list());
-    Ok(list.map(|member| member.value))
+pub(crate) fn list_of(dialect: Dialect, text: &[u8]) -> Option<Piece> {
+    match Members::of(text, Piece::all(text)).named(text, dialect.list()) {
+        Some(member) => Some(member.value),
+        None => None,
+    }
 }
 
 /// Why an item of the list is wrong.
-fn tell_item_fault(
-    alloc: Global,
-    dialect: Dialect,
-    text: &[u8],
-    number: usize,
-    pen: &mut Pen,
-) -> Result<(), AllocError> {
-    let Some(whole) = item_of(alloc, dialect, text, number)? else {
-        tell_item(pen, dialect, number);
-        pen.say(" is wrong");
-        return Ok(());
-    };
-    if whole.first(text) != b'{' {
-        tell_no_object(pen, dialect, text, number, whole);
-        return Ok(());
+fn tell_item_fault(alloc: Global, dialect: Dialect, text: &[u8], number: usize, pen: &mut Pen) {
+    match item_of(dialect, text, number) {
+        Some(whole) if whole.first(text) == b'{' => {
+            tell_object_fault(alloc, dialect, text, number, whole, pen);
+        }
+        Some(whole) => tell_no_object(pen, dialect, text, number, whole),
+        None => {
+            tell_item(pen, dialect, number);
+            pen.say(" is wrong");
+        }
     }
-    let found = members(alloc, text, whole)?;
-    tell_object_fault(alloc, dialect, text, number, whole, found.as_slice(), pen)
 }
 
 /// An item is no object.
@@ -309,32 +291,36 @@ fn tell_no_object(pen: &mut Pen, dialect: Dialect, text: &[u8], number: usize, w
     tell_item(pen, dialect, number);
     pen.say(" is ");
     show(pen, text, whole);
-    pen.say("; expected an object, as {");
-    tell_quoted(pen, dialect.kind());
-    pen.say(":");
-    tell_quoted(pen, dialect.kinds().first().copied().unwrap_or(""));
-    pen.say(", ..}");
+    pen.say_all(
+        "; expected an object, as {\"%\":\"%\", ..}",
+        &[
+            Told::Words(dialect.kind()),
+            Told::Words(dialect.first_kind()),
+        ],
+    );
 }
 
-/// Why an item is wrong that is an object with these members.
+/// Why an item is wrong that is an object.
 fn tell_object_fault(
     alloc: Global,
     dialect: Dialect,
     text: &[u8],
     number: usize,
     whole: Piece,
-    found: &[Member],
     pen: &mut Pen,
-) -> Result<(), AllocError> {
-    let Some(member) = named(text, found, dialect.kind()) else {
+) {
+    let found = Members::of(text, whole);
+    let Some(member) = found.named(text, dialect.kind()) else {
         tell_no_kind(pen, dialect, text, number, whole);
-        return Ok(());
+        return;
     };
     let kind = unquoted(member.value.text(text)).unwrap_or("");
-    let Some(wanted) = dialect.members_of(kind) else {
+    let wanted = dialect.members_of(kind);
+    if wanted.is_empty() {
         tell_strange_kind(pen, dialect, text, number, &member);
-        return tell_nearest(alloc, pen, kind, "; these are:", dialect.kinds());
-    };
+        tell_nearest(alloc, pen, kind, "; these are:", dialect.kinds());
+        return;
+    }
     let object = Object {
         whole,
         name: Name::Item(dialect, number, kind),
@@ -342,16 +328,17 @@ fn tell_object_fault(
         wanted,
         first: dialect.kind(),
     };
-    tell_members_fault(alloc, text, &object, found, pen)
+    tell_members_fault(alloc, text, &object, &found, pen);
 }
 
 /// An item does not say what it is.
 fn tell_no_kind(pen: &mut Pen, dialect: Dialect, text: &[u8], number: usize, whole: Piece) {
     tell_place(pen, text, whole.from);
     tell_item(pen, dialect, number);
-    pen.say(" lacks the member ");
-    tell_quoted(pen, dialect.kind());
-    pen.say(", which says what it is");
+    pen.say_all(
+        " lacks the member \"%\", which says what it is",
+        &[Told::Words(dialect.kind())],
+    );
     tell_names(pen, ":", dialect.kinds());
 }
 
@@ -359,9 +346,7 @@ fn tell_no_kind(pen: &mut Pen, dialect: Dialect, text: &[u8], number: usize, who
 fn tell_strange_kind(pen: &mut Pen, dialect: Dialect, text: &[u8], number: usize, member: &Member) {
     tell_place(pen, text, member.value.from);
     tell_item(pen, dialect, number);
-    pen.say(": ");
-    tell_quoted(pen, dialect.kind());
-    pen.say(" is ");
+    pen.say_all(": \"%\" is ", &[Told::Words(dialect.kind())]);
     show(pen, text, member.value);
     pen.say_all(", which is no kind of %", &[Told::Words(dialect.item())]);
 }

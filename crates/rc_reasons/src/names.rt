@@ -4,11 +4,11 @@ use std::alloc::{AllocError, Global};
 use strsim::osa_distance;
 
 /// The nearest of these names, if one is near.
-pub fn nearest<'a>(
+pub fn nearest(
     alloc: Global,
     name: &str,
-    names: &[&'a str],
-) -> Result<Option<&'a str>, AllocError> {
+    names: &[&'static str],
+) -> Result<Option<&'static str>, AllocError> {
     let mut best = None;
     let mut least = usize::MAX;
     for other in names {

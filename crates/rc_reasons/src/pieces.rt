@@ -1,7 +1,5 @@
 //! Pieces of a JSON text, found by its brackets, commas and quotes alone.
 
-use std::alloc::{AllocError, Global};
-
 /// A piece of a text: where it begins, and where it ends.
 #[derive(Clone, Copy)]
 pub struct Piece {
@@ -43,15 +41,9 @@ impl Piece {
     /// The piece without the blanks at its ends.
     pub fn trimmed(self, text: &[u8]) -> Piece {
         let bytes = self.of(text);
-        let before = bytes.iter().take_while(|byte| is_blank(**byte)).count();
-        let after = bytes
-            .iter()
-            .rev()
-            .take_while(|byte| is_blank(**byte))
-            .count();
         Piece {
-            from: self.from.saturating_add(before),
-            to: self.to.saturating_sub(after),
+            from: self.from.saturating_add(blanks_before(bytes)),
+            to: self.to.saturating_sub(blanks_after(bytes)),
         }
     }
 
@@ -67,6 +59,29 @@ impl Piece {
 /// Whether JSON takes the byte for a blank.
 fn is_blank(byte: u8) -> bool {
     matches!(byte, b' ' | b'\t' | b'\n' | b'\r')
+}
+
+/// With how many blanks the bytes begin.
+fn blanks_before(bytes: &[u8]) -> usize {
+    for (count, byte) in bytes.iter().enumerate() {
+        if !is_blank(*byte) {
+            return count;
+        }
+    }
+    bytes.len()
+}
+
+/// With how many blanks the bytes end.
+fn blanks_after(bytes: &[u8]) -> usize {
+    for count in 0..bytes.len() {
+        let place = bytes.len().saturating_sub(count).saturating_sub(1);
+        if let Some(byte) = bytes.get(place) {
+            if !is_blank(*byte) {
+                return count;
+            }
+        }
+    }
+    bytes.len()
 }
 
 /// A member of an object.
@@ -149,34 +164,30 @@ impl ItemWalk {
 
     /// Goes past this byte, and gives the item that ends before it, if one does.
     pub fn past(&mut self, text: &[u8], byte: u8) -> Option<Piece> {
-        let mut ended = None;
-        if self.walk.ends_item(byte) {
-            let item = Piece {
-                from: self.from,
-                to: self.at,
-            }
-            .trimmed(text);
-            if item.from < item.to {
-                ended = Some(item);
-            }
-            self.from = self.at.saturating_add(1);
-        }
+        let ended = if self.walk.ends_item(byte) {
+            self.end_item(text)
+        } else {
+            None
+        };
         self.walk = self.walk.past(byte);
         self.at = self.at.saturating_add(1);
         ended
     }
-}
 
-/// The items of a list, or the members of an object.
-pub fn items(alloc: Global, text: &[u8], whole: Piece) -> Result<Vec<Piece>, AllocError> {
-    let mut found = Vec::new(alloc);
-    let mut walk = ItemWalk::of(whole);
-    for byte in whole.of(text) {
-        if let Some(item) = walk.past(text, *byte) {
-            found.push(item)?;
+    /// An item ends here, if there is anything in it.
+    fn end_item(&mut self, text: &[u8]) -> Option<Piece> {
+        let item = Piece {
+            from: self.from,
+            to: self.at,
+        }
+        .trimmed(text);
+        self.from = self.at.saturating_add(1);
+        if item.from < item.to {
+            Some(item)
+        } else {
+            None
         }
     }
-    Ok(found)
 }
 
 /// The item of this number of a list.
@@ -199,33 +210,79 @@ const MOST_MEMBERS: usize = 128;
 
 /// The members of an object; of those with equal names the first and the last, and of the others no more than
 /// an object can have beside a strange one.
-pub fn members(alloc: Global, text: &[u8], whole: Piece) -> Result<Vec<Member>, AllocError> {
-    let mut found = Vec::new(alloc);
-    let mut walk = ItemWalk::of(whole);
-    for byte in whole.of(text) {
-        if let Some(item) = walk.past(text, *byte) {
-            keep_member(text, &mut found, member_in(text, item))?;
-        }
-    }
-    Ok(found)
+#[derive(Clone, Copy)]
+pub struct Members {
+    kept: [Member; MOST_MEMBERS],
+    count: usize,
 }
 
-/// Keeps one more member, in place of the last one of its name, if that is not the first one.
-fn keep_member(text: &[u8], found: &mut Vec<Member>, member: Member) -> Result<(), AllocError> {
-    let mut is_known = false;
-    for other in found.iter_mut() {
-        if other.name.of(text) == member.name.of(text) {
-            if is_known {
-                *other = member;
-                return Ok(());
+/// A piece with nothing in it.
+const NOTHING: Piece = Piece { from: 0, to: 0 };
+
+impl Members {
+    /// Those of this object.
+    pub fn of(text: &[u8], whole: Piece) -> Members {
+        let none = Member {
+            name: NOTHING,
+            value: NOTHING,
+        };
+        let mut found = Members {
+            kept: [none; MOST_MEMBERS],
+            count: 0,
+        };
+        found.keep_all(text, whole);
+        found
+    }
+
+    /// Keeps those of this object.
+    fn keep_all(&mut self, text: &[u8], whole: Piece) {
+        let mut walk = ItemWalk::of(whole);
+        for byte in whole.of(text) {
+            if let Some(item) = walk.past(text, *byte) {
+                self.keep(text, member_in(text, item));
             }
-            is_known = true;
         }
     }
-    if found.len() < MOST_MEMBERS {
-        found.push(member)?;
+
+    /// Keeps one more member, in place of the last one of its name, if that is not the first one.
+    fn keep(&mut self, text: &[u8], member: Member) {
+        let place = self.place_for(text, member.name);
+        if let Some(slot) = self.kept.get_mut(place) {
+            *slot = member;
+            self.count = self.count.max(place.saturating_add(1));
+        }
     }
-    Ok(())
+
+    /// The place of the last member of this name, if that is not the first one; else the next place.
+    fn place_for(&self, text: &[u8], name: Piece) -> usize {
+        let mut is_known = false;
+        for (place, other) in self.as_slice().iter().enumerate() {
+            if other.name.of(text) == name.of(text) {
+                if is_known {
+                    return place;
+                }
+                is_known = true;
+            }
+        }
+        self.count
+    }
+
+    /// They.
+    pub fn as_slice(&self) -> &[Member] {
+        let (kept, _) = self.kept.split_at(self.count.min(MOST_MEMBERS));
+        kept
+    }
+
+    /// The last member of this name: it is the one that counts.
+    pub fn named(&self, text: &[u8], name: &str) -> Option<Member> {
+        let mut last = None;
+        for member in self.as_slice() {
+            if member.name.of(text) == name.as_bytes() {
+                last = Some(*member);
+            }
+        }
+        last
+    }
 }
 
 /// The member that an item of an object is.
@@ -251,15 +308,6 @@ pub fn member_in(text: &[u8], item: Piece) -> Member {
         name: name.trimmed(text).inner(),
         value: value.trimmed(text),
     }
-}
-
-/// The last member of this name: it is the one that counts.
-pub fn named(text: &[u8], members: &[Member], name: &str) -> Option<Member> {
-    members
-        .iter()
-        .rev()
-        .find(|member| member.name.of(text) == name.as_bytes())
-        .copied()
 }
 
 /// The line and the column of a byte, both from 1; a column is a character.

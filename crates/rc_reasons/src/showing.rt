@@ -3,7 +3,7 @@
 use crate::names::nearest;
 use crate::pieces::{Piece, line_and_column};
 use rc_pen::{Pen, Piece as Told};
-use std::alloc::{AllocError, Global};
+use std::alloc::Global;
 
 /// How many characters of a value are shown.
 const SHOWN: usize = 40;
@@ -19,16 +19,21 @@ pub(crate) fn tell_place(pen: &mut Pen, text: &[u8], at: usize) {
 
 /// Shows a piece of the text, or the front of it.
 pub(crate) fn show(pen: &mut Pen, text: &[u8], piece: Piece) {
-    let characters = piece.text(text);
-    for character in characters.chars().take(SHOWN) {
-        pen.letter(if character.is_control() {
-            ' '
-        } else {
-            character
-        });
+    for (place, character) in piece.text(text).chars().enumerate() {
+        if place == SHOWN {
+            pen.say("..");
+            return;
+        }
+        pen.letter(shown(character));
     }
-    if characters.chars().nth(SHOWN).is_some() {
-        pen.say("..");
+}
+
+/// The character, or a blank in place of one that moves the pen.
+fn shown(character: char) -> char {
+    if character.is_control() {
+        ' '
+    } else {
+        character
     }
 }
 
@@ -39,19 +44,11 @@ pub(crate) fn show_quoted(pen: &mut Pen, text: &[u8], piece: Piece) {
     pen.say("\"");
 }
 
-/// A name, between quotes.
-pub(crate) fn tell_quoted(pen: &mut Pen, name: &str) {
-    pen.say("\"");
-    pen.say(name);
-    pen.say("\"");
-}
-
 /// These names, with commas.
-pub(crate) fn tell_names(pen: &mut Pen, before: &str, names: &[&str]) {
+pub(crate) fn tell_names(pen: &mut Pen, before: &str, names: &[&'static str]) {
     pen.say(before);
     for (number, name) in names.iter().enumerate() {
-        pen.either(number == 0, " ", ", ");
-        pen.say(name);
+        pen.say_all("% |, |%", &[Told::Flag(number == 0), Told::Words(name)]);
     }
 }
 
@@ -60,13 +57,17 @@ pub(crate) fn ask_for_nearest(
     alloc: Global,
     pen: &mut Pen,
     spelt: &str,
-    names: &[&str],
-) -> Result<bool, AllocError> {
-    let Some(near) = nearest(alloc, spelt, names)? else {
-        return Ok(false);
-    };
-    pen.say("; did you mean ");
-    tell_quoted(pen, near);
-    pen.say("?");
-    Ok(true)
+    names: &[&'static str],
+) -> bool {
+    match nearest(alloc, spelt, names) {
+        Ok(Some(near)) => {
+            pen.say_all("; did you mean \"%\"?", &[Told::Words(near)]);
+            true
+        }
+        Ok(None) => false,
+        Err(error) => {
+            pen.take(Err(error));
+            true
+        }
+    }
 }

@@ -3,7 +3,7 @@
 use crate::dialects::Dialect;
 use crate::faults::item_of;
 use crate::histories::{History, Host};
-use crate::pieces::{Piece, members, named};
+use crate::pieces::{Members, Piece};
 use crate::showing::tell_place;
 use crate::values::unquoted;
 use rc_pen::{Pen, Piece as Told, Spelling};
@@ -21,63 +21,42 @@ pub fn reason_of_stop(
     sent: usize,
 ) -> Result<String, AllocError> {
     let mut pen = Pen::new(alloc, Spelling::Plain);
-    let told = tell_event(alloc, text, number, &mut pen);
-    pen.take(told);
-    let told = tell_stop(alloc, text, number, sent, &mut pen);
-    pen.take(told);
+    tell_event(text, number, &mut pen);
+    tell_stop(alloc, text, number, sent, &mut pen);
     pen.say("\n`ramseg explain F18` says more.\n");
     pen.end()
 }
 
 /// Names the event, and where it stands.
-fn tell_event(alloc: Global, text: &[u8], number: usize, pen: &mut Pen) -> Result<(), AllocError> {
-    match item_of(alloc, Dialect::Scenario, text, number)? {
-        Some(whole) => tell_kind(alloc, text, number, whole, pen),
-        None => {
-            pen.say_all("event %: ", &[Told::Size(number)]);
-            Ok(())
-        }
+fn tell_event(text: &[u8], number: usize, pen: &mut Pen) {
+    match item_of(Dialect::Scenario, text, number) {
+        Some(whole) => tell_kind(text, number, whole, pen),
+        None => pen.say_all("event %: ", &[Told::Size(number)]),
     }
 }
 
 /// Names the event that stands here.
-fn tell_kind(
-    alloc: Global,
-    text: &[u8],
-    number: usize,
-    whole: Piece,
-    pen: &mut Pen,
-) -> Result<(), AllocError> {
-    let found = members(alloc, text, whole)?;
-    let kind = match named(text, found.as_slice(), "e") {
-        Some(member) => unquoted(member.value.text(text)).unwrap_or(""),
-        None => "",
-    };
+fn tell_kind(text: &[u8], number: usize, whole: Piece, pen: &mut Pen) {
     tell_place(pen, text, whole.from);
     pen.say_all("event % (", &[Told::Size(number)]);
-    pen.say(kind);
+    pen.say(kind_of(text, whole));
     pen.say("): ");
-    Ok(())
+}
+
+/// The kind of an event.
+fn kind_of(text: &[u8], whole: Piece) -> &str {
+    match Members::of(text, whole).named(text, "e") {
+        Some(member) => unquoted(member.value.text(text)).unwrap_or(""),
+        None => "",
+    }
 }
 
 /// Says why the event of this number was not possible.
-fn tell_stop(
-    alloc: Global,
-    text: &[u8],
-    number: usize,
-    sent: usize,
-    pen: &mut Pen,
-) -> Result<(), AllocError> {
+fn tell_stop(alloc: Global, text: &[u8], number: usize, sent: usize, pen: &mut Pen) {
     match read_scenario(alloc, text) {
-        Ok(scenario) => {
-            tell_stop_in(scenario.events.as_slice(), number, sent, pen);
-            Ok(())
-        }
-        Err(ReadFault::OutOfMemory) => Err(AllocError),
-        Err(ReadFault::BadScenario(_)) => {
-            pen.say("it is not possible");
-            Ok(())
-        }
+        Ok(scenario) => tell_stop_in(scenario.events.as_slice(), number, sent, pen),
+        Err(ReadFault::OutOfMemory) => pen.take(Err(AllocError)),
+        Err(ReadFault::BadScenario(_)) => pen.say("it is not possible"),
     }
 }
 

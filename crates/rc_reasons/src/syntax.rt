@@ -12,29 +12,26 @@ use std::alloc::{AllocError, Global};
 const MAX_DEPTH: usize = 127;
 
 /// Why the bytes are no JSON text.
-pub(crate) fn tell_text_fault(
-    alloc: Global,
-    dialect: Dialect,
-    text: &[u8],
-    pen: &mut Pen,
-) -> Result<(), AllocError> {
+pub(crate) fn tell_text_fault(alloc: Global, dialect: Dialect, text: &[u8], pen: &mut Pen) {
     if text.len() > MOST_BYTES {
         tell_too_long(dialect, pen);
-        return Ok(());
-    }
-    if Piece::all(text).of(text).is_empty() {
+    } else if Piece::all(text).of(text).is_empty() {
         pen.say_all(
             "the input is empty; expected an object, as %",
             &[Told::Words(dialect.example())],
         );
-        return Ok(());
+    } else {
+        tell_bytes_fault(alloc, text, pen);
     }
+}
+
+/// Why bytes are no JSON text.
+fn tell_bytes_fault(alloc: Global, text: &[u8], pen: &mut Pen) {
     match std::str::from_utf8(text) {
         Ok(characters) => tell_json_fault(alloc, text, characters, pen),
         Err(error) => {
             tell_place(pen, text, error.valid_up_to());
             pen.say("the bytes are not UTF-8 from here on");
-            Ok(())
         }
     }
 }
@@ -48,21 +45,15 @@ fn tell_too_long(dialect: Dialect, pen: &mut Pen) {
 }
 
 /// Why characters are no JSON text.
-fn tell_json_fault(
-    alloc: Global,
-    text: &[u8],
-    characters: &str,
-    pen: &mut Pen,
-) -> Result<(), AllocError> {
+fn tell_json_fault(alloc: Global, text: &[u8], characters: &str, pen: &mut Pen) {
     match Value::from_str(alloc, characters) {
         Ok(_) => pen.say("the bytes are no JSON text"),
-        Err(error) if error.is_memory() => return Err(AllocError),
+        Err(error) if error.is_memory() => pen.take(Err(AllocError)),
         Err(error) if error.is_eof() => {
             pen.say("the text ends before all of its quotes and brackets are closed");
         }
         Err(error) => tell_guess(text, error.line(), error.column(), pen),
     }
-    Ok(())
 }
 
 /// What may be wrong at this line and this column, both from 1, where a column is a byte.

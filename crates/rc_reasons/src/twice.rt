@@ -14,73 +14,62 @@ const MOST_BYTES: usize = 65_536;
 /// nothing. Fails only where memory was refused.
 pub fn hint_of_twice(alloc: Global, dialect: Dialect, text: &[u8]) -> Result<String, AllocError> {
     let mut pen = Pen::new(alloc, Spelling::Plain);
-    if text.len() <= MOST_BYTES {
-        let told = tell_twice_in(alloc, dialect, text, &mut pen);
-        pen.take(told);
+    if text.len() <= MOST_BYTES && !tell_twice(alloc, text, Piece::all(text), &mut pen) {
+        if let Some(list) = list_of(dialect, text) {
+            tell_twice_in_items(alloc, text, list, &mut pen);
+        }
     }
     pen.end()
 }
 
-/// Tells of the first member that comes twice in the outermost object or in an item of the list.
-fn tell_twice_in(
-    alloc: Global,
-    dialect: Dialect,
-    text: &[u8],
-    pen: &mut Pen,
-) -> Result<(), AllocError> {
-    if tell_twice(alloc, text, Piece::all(text), pen)? {
-        return Ok(());
-    }
-    tell_twice_in_list(alloc, dialect, text, pen)
-}
-
-/// Tells of the first item in which a member comes twice.
-fn tell_twice_in_list(
-    alloc: Global,
-    dialect: Dialect,
-    text: &[u8],
-    pen: &mut Pen,
-) -> Result<(), AllocError> {
-    match list_of(alloc, dialect, text)? {
-        Some(list) => tell_twice_in_items(alloc, text, list, pen),
-        None => Ok(()),
-    }
-}
-
 /// Tells of the first item of this list in which a member comes twice.
-fn tell_twice_in_items(
-    alloc: Global,
-    text: &[u8],
-    list: Piece,
-    pen: &mut Pen,
-) -> Result<(), AllocError> {
+fn tell_twice_in_items(alloc: Global, text: &[u8], list: Piece, pen: &mut Pen) {
     let mut walk = ItemWalk::of(list);
     for byte in list.of(text) {
         if let Some(item) = walk.past(text, *byte) {
-            if tell_twice(alloc, text, item, pen)? {
-                break;
+            if tell_twice(alloc, text, item, pen) {
+                return;
             }
         }
     }
-    Ok(())
 }
 
 /// Tells of the first member of this object that comes twice, and gives whether one does.
-fn tell_twice(alloc: Global, text: &[u8], whole: Piece, pen: &mut Pen) -> Result<bool, AllocError> {
-    let Some(member) = second(alloc, text, whole)? else {
-        return Ok(false);
-    };
+fn tell_twice(alloc: Global, text: &[u8], whole: Piece, pen: &mut Pen) -> bool {
+    match second(alloc, text, whole) {
+        Ok(Some(member)) => {
+            tell_second(text, &member, pen);
+            true
+        }
+        Ok(None) => false,
+        Err(error) => {
+            pen.take(Err(error));
+            true
+        }
+    }
+}
+
+/// Tells of a member that comes twice.
+fn tell_second(text: &[u8], member: &Member, pen: &mut Pen) {
     pen.say("hint: ");
     tell_place(pen, text, member.name.from.saturating_sub(1));
     pen.say("the member ");
     show_quoted(pen, text, member.name);
     pen.say(" comes twice in this object; the last one counts\n");
-    Ok(true)
 }
 
 /// The first member of this object whose name stands before it already.
 fn second(alloc: Global, text: &[u8], whole: Piece) -> Result<Option<Member>, AllocError> {
     let mut found = Vec::new(alloc);
+    second_in(text, whole, &mut found)
+}
+
+/// The first member of this object whose name stands before it already; those before it are added to these.
+fn second_in(
+    text: &[u8],
+    whole: Piece,
+    found: &mut Vec<Member>,
+) -> Result<Option<Member>, AllocError> {
     let mut walk = ItemWalk::of(whole);
     for byte in whole.of(text) {
         if let Some(item) = walk.past(text, *byte) {
@@ -96,7 +85,10 @@ fn second(alloc: Global, text: &[u8], whole: Piece) -> Result<Option<Member>, Al
 
 /// Whether one of these members has this one's name.
 fn has_name(text: &[u8], found: &[Member], member: &Member) -> bool {
-    found
-        .iter()
-        .any(|other| other.name.of(text) == member.name.of(text))
+    for other in found {
+        if other.name.of(text) == member.name.of(text) {
+            return true;
+        }
+    }
+    false
 }

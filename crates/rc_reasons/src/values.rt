@@ -1,9 +1,8 @@
 //! What a member has to be, and where a value is something else.
 
 use crate::dialects::MESSAGES;
-use crate::pieces::{Piece, items};
+use crate::pieces::{ItemWalk, Piece, item};
 use rc_pen::{Pen, Piece as Told};
-use std::alloc::{AllocError, Global};
 
 /// What a value has to be.
 #[derive(Clone, Copy)]
@@ -53,20 +52,34 @@ impl Want {
             "format" if kind == "events" => Want::Whole(1, 2),
             "format" => Want::Whole(1, 1),
             "host" => Want::Host,
-            "kept" => Want::Kept,
             "id" if kind == "tick" => Want::Addr,
             "id" | "to" | "owner" | "from" | "of" => Want::Id,
             "value" => Want::Value,
+            "free" => Want::Flag,
+            _ => Want::of_list(member),
+        }
+    }
+
+    /// What the member of this name has to be that may be a list, else a number.
+    fn of_list(member: &str) -> Want {
+        match member {
+            "kept" => Want::Kept,
             "kinds" => Want::Names,
             "hosts" => Want::Hosts,
-            "factor" => Want::Whole(1, 5),
-            "segment" => Want::Whole(1, 1_024),
             "factors" => Want::Factors,
-            "free" => Want::Flag,
             "events" | "messages" => Want::List,
-            "seg" => Want::Whole(0, 65_535),
             "rows" => Want::Rows,
             "entries" => Want::Entries,
+            _ => Want::of_number(member),
+        }
+    }
+
+    /// What the member of this name has to be that is a number.
+    fn of_number(member: &str) -> Want {
+        match member {
+            "factor" => Want::Whole(1, 5),
+            "segment" => Want::Whole(1, 1_024),
+            "seg" => Want::Whole(0, 65_535),
             "key" | "at" | "lo" | "hi" | "version" => LONG,
             _ => WORD,
         }
@@ -154,115 +167,118 @@ pub struct Wrong {
 }
 
 /// What is wrong with a value, if it isn't what it has to be.
-pub fn wrong_in(
-    alloc: Global,
-    text: &[u8],
-    value: Piece,
-    want: Want,
-) -> Result<Option<Wrong>, AllocError> {
-    let whole = Wrong {
+pub fn wrong_in(text: &[u8], value: Piece, want: Want) -> Option<Wrong> {
+    match (want, want.item()) {
+        (Want::List, _) if value.first(text) == b'[' => None,
+        (Want::List, _) => Some(wrong_whole(value, want)),
+        (_, None) => wrong_item(text, value, want),
+        (_, Some(item)) if value.first(text) == b'[' => wrong_items(text, value, want, item),
+        _ => Some(wrong_whole(value, want)),
+    }
+}
+
+/// A value that is wrong from its beginning.
+fn wrong_whole(value: Piece, want: Want) -> Wrong {
+    Wrong {
         at: value.from,
         shown: value,
         want,
-    };
-    if let Want::List = want {
-        return Ok(if value.first(text) == b'[' {
-            None
-        } else {
-            Some(whole)
-        });
     }
-    let Some(item) = want.item() else {
-        return wrong_item(alloc, text, value, want);
-    };
-    if value.first(text) != b'[' {
-        return Ok(Some(whole));
-    }
-    let found = items(alloc, text, value)?;
-    for part in &found {
-        if let Some(wrong) = wrong_item(alloc, text, *part, item)? {
-            return Ok(Some(wrong));
+}
+
+/// What is wrong with a list of such items.
+fn wrong_items(text: &[u8], value: Piece, want: Want, item: Want) -> Option<Wrong> {
+    let mut count = 0usize;
+    let mut walk = ItemWalk::of(value);
+    for byte in value.of(text) {
+        if let Some(part) = walk.past(text, *byte) {
+            let wrong = wrong_item(text, part, item);
+            if wrong.is_some() {
+                return wrong;
+            }
+            count = count.saturating_add(1);
         }
     }
-    Ok(if found.len() > want.most_items() {
-        Some(whole)
+    if count > want.most_items() {
+        Some(wrong_whole(value, want))
     } else {
         None
-    })
+    }
 }
 
 /// What is wrong with a value that is to be no list of any length.
-fn wrong_item(
-    alloc: Global,
-    text: &[u8],
-    value: Piece,
-    want: Want,
-) -> Result<Option<Wrong>, AllocError> {
+fn wrong_item(text: &[u8], value: Piece, want: Want) -> Option<Wrong> {
     let at = match want {
-        Want::Replica | Want::Row | Want::Entry => wrong_list(alloc, text, value, want.parts())?,
-        _ => wrong_part(alloc, text, value, want)?,
+        Want::Replica | Want::Row | Want::Entry => wrong_list(text, value, want.parts()),
+        _ => wrong_part(text, value, want),
     };
-    Ok(at.map(|at| Wrong {
-        at,
-        shown: value,
-        want,
-    }))
+    match at {
+        Some(at) => Some(Wrong {
+            at,
+            shown: value,
+            want,
+        }),
+        None => None,
+    }
 }
 
 /// Where a list of these parts is wrong, if it is.
-fn wrong_list(
-    alloc: Global,
-    text: &[u8],
-    value: Piece,
-    parts: &[Want],
-) -> Result<Option<usize>, AllocError> {
+fn wrong_list(text: &[u8], value: Piece, parts: &[Want]) -> Option<usize> {
     if value.first(text) != b'[' {
-        return Ok(Some(value.from));
+        return Some(value.from);
     }
-    let found = items(alloc, text, value)?;
-    for (part, want) in found.iter().zip(parts) {
-        if let Some(at) = wrong_part(alloc, text, *part, *want)? {
-            return Ok(Some(at));
+    for (number, want) in parts.iter().enumerate() {
+        let wrong = match item(text, value, number) {
+            Some(part) => wrong_part(text, part, *want),
+            None => Some(value.from),
+        };
+        if wrong.is_some() {
+            return wrong;
         }
     }
-    Ok(if found.len() == parts.len() {
-        None
-    } else {
-        Some(value.from)
-    })
+    wrong_rest(text, value, parts.len())
+}
+
+/// Where a list is wrong that has more than so many items.
+fn wrong_rest(text: &[u8], value: Piece, count: usize) -> Option<usize> {
+    match item(text, value, count) {
+        Some(_) => Some(value.from),
+        None => None,
+    }
 }
 
 /// Where an id or a simple value is wrong, if it is.
-fn wrong_part(
-    alloc: Global,
-    text: &[u8],
-    value: Piece,
-    want: Want,
-) -> Result<Option<usize>, AllocError> {
+fn wrong_part(text: &[u8], value: Piece, want: Want) -> Option<usize> {
     match want {
-        Want::Addr if value.text(text) == "\"c\"" => Ok(None),
-        Want::Id | Want::Addr => wrong_id(alloc, text, value),
-        _ if is_simple(value.text(text), want) => Ok(None),
-        _ => Ok(Some(value.from)),
+        Want::Addr if value.text(text) == "\"c\"" => None,
+        Want::Id | Want::Addr => wrong_id(text, value),
+        _ if is_simple(value.text(text), want) => None,
+        _ => Some(value.from),
     }
 }
 
 /// Where an id is wrong, if it is.
-fn wrong_id(alloc: Global, text: &[u8], value: Piece) -> Result<Option<usize>, AllocError> {
+fn wrong_id(text: &[u8], value: Piece) -> Option<usize> {
     if value.first(text) != b'[' {
-        return Ok(Some(value.from));
+        return Some(value.from);
     }
-    let found = items(alloc, text, value)?;
-    let [index, generation] = found.as_slice() else {
-        return Ok(Some(value.from));
-    };
+    match (item(text, value, 0), item(text, value, 1)) {
+        (Some(index), Some(generation)) if item(text, value, 2).is_none() => {
+            wrong_pair(text, index, generation)
+        }
+        _ => Some(value.from),
+    }
+}
+
+/// Where an id of these two is wrong, if it is.
+fn wrong_pair(text: &[u8], index: Piece, generation: Piece) -> Option<usize> {
     if !is_simple(index.text(text), Want::Host) {
-        return Ok(Some(index.from));
+        return Some(index.from);
     }
     if !is_simple(generation.text(text), Want::Whole(1, u64::from(u32::MAX))) {
-        return Ok(Some(generation.from));
+        return Some(generation.from);
     }
-    Ok(None)
+    None
 }
 
 /// Whether a value without parts is what it has to be.
@@ -273,36 +289,61 @@ fn is_simple(value: &str, want: Want) -> bool {
         Want::Flag => value == "true" || value == "false",
         Want::Value => value == "null" || value.starts_with('"'),
         Want::Hex => value == "null" || is_hex(value),
-        Want::Name => MESSAGES.iter().any(|name| unquoted(value) == Some(*name)),
+        Want::Name => is_name(unquoted(value).unwrap_or("")),
         _ => true,
     }
 }
 
+/// Whether this is the name of a message's body.
+fn is_name(value: &str) -> bool {
+    for name in &MESSAGES {
+        if *name == value {
+            return true;
+        }
+    }
+    false
+}
+
 /// Whether the value is written with digits alone, and says a number of this range.
 fn is_whole(value: &str, least: u64, most: u64) -> bool {
-    if !value.bytes().all(|byte| byte.is_ascii_digit()) {
-        return false;
-    }
     match value.parse::<u64>() {
-        Ok(number) => least <= number && number <= most,
+        Ok(number) => least <= number && number <= most && has_digits_alone(value),
         Err(_) => false,
     }
+}
+
+/// Whether the value is written with digits alone.
+fn has_digits_alone(value: &str) -> bool {
+    for byte in value.as_bytes() {
+        if !byte.is_ascii_digit() {
+            return false;
+        }
+    }
+    true
 }
 
 /// Whether the value is a text of pairs of small hexadecimal digits.
 fn is_hex(value: &str) -> bool {
     match unquoted(value) {
-        Some(digits) => {
-            digits.len() % 2 == 0
-                && digits
-                    .bytes()
-                    .all(|byte| matches!(byte, b'0'..=b'9' | b'a'..=b'f'))
-        }
+        Some(digits) => digits.len() % 2 == 0 && has_hex_alone(digits),
         None => false,
     }
 }
 
+/// Whether these are small hexadecimal digits alone.
+fn has_hex_alone(digits: &str) -> bool {
+    for byte in digits.as_bytes() {
+        if !matches!(byte, b'0'..=b'9' | b'a'..=b'f') {
+            return false;
+        }
+    }
+    true
+}
+
 /// What stands between the quotes of a text.
 pub fn unquoted(value: &str) -> Option<&str> {
-    value.strip_prefix('"')?.strip_suffix('"')
+    match value.strip_prefix('"') {
+        Some(rest) => rest.strip_suffix('"'),
+        None => None,
+    }
 }
