@@ -1,9 +1,9 @@
 //! What a master has sent of its segments, and which of their replicas are open.
 
 use crate::replicas::Replica;
-use indexmap::IndexMap;
 use rc_types::{Seq, ServerId};
 use std::alloc::{AllocError, Global};
+use std::collections::HashMap;
 
 /// How many members a segment can have.
 const MEMBERS: usize = 5;
@@ -216,7 +216,7 @@ pub(crate) struct Log {
     /// Those that it has placed, from the first on.
     segments: Vec<Segment>,
     /// The version that was last appended, by table and key.
-    versions: IndexMap<(u32, u64), u64>,
+    versions: HashMap<(u32, u64), u64>,
 }
 
 impl Log {
@@ -225,7 +225,7 @@ impl Log {
         Log {
             alloc,
             segments: Vec::new(alloc),
-            versions: IndexMap::new(alloc),
+            versions: HashMap::new(alloc),
         }
     }
 

@@ -1,8 +1,8 @@
 //! What is known of recoveries: what was answered in their attempts, and the parts of their plans.
 
-use indexmap::IndexMap;
 use rc_types::{Pair, Part, Row, Seq, ServerId};
 use std::alloc::{AllocError, Global};
+use std::collections::HashMap;
 
 /// How many keys are looked at, those below.
 const KEYS: usize = 4;
@@ -65,8 +65,8 @@ impl Attempt {
 #[derive(Drop)]
 pub(crate) struct Recoveries {
     alloc: Global,
-    attempts: IndexMap<u32, Attempt>,
-    parts: IndexMap<u32, Given>,
+    attempts: HashMap<u32, Attempt>,
+    parts: HashMap<u32, Given>,
     table: u32,
     terms: [u32; KEYS],
     owners: [u64; KEYS],
@@ -77,8 +77,8 @@ impl Recoveries {
     pub(crate) fn new(alloc: Global) -> Recoveries {
         Recoveries {
             alloc,
-            attempts: IndexMap::new(alloc),
-            parts: IndexMap::new(alloc),
+            attempts: HashMap::new(alloc),
+            parts: HashMap::new(alloc),
             table: 0,
             terms: [0; KEYS],
             owners: [0; KEYS],

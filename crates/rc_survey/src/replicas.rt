@@ -1,9 +1,9 @@
 //! What backups have told of their replicas, and what they have freed.
 
 use crate::servers::Servers;
-use indexmap::IndexMap;
 use rc_types::{Seq, ServerId};
 use std::alloc::{AllocError, Global};
+use std::collections::HashMap;
 
 /// What a backup has told of a replica.
 #[derive(Clone, Copy)]
@@ -24,14 +24,14 @@ pub(crate) struct Restart {
 /// The segments that backups have freed.
 #[derive(Drop)]
 pub(crate) struct Freed {
-    segments: IndexMap<(ServerId, ServerId, u16), ()>,
+    segments: HashMap<(ServerId, ServerId, u16), ()>,
 }
 
 impl Freed {
     /// There are none.
     pub(crate) fn new(alloc: Global) -> Freed {
         Freed {
-            segments: IndexMap::new(alloc),
+            segments: HashMap::new(alloc),
         }
     }
 

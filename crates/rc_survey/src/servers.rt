@@ -2,9 +2,9 @@
 //! deposed, which list each was given, and what each has sent as a master.
 
 use crate::logs::{Log, Segment};
-use indexmap::IndexMap;
 use rc_types::{Pair, Part, ServerId};
 use std::alloc::{AllocError, Global};
+use std::collections::HashMap;
 use std::mem::replace;
 
 /// No pair is below it.
@@ -98,7 +98,7 @@ struct Host {
 pub(crate) struct Servers {
     alloc: Global,
     hosts: Vec<Host>,
-    fences: IndexMap<(ServerId, ServerId), ()>,
+    fences: HashMap<(ServerId, ServerId), ()>,
 }
 
 impl Servers {
@@ -107,7 +107,7 @@ impl Servers {
         Servers {
             alloc,
             hosts: Vec::new(alloc),
-            fences: IndexMap::new(alloc),
+            fences: HashMap::new(alloc),
         }
     }
 
