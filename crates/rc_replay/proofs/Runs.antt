@@ -1,7 +1,11 @@
 -- Events of a list that happen one after another.
-use Rattle.std.proofs.Common.{◌≡◌, ℕ, ◌+◌, ◌<◌, true, List, [], ◌∷◌, ◌++◌, length, take, get_or, sym, ap, subst, ◌∙◌}
+use Rattle.std.proofs.Common.{◌≡◌, ◌↔◌, ℕ, zero, suc, ◌+◌, ◌<◌, true, false}
+use Rattle.std.proofs.Common.{List, [], ◌∷◌, ◌++◌, Option, Some, length, take, get_or, slice_get, sym, ap, subst, ◌∙◌, arith}
+use Rattle.std.specs.Option.{IfSome}
 use Rattle.std.proofs.lemmas.List.{take_more}
 use Rattle.rc_types.specs.declared.events.Event.{Event}
+use Rattle.rc_types.specs.declared.faults.Fault.{Fault}
+use Rattle.rc_types.specs.declared.faults.Fault.TheVariants.{BadEvent}
 use Rattle.rc_world.specs.Happened.{Happened, with_events, can_happen, AllHappen}
 use Rattle.rc_world.proofs.Runs.{AllHappen-push, with_events-append}
 
@@ -19,3 +23,20 @@ run_more world now after events i event h is so_far all can gone_on =
     let can_so : can_happen (with_events world (take i events)) event ≡ true =
     subst (λ (w : Happened). can_happen w event ≡ true) so_far can in
     (rw longer same, rw longer (AllHappen-push world (take i events) event all can_so))
+
+found_at : (events : List Event) (i : ℕ) (event : Event) → i < length events → event ≡ get_or events i event →
+    slice_get events i ≡ Some event
+found_at [] i event h is = absurd (omega (arith, h))
+found_at (first ∷ events) zero event h is = ap Some (sym is)
+found_at (first ∷ events) (suc i) event h is = found_at events i event (omega (arith, h)) is
+
+-- an event that was refused just where it can not happen
+pub run_stopped : (world after : Happened) (events : List Event) (i : ℕ) (event : Event) (fault : Fault) → i < length events →
+    event ≡ get_or events i event → after ≡ world → (fault ≡ BadEvent → can_happen world event ≡ false) →
+    (can_happen world event ≡ false → fault ≡ BadEvent) →
+    (fault ≡ BadEvent) ↔ IfSome (slice_get events i) (λ e. can_happen after e ≡ false)
+run_stopped world after events i event fault h is same bars bad =
+    let found = found_at events i event h is in
+    let refuses = λ (o : Option Event). IfSome o (λ e. can_happen after e ≡ false) in
+    let can_not = λ (w : Happened). can_happen w event ≡ false in
+    (λ b. subst refuses (sym found) (subst can_not (sym same) (bars b)), λ c. bad (subst can_not same (subst refuses found c)))
