@@ -75,28 +75,46 @@ fn joined<A: Allocator + Clone>(
         (state.last_term ≡ last_term)) }
     ensures refused { IfErr result (λ fault. (tables ≡ Err fault) ⊎ (tree ≡ Err fault) ⊎ (recoveries ≡ Err fault)) }
 {
-    let Tables {
-        servers,
-        ready,
-        least,
-    } = match tables {
-        Ok(tables) => tables,
+    match all_of(tables, tree, recoveries) {
+        Ok((tables, tablets, recoveries)) => {
+            let Tables {
+                servers,
+                ready,
+                least,
+            } = tables;
+            Ok(State {
+                alloc,
+                servers,
+                ready,
+                tablets,
+                least,
+                recoveries,
+                last_term,
+            })
+        }
+        Err(fault) => Err(fault),
+    }
+}
+
+/// All three, where there are all, and else why one isn't there.
+fn all_of<X: Drop, Y: Drop, Z: Drop>(
+    first: Result<X, ListsFault>,
+    second: Result<Y, ListsFault>,
+    third: Result<Z, ListsFault>,
+) -> Result<(X, Y, Z), ListsFault>
+    ensures ok { IfOk result (λ all. (first ≡ Ok all.0) × (second ≡ Ok all.1) × (third ≡ Ok all.2)) }
+    ensures refused { IfErr result (λ fault. (first ≡ Err fault) ⊎ (second ≡ Err fault) ⊎ (third ≡ Err fault)) }
+{
+    let first = match first {
+        Ok(first) => first,
         Err(fault) => return Err(fault),
     };
-    let tablets = match tree {
-        Ok(tree) => tree,
+    let second = match second {
+        Ok(second) => second,
         Err(fault) => return Err(fault),
     };
-    match recoveries {
-        Ok(recoveries) => Ok(State {
-            alloc,
-            servers,
-            ready,
-            tablets,
-            least,
-            recoveries,
-            last_term,
-        }),
+    match third {
+        Ok(third) => Ok((first, second, third)),
         Err(fault) => Err(fault),
     }
 }

@@ -1,11 +1,16 @@
 -- Each change of a tree's root leaves a tree.
-use Rattle.std.proofs.Common.{◌≡◌, ℕ, ◌+◌, ◌<◌, ◌≤◌, false, List, length, Some, sym, ap, ◌∙◌, subst, arith}
+use Rattle.std.proofs.Common.{◌≡◌, ℕ, ◌+◌, ◌<◌, ◌≤◌, Bool, true, false, cond, nat_eq, List, length, Some, None, refl, sym}
+use Rattle.std.proofs.Common.{ap, ◌∙◌, subst, arith}
+use Rattle.std.proofs.lemmas.Bool.{eqb-false}
+use Rattle.rc_types.specs.declared.faults.Fault.{Fault}
+use Rattle.rc_types.specs.declared.faults.Fault.TheVariants.{BadSplit, TooManyTablets, Recovering}
 use Rattle.rc_model.specs.Model.{ServerId, Tablet, KeyRange, tablet_of, has_table, whole_table, with_table, marked_crashed, split_at}
 use Rattle.rc_model.specs.Model.{assigned, MAX_TABLETS}
 use Rattle.rc_rangetree.specs.declared.limits.TheConstants.{MAX_FORKS}
 use Rattle.rc_rangetree.specs.declared.nodes.Node.{Node}
 use Rattle.rc_rangetree.specs.Ranges.{AreInOrder, CoverTables}
 use Rattle.rc_rangetree.specs.Nodes.{leaves, forks_above, tree_at, node_depth, HasBounds, IsSearchTree, IsTree}
+use Rattle.rc_rangetree.specs.Refusals.{tablet_split_refusal}
 use Rattle.rc_rangetree.specs.Trees.{Tree}
 use Rattle.rc_rangetree.proofs.Covered.{in_order, covers_insert, covers_split, covers_marked, covers_assigned}
 use Rattle.rc_rangetree.proofs.Covered.{length-insert_tablet, length-split_at, length-marked_crashed, length-assigned}
@@ -64,3 +69,17 @@ tree_split {A} {root} {new} {count} table at tablet tree found inside room are b
     is_tree new (count + 1) _ are (covers_split _ table at tablet tree.tablets.covering found inside)
     (omega (arith, tree.counted, length-split_at (leaves root) table at tablet found))
     (omega (arith, tree.counted, tree.tablets.few, room)) bounds shallow
+
+none_of : (x y z : Fault) (a b c : Bool) → cond a (Some x) (cond b (Some y) (cond c (Some z) None)) ≡ None →
+    (a ≡ false) × (c ≡ false)
+none_of x y z true b c is = cc
+none_of x y z false true c is = cc
+none_of x y z false false true is = cc
+none_of x y z false false false is = (refl, refl)
+
+-- a tablet that may be split at a key begins before it or after it, and is one of fewer than there may be
+pub not_refused : (at count : ℕ) (tablet : Tablet) → tablet_split_refusal at count (Some tablet) ≡ None →
+    (tablet.lo ≡ at → ⊥) × (count ≡ MAX_TABLETS → ⊥)
+not_refused at count tablet is =
+    let none = none_of BadSplit Recovering TooManyTablets (nat_eq tablet.lo at) tablet.crashed (nat_eq count MAX_TABLETS) is in
+    (eqb-false _ _ none.0, eqb-false _ _ none.1)

@@ -1,9 +1,10 @@
 //! The tree's nodes. A node is searched from its forks' bounds; what it stands for are its leaves.
 
 ghost use Rattle.std.specs.Prelude.{◌≡◌, ℕ, ◌-◌, ◌<◌, ◌≤◌, ◌^◌, ◌∷◌, [], ◌++◌, length, slice_index, Some, Ok, is_ok};
-ghost use Rattle.std.specs.Prelude.{if◌then◌else◌, IfOk, OnOk, OnErr, false};
+ghost use Rattle.std.specs.Prelude.{if◌then◌else◌, IfOk, OnOk, OnErr, false, ◌+◌, max, map};
 ghost use Rattle.std.specs.List.{count_by};
 ghost use Rattle.rc_rangetree.specs.Nodes.{leaves, forks_above, node_depth, is_made, IsSearchTree, HasBounds};
+ghost use Rattle.rc_rangetree.specs.Points.{BeginsAt};
 ghost use Rattle.rc_rangetree.specs.Trees.{begins_by};
 ghost use Rattle.rc_model.specs.Tablets.{holds, tablet_of, has_table, tablets_of, insert_tablet, split_at, is_range};
 ghost use Rattle.rc_model.specs.Tablets.{has_range, assigned, marked_crashed, count_to_mark};
@@ -178,19 +179,39 @@ impl<A: Allocator> Node<A> {
     }
 }
 
+/// A fork of these two ends. Where no memory is left for both of them, it takes none.
+fn fork<A: Allocator + Clone>(
+    alloc: &A,
+    bound: Point,
+    left: Node<A>,
+    right: Node<A>,
+) -> Result<Node<A>, AllocError>
+    requires { BeginsAt bound (leaves right) × HasBounds left × HasBounds right × (0 < length (leaves left)) }
+    ensures list { IfOk result (λ node. leaves node ≡ leaves left ++ leaves right) }
+    ensures bounds { IfOk result (λ node. HasBounds node) }
+    ensures forks { IfOk result (λ node. forks_above node ≡ map (λ n. n + 1) (forks_above left ++ forks_above right)) }
+    ensures depth { IfOk result (λ node. node_depth node ≡ max (node_depth left) (node_depth right) + 1) }
+{
+    let left = Box::new(alloc.clone()?, left)?;
+    let right = Box::new(alloc.clone()?, right)?;
+    Ok(Node::Fork(bound, left, right))
+}
+
 /// A fork with these two tablets. Where no memory is left for both of its ends, it takes none.
-fn fork<A: Allocator + Clone>(alloc: &A, low: Tablet, high: Tablet) -> Result<Node<A>, AllocError>
+fn fork_of_two<A: Allocator + Clone>(
+    alloc: &A,
+    low: Tablet,
+    high: Tablet,
+) -> Result<Node<A>, AllocError>
     ensures tablets { IfOk result (λ node. leaves node ≡ low ∷ high ∷ []) }
     ensures bounds { IfOk result (λ node. HasBounds node) }
     ensures depth { IfOk result (λ node. node_depth node ≡ 1) }
 {
-    let left = Box::new(alloc.clone()?, Node::Leaf(low))?;
-    let right = Box::new(alloc.clone()?, Node::Leaf(high))?;
     let bound = Point {
         table: high.table,
         key: high.lo,
     };
-    Ok(Node::Fork(bound, left, right))
+    fork(alloc, bound, Node::Leaf(low), Node::Leaf(high))
 }
 
 /// The tree of these tablets in which no way down is longer than it has to be. Where no memory is
@@ -211,9 +232,9 @@ pub fn balanced<A: Allocator + Clone>(alloc: &A, tablets: &[Tablet]) -> Result<N
                 table: first.table,
                 key: first.lo,
             };
-            let left = Box::new(alloc.clone()?, balanced(alloc, &tablets[..middle])?)?;
-            let right = Box::new(alloc.clone()?, balanced(alloc, &tablets[middle..])?)?;
-            Ok(Node::Fork(bound, left, right))
+            let left = balanced(alloc, &tablets[..middle])?;
+            let right = balanced(alloc, &tablets[middle..])?;
+            fork(alloc, bound, left, right)
         }
     }
 }
@@ -256,12 +277,12 @@ impl<A: Allocator + Clone> Node<A> {
                 if room == 0 {
                     return Ok(false);
                 }
-                let other = *other;
-                *self = if tablet.table < other.table {
-                    fork(alloc, tablet, other)?
+                let (low, high) = if tablet.table < other.table {
+                    (tablet, *other)
                 } else {
-                    fork(alloc, other, tablet)?
+                    (*other, tablet)
                 };
+                *self = fork_of_two(alloc, low, high)?;
                 Ok(true)
             }
             Node::Fork(bound, left, right) => {
@@ -307,7 +328,7 @@ impl<A: Allocator + Clone> Node<A> {
                     ..tablet
                 };
                 let high = Tablet { lo: at, ..tablet };
-                *self = fork(alloc, low, high)?;
+                *self = fork_of_two(alloc, low, high)?;
                 Ok(true)
             }
             Node::Fork(bound, left, right) => {
@@ -394,9 +415,9 @@ impl<A: Allocator> Node<A> {
             Node::Empty => Ok(Node::Empty),
             Node::Leaf(tablet) => Ok(Node::Leaf(*tablet)),
             Node::Fork(bound, left, right) => {
-                let left = Box::new(alloc.clone()?, left.try_clone_in(alloc)?)?;
-                let right = Box::new(alloc.clone()?, right.try_clone_in(alloc)?)?;
-                Ok(Node::Fork(*bound, left, right))
+                let left = left.try_clone_in(alloc)?;
+                let right = right.try_clone_in(alloc)?;
+                fork(alloc, *bound, left, right)
             }
         }
     }

@@ -4,7 +4,7 @@ ghost use Rattle.std.specs.Prelude.{MatchBool};
 ghost use Rattle.rc_rangetree.specs.Points.{IsBefore, IsAtOrAfter};
 
 /// A key of a table. Points are ordered by table, and those of one table by key.
-#[derive(Clone, Copy, PartialEq, Eq, PartialOrd, Ord)]
+#[derive(Clone, Copy)]
 pub struct Point {
     /// The table.
     pub table: u32,
@@ -19,6 +19,6 @@ impl Point {
             (IsBefore self.table self.key other)
             (IsAtOrAfter self.table self.key other) }
     {
-        self < other
+        self.table < other.table || (self.table == other.table && self.key < other.key)
     }
 }

@@ -1,12 +1,12 @@
 //! The tree of all tablets.
 
-ghost use Rattle.std.specs.Prelude.{◌≡◌, ◌≤◌, ◌↔◌, false, [], is_some, OnOk, OnErr, IfOk, IfErr, Ok, Err};
+ghost use Rattle.std.specs.Prelude.{◌≡◌, ◌≤◌, ◌↔◌, false, [], is_some, OnOk, OnErr, IfOk, IfErr, Ok, Err, Some};
 ghost use Rattle.std.specs.Prelude.{if◌then◌else◌, length};
 ghost use Rattle.rc_types.specs.declared.faults.Fault.TheVariants.{OutOfMemory, NoTable};
 ghost use Rattle.rc_model.specs.Tablets.{tablet_of, has_table, tablets_of, with_table, marked_crashed, count_to_mark};
 ghost use Rattle.rc_model.specs.Tablets.{split_at, has_range, assigned};
 ghost use Rattle.rc_rangetree.specs.Ranges.{AreTablets};
-ghost use Rattle.rc_rangetree.specs.Refusals.{Answers, create_refusal, split_refusal};
+ghost use Rattle.rc_rangetree.specs.Refusals.{Answers, create_refusal, split_refusal, tablet_split_refusal};
 ghost use Rattle.rc_rangetree.specs.Trees.{depth, forks_passed};
 
 use crate::limits::MAX_FORKS;
@@ -199,15 +199,11 @@ impl<A: Allocator + Clone> RangeTree<A> {
         ensures no_table { (result ≡ Err NoTable) ↔ (has_table self.old.tablets table ≡ false) }
         ensures err { OnErr result (self.new ≡ self.old) }
     {
-        let tablet = self.find(table, at).ok_or(Fault::NoTable)?;
-        if tablet.lo == at {
-            return Err(Fault::BadSplit);
-        }
-        if tablet.crashed {
-            return Err(Fault::Recovering);
-        }
-        if self.count == MAX_TABLETS {
-            return Err(Fault::TooManyTablets);
+        let Some(tablet) = self.find(table, at) else {
+            return Err(Fault::NoTable);
+        };
+        if let Some(fault) = split_refusal(&tablet, at, self.count) {
+            return Err(fault);
         }
         self.root.split(&self.alloc, tablet, at, self.count)?;
         self.count += 1;
@@ -261,4 +257,20 @@ impl<A: Allocator + Clone> RangeTree<A> {
             count: self.count,
         })
     }
+}
+
+/// Why this tablet, one of so many, is not split at the key, if it is not.
+fn split_refusal(tablet: &Tablet, at: u64, count: usize) -> Option<Fault>
+    ensures { result ≡ tablet_split_refusal at count (Some tablet.now) }
+{
+    if tablet.lo == at {
+        return Some(Fault::BadSplit);
+    }
+    if tablet.crashed {
+        return Some(Fault::Recovering);
+    }
+    if count == MAX_TABLETS {
+        return Some(Fault::TooManyTablets);
+    }
+    None
 }
