@@ -6,7 +6,6 @@ use Rattle.rc_model.specs.World.{replay}
 use Rattle.rc_model.specs.Breach.{breach}
 use Rattle.rc_model.specs.Headline.{NothingIsDropped}
 use Rattle.rc_history.specs.Apart.{Step, sent_by, TakenApart}
-
 -- no list of events leads to a breach
 pub use Rattle.rc_owner_laws.specs.VersionClaims.{NoBreach}
 

@@ -12,8 +12,7 @@ use crate::answers::{Answer, ended};
 use crate::counted::Counted;
 use crate::simulating::write_answer;
 use crate::verdicts::{Output, SimFault, Verdict};
-use rc_study::{Exploration, Options};
-use rc_study::saved_events;
+use rc_study::{Exploration, Options, saved_events};
 use std::alloc::{AllocError, Global};
 use std::io::Write;
 
