@@ -7,8 +7,7 @@ use crate::node::Node;
 use crate::outcome::Counts;
 use crate::who::Who;
 use rc_codec::{DecodeFault, decode_message};
-use rc_types::{Addr, Fault, Message, Seq, ServerId, TryClone};
-use rc_world::NodeWork;
+use rc_types::{Addr, Fault, Message, NodeWork, Seq, ServerId, TryClone};
 use std::alloc::Global;
 
 /// How many hosts there are. They have the first places.

@@ -4,8 +4,7 @@ use crate::client::TABLE;
 use crate::cluster::{COORDINATOR, Cluster, HOSTS, OUTSIDE};
 use crate::outcome::Outcome;
 use rc_audit::audit;
-use rc_types::{Fault, ServerId};
-use rc_world::NodeWork;
+use rc_types::{Fault, NodeWork, ServerId};
 use std::alloc::Global;
 
 /// How many steps are drawn.

@@ -4,8 +4,8 @@ use crate::who::Who;
 use rc_codec::DecodeFault;
 use rc_keeping::{Role, keeps, read_back, write_down};
 use rc_saves::{SaveFault, load, save_into};
-use rc_types::{Fault, Message, ServerId};
-use rc_world::{NodeState, NodeWork, StepFault};
+use rc_types::{Fault, Message, NodeWork, ServerId};
+use rc_world::{NodeState, StepFault};
 use std::alloc::Global;
 
 /// A journal that has so many bytes behind its save is long.

@@ -16,7 +16,7 @@ use crate::state::State;
 use indexmap::IndexMap;
 use rc_attempts::Attempt;
 use rc_serverlist::ServerList;
-use rc_types::{Fault, Grant, Input, Message, Pair, ServerId, Tablet};
+use rc_types::{Fault, Grant, Message, NodeWork, Pair, ServerId, Tablet};
 use std::alloc::{Allocator, Global};
 use std::fmt;
 use std::marker::Model;
@@ -73,7 +73,7 @@ impl<A: Allocator + Clone> Coordinator<A> {
         self.state.has_room()
     }
 
-    /// Takes an input, and adds what follows to those sent.
+    /// Takes a work, and adds what follows to those sent.
     ///
     /// - An Enlist of an id that is up is answered by the list; that of its host's newest id takes it
     ///   in, spreads the list, and begins the recovery of an older generation that was up; another is
@@ -92,18 +92,18 @@ impl<A: Allocator + Clone> Coordinator<A> {
     /// # Errors
     ///
     /// `OutOfMemory` (F1): memory was refused. Then the coordinator and what was sent are as before.
-    pub fn step_into(&mut self, input: &Input, sent: &mut Vec<Message>) -> Result<(), Fault>
+    pub fn step_into(&mut self, work: &NodeWork, sent: &mut Vec<Message>) -> Result<(), Fault>
         requires { HasNumbers (coordinator_of self.old) }
-        ensures state { OnOk result (coordinator_of self.new ≡ (steps (coordinator_of self.old) input.now).0) }
-        ensures sends { OnOk result (sent.new.items ≡ sent.old.items ++ (steps (coordinator_of self.old) input.now).1) }
+        ensures state { OnOk result (coordinator_of self.new ≡ (steps (coordinator_of self.old) work.now).0) }
+        ensures sends { OnOk result (sent.new.items ≡ sent.old.items ++ (steps (coordinator_of self.old) work.now).1) }
         ensures err { OnErr result (self.new ≡ self.old) }
         ensures unsent { OnErr result (sent.new.items ≡ sent.old.items) }
         ensures no_memory { IfErr result (λ fault. fault ≡ OutOfMemory) }
     {
-        self.state.step_into(input, sent)
+        self.state.step_into(work, sent)
     }
 
-    /// Takes a message, as `step_into` does where it is the input. The message is not copied.
+    /// Takes a message, as `step_into` does with a delivery of it. The message is not copied.
     ///
     /// # Errors
     ///
@@ -121,20 +121,20 @@ impl<A: Allocator + Clone> Coordinator<A> {
         self.state.take(message.from, &message.body, sent)
     }
 
-    /// Takes an input, and gives what follows, as `step_into` does.
+    /// Takes a work, and gives what follows, as `step_into` does.
     ///
     /// # Errors
     ///
     /// `OutOfMemory` (F1): memory was refused. Then the coordinator is as before.
-    pub fn step(&mut self, input: &Input) -> Result<Vec<Message>, Fault>
+    pub fn step(&mut self, work: &NodeWork) -> Result<Vec<Message>, Fault>
         requires { HasNumbers (coordinator_of self.old) }
-        ensures state { OnOk result (coordinator_of self.new ≡ (steps (coordinator_of self.old) input.now).0) }
-        ensures sends { IfOk result (λ sent. sent.items ≡ (steps (coordinator_of self.old) input.now).1) }
+        ensures state { OnOk result (coordinator_of self.new ≡ (steps (coordinator_of self.old) work.now).0) }
+        ensures sends { IfOk result (λ sent. sent.items ≡ (steps (coordinator_of self.old) work.now).1) }
         ensures err { OnErr result (self.new ≡ self.old) }
         ensures no_memory { IfErr result (λ fault. fault ≡ OutOfMemory) }
     {
         let mut sent = Vec::new(self.state.alloc);
-        self.step_into(input, &mut sent)?;
+        self.step_into(work, &mut sent)?;
         Ok(sent)
     }
 }

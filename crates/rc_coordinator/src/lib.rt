@@ -3,7 +3,7 @@
 //! the words of the contracts are those of `rc_model`'s `Coordinator`, `Attempts`, `Deciding` and
 //! `CoordinatorStep`.
 //!
-//! To be read in this order: `coordinator`, the calls; `state`, which input is taken how; the rules by topic:
+//! To be read in this order: `coordinator`, the calls; `state`, which work is taken how; the rules by topic:
 //! `enlisting`, who is up; `deciding`, which log is chosen; `granting`, who owns what; `asking`, what the timer asks
 //! for again; `ready`, who has said so; `recoveries`, what is remembered of recoveries; `plans`, which tablet goes to
 //! whom; `grants`; `notices`, all other messages; `lists` and `making`, a coordinator of a save. Attempts and least

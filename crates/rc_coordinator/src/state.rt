@@ -1,4 +1,4 @@
-//! The coordinator's state, and which input it takes how.
+//! The coordinator's state, and which work it takes how.
 
 ghost use Rattle.std.specs.Prelude.{◌≡◌, ◌↔◌, ◌++◌, true, OnOk, OnErr, IfErr};
 ghost use Rattle.rc_types.specs.declared.faults.Fault.TheVariants.{OutOfMemory};
@@ -12,7 +12,7 @@ use crate::recoveries::Recoveries;
 use indexmap::IndexMap;
 use rc_rangetree::RangeTree;
 use rc_serverlist::ServerList;
-use rc_types::{Addr, Body, Fault, Input, Message, Pair, ServerId};
+use rc_types::{Addr, Body, Fault, Message, NodeWork, Pair, ServerId};
 use std::alloc::{Allocator, Global};
 
 /// What the coordinator knows. The tablets lie in memory of the allocator `A`.
@@ -52,24 +52,24 @@ impl<A: Allocator + Clone> State<A> {
             && (self.last_term as usize).saturating_add(self.tablets.count()) < u32::MAX as usize
     }
 
-    /// Takes an input, and adds what follows to those sent. Only memory can be refused (F1), and then
+    /// Takes a work, and adds what follows to those sent. Only memory can be refused (F1), and then
     /// nothing has changed.
-    pub(crate) fn step_into(&mut self, input: &Input, sent: &mut Vec<Message>) -> Result<(), Fault>
+    pub(crate) fn step_into(&mut self, work: &NodeWork, sent: &mut Vec<Message>) -> Result<(), Fault>
         requires { HasNumbers (state_view self.old) }
-        ensures state { OnOk result (state_view self.new ≡ (steps (state_view self.old) input.now).0) }
-        ensures sends { OnOk result (sent.new.items ≡ sent.old.items ++ (steps (state_view self.old) input.now).1) }
+        ensures state { OnOk result (state_view self.new ≡ (steps (state_view self.old) work.now).0) }
+        ensures sends { OnOk result (sent.new.items ≡ sent.old.items ++ (steps (state_view self.old) work.now).1) }
         ensures err { OnErr result (book_of self.new ≡ book_of self.old) }
         ensures unsent { OnErr result (sent.new.items ≡ sent.old.items) }
         ensures no_memory { IfErr result (λ fault. fault ≡ OutOfMemory) }
     {
-        match input {
-            Input::Message(message) => self.take(message.from, &message.body, sent),
-            Input::Tick => self.tick(sent),
-            Input::Suspect(id) => self.suspect(*id, sent),
-            Input::Decide(master) => self.decide(*master, sent),
-            Input::Create { table, owner } => self.create(*table, *owner, sent),
-            Input::Split { table, at } => self.split(*table, *at, sent),
-            Input::Stop | Input::Start(_) => Ok(()),
+        match work {
+            NodeWork::Deliver(message) => self.take(message.from, &message.body, sent),
+            NodeWork::Tick => self.tick(sent),
+            NodeWork::Suspect(id) => self.suspect(*id, sent),
+            NodeWork::Decide(master) => self.decide(*master, sent),
+            NodeWork::Create { table, owner } => self.create(*table, *owner, sent),
+            NodeWork::Split { table, at } => self.split(*table, *at, sent),
+            NodeWork::Ask { .. } | NodeWork::Stop | NodeWork::Start { .. } => Ok(()),
         }
     }
 

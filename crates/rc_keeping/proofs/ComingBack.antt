@@ -11,8 +11,8 @@ use Rattle.rc_history.specs.Nodes.{TheHost, TheCoordinator}
 use Rattle.rc_history.specs.Remade.{host_keeps, stopped, SameButMaster}
 use Rattle.rc_history.proofs.Remade.{hosts-remade}
 use Rattle.rc_world.specs.NodeView.{work_at, host_may, host_after_work}
-use Rattle.rc_world.specs.declared.work.NodeWork.{NodeWork}
-use Rattle.rc_world.specs.declared.work.NodeWork.TheVariants as work
+use Rattle.rc_types.specs.declared.events.NodeWork.{NodeWork}
+use Rattle.rc_types.specs.declared.events.NodeWork.TheVariants as work
 use Rattle.rc_keeping.specs.declared.keeping.Role.TheVariants.{Host, Coordinator as AsCoordinator}
 use Rattle.rc_keeping.specs.Keeping.{kept_as, host_next, host_given, coordinator_given}
 use Rattle.rc_keeping.specs.Keeping.{HostsComeBack, SavedHostsComeBack, CoordinatorsComeBack, RefusalsComeBack}

@@ -8,7 +8,7 @@ use Rattle.rc_codec.specs.Reading.{Fails}
 use Rattle.rc_codec.specs.declared.faults.DecodeFault.TheVariants.{Malformed}
 use Rattle.rc_codec.proofs.Lawful.{IsBytes, IsBytes-after}
 use Rattle.rc_codec.proofs.Promises.{is_prefix_free, refuses_so}
-use Rattle.rc_world.specs.declared.work.NodeWork.{NodeWork}
+use Rattle.rc_types.specs.declared.events.NodeWork.{NodeWork}
 use Rattle.rc_keeping.specs.Spelling.{record_of, journal_of}
 use Rattle.rc_keeping.specs.Readers.{record_at}
 use Rattle.rc_keeping.specs.Claims.{AreReadFrom, WrittenIsReadBack, CutGivesABeginning, WhatStandsBeforeIsRead}

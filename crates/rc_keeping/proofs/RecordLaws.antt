@@ -7,7 +7,7 @@ use Rattle.rc_codec.specs.Parts.{four_bytes, eight_bytes}
 use Rattle.rc_codec.specs.Reading.{◌>>=◌, ◌⊗◌}
 use Rattle.rc_codec.specs.Readers.{u32_at, u64_at}
 use Rattle.rc_codec.proofs.Lawful.{IsBytes, Lawful, bind_some, some_is, parts, pair_lawful, number_lawful}
-use Rattle.rc_world.specs.declared.work.NodeWork.{NodeWork}
+use Rattle.rc_types.specs.declared.events.NodeWork.{NodeWork}
 use Rattle.rc_keeping.specs.Spelling.{coded_work, sum_of, sealed, record_of}
 use Rattle.rc_keeping.specs.Readers.{coded_at, alone, alone_at, summed_at, sealed_at, record_at}
 use Rattle.rc_keeping.proofs.WorkLaws.{coded_work_law}

@@ -9,8 +9,8 @@ use Rattle.rc_codec.specs.Readers.{u32_at, u64_at, id_at, kept_at, body_at, mess
 use Rattle.rc_codec.proofs.Lawful.{IsBytes, Lawful, made_again, made_lawful, pair_lawful, number_lawful, listed_lawful, nothing_lawful}
 use Rattle.rc_codec.proofs.Lawful.{some_is, AreRight, kind_right, chosen_lawful, versioned_lawful}
 use Rattle.rc_codec.proofs.EachKind.{coded_message_law}
-use Rattle.rc_world.specs.declared.work.NodeWork.{NodeWork}
-use Rattle.rc_world.specs.declared.work.NodeWork.TheVariants as work
+use Rattle.rc_types.specs.declared.events.NodeWork.{NodeWork}
+use Rattle.rc_types.specs.declared.events.NodeWork.TheVariants as work
 use Rattle.rc_keeping.specs.Spelling.{work_code, coded_work}
 use Rattle.rc_keeping.specs.Readers.{works, node_work_at, coded_at}
 

@@ -2,7 +2,7 @@
 use Rattle.std.specs.Prelude.{◌≡◌, ℕ, List, ◌++◌, length, drop}
 use Rattle.rc_history.specs.Events.{StartsWith}
 use Rattle.rc_codec.specs.Claims.{BeginsWithNone}
-use Rattle.rc_world.specs.declared.work.NodeWork.{NodeWork}
+use Rattle.rc_types.specs.declared.events.NodeWork.{NodeWork}
 use Rattle.rc_keeping.specs.Spelling.{record_of, journal_of}
 
 -- these works are what the bytes have up to the first record that is damaged or cut short, and so many bytes are theirs

@@ -5,7 +5,7 @@ use Rattle.rc_model.specs.Nodes.{Work, HostNode}
 use Rattle.rc_history.specs.Nodes.{TheCoordinator, TheHost}
 use Rattle.rc_history.specs.Remade.{host_keeps, coordinator_keeps, SameButMaster}
 use Rattle.rc_world.specs.NodeView.{work_at, host_may, host_after_work, coordinator_may, coordinator_after_work}
-use Rattle.rc_world.specs.declared.work.NodeWork.{NodeWork}
+use Rattle.rc_types.specs.declared.events.NodeWork.{NodeWork}
 use Rattle.rc_keeping.specs.declared.keeping.Role.{Role}
 use Rattle.rc_keeping.specs.declared.keeping.Role.TheVariants.{Outside, Coordinator as AsCoordinator, Host}
 

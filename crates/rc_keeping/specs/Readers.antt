@@ -2,8 +2,8 @@
 use Rattle.std.specs.Prelude.{ℕ, List, [], ◌∷◌, length, take, drop, Option, Some, None, nat_eq, nat_lt, if◌then◌else◌}
 use Rattle.rc_codec.specs.Reading.{◌>>=◌, Reader, made, ◌⊗◌, nothing_at, listed_at}
 use Rattle.rc_codec.specs.Readers.{u32_at, u64_at, id_at, kept_at, body_at, message_at, chosen_at, versioned_at}
-use Rattle.rc_world.specs.declared.work.NodeWork.{NodeWork}
-use Rattle.rc_world.specs.declared.work.NodeWork.TheVariants as work
+use Rattle.rc_types.specs.declared.events.NodeWork.{NodeWork}
+use Rattle.rc_types.specs.declared.events.NodeWork.TheVariants as work
 use Rattle.rc_keeping.specs.Spelling.{sum_of}
 
 abbrev pub ask_at : Reader NodeWork

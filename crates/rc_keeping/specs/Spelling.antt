@@ -2,8 +2,8 @@
 use Rattle.std.specs.Prelude.{ℕ, ◌+◌, ◌*◌, ◌%◌, List, [], ◌∷◌, ◌++◌, length}
 use Rattle.rc_codec.specs.Parts.{four_bytes, eight_bytes, listed}
 use Rattle.rc_codec.specs.Spelling.{id_code, kept_code, body_code, message_code}
-use Rattle.rc_world.specs.declared.work.NodeWork.{NodeWork}
-use Rattle.rc_world.specs.declared.work.NodeWork.TheVariants as work
+use Rattle.rc_types.specs.declared.events.NodeWork.{NodeWork}
+use Rattle.rc_types.specs.declared.events.NodeWork.TheVariants as work
 
 -- the kind in one byte, and the fields in their order
 abbrev pub work_code : NodeWork → List ℕ

@@ -7,7 +7,7 @@ ghost use Rattle.rc_keeping.specs.Claims.{AreReadFrom};
 use crate::records::{put_sealed, take_record};
 use crate::works::encode_work;
 use rc_codec::DecodeFault;
-use rc_world::NodeWork;
+use rc_types::NodeWork;
 use std::alloc::{AllocError, Global};
 
 /// Adds the record of a work at the end of a journal. That it is safe there is for whoever keeps the journal.

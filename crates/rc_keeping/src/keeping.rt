@@ -6,8 +6,7 @@ ghost use Rattle.rc_history.specs.Remade.{changes_backup, host_keeps, coordinato
 ghost use Rattle.rc_world.specs.NodeView.{work_at};
 ghost use Rattle.rc_keeping.specs.Keeping.{kept_as};
 
-use rc_types::Body;
-use rc_world::NodeWork;
+use rc_types::{Body, NodeWork};
 
 /// What a node is.
 #[derive(Clone, Copy, Debug, PartialEq, Eq)]

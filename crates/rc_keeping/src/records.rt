@@ -8,7 +8,7 @@ ghost use Rattle.rc_keeping.specs.Readers.{alone_at, summed_at, sealed_at, recor
 
 use crate::works::take_coded;
 use rc_codec::{DecodeFault, Put, Take};
-use rc_world::NodeWork;
+use rc_types::NodeWork;
 use std::alloc::{AllocError, Global};
 
 /// Where a sum over bytes begins, so that no bytes at all do not have the sum 0.

@@ -9,8 +9,7 @@ ghost use Rattle.rc_keeping.specs.Spelling.{work_code, coded_work};
 ghost use Rattle.rc_keeping.specs.Readers.{ask_at, deliver_at, start_at, create_at, split_at, node_work_at, coded_at};
 
 use rc_codec::{DecodeFault, Put, Take};
-use rc_types::{Body, Message, Seq, ServerId};
-use rc_world::NodeWork;
+use rc_types::{Body, Message, NodeWork, Seq, ServerId};
 use std::alloc::{AllocError, Global};
 
 /// Adds the bytes of a work at the end of `out`.

@@ -1,18 +1,19 @@
--- What each input does to a master.
+-- What each work does to a master.
 use Rattle.std.specs.Prelude.{List, []}
-use Rattle.rc_types.specs.declared.events.Input.{Input}
-use Rattle.rc_types.specs.declared.events.Input.TheVariants as input
+use Rattle.rc_types.specs.declared.events.NodeWork.{NodeWork}
+use Rattle.rc_types.specs.declared.events.NodeWork.TheVariants as work
 use Rattle.rc_types.specs.declared.messages.Message.{Message}
 use Rattle.rc_model.specs.Master.{Master}
 use Rattle.rc_model.specs.MasterStep.{master_takes, master_ticks}
 
 -- what isn't a message or the timer is for other nodes, and does nothing here
-abbrev pub steps : Master → Input → Master × List Message
-steps master (input.Message message) = master_takes master message.from message.body
-steps master input.Tick = master_ticks master
-steps master input.Stop = (master, [])
-steps master (input.Start kept) = (master, [])
-steps master (input.Suspect id) = (master, [])
-steps master (input.Decide id) = (master, [])
-steps master (input.Create table owner) = (master, [])
-steps master (input.Split table at) = (master, [])
+abbrev pub steps : Master → NodeWork → Master × List Message
+steps master (work.Deliver message) = master_takes master message.from message.body
+steps master (work.Ask to body) = (master, [])
+steps master work.Tick = master_ticks master
+steps master work.Stop = (master, [])
+steps master (work.Start kept) = (master, [])
+steps master (work.Suspect id) = (master, [])
+steps master (work.Decide id) = (master, [])
+steps master (work.Create table owner) = (master, [])
+steps master (work.Split table at) = (master, [])

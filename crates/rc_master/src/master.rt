@@ -11,7 +11,7 @@ ghost use Rattle.rc_master.specs.Steps.{steps};
 
 use crate::state::State;
 use rc_headroll::LogHead;
-use rc_types::{Addr, Body, Fault, Input, Message, ServerId};
+use rc_types::{Addr, Body, Fault, Message, NodeWork, ServerId};
 use std::alloc::Global;
 use std::fmt;
 use std::marker::Model;
@@ -142,40 +142,40 @@ impl Master {
         self.state.tick(sent)
     }
 
-    /// Takes an input: a message or the timer. Another input is for other nodes, and does nothing.
+    /// Takes a work: a message or the timer. Another one is for other nodes, and does nothing.
     ///
     /// # Errors
     ///
     /// `OutOfMemory` (F1): memory was refused. Then the master and what was sent are as before.
-    pub fn step_into(&mut self, input: &Input, sent: &mut Vec<Message>) -> Result<(), Fault>
+    pub fn step_into(&mut self, work: &NodeWork, sent: &mut Vec<Message>) -> Result<(), Fault>
         requires { HasVersions (master_of self.old) }
-        ensures state { OnOk result (master_of self.new ≡ (steps (master_of self.old) input.now).0) }
-        ensures sends { OnOk result (sent.new.items ≡ sent.old.items ++ (steps (master_of self.old) input.now).1) }
+        ensures state { OnOk result (master_of self.new ≡ (steps (master_of self.old) work.now).0) }
+        ensures sends { OnOk result (sent.new.items ≡ sent.old.items ++ (steps (master_of self.old) work.now).1) }
         ensures err { OnErr result (master_of self.new ≡ master_of self.old) }
         ensures unsent { OnErr result (sent.new.items ≡ sent.old.items) }
         ensures no_memory { IfErr result (λ fault. fault ≡ OutOfMemory) }
     {
-        match input {
-            Input::Message(message) => self.take(message.from, &message.body, sent),
-            Input::Tick => self.tick(sent),
+        match work {
+            NodeWork::Deliver(message) => self.take(message.from, &message.body, sent),
+            NodeWork::Tick => self.tick(sent),
             _ => Ok(()),
         }
     }
 
-    /// Takes an input, and gives what follows, as `step_into` does.
+    /// Takes a work, and gives what follows, as `step_into` does.
     ///
     /// # Errors
     ///
     /// `OutOfMemory` (F1): memory was refused. Then the master is as before.
-    pub fn step(&mut self, input: &Input) -> Result<Vec<Message>, Fault>
+    pub fn step(&mut self, work: &NodeWork) -> Result<Vec<Message>, Fault>
         requires { HasVersions (master_of self.old) }
-        ensures state { OnOk result (master_of self.new ≡ (steps (master_of self.old) input.now).0) }
-        ensures sends { IfOk result (λ sent. sent.items ≡ (steps (master_of self.old) input.now).1) }
+        ensures state { OnOk result (master_of self.new ≡ (steps (master_of self.old) work.now).0) }
+        ensures sends { IfOk result (λ sent. sent.items ≡ (steps (master_of self.old) work.now).1) }
         ensures err { OnErr result (master_of self.new ≡ master_of self.old) }
         ensures no_memory { IfErr result (λ fault. fault ≡ OutOfMemory) }
     {
         let mut sent = Vec::new(self.state.alloc);
-        self.step_into(input, &mut sent)?;
+        self.step_into(work, &mut sent)?;
         Ok(sent)
     }
 }

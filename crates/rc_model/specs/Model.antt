@@ -9,7 +9,7 @@ pub use Rattle.rc_types.specs.Texts.{addr_text, id_text}
 pub use Rattle.rc_types.specs.declared.entries.Entry.{Entry}
 pub use Rattle.rc_types.specs.declared.events.Event.{Event}
 pub use Rattle.rc_types.specs.declared.events.Event.TheVariants.{Deliver}
-pub use Rattle.rc_types.specs.declared.events.Input.{Input}
+pub use Rattle.rc_types.specs.declared.events.NodeWork.{NodeWork}
 pub use Rattle.rc_types.specs.declared.events.Setup.{Setup}
 pub use Rattle.rc_types.specs.declared.faults.Code.{Code}
 pub use Rattle.rc_types.specs.declared.faults.Fault.{Fault}

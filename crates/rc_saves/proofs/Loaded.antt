@@ -9,8 +9,8 @@ use Rattle.rc_coordinator.specs.Book.{Book, coordinator_of}
 use Rattle.rc_world.specs.HostView.{HostData, host_of}
 use Rattle.rc_world.specs.HostParts.{HostParts, head_of, setup_of, last_server, host_from}
 use Rattle.rc_world.specs.NodeView.{NodeData, OutsideData, CoordinatorData, HostNodeData, node_seen}
-use Rattle.rc_world.specs.declared.work.NodeWork.{NodeWork}
-use Rattle.rc_world.specs.declared.work.NodeWork.TheVariants as work
+use Rattle.rc_types.specs.declared.events.NodeWork.{NodeWork}
+use Rattle.rc_types.specs.declared.events.NodeWork.TheVariants as work
 use Rattle.rc_keeping.specs.Claims.{AreReadFrom}
 use Rattle.rc_keeping.specs.Keeping.{kept_by_host, host_given, kept_by_coordinator, coordinator_given}
 use Rattle.rc_keeping.specs.Spelling.{coded_work, journal_of}

@@ -10,7 +10,7 @@ use Rattle.rc_coordinator.specs.Book.{Book, coordinator_of}
 use Rattle.rc_world.specs.HostView.{HostData, host_of}
 use Rattle.rc_world.specs.HostParts.{HostParts, host_from}
 use Rattle.rc_world.specs.NodeView.{NodeData, CoordinatorData, HostNodeData, node_seen}
-use Rattle.rc_world.specs.declared.work.NodeWork.{NodeWork}
+use Rattle.rc_types.specs.declared.events.NodeWork.{NodeWork}
 use Rattle.rc_keeping.specs.Claims.{AreReadFrom}
 use Rattle.rc_keeping.specs.Keeping.{kept_by_host, host_given, kept_by_coordinator, coordinator_given}
 use Rattle.rc_keeping.specs.Spelling.{sum_of, record_of, journal_of}

@@ -102,44 +102,44 @@ impl TryClone for Event {
     }
 }
 
-/// What one node can be given: an event without the name of its node, a message in full.
+/// What one node can be given: an event without the name of its node, a message in full. What is for nodes of another
+/// kind does nothing at it, or is refused there.
 #[derive(Drop)]
-pub enum Input {
-    /// A message to this node.
-    Message(Message),
-    /// The node's timer.
+pub enum NodeWork {
+    /// To the outside: ask this server to write or read.
+    Ask {
+        /// The server that is asked.
+        to: ServerId,
+        /// A Write or a Read.
+        body: Body,
+    },
+    /// A message that is addressed to the node.
+    Deliver(Message),
+    /// The timer of the coordinator, or of the server that runs on the host.
     Tick,
-    /// The server stops.
+    /// The server that runs on the host stops.
     Stop,
-    /// The host is started and keeps these of its open replicas.
-    Start(Seq<(ServerId, u16)>),
+    /// The host is started, and keeps these of its open replicas.
+    Start {
+        /// The open replicas that outlived its stop, by master and segment.
+        kept: Seq<(ServerId, u16)>,
+    },
     /// To the coordinator: this server is believed dead.
     Suspect(ServerId),
     /// To the coordinator: decide the recovery of this server.
     Decide(ServerId),
     /// To the coordinator: create this table for this owner.
-    Create { table: u32, owner: ServerId },
+    Create {
+        /// The table, which must be new.
+        table: u32,
+        /// The server that gets it.
+        owner: ServerId,
+    },
     /// To the coordinator: split the tablet of this table that holds this key before it.
-    Split { table: u32, at: u64 },
-}
-
-impl TryClone for Input {
-    fn try_clone(&self, alloc: Global) -> Result<Input, Fault> {
-        match self {
-            Input::Message(message) => Ok(Input::Message(message.try_clone(alloc)?)),
-            Input::Tick => Ok(Input::Tick),
-            Input::Stop => Ok(Input::Stop),
-            Input::Start(kept) => Ok(Input::Start(kept.try_clone(alloc)?)),
-            Input::Suspect(id) => Ok(Input::Suspect(*id)),
-            Input::Decide(id) => Ok(Input::Decide(*id)),
-            Input::Create { table, owner } => Ok(Input::Create {
-                table: *table,
-                owner: *owner,
-            }),
-            Input::Split { table, at } => Ok(Input::Split {
-                table: *table,
-                at: *at,
-            }),
-        }
-    }
+    Split {
+        /// The table.
+        table: u32,
+        /// The first key of the upper part.
+        at: u64,
+    },
 }

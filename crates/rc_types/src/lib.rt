@@ -15,7 +15,7 @@ mod sequence;
 mod verdicts;
 
 pub use entries::Entry;
-pub use events::{Event, Input, Setup};
+pub use events::{Event, NodeWork, Setup};
 pub use faults::{Code, Fault};
 pub use ids::{Addr, Pair, ServerId};
 pub use kept::{Grant, GrantedRange, Member, Phase, Told};

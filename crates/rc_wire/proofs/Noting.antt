@@ -6,8 +6,8 @@ use Rattle.std.proofs.lemmas.List.Folds.{list_any-append}
 use Rattle.rc_model.specs.Model.{Event, Deliver}
 use Rattle.rc_history.specs.Nodes.{Node}
 use Rattle.rc_world.specs.NodeCalls.{event_of}
-use Rattle.rc_world.specs.declared.work.NodeWork.{NodeWork}
-use Rattle.rc_world.specs.declared.work.NodeWork.TheVariants as work
+use Rattle.rc_types.specs.declared.events.NodeWork.{NodeWork}
+use Rattle.rc_types.specs.declared.events.NodeWork.TheVariants as work
 use Rattle.rc_wire.specs.Given.{is_delivery}
 use Rattle.rc_wire.specs.Works.{is_delivery_of, was_delivered}
 

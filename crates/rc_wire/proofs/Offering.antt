@@ -9,7 +9,7 @@ use Rattle.rc_journal.proofs.Named.{same_node-same}
 use Rattle.rc_world.specs.NodeView.{work_at, may_take}
 use Rattle.rc_world.specs.NodeCalls.{WasSent}
 use Rattle.rc_world.proofs.NodeCalls.{given-job}
-use Rattle.rc_world.specs.declared.work.NodeWork.{NodeWork}
+use Rattle.rc_types.specs.declared.events.NodeWork.{NodeWork}
 use Rattle.rc_wire.specs.declared.offer.Offer.{Offer}
 use Rattle.rc_wire.specs.SeatView.{Offered}
 use Rattle.rc_wire.specs.Steps.{IsStep}

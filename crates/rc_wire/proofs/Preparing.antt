@@ -15,8 +15,8 @@ use Rattle.rc_journal.specs.declared.names.SeatName.{SeatName}
 use Rattle.rc_world.specs.NodeView.{may_take, NodeHasRoom}
 use Rattle.rc_world.specs.NodeCalls.{event_of, WasSent}
 use Rattle.rc_world.proofs.Rooms.{histories-leave-room}
-use Rattle.rc_world.specs.declared.work.NodeWork.{NodeWork}
-use Rattle.rc_world.specs.declared.work.NodeWork.TheVariants as work
+use Rattle.rc_types.specs.declared.events.NodeWork.{NodeWork}
+use Rattle.rc_types.specs.declared.events.NodeWork.TheVariants as work
 use Rattle.rc_wire.specs.declared.offer.Offer.{Offer}
 use Rattle.rc_wire.specs.SeatView.{SeatData, Offered, node_name, world_at, node_at, offered_events}
 use Rattle.rc_wire.specs.Steps.{IsStep, HasTaken, HoldsItsMessage}

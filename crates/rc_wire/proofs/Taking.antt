@@ -8,8 +8,8 @@ use Rattle.rc_history.specs.Nodes as apart
 use Rattle.rc_history.specs.Events.{takes}
 use Rattle.rc_world.specs.NodeView.{work_at, may_take}
 use Rattle.rc_world.specs.NodeCalls.{event_of}
-use Rattle.rc_world.specs.declared.work.NodeWork.{NodeWork}
-use Rattle.rc_world.specs.declared.work.NodeWork.TheVariants as work
+use Rattle.rc_types.specs.declared.events.NodeWork.{NodeWork}
+use Rattle.rc_types.specs.declared.events.NodeWork.TheVariants as work
 use Rattle.rc_wire.specs.Given.{is_delivery}
 
 and-true : (b : Bool) → (b && true) ≡ b

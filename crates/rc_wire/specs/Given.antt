@@ -5,8 +5,8 @@ use Rattle.rc_model.specs.World.{NodeName, same_node, node_of}
 use Rattle.rc_history.specs.Nodes.{Node}
 use Rattle.rc_world.specs.NodeView.{after_work}
 use Rattle.rc_world.specs.NodeCalls.{event_of}
-use Rattle.rc_world.specs.declared.work.NodeWork.{NodeWork}
-use Rattle.rc_world.specs.declared.work.NodeWork.TheVariants as given
+use Rattle.rc_types.specs.declared.events.NodeWork.{NodeWork}
+use Rattle.rc_types.specs.declared.events.NodeWork.TheVariants as given
 use Rattle.rc_wire.specs.declared.work.Work.{Work}
 use Rattle.rc_wire.specs.declared.work.Work.TheVariants as work
 use Rattle.rc_wire.specs.declared.offer.Offer.{Offer}

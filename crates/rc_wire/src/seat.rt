@@ -22,8 +22,8 @@ use crate::steps::{give, given_by, new_state, own_number, take};
 use crate::work::Work;
 use indexmap::IndexSet;
 use rc_journal::{Naming, SeatName, Token};
-use rc_types::{Fault, Message, Setup};
-use rc_world::{NodeState, NodeWork};
+use rc_types::{Fault, Message, NodeWork, Setup};
+use rc_world::NodeState;
 use std::alloc::Global;
 use std::marker::Model;
 

@@ -7,15 +7,15 @@ ghost use Rattle.rc_history.specs.Nodes.{Node, new_node, name_of as node_name_of
 ghost use Rattle.rc_world.specs.HostView.{IsWithinLimits};
 ghost use Rattle.rc_world.specs.NodeView.{node_seen, own_server, own_addr, may_take, NodeHasRoom};
 ghost use Rattle.rc_world.specs.NodeCalls.{event_of};
-ghost use Rattle.rc_world.specs.declared.work.NodeWork.TheVariants.{Deliver};
+ghost use Rattle.rc_types.specs.declared.events.NodeWork.TheVariants.{Deliver};
 ghost use Rattle.rc_journal.specs.Names.{name_of};
 ghost use Rattle.rc_wire.specs.Given.{given_of, is_delivery, own_number, Does};
 
 use crate::offer::Offer;
 use crate::work::Work;
 use rc_journal::SeatName;
-use rc_types::{Addr, Event, Fault, Message, ServerId, Setup, TryClone};
-use rc_world::{NodeState, NodeWork};
+use rc_types::{Addr, Event, Fault, Message, NodeWork, ServerId, Setup, TryClone};
+use rc_world::NodeState;
 use std::alloc::Global;
 
 /// The node of this name before anything has happened.

@@ -5,8 +5,8 @@ use Rattle.rc_history.specs.Nodes.{Node, TheOutside, TheCoordinator, TheHost, na
 use Rattle.rc_history.specs.Apart.{sent_by}
 use Rattle.rc_world.specs.NodeView.{work_at, may_take}
 use Rattle.rc_world.specs.NodeCalls.{event_of, WasSent, CallsAreSteps}
-use Rattle.rc_world.specs.declared.work.NodeWork.{NodeWork}
-use Rattle.rc_world.specs.declared.work.NodeWork.TheVariants as work
+use Rattle.rc_types.specs.declared.events.NodeWork.{NodeWork}
+use Rattle.rc_types.specs.declared.events.NodeWork.TheVariants as work
 
 -- the job of a call that is not refused
 pub given-job : (sent : List Message) (node : Node) (number : ℕ) (given : NodeWork) → WasSent sent node number given →

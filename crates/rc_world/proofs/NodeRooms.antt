@@ -13,8 +13,8 @@ use Rattle.rc_world.specs.HostView.{HostHasRoom}
 use Rattle.rc_history.specs.Nodes.{Node, TheOutside, TheCoordinator, TheHost}
 use Rattle.rc_world.specs.NodeView.{work_at, after_work}
 use Rattle.rc_world.specs.NodeNumbers.{GivenWithin, StepWithin, NewNodesAreWithin, StepsStayWithin, MoreWorksAllowMore, NodesHaveRoom}
-use Rattle.rc_world.specs.declared.work.NodeWork.{NodeWork}
-use Rattle.rc_world.specs.declared.work.NodeWork.TheVariants as work
+use Rattle.rc_types.specs.declared.events.NodeWork.{NodeWork}
+use Rattle.rc_types.specs.declared.events.NodeWork.TheVariants as work
 use Rattle.rc_world.proofs.Rooms.{numbers-from}
 
 pub new-nodes-within : NewNodesAreWithin

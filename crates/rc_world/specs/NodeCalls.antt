@@ -8,8 +8,8 @@ use Rattle.rc_model.specs.World.{node_of}
 use Rattle.rc_history.specs.Nodes.{Node, name_of, new_node}
 use Rattle.rc_history.specs.Apart.{Step, sent_by, left_at, Follows}
 use Rattle.rc_world.specs.NodeView.{own_addr, own_server, work_at, may_take, after_work}
-use Rattle.rc_world.specs.declared.work.NodeWork.{NodeWork}
-use Rattle.rc_world.specs.declared.work.NodeWork.TheVariants as work
+use Rattle.rc_types.specs.declared.events.NodeWork.{NodeWork}
+use Rattle.rc_types.specs.declared.events.NodeWork.TheVariants as work
 
 -- the event of a work: a message goes by its number, a timer and a stop are those of the node's own server
 abbrev pub event_of : Node → ℕ → NodeWork → Event

@@ -10,8 +10,8 @@ use Rattle.rc_model.specs.World.{NodeName, replay}
 use Rattle.rc_numbers.specs.Numbers.{CoordinatorWithin, HostWithin, MessagesWithin, body_within}
 use Rattle.rc_history.specs.Nodes.{Node, TheOutside, TheCoordinator, TheHost, node_in}
 use Rattle.rc_world.specs.NodeView.{after_work, NodeHasRoom}
-use Rattle.rc_world.specs.declared.work.NodeWork.{NodeWork}
-use Rattle.rc_world.specs.declared.work.NodeWork.TheVariants.{Ask, Deliver}
+use Rattle.rc_types.specs.declared.events.NodeWork.{NodeWork}
+use Rattle.rc_types.specs.declared.events.NodeWork.TheVariants.{Ask, Deliver}
 
 -- the node's numbers are those that so many works can bring about
 abbrev pub NodeWithin : ℕ → Node → Type 0

@@ -14,8 +14,8 @@ use Rattle.rc_coordinator.specs.Steps.{HasNumbers}
 use Rattle.rc_backup.specs.BackupView.{Holdings}
 use Rattle.rc_master.specs.Data.{MasterData}
 use Rattle.rc_world.specs.HostView.{HostData, HostHasRoom, host_of}
-use Rattle.rc_world.specs.declared.work.NodeWork.{NodeWork}
-use Rattle.rc_world.specs.declared.work.NodeWork.TheVariants as work
+use Rattle.rc_types.specs.declared.events.NodeWork.{NodeWork}
+use Rattle.rc_types.specs.declared.events.NodeWork.TheVariants as work
 
 -- what a contract sees of a node
 pub data NodeData : Type 0 where

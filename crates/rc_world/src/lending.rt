@@ -5,7 +5,7 @@ ghost use Rattle.std.specs.Prelude.{◌≡◌, ◌<◌, length, slice_set};
 ghost use Rattle.rc_types.specs.declared.messages.Message.{Message as MessageModel};
 ghost use Rattle.rc_world.specs.Lending.{nothing, message_at};
 
-use rc_types::{Addr, Body, Input, Message};
+use rc_types::{Addr, Body, Message, NodeWork};
 use std::mem;
 
 /// To whom the message of this number goes.
@@ -33,13 +33,13 @@ pub(crate) fn put_back(sent: &mut Vec<Message>, number: usize, message: Message)
     sent[number] = message;
 }
 
-/// Puts the message of this number back, which is this input.
-pub(crate) fn put_input_back(sent: &mut Vec<Message>, number: usize, input: Input)
+/// Puts the message of this number back, which is this work.
+pub(crate) fn put_work_back(sent: &mut Vec<Message>, number: usize, work: NodeWork)
     requires { number < length sent.old.items }
-    ensures { (message : MessageModel) → input ≡ Input.Message message →
+    ensures { (message : MessageModel) → work ≡ NodeWork.Deliver message →
         sent.new.items ≡ slice_set sent.old.items number message }
 {
-    if let Input::Message(message) = input {
+    if let NodeWork::Deliver(message) = work {
         put_back(sent, number, message);
     }
 }

@@ -14,5 +14,5 @@ mod world;
 
 pub use head::HostHead;
 pub use node::NodeState;
-pub use work::{NodeWork, StepFault};
+pub use work::StepFault;
 pub use world::World;

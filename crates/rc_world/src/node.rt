@@ -15,17 +15,17 @@ ghost use Rattle.rc_world.specs.NodeView.{CoordinatorData, node_seen, book_in, o
 ghost use Rattle.rc_world.specs.NodeView.{node_runs, master_in, backup_in};
 ghost use Rattle.rc_world.specs.NodeView.{may_take, after_work, coordinator_may, coordinator_after_work};
 ghost use Rattle.rc_world.specs.NodeView.{host_may, host_after_work};
-ghost use Rattle.rc_world.specs.declared.work.NodeWork.TheVariants.{Deliver};
+ghost use Rattle.rc_types.specs.declared.events.NodeWork.TheVariants.{Deliver};
 ghost use Rattle.rc_world.specs.declared.work.StepFault.TheVariants.{NoRoom, Refused};
 
 use crate::head::HostHead;
 use crate::host::Host;
 use crate::outside::{ask, can_ask};
-use crate::work::{NodeWork, StepFault};
+use crate::work::StepFault;
 use rc_backup::Backup;
 use rc_coordinator::Coordinator;
 use rc_master::Master;
-use rc_types::{Fault, Input, Message, ServerId, Setup};
+use rc_types::{Fault, Message, NodeWork, ServerId, Setup};
 use std::alloc::{Allocator, Global};
 use std::fmt;
 use std::marker::Model;
@@ -340,24 +340,11 @@ fn coordinator_step<A: Allocator + Clone>(
     ensures err { OnErr result (coordinator.new ≡ coordinator.old) }
     ensures unsent { OnErr result (sent.new.items ≡ sent.old.items) }
 {
-    let input = match work {
-        NodeWork::Deliver(message) => return coordinator.take(message, sent),
-        NodeWork::Tick => Input::Tick,
-        NodeWork::Suspect(id) => Input::Suspect(*id),
-        NodeWork::Decide(id) => Input::Decide(*id),
-        NodeWork::Create { table, owner } => Input::Create {
-            table: *table,
-            owner: *owner,
-        },
-        NodeWork::Split { table, at } => Input::Split {
-            table: *table,
-            at: *at,
-        },
-        NodeWork::Ask { .. } | NodeWork::Stop | NodeWork::Start { .. } => {
-            return Err(Fault::BadEvent);
-        }
-    };
-    coordinator.step_into(&input, sent)
+    match work {
+        NodeWork::Deliver(message) => coordinator.take(message, sent),
+        NodeWork::Ask { .. } | NodeWork::Stop | NodeWork::Start { .. } => Err(Fault::BadEvent),
+        _ => coordinator.step_into(work, sent),
+    }
 }
 
 /// A host's step.

@@ -19,14 +19,14 @@ ghost use Rattle.rc_world.specs.WorldView.{hosts_in, coordinator_in, world_of, W
 ghost use Rattle.rc_world.specs.WorldView.{host_does, coordinator_given, after_event};
 
 use crate::host::Host;
-use crate::lending::{address, lend, put_back, put_input_back};
+use crate::lending::{address, lend, put_back, put_work_back};
 use crate::outside::{ask, can_ask};
 use indexmap::IndexMap;
 use rc_backup::Backup;
 use rc_coordinator::Coordinator;
 use rc_master::Master;
 use rc_types::limits::MAX_HOSTS;
-use rc_types::{Addr, Event, Fault, Input, Message, ServerId, Setup};
+use rc_types::{Addr, Event, Fault, Message, NodeWork, ServerId, Setup};
 use std::alloc::{AllocError, Allocator, Global};
 
 /// The nodes of a world. A host that was never started may have no entry.
@@ -129,18 +129,18 @@ impl<A: Allocator + Clone> Nodes<A> {
         }
     }
 
-    /// The coordinator takes an input.
-    fn tell_coordinator(&mut self, input: &Input, sent: &mut Vec<Message>) -> Result<(), Fault>
+    /// The coordinator takes a work.
+    fn tell_coordinator(&mut self, work: &NodeWork, sent: &mut Vec<Message>) -> Result<(), Fault>
         requires { HasNumbers (coordinator_in self.old) }
-        ensures coordinator { OnOk result (coordinator_in self.new ≡ (steps (coordinator_in self.old) input.now).0) }
-        ensures sends { OnOk result (sent.new.items ≡ sent.old.items ++ (steps (coordinator_in self.old) input.now).1) }
+        ensures coordinator { OnOk result (coordinator_in self.new ≡ (steps (coordinator_in self.old) work.now).0) }
+        ensures sends { OnOk result (sent.new.items ≡ sent.old.items ++ (steps (coordinator_in self.old) work.now).1) }
         ensures hosts { self.new.hosts ≡ self.old.hosts }
         ensures setup { self.new.setup ≡ self.old.setup }
         ensures err { OnErr result (coordinator_in self.new ≡ coordinator_in self.old) }
         ensures unsent { OnErr result (sent.new.items ≡ sent.old.items) }
         ensures no_memory { IfErr result (λ fault. fault ≡ OutOfMemory) }
     {
-        self.coordinator.step_into(input, sent)
+        self.coordinator.step_into(work, sent)
     }
 
     /// The timer of a server that runs goes off.
@@ -254,9 +254,9 @@ impl<A: Allocator + Clone> Nodes<A> {
         ensures unsent { OnErr result (sent.new.items ≡ sent.old.items) }
         ensures no_memory { IfErr result (λ fault. fault ≡ OutOfMemory) }
     {
-        let input = Input::Message(lend(sent, number));
-        let done = self.tell_coordinator(&input, sent);
-        put_input_back(sent, number, input);
+        let work = NodeWork::Deliver(lend(sent, number));
+        let done = self.tell_coordinator(&work, sent);
+        put_work_back(sent, number, work);
         done
     }
 
@@ -327,28 +327,28 @@ impl<A: Allocator + Clone> Nodes<A> {
             Event::Ask { to, body } => ask(self.alloc, *to, body, sent),
             Event::Deliver(number) => self.deliver(*number, sent),
             Event::Tick(Addr::Server(id)) => self.tick(*id, sent),
-            Event::Tick(Addr::Coordinator) => self.tell_coordinator(&Input::Tick, sent),
+            Event::Tick(Addr::Coordinator) => self.tell_coordinator(&NodeWork::Tick, sent),
             Event::Tick(Addr::Outside) => Ok(()),
             Event::Stop(id) => {
                 self.stop(*id);
                 Ok(())
             }
             Event::Start { host, kept } => self.start(*host, kept.as_slice(), sent),
-            Event::Suspect(id) => self.tell_coordinator(&Input::Suspect(*id), sent),
-            Event::Decide(id) => self.tell_coordinator(&Input::Decide(*id), sent),
+            Event::Suspect(id) => self.tell_coordinator(&NodeWork::Suspect(*id), sent),
+            Event::Decide(id) => self.tell_coordinator(&NodeWork::Decide(*id), sent),
             Event::Create { table, owner } => {
-                let input = Input::Create {
+                let work = NodeWork::Create {
                     table: *table,
                     owner: *owner,
                 };
-                self.tell_coordinator(&input, sent)
+                self.tell_coordinator(&work, sent)
             }
             Event::Split { table, at } => {
-                let input = Input::Split {
+                let work = NodeWork::Split {
                     table: *table,
                     at: *at,
                 };
-                self.tell_coordinator(&input, sent)
+                self.tell_coordinator(&work, sent)
             }
         }
     }

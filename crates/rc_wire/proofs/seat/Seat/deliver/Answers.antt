@@ -3,7 +3,7 @@ use Rattle.std.specs.List.{list_any}
 use Rattle.std.specs.Option.{IfSome}
 use Rattle.rc_model.specs.Model.{Message, NodeName}
 use Rattle.rc_world.specs.NodeView.{node_seen}
-use Rattle.rc_world.specs.declared.work.NodeWork.TheVariants as work
+use Rattle.rc_types.specs.declared.events.NodeWork.TheVariants as work
 use Rattle.rc_wire.specs.declared.offer.Offer.{Offer}
 use Rattle.rc_wire.specs.SeatView.{SeatData, node_name, node_at}
 use Rattle.rc_wire.specs.SeatHolds.{SeatSound, seat_data}
