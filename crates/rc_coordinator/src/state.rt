@@ -54,7 +54,11 @@ impl<A: Allocator + Clone> State<A> {
 
     /// Takes a work, and adds what follows to those sent. Only memory can be refused (F1), and then
     /// nothing has changed.
-    pub(crate) fn step_into(&mut self, work: &NodeWork, sent: &mut Vec<Message>) -> Result<(), Fault>
+    pub(crate) fn step_into(
+        &mut self,
+        work: &NodeWork,
+        sent: &mut Vec<Message>,
+    ) -> Result<(), Fault>
         requires { HasNumbers (state_view self.old) }
         ensures state { OnOk result (state_view self.new ≡ (steps (state_view self.old) work.now).0) }
         ensures sends { OnOk result (sent.new.items ≡ sent.old.items ++ (steps (state_view self.old) work.now).1) }

@@ -10,7 +10,7 @@ use Rattle.rc_types.specs.declared.limits.TheConstants.{MAX_EVENTS}
 use Rattle.rc_types.specs.declared.messages.Body.TheVariants.{Write}
 use Rattle.rc_types.specs.declared.events.Setup.{Setup}
 use Rattle.rc_types.specs.declared.events.Event.{Event}
-use Rattle.rc_types.specs.declared.events.Event.TheVariants.{Ask, Deliver, Tick, Stop, Start, Suspect, Decide}
+use Rattle.rc_types.specs.declared.events.Event.TheVariants.{Ask, Deliver, Tick, Stop, Start, Suspect, Decide, Create}
 use Rattle.rc_model.specs.Backup.{open_names}
 use Rattle.rc_model.specs.Nodes.{HostNode}
 use Rattle.rc_model.specs.World.{World, opening, step}
@@ -37,8 +37,8 @@ settled = scene.Settle no_kinds no_hosts
 -- the hosts are started and table 1 is created for the first server of host 0; after each a pass over the messages
 abbrev pub beginning : List ScenarioEvent
 beginning =
-    scene.Start 0 [] ∷ scene.Start 1 [] ∷ scene.Start 2 [] ∷ scene.Start 3 [] ∷ scene.Start 4 [] ∷ settled
-    ∷ scene.Create 1 (record { index = 0; generation = 1 }) ∷ settled ∷ []
+    scene.Core (Start 0 []) ∷ scene.Core (Start 1 []) ∷ scene.Core (Start 2 []) ∷ scene.Core (Start 3 [])
+    ∷ scene.Core (Start 4 []) ∷ settled ∷ scene.Core (Create 1 (record { index = 0; generation = 1 })) ∷ settled ∷ []
 
 -- the world after these events of a scenario
 unfoldable pub played : World → List ScenarioEvent → World

@@ -10,7 +10,8 @@ use Rattle.rc_model.specs.Breach.{breach}
 use Rattle.rc_model.specs.Nodes.{is_running_at}
 use Rattle.rc_model.specs.World.{World, replay}
 use Rattle.rc_reading.specs.declared.scenarios.ScenarioEvent.{ScenarioEvent}
-use Rattle.rc_reading.specs.declared.scenarios.ScenarioEvent.TheVariants.{Stop, Start, Tick, Decide}
+use Rattle.rc_types.specs.declared.events.Event.TheVariants.{Stop, Start, Tick, Decide}
+use Rattle.rc_reading.specs.declared.scenarios.ScenarioEvent.TheVariants.{Core}
 use Rattle.rc_draw.specs.declared.cutting.Keeping.{Keeping}
 use Rattle.rc_draw.specs.declared.cutting.Keeping.TheVariants.{All, OddSegments, Nothing}
 use Rattle.rc_draw.specs.Draw.{drawing_setup, settled, played, newest_server}
@@ -29,18 +30,18 @@ gathered part (suc n) = gathered part n ++ part n
 -- the newest server of the host stops, where it runs
 abbrev pub stop_of : World → ℕ → List ScenarioEvent
 stop_of world host =
-    if is_running_at (world.hosts host) (Server (newest_server world host)) then Stop (newest_server world host) ∷ []
+    if is_running_at (world.hosts host) (Server (newest_server world host)) then Core (Stop (newest_server world host)) ∷ []
     else []
 
 -- the host starts, where it was ever started
 abbrev pub start_of : Keeping → World → ℕ → List ScenarioEvent
 start_of keeping world host =
     if nat_eq (world.hosts host).generation 0 then []
-    else Start host (keeps keeping (open_names (world.hosts host).backup)) ∷ []
+    else Core (Start host (keeps keeping (open_names (world.hosts host).backup))) ∷ []
 
 -- the recovery of each of the host's servers up to the newest is decided
 abbrev pub decision_of : ℕ → ℕ → List ScenarioEvent
-decision_of host before = Decide (record { index = host; generation = before + 1 }) ∷ []
+decision_of host before = Core (Decide (record { index = host; generation = before + 1 })) ∷ []
 
 abbrev pub decisions_of : World → ℕ → List ScenarioEvent
 decisions_of world host = gathered (decision_of host) (world.hosts host).generation
@@ -48,7 +49,7 @@ decisions_of world host = gathered (decision_of host) (world.hosts host).generat
 -- what follows a power failure in this world
 abbrev pub cut_scene : Keeping → World → List ScenarioEvent
 cut_scene keeping world =
-    gathered (stop_of world) 5 ++ gathered (start_of keeping world) 5 ++ settled ∷ Tick Coordinator ∷ settled ∷ []
+    gathered (stop_of world) 5 ++ gathered (start_of keeping world) 5 ++ settled ∷ Core (Tick Coordinator) ∷ settled ∷ []
     ++ gathered (decisions_of world) 5 ++ settled ∷ []
 
 -- the world that it leads to, after these events

@@ -1,15 +1,13 @@
 //! Which event three words choose.
 
-ghost use Rattle.std.specs.Prelude.{◌≡◌, ◌<◌, ◌+◌, ◌%◌, Some, option_map, IfOk, IfErr};
+ghost use Rattle.std.specs.Prelude.{◌≡◌, ◌<◌, ◌+◌, ◌%◌, IfOk, IfErr};
 ghost use Rattle.rc_types.specs.declared.faults.Fault.TheVariants.{OutOfMemory};
-ghost use Rattle.rc_reading.specs.Scenario.{core_event};
 ghost use Rattle.rc_world.specs.Happened.{replayed};
 ghost use Rattle.rc_draw.specs.Draw.{choice_of, delivery_of, write_of, start_of, decision_of, event_of, chosen};
 ghost use Rattle.rc_draw.specs.Draw.{newest_server};
 
 use crate::words::Words;
-use rc_reading::ScenarioEvent;
-use rc_types::{Addr, Fault, Seq, ServerId};
+use rc_types::{Addr, Body, Event, Fault, Seq, ServerId};
 use rc_world::World;
 use std::alloc::Global;
 
@@ -56,9 +54,8 @@ pub(crate) fn event_of(
     world: &World<Global>,
     number: usize,
     words: Words,
-) -> Result<Option<ScenarioEvent>, Fault>
-    ensures ok { IfOk result (λ event. option_map core_event event ≡ option_map Some
-        (event_of (replayed world.now) number words)) }
+) -> Result<Option<Event>, Fault>
+    ensures ok { IfOk result (λ event. event ≡ event_of (replayed world.now) number words) }
     ensures no_memory { IfErr result (λ fault. fault ≡ OutOfMemory) }
 {
     let host = (words.target % HOSTS as u32) as u8;
@@ -78,56 +75,50 @@ fn chosen(
     id: ServerId,
     choice: Choice,
     words: Words,
-) -> Result<Option<ScenarioEvent>, Fault>
-    ensures ok { IfOk result (λ event. option_map core_event event ≡ option_map Some
-        (chosen (replayed world.now) number id choice words)) }
+) -> Result<Option<Event>, Fault>
+    ensures ok { IfOk result (λ event. event ≡ chosen (replayed world.now) number id choice words) }
     ensures no_memory { IfErr result (λ fault. fault ≡ OutOfMemory) }
 {
     Ok(match choice {
         Choice::Deliver => delivery_of(world.sent().len(), words.target),
         Choice::Write => Some(write_of(alloc, id, words.detail, number)?),
-        Choice::Tick => Some(ScenarioEvent::Tick(Addr::Server(id))),
-        Choice::TickCoordinator => Some(ScenarioEvent::Tick(Addr::Coordinator)),
-        Choice::Stop => Some(ScenarioEvent::Stop(id)),
+        Choice::Tick => Some(Event::Tick(Addr::Server(id))),
+        Choice::TickCoordinator => Some(Event::Tick(Addr::Coordinator)),
+        Choice::Stop => Some(Event::Stop(id)),
         Choice::Start => Some(start_of(alloc, world, id.index, words.detail)?),
-        Choice::Suspect => Some(ScenarioEvent::Suspect(id)),
+        Choice::Suspect => Some(Event::Suspect(id)),
         Choice::Decide => decision_of(id, words.detail),
     })
 }
 
 /// A delivery of one of so many messages.
-fn delivery_of(sent: usize, word: u32) -> Option<ScenarioEvent>
-    ensures { option_map core_event result ≡ option_map Some (delivery_of sent word) }
+fn delivery_of(sent: usize, word: u32) -> Option<Event>
+    ensures { result ≡ delivery_of sent word }
 {
     if sent == 0 {
         return None;
     }
     let number = word as usize % sent;
-    Some(ScenarioEvent::Deliver(number as u32))
+    Some(Event::Deliver(number))
 }
 
 /// A write of one of the keys; its value is the step's number, in decimal digits.
-fn write_of(alloc: Global, to: ServerId, word: u32, number: usize) -> Result<ScenarioEvent, Fault>
-    ensures ok { IfOk result (λ event. core_event event ≡ Some (write_of to word number)) }
+fn write_of(alloc: Global, to: ServerId, word: u32, number: usize) -> Result<Event, Fault>
+    ensures ok { IfOk result (λ event. event ≡ write_of to word number) }
     ensures no_memory { IfErr result (λ fault. fault ≡ OutOfMemory) }
 {
     let text = format!(in alloc; "{number}")?;
-    Ok(ScenarioEvent::Write {
-        to,
+    let body = Body::Write {
         table: 1,
         key: u64::from(word % KEYS),
         value: Some(Seq::from_vec(text.into_bytes())),
-    })
+    };
+    Ok(Event::Ask { to, body })
 }
 
 /// A start of the host, with all of its open replicas or with none.
-fn start_of(
-    alloc: Global,
-    world: &World<Global>,
-    host: u8,
-    word: u32,
-) -> Result<ScenarioEvent, Fault>
-    ensures ok { IfOk result (λ event. core_event event ≡ Some (start_of ((replayed world.now).hosts host) host word)) }
+fn start_of(alloc: Global, world: &World<Global>, host: u8, word: u32) -> Result<Event, Fault>
+    ensures ok { IfOk result (λ event. event ≡ start_of ((replayed world.now).hosts host) host word) }
     ensures no_memory { IfErr result (λ fault. fault ≡ OutOfMemory) }
 {
     let kept = if word % 4 == 0 {
@@ -135,20 +126,20 @@ fn start_of(
     } else {
         world.open_replicas(host)?
     };
-    Ok(ScenarioEvent::Start {
+    Ok(Event::Start {
         host,
         kept: Seq::from_vec(kept),
     })
 }
 
 /// A decision on one of the host's servers, up to its newest one.
-fn decision_of(newest: ServerId, word: u32) -> Option<ScenarioEvent>
-    ensures { option_map core_event result ≡ option_map Some (decision_of newest word) }
+fn decision_of(newest: ServerId, word: u32) -> Option<Event>
+    ensures { result ≡ decision_of newest word }
 {
     if newest.generation == 0 {
         return None;
     }
-    Some(ScenarioEvent::Decide(ServerId {
+    Some(Event::Decide(ServerId {
         index: newest.index,
         generation: 1 + word % newest.generation,
     }))

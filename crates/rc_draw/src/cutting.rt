@@ -10,7 +10,7 @@ ghost use Rattle.rc_draw.specs.Stops.{keeps, gathered, stop_of, start_of, decisi
 use crate::choosing::HOSTS;
 use crate::playing::settled;
 use rc_reading::ScenarioEvent;
-use rc_types::{Addr, Fault, Seq, ServerId};
+use rc_types::{Addr, Event, Fault, Seq, ServerId};
 use rc_world::World;
 use std::alloc::Global;
 
@@ -53,7 +53,7 @@ pub(crate) fn cut_scene(
     add_stops(world, &mut scene)?;
     add_starts(world, keeping, &mut scene)?;
     scene.push(settled())?;
-    scene.push(ScenarioEvent::Tick(Addr::Coordinator))?;
+    scene.push(ScenarioEvent::Core(Event::Tick(Addr::Coordinator)))?;
     scene.push(settled())?;
     add_decisions(world, &mut scene)?;
     scene.push(settled())?;
@@ -78,7 +78,7 @@ fn add_stop(world: &World<Global>, host: u8, scene: &mut Vec<ScenarioEvent>) -> 
 {
     let id = newest_server(world, host);
     if world.is_running(id) {
-        scene.push(ScenarioEvent::Stop(id))?;
+        scene.push(ScenarioEvent::Core(Event::Stop(id)))?;
     }
     Ok(())
 }
@@ -110,7 +110,7 @@ fn add_start(
 {
     if world.newest(host) > 0 {
         let kept = Seq::from_vec(keeping.of(world.open_replicas(host)?));
-        scene.push(ScenarioEvent::Start { host, kept })?;
+        scene.push(ScenarioEvent::Core(Event::Start { host, kept }))?;
     }
     Ok(())
 }
@@ -132,10 +132,11 @@ fn add_decisions_of(host: u8, newest: u32, scene: &mut Vec<ScenarioEvent>) -> Re
     ensures no_memory { IfErr result (λ fault. fault ≡ OutOfMemory) }
 {
     for before in 0..newest {
-        scene.push(ScenarioEvent::Decide(ServerId {
+        let id = ServerId {
             index: host,
             generation: before + 1,
-        }))?;
+        };
+        scene.push(ScenarioEvent::Core(Event::Decide(id)))?;
     }
     Ok(())
 }

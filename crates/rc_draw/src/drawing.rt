@@ -3,7 +3,8 @@
 ghost use Rattle.std.specs.Prelude.{◌≡◌, ◌≤◌, [], length, OnOk, IfOk, IfErr};
 ghost use Rattle.rc_types.specs.declared.faults.Fault.TheVariants.{OutOfMemory};
 ghost use Rattle.rc_types.specs.declared.limits.TheConstants.{MAX_EVENTS};
-ghost use Rattle.rc_reading.specs.declared.scenarios.ScenarioEvent.TheVariants.{Start};
+ghost use Rattle.rc_types.specs.declared.events.Event.TheVariants.{Start};
+ghost use Rattle.rc_reading.specs.declared.scenarios.ScenarioEvent.TheVariants.{Core};
 ghost use Rattle.rc_world.specs.Happened.{replayed};
 ghost use Rattle.rc_draw.specs.Draw.{beginning, played, begun, drawn_step, drawn_from, drawn_world, drawn};
 ghost use Rattle.rc_draw.specs.Generator.{generator};
@@ -97,13 +98,13 @@ fn begin(alloc: Global, run: &mut Run<Global>) -> Result<(), Fault>
         fresh_start(alloc, 3),
         fresh_start(alloc, 4),
         settled(),
-        ScenarioEvent::Create {
+        ScenarioEvent::Core(Event::Create {
             table: 1,
             owner: ServerId {
                 index: 0,
                 generation: 1,
             },
-        },
+        }),
         settled(),
     ];
     play(alloc, run, &beginning)
@@ -111,12 +112,12 @@ fn begin(alloc: Global, run: &mut Run<Global>) -> Result<(), Fault>
 
 /// A start of the host with nothing kept.
 fn fresh_start(alloc: Global, host: u8) -> ScenarioEvent
-    ensures { result ≡ Start host [] }
+    ensures { result ≡ Core (Start host []) }
 {
-    ScenarioEvent::Start {
+    ScenarioEvent::Core(Event::Start {
         host,
         kept: Seq::new(alloc),
-    }
+    })
 }
 
 /// The steps.
@@ -138,7 +139,7 @@ fn draw_step(alloc: Global, run: &mut Run<Global>, number: usize, words: Words) 
     ensures no_memory { IfErr result (λ fault. fault ≡ OutOfMemory) }
 {
     match event_of(alloc, run.world(), number, words)? {
-        Some(event) => play(alloc, run, &[event]),
+        Some(event) => play(alloc, run, &[ScenarioEvent::Core(event)]),
         None => Ok(()),
     }
 }

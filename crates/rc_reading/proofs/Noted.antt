@@ -10,9 +10,12 @@ use Rattle.rc_types.specs.declared.ids.Addr.TheVariants.{Coordinator, Server}
 use Rattle.rc_reading.specs.declared.fields.Fields.{Fields}
 use Rattle.rc_reading.specs.declared.names.EventName.{EventName}
 use Rattle.rc_reading.specs.declared.names.EventName.TheVariants as event
-use Rattle.rc_reading.specs.declared.scenarios.ScenarioEvent.TheVariants.{Stop, Suspect, Decide}
+use Rattle.rc_types.specs.declared.events.Event.{Event}
+use Rattle.rc_types.specs.declared.events.Event.TheVariants.{Stop, Suspect, Decide}
+use Rattle.rc_reading.specs.declared.scenarios.ScenarioEvent.{ScenarioEvent}
+use Rattle.rc_reading.specs.declared.scenarios.ScenarioEvent.TheVariants.{Core}
 use Rattle.rc_reading.specs.All.{no_kinds, no_hosts, start_members, id_members, write_members, read_members, deliver_members}
-use Rattle.rc_reading.specs.All.{settle_members, create_members, split_members, is_one_of, only, field, host_of, table_of, key_of}
+use Rattle.rc_reading.specs.All.{settle_members, create_members, split_members, is_one_of, has_only, only, field, host_of, table_of, key_of}
 use Rattle.rc_reading.specs.All.{message_of, id_of, addr_of, kept_of, kinds_of, hosts_of, written, event_name, event_of, event_by}
 use Rattle.rc_reading.specs.All.{member_named, noted, fields_of, server_in, event_from, event_in, told, says, members_at}
 use Rattle.rc_reading.proofs.Turns.{told_of, says_some, opened_object}
@@ -120,18 +123,34 @@ server_at : (o : Option Data) → option_and_then id_of o ≡ server_in (option_
 server_at None = refl
 server_at (Some d) = server_of d
 
+-- an event of the world whose members are all allowed, and else none
+core_only : (members : List (List ℕ)) (d : Data) (o : Option Event) →
+    option_map Core (only members d o) ≡ only members d (option_map Core o)
+core_only members d o = by_test (has_only members d)
+  where
+    by_test : (b : Bool) → option_map Core (if b then o else None) ≡ (if b then option_map Core o else None)
+    by_test true = refl
+    by_test false = refl
+
+server_named : (wrap : ServerId → Event) (d : Data) →
+    option_map Core (only id_members d (option_map wrap (field (codes "id") id_of d)))
+    ≡ only id_members d (option_map Core (option_map wrap (server_in (option_and_then addr_of (get (codes "id") d)))))
+server_named wrap d =
+    core_only id_members d (option_map wrap (field (codes "id") id_of d))
+    ∙ ap (λ o. only id_members d (option_map Core (option_map wrap o))) (server_at (get (codes "id") d))
+
 by_name : (name : EventName) (d : Data) → event_by name d ≡ event_from name (fields_of d)
-by_name event.Start d = refl
-by_name event.Stop d = ap (λ o. only id_members d (option_map Stop o)) (server_at (get (codes "id") d))
-by_name event.Suspect d = ap (λ o. only id_members d (option_map Suspect o)) (server_at (get (codes "id") d))
-by_name event.Decide d = ap (λ o. only id_members d (option_map Decide o)) (server_at (get (codes "id") d))
-by_name event.Tick d = refl
-by_name event.Write d = refl
-by_name event.Read d = refl
-by_name event.Deliver d = refl
+by_name event.Start d = core_only start_members d _
+by_name event.Stop d = server_named Stop d
+by_name event.Suspect d = server_named Suspect d
+by_name event.Decide d = server_named Decide d
+by_name event.Tick d = core_only id_members d _
+by_name event.Write d = core_only write_members d _
+by_name event.Read d = core_only read_members d _
+by_name event.Deliver d = core_only deliver_members d _
 by_name event.Settle d = refl
-by_name event.Create d = refl
-by_name event.Split d = refl
+by_name event.Create d = core_only create_members d _
+by_name event.Split d = core_only split_members d _
 
 by_field : (o : Option EventName) (d : Data) →
     option_and_then (λ name. event_by name d) o ≡ option_and_then (λ name. event_from name (fields_of d)) o

@@ -12,7 +12,7 @@ pub use Rattle.rc_reading.specs.Names.{second_members, settle_members, split_mem
 pub use Rattle.rc_reading.specs.Pairs.{both_in, generation_of, id_item, kept_segment_of, name_item, paired}
 pub use Rattle.rc_reading.specs.Pairs.{replica_name, server_id}
 pub use Rattle.rc_reading.specs.Said.{Said, begins_object, both_of, said_of}
-pub use Rattle.rc_reading.specs.Scenario.{core_event, event_by, events_of, first_setup, of_text, of_value}
+pub use Rattle.rc_reading.specs.Scenario.{event_by, events_of, first_setup, of_text, of_value}
 unfoldable pub use Rattle.rc_reading.specs.Scenario.{event_of}
 pub use Rattle.rc_reading.specs.Scenario.{one_event_more, reading, scenario_in, scenario_of, second_setup, segment_of}
 pub use Rattle.rc_reading.specs.Scenario.{setup_by, setup_of, value_in, with_events}

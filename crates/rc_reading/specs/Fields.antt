@@ -13,8 +13,10 @@ use Rattle.rc_reading.specs.declared.fields.Fields.{Fields}
 use Rattle.rc_reading.specs.declared.names.EventName.{EventName}
 use Rattle.rc_reading.specs.declared.names.EventName.TheVariants as event
 use Rattle.rc_reading.specs.declared.scenarios.ScenarioEvent.{ScenarioEvent}
-use Rattle.rc_reading.specs.declared.scenarios.ScenarioEvent.TheVariants.{Start, Stop, Suspect, Decide, Tick, Write}
-use Rattle.rc_reading.specs.declared.scenarios.ScenarioEvent.TheVariants.{Read, Deliver, Create, Split, Settle}
+use Rattle.rc_types.specs.declared.events.Event.{Event}
+use Rattle.rc_types.specs.declared.events.Event.TheVariants.{Start, Stop, Suspect, Decide, Tick, Deliver, Create, Split}
+use Rattle.rc_reading.specs.declared.scenarios.ScenarioEvent.TheVariants.{Core, Settle}
+use Rattle.rc_reading.specs.Scenario.{asks_write, asks_read}
 use Rattle.rc_reading.specs.Kinds.{no_kinds}
 use Rattle.rc_reading.specs.Hosts.{no_hosts}
 use Rattle.rc_reading.specs.Names.{start_members, id_members, write_members, read_members, deliver_members}
@@ -153,19 +155,24 @@ allowed event.Settle only = only.settle
 allowed event.Create only = only.create
 allowed event.Split only = only.split
 
--- the event of this name, where the members that it needs say something
+-- the event of the world of this name, where the members that it needs say something; a pass is none
+abbrev pub needed_core : EventName → Fields → Option Event
+needed_core event.Start fields = given2 Start fields.host fields.kept
+needed_core event.Stop fields = option_map Stop (server_in fields.addr)
+needed_core event.Suspect fields = option_map Suspect (server_in fields.addr)
+needed_core event.Decide fields = option_map Decide (server_in fields.addr)
+needed_core event.Tick fields = option_map Tick fields.addr
+needed_core event.Write fields = given4 asks_write fields.to fields.table fields.key fields.value
+needed_core event.Read fields = given3 asks_read fields.to fields.table fields.key
+needed_core event.Deliver fields = option_map Deliver fields.number
+needed_core event.Settle fields = None
+needed_core event.Create fields = given2 Create fields.table fields.owner
+needed_core event.Split fields = given2 Split fields.table fields.at
+
+-- the event of this name
 abbrev pub needed : EventName → Fields → Option ScenarioEvent
-needed event.Start fields = given2 Start fields.host fields.kept
-needed event.Stop fields = option_map Stop (server_in fields.addr)
-needed event.Suspect fields = option_map Suspect (server_in fields.addr)
-needed event.Decide fields = option_map Decide (server_in fields.addr)
-needed event.Tick fields = option_map Tick fields.addr
-needed event.Write fields = given4 Write fields.to fields.table fields.key fields.value
-needed event.Read fields = given3 Read fields.to fields.table fields.key
-needed event.Deliver fields = option_map Deliver fields.number
 needed event.Settle fields = given2 Settle fields.kinds fields.hosts
-needed event.Create fields = given2 Create fields.table fields.owner
-needed event.Split fields = given2 Split fields.table fields.at
+needed name fields = option_map Core (needed_core name fields)
 
 -- the event that the members say
 abbrev pub event_from : EventName → Fields → Option ScenarioEvent

@@ -2,9 +2,11 @@
 use Rattle.std.specs.Prelude.{ℕ, ◌+◌, false, nat_eq, nat_le, ◌&&◌, if◌then◌else◌, List, [], ◌∷◌, length, Option}
 use Rattle.std.specs.Prelude.{Some, None, option_map, option_and_then, Result, Ok, Err, codes}
 use Rattle.std.specs.Str.{is_utf8}
+use Rattle.rc_types.specs.declared.ids.ServerId.{ServerId}
 use Rattle.rc_types.specs.declared.events.Setup.{Setup}
 use Rattle.rc_types.specs.declared.events.Event.{Event}
-use Rattle.rc_types.specs.declared.events.Event.TheVariants as event
+use Rattle.rc_types.specs.declared.events.Event.TheVariants.{Start, Stop, Suspect, Decide, Tick, Ask, Deliver, Create}
+use Rattle.rc_types.specs.declared.events.Event.TheVariants.{Split}
 use Rattle.rc_types.specs.declared.messages.Body.TheVariants as body
 use Rattle.rc_types.specs.declared.limits.TheConstants.{MAX_SEGMENT}
 use Rattle.serde_json.specs.Data.{Data}
@@ -15,8 +17,7 @@ use Rattle.rc_reading.specs.declared.names.EventName.{EventName}
 use Rattle.rc_reading.specs.declared.names.EventName.TheVariants as name
 use Rattle.rc_reading.specs.declared.scenarios.Scenario.{Scenario}
 use Rattle.rc_reading.specs.declared.scenarios.ScenarioEvent.{ScenarioEvent}
-use Rattle.rc_reading.specs.declared.scenarios.ScenarioEvent.TheVariants.{Start, Stop, Suspect, Decide, Tick, Write}
-use Rattle.rc_reading.specs.declared.scenarios.ScenarioEvent.TheVariants.{Read, Deliver, Create, Split, Settle}
+use Rattle.rc_reading.specs.declared.scenarios.ScenarioEvent.TheVariants.{Core, Settle}
 use Rattle.rc_reading.specs.Kinds.{no_kinds}
 use Rattle.rc_reading.specs.Hosts.{no_hosts}
 use Rattle.rc_reading.specs.Names.{start_members, id_members, write_members, read_members, deliver_members}
@@ -25,48 +26,41 @@ use Rattle.rc_reading.specs.Values.{only, field, optional, given2, given3, given
 use Rattle.rc_reading.specs.Values.{factor_of, table_of, key_of, message_of, id_of, addr_of, kept_of, kinds_of}
 use Rattle.rc_reading.specs.Values.{hosts_of, factors_of, written, event_name}
 
--- The event of the world that an event of a scenario is
+-- What a client asks, as an event of the world
 
-abbrev pub core_event : ScenarioEvent → Option Event
-core_event (Start host kept) = Some (event.Start host kept)
-core_event (Stop id) = Some (event.Stop id)
-core_event (Suspect id) = Some (event.Suspect id)
-core_event (Decide id) = Some (event.Decide id)
-core_event (Tick addr) = Some (event.Tick addr)
-core_event (Write to table key value) = Some (event.Ask to (body.Write table key value))
-core_event (Read to table key) = Some (event.Ask to (body.Read table key))
-core_event (Deliver n) = Some (event.Deliver n)
-core_event (Create table owner) = Some (event.Create table owner)
-core_event (Split table at) = Some (event.Split table at)
-core_event (Settle kinds hosts) = None
+abbrev pub asks_write : ServerId → ℕ → ℕ → Option (List ℕ) → Event
+asks_write to table key value = Ask to (body.Write table key value)
+
+abbrev pub asks_read : ServerId → ℕ → ℕ → Event
+asks_read to table key = Ask to (body.Read table key)
 
 -- The events, by the name that stands at `e`. Each has exactly its members.
 
 -- without `kept`, nothing is kept
-abbrev pub start_of : Data → Option ScenarioEvent
+abbrev pub start_of : Data → Option Event
 start_of d = only start_members d (given2 Start (field (codes "host") host_of d) (optional [] (codes "kept") kept_of d))
 
-abbrev pub stop_of : Data → Option ScenarioEvent
+abbrev pub stop_of : Data → Option Event
 stop_of d = only id_members d (option_map Stop (field (codes "id") id_of d))
 
-abbrev pub suspect_of : Data → Option ScenarioEvent
+abbrev pub suspect_of : Data → Option Event
 suspect_of d = only id_members d (option_map Suspect (field (codes "id") id_of d))
 
-abbrev pub decide_of : Data → Option ScenarioEvent
+abbrev pub decide_of : Data → Option Event
 decide_of d = only id_members d (option_map Decide (field (codes "id") id_of d))
 
-abbrev pub tick_of : Data → Option ScenarioEvent
+abbrev pub tick_of : Data → Option Event
 tick_of d = only id_members d (option_map Tick (field (codes "id") addr_of d))
 
-abbrev pub write_of : Data → Option ScenarioEvent
-write_of d = only write_members d (given4 Write (field (codes "to") id_of d) (field (codes "table") table_of d)
+abbrev pub write_of : Data → Option Event
+write_of d = only write_members d (given4 asks_write (field (codes "to") id_of d) (field (codes "table") table_of d)
     (field (codes "key") key_of d) (field (codes "value") written d))
 
-abbrev pub read_of : Data → Option ScenarioEvent
-read_of d = only read_members d (given3 Read (field (codes "to") id_of d) (field (codes "table") table_of d)
+abbrev pub read_of : Data → Option Event
+read_of d = only read_members d (given3 asks_read (field (codes "to") id_of d) (field (codes "table") table_of d)
     (field (codes "key") key_of d))
 
-abbrev pub deliver_of : Data → Option ScenarioEvent
+abbrev pub deliver_of : Data → Option Event
 deliver_of d = only deliver_members d (option_map Deliver (field (codes "n") message_of d))
 
 -- both lists may be left out
@@ -74,24 +68,24 @@ abbrev pub settle_of : Data → Option ScenarioEvent
 settle_of d = only settle_members d (given2 Settle (optional no_kinds (codes "kinds") kinds_of d)
     (optional no_hosts (codes "hosts") hosts_of d))
 
-abbrev pub create_of : Data → Option ScenarioEvent
+abbrev pub create_of : Data → Option Event
 create_of d = only create_members d (given2 Create (field (codes "table") table_of d) (field (codes "owner") id_of d))
 
-abbrev pub split_of : Data → Option ScenarioEvent
+abbrev pub split_of : Data → Option Event
 split_of d = only split_members d (given2 Split (field (codes "table") table_of d) (field (codes "at") key_of d))
 
 abbrev pub event_by : EventName → Data → Option ScenarioEvent
-event_by name.Start d = start_of d
-event_by name.Stop d = stop_of d
-event_by name.Suspect d = suspect_of d
-event_by name.Decide d = decide_of d
-event_by name.Tick d = tick_of d
-event_by name.Write d = write_of d
-event_by name.Read d = read_of d
-event_by name.Deliver d = deliver_of d
+event_by name.Start d = option_map Core (start_of d)
+event_by name.Stop d = option_map Core (stop_of d)
+event_by name.Suspect d = option_map Core (suspect_of d)
+event_by name.Decide d = option_map Core (decide_of d)
+event_by name.Tick d = option_map Core (tick_of d)
+event_by name.Write d = option_map Core (write_of d)
+event_by name.Read d = option_map Core (read_of d)
+event_by name.Deliver d = option_map Core (deliver_of d)
 event_by name.Settle d = settle_of d
-event_by name.Create d = create_of d
-event_by name.Split d = split_of d
+event_by name.Create d = option_map Core (create_of d)
+event_by name.Split d = option_map Core (split_of d)
 
 unfoldable pub event_of : Data → Option ScenarioEvent
 event_of d = option_and_then (λ name. event_by name d) (field (codes "e") event_name d)

@@ -1,14 +1,14 @@
 //! What the members of an event say, a member at a time.
 
-ghost use Rattle.std.specs.Prelude.{◌≡◌, ◌<◌, ℕ, length, Some, None, Err, IfOk, OnOk, OnErr};
+ghost use Rattle.std.specs.Prelude.{◌≡◌, ◌<◌, ℕ, length, Some, None, Err, IfOk, OnOk, OnErr, option_map};
 ghost use Rattle.rc_reading.specs.declared.scenarios.ReadFault.TheVariants.{BadScenario};
 ghost use Rattle.serde_json.specs.Data.{object, no_members};
-ghost use Rattle.rc_reading.specs.declared.scenarios.ScenarioEvent.TheVariants.{Start, Write, Read, Create, Split};
+ghost use Rattle.rc_types.specs.declared.events.Event.TheVariants.{Start, Deliver, Create, Split};
 ghost use Rattle.rc_reading.specs.declared.scenarios.ScenarioEvent.TheVariants.{Settle};
 ghost use Rattle.rc_reading.specs.Values.{written, table_of, message_of, given2, given3, given4};
-ghost use Rattle.rc_reading.specs.Scenario.{event_of};
+ghost use Rattle.rc_reading.specs.Scenario.{event_of, asks_write, asks_read};
 ghost use Rattle.rc_reading.specs.Fields.{member_named, narrowed, all_events, noted, fields_of, event_in, allowed};
-ghost use Rattle.rc_reading.specs.Fields.{server_in, needed, no_event};
+ghost use Rattle.rc_reading.specs.Fields.{server_in, needed, needed_core, no_event};
 ghost use Rattle.rc_reading.specs.Ahead.{data_at, members_at, says, told};
 
 use crate::hosts::Hosts;
@@ -22,7 +22,7 @@ use crate::tokens::{opens_object, pass, simple};
 use crate::wanted::{addr, event, host, id, number};
 use json::{Invalid, Reader};
 use rc_types::limits::LAST_KEY;
-use rc_types::{Addr, Seq, ServerId};
+use rc_types::{Addr, Body, Event, Seq, ServerId};
 use std::alloc::Global;
 
 /// A member that some event has.
@@ -286,17 +286,27 @@ impl Fields {
         ensures { result ≡ needed name self }
     {
         match name {
+            EventName::Settle => settle_event(self.kinds, self.hosts),
+            _ => self.needed_core(name).map(ScenarioEvent::Core),
+        }
+    }
+
+    /// The event of the world of this name, which is no pass, where the members that it needs say something.
+    fn needed_core(self, name: EventName) -> Option<Event>
+        ensures { result ≡ needed_core name self }
+    {
+        match name {
             EventName::Start => start_event(self.host, self.kept),
-            EventName::Stop => self.server().map(ScenarioEvent::Stop),
-            EventName::Suspect => self.server().map(ScenarioEvent::Suspect),
-            EventName::Decide => self.server().map(ScenarioEvent::Decide),
-            EventName::Tick => self.addr.map(ScenarioEvent::Tick),
+            EventName::Stop => self.server().map(Event::Stop),
+            EventName::Suspect => self.server().map(Event::Suspect),
+            EventName::Decide => self.server().map(Event::Decide),
+            EventName::Tick => self.addr.map(Event::Tick),
             EventName::Write => write_event(self.to, self.table, self.key, self.value),
             EventName::Read => read_event(self.to, self.table, self.key),
-            EventName::Deliver => self.number.map(ScenarioEvent::Deliver),
-            EventName::Settle => settle_event(self.kinds, self.hosts),
+            EventName::Deliver => deliver_event(self.number),
             EventName::Create => create_event(self.table, self.owner),
             EventName::Split => split_event(self.table, self.at),
+            EventName::Settle => None,
         }
     }
 
@@ -311,13 +321,13 @@ impl Fields {
     }
 }
 
-fn start_event(host: Option<u8>, kept: Option<Seq<(ServerId, u16)>>) -> Option<ScenarioEvent>
+fn start_event(host: Option<u8>, kept: Option<Seq<(ServerId, u16)>>) -> Option<Event>
     ensures { result ≡ given2 Start host kept }
 {
     let (Some(host), Some(kept)) = (host, kept) else {
         return None;
     };
-    Some(ScenarioEvent::Start { host, kept })
+    Some(Event::Start { host, kept })
 }
 
 fn write_event(
@@ -325,25 +335,33 @@ fn write_event(
     table: Option<u32>,
     key: Option<u64>,
     value: Option<Option<Seq<u8>>>,
-) -> Option<ScenarioEvent>
-    ensures { result ≡ given4 Write to table key value }
+) -> Option<Event>
+    ensures { result ≡ given4 asks_write to table key value }
 {
-    Some(ScenarioEvent::Write {
-        to: to?,
+    let to = to?;
+    let body = Body::Write {
         table: table?,
         key: key?,
         value: value?,
-    })
+    };
+    Some(Event::Ask { to, body })
 }
 
-fn read_event(to: Option<ServerId>, table: Option<u32>, key: Option<u64>) -> Option<ScenarioEvent>
-    ensures { result ≡ given3 Read to table key }
+fn read_event(to: Option<ServerId>, table: Option<u32>, key: Option<u64>) -> Option<Event>
+    ensures { result ≡ given3 asks_read to table key }
 {
-    Some(ScenarioEvent::Read {
-        to: to?,
+    let to = to?;
+    let body = Body::Read {
         table: table?,
         key: key?,
-    })
+    };
+    Some(Event::Ask { to, body })
+}
+
+fn deliver_event(number: Option<u32>) -> Option<Event>
+    ensures { result ≡ option_map Deliver number }
+{
+    Some(Event::Deliver(number? as usize))
 }
 
 fn settle_event(kinds: Option<Kinds>, hosts: Option<Hosts>) -> Option<ScenarioEvent>
@@ -355,19 +373,19 @@ fn settle_event(kinds: Option<Kinds>, hosts: Option<Hosts>) -> Option<ScenarioEv
     })
 }
 
-fn create_event(table: Option<u32>, owner: Option<ServerId>) -> Option<ScenarioEvent>
+fn create_event(table: Option<u32>, owner: Option<ServerId>) -> Option<Event>
     ensures { result ≡ given2 Create table owner }
 {
-    Some(ScenarioEvent::Create {
+    Some(Event::Create {
         table: table?,
         owner: owner?,
     })
 }
 
-fn split_event(table: Option<u32>, at: Option<u64>) -> Option<ScenarioEvent>
+fn split_event(table: Option<u32>, at: Option<u64>) -> Option<Event>
     ensures { result ≡ given2 Split table at }
 {
-    Some(ScenarioEvent::Split {
+    Some(Event::Split {
         table: table?,
         at: at?,
     })

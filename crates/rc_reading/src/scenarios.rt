@@ -1,13 +1,10 @@
 //! What a scenario says: a setup, and the events that happen in turn.
 
-ghost use Rattle.std.specs.Prelude.{◌≡◌, IfOk};
-ghost use Rattle.rc_reading.specs.Scenario.{core_event};
-
 use crate::hosts::Hosts;
 use crate::kinds::Kinds;
 use json::Invalid;
-use rc_types::{Addr, Body, Event, Fault, Seq, ServerId, Setup, TryClone};
-use std::alloc::{AllocError, AllocFailed, Global};
+use rc_types::{Event, Seq, Setup};
+use std::alloc::{AllocError, AllocFailed};
 use thiserror::Error;
 
 /// A scenario of either format.
@@ -22,103 +19,17 @@ pub struct Scenario {
 /// One event of a scenario: one event of the world, or a pass over the messages.
 #[derive(Drop)]
 pub enum ScenarioEvent {
-    /// A host is started, with what it keeps of its open replicas, named by master and segment.
-    Start {
-        host: u8,
-        kept: Seq<(ServerId, u16)>,
-    },
-    /// A running server stops.
-    Stop(ServerId),
-    /// The coordinator is told that a server is believed dead.
-    Suspect(ServerId),
-    /// The coordinator is told to decide the recovery of a server.
-    Decide(ServerId),
-    /// A timer of the coordinator or of a running server goes off.
-    Tick(Addr),
-    /// The outside asks a server to write; without a value, to delete.
-    Write {
-        to: ServerId,
-        table: u32,
-        key: u64,
-        value: Option<Seq<u8>>,
-    },
-    /// The outside asks a server to read.
-    Read {
-        to: ServerId,
-        table: u32,
-        key: u64,
-    },
-    /// The message of this number, counted from 0, reaches its addressee.
-    Deliver(u32),
-    /// The coordinator is told to create a table for an owner.
-    Create {
-        table: u32,
-        owner: ServerId,
-    },
-    /// The coordinator is told to split a tablet before a key.
-    Split {
-        table: u32,
-        at: u64,
-    },
+    /// This event of the world.
+    Core(Event),
     /// One pass over the messages, which delivers each that nothing has delivered yet, except those
     /// to the outside, those whose body is of one of the kinds, and those to a server on one of the
     /// hosts.
     Settle {
+        /// The kinds of bodies that are left out.
         kinds: Kinds,
+        /// The hosts whose servers are left out.
         hosts: Hosts,
     },
-}
-
-impl ScenarioEvent {
-    /// The event of the world that this is; a pass is none.
-    ///
-    /// # Errors
-    ///
-    /// F1 where memory was refused.
-    pub fn core(&self, alloc: Global) -> Result<Option<Event>, Fault>
-        ensures { IfOk result (λ event. event ≡ core_event self.now) }
-    {
-        Ok(match self {
-            ScenarioEvent::Start { host, kept } => Some(Event::Start {
-                host: *host,
-                kept: kept.try_clone(alloc)?,
-            }),
-            ScenarioEvent::Stop(id) => Some(Event::Stop(*id)),
-            ScenarioEvent::Suspect(id) => Some(Event::Suspect(*id)),
-            ScenarioEvent::Decide(id) => Some(Event::Decide(*id)),
-            ScenarioEvent::Tick(addr) => Some(Event::Tick(*addr)),
-            ScenarioEvent::Write {
-                to,
-                table,
-                key,
-                value,
-            } => Some(Event::Ask {
-                to: *to,
-                body: Body::Write {
-                    table: *table,
-                    key: *key,
-                    value: value.try_clone(alloc)?,
-                },
-            }),
-            ScenarioEvent::Read { to, table, key } => Some(Event::Ask {
-                to: *to,
-                body: Body::Read {
-                    table: *table,
-                    key: *key,
-                },
-            }),
-            ScenarioEvent::Deliver(number) => Some(Event::Deliver(*number as usize)),
-            ScenarioEvent::Create { table, owner } => Some(Event::Create {
-                table: *table,
-                owner: *owner,
-            }),
-            ScenarioEvent::Split { table, at } => Some(Event::Split {
-                table: *table,
-                at: *at,
-            }),
-            ScenarioEvent::Settle { .. } => None,
-        })
-    }
 }
 
 /// Why no scenario was read.

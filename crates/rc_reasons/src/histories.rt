@@ -1,7 +1,7 @@
 //! Which servers have run, by the events of a scenario alone.
 
 use rc_reading::ScenarioEvent;
-use rc_types::ServerId;
+use rc_types::{Event, ServerId};
 
 /// The servers of one host so far.
 #[derive(Clone, Copy)]
@@ -31,8 +31,8 @@ impl History {
         let mut history = History { hosts: [none; 64] };
         for (number, event) in events.iter().enumerate() {
             match event {
-                ScenarioEvent::Start { host, .. } => history.start(*host, number),
-                ScenarioEvent::Stop(id) => history.stop(*id, number),
+                ScenarioEvent::Core(Event::Start { host, .. }) => history.start(*host, number),
+                ScenarioEvent::Core(Event::Stop(id)) => history.stop(*id, number),
                 _ => {}
             }
         }

@@ -9,7 +9,7 @@ use crate::values::unquoted;
 use rc_pen::{Pen, Piece as Told, Spelling};
 use rc_reading::{ReadFault, ScenarioEvent, read_scenario};
 use rc_types::limits::MAX_EVENTS;
-use rc_types::{Addr, ServerId};
+use rc_types::{Addr, Event, ServerId};
 use std::alloc::{AllocError, Global};
 
 /// Why the run of a scenario stopped at this event, when so many messages had been sent, in a line or two. Fails
@@ -63,24 +63,25 @@ fn tell_stop(alloc: Global, text: &[u8], number: usize, sent: usize, pen: &mut P
 /// Says why the event of this number was not possible, of these.
 fn tell_stop_in(events: &[ScenarioEvent], number: usize, sent: usize, pen: &mut Pen) {
     let history = History::of(&events[..number.min(events.len())]);
-    tell_cause(events.get(number), &history, sent, pen);
+    match events.get(number) {
+        Some(ScenarioEvent::Core(event)) => tell_cause(event, &history, sent, pen),
+        _ => tell_limit(pen),
+    }
 }
 
 /// Says why the event was not possible.
-fn tell_cause(event: Option<&ScenarioEvent>, history: &History, sent: usize, pen: &mut Pen) {
+fn tell_cause(event: &Event, history: &History, sent: usize, pen: &mut Pen) {
     match event {
-        Some(ScenarioEvent::Start { host, .. }) => tell_running(*host, history, pen),
-        Some(ScenarioEvent::Stop(id) | ScenarioEvent::Tick(Addr::Server(id))) => {
-            tell_absent(*id, history, pen);
-        }
-        Some(ScenarioEvent::Deliver(n)) if *n as usize >= sent => tell_unsent(*n, sent, pen),
+        Event::Start { host, .. } => tell_running(*host, history, pen),
+        Event::Stop(id) | Event::Tick(Addr::Server(id)) => tell_absent(*id, history, pen),
+        Event::Deliver(number) if *number >= sent => tell_unsent(*number, sent, pen),
         _ => tell_limit(pen),
     }
 }
 
 /// A message that is to be delivered was not sent.
-fn tell_unsent(number: u32, sent: usize, pen: &mut Pen) {
-    pen.say_all("message % was not sent; ", &[Told::U32(number)]);
+fn tell_unsent(number: usize, sent: usize, pen: &mut Pen) {
+    pen.say_all("message % was not sent; ", &[Told::Size(number)]);
     match sent {
         0 => pen.say("none was until then"),
         1 => pen.say("only message 0 was until then"),

@@ -6,10 +6,7 @@ use Rattle.rc_model.specs.Model.{Event, Fault, World, step, is_possible}
 use Rattle.rc_types.specs.declared.faults.Fault.TheVariants.{OutOfMemory, BadEvent}
 use Rattle.rc_reading.specs.declared.scenarios.ScenarioEvent.{ScenarioEvent}
 use Rattle.rc_reading.specs.declared.scenarios.ScenarioEvent.TheVariants as scene
-use Rattle.rc_reading.specs.declared.hosts.Hosts.{Hosts}
-use Rattle.rc_reading.specs.declared.kinds.Kinds.{Kinds}
-use Rattle.rc_reading.specs.Scenario.{core_event}
-use Rattle.rc_scenes.specs.Runs.{one_event, event_if_any, scenario_event, run_from}
+use Rattle.rc_scenes.specs.Runs.{one_event, scenario_event, run_from}
 use Rattle.rc_world.specs.Happened.{Happened, replayed, with_events, can_happen}
 use Rattle.rc_runs.specs.Steps.{GoesOn, room_at, StopsIn}
 use Rattle.rc_runs.proofs.Steppings.{possible_of, replayed_more}
@@ -17,37 +14,6 @@ use Rattle.rc_runs.proofs.Passes.{longer}
 
 if_both : {X : Type 0} (a b : Bool) (x y : X) → a ≡ true → b ≡ true → (if a && b then x else y) ≡ x
 if_both a b x y one other = rw (one, other) refl
-
--- what is no pass is its event of the world
-pub as_event : (event : ScenarioEvent) → ((kinds : Kinds) (hosts : Hosts) → event ≡ scene.Settle kinds hosts → ⊥) →
-    (most : ℕ) (world : World)
-    → scenario_event most world event ≡ event_if_any most world (core_event event)
-as_event (scene.Start host kept) other most world = refl
-as_event (scene.Stop id) other most world = refl
-as_event (scene.Suspect id) other most world = refl
-as_event (scene.Decide id) other most world = refl
-as_event (scene.Tick addr) other most world = refl
-as_event (scene.Write to table key value) other most world = refl
-as_event (scene.Read to table key) other most world = refl
-as_event (scene.Deliver n) other most world = refl
-as_event (scene.Create table owner) other most world = refl
-as_event (scene.Split table at) other most world = refl
-as_event (scene.Settle kinds hosts) other most world = absurd (other kinds hosts refl)
-
--- and it is one
-pub has_event : (event : ScenarioEvent) → ((kinds : Kinds) (hosts : Hosts) → event ≡ scene.Settle kinds hosts → ⊥) →
-    (core : Event) × (core_event event ≡ Some core)
-has_event (scene.Start host kept) other = (_, refl)
-has_event (scene.Stop id) other = (_, refl)
-has_event (scene.Suspect id) other = (_, refl)
-has_event (scene.Decide id) other = (_, refl)
-has_event (scene.Tick addr) other = (_, refl)
-has_event (scene.Write to table key value) other = (_, refl)
-has_event (scene.Read to table key) other = (_, refl)
-has_event (scene.Deliver n) other = (_, refl)
-has_event (scene.Create table owner) other = (_, refl)
-has_event (scene.Split table at) other = (_, refl)
-has_event (scene.Settle kinds hosts) other = absurd (other kinds hosts refl)
 
 -- one event of the world that happened
 one_taken : (old new : Happened) (event : Event) → (replayed old).events ≡ old.events →
@@ -61,15 +27,11 @@ one_taken old new event taken made can most room =
     (Ok (step (replayed old) event)) (Err (replayed old))
     (rw taken there) (possible_of old event can) ∙ ap Ok (sym stepped)
 
-pub one_goes_on : {T E : Type 0} (result : Result T E) (old new : Happened) (event : Event) (whole : ScenarioEvent)
-    → ((most : ℕ) (world : World) → scenario_event most world whole ≡ event_if_any most world (core_event whole)) →
-    Some event ≡ core_event whole
+pub one_goes_on : {T E : Type 0} (result : Result T E) (old new : Happened) (event : Event)
     → (replayed old).events ≡ old.events → OnOk result (new ≡ with_events old (event ∷ [])) → OnOk result (can_happen old event ≡ true)
-    → OnOk result (GoesOn (λ most world. scenario_event most world whole) old new)
-one_goes_on (Ok t) old new event whole alike same taken made can =
-    λ most room. alike most (replayed old) ∙ ap (event_if_any most (replayed old)) (sym same) ∙
-    one_taken old new event taken made can most room
-one_goes_on (Err e) old new event whole alike same taken made can = tt
+    → OnOk result (GoesOn (λ most world. scenario_event most world (scene.Core event)) old new)
+one_goes_on (Ok t) old new event taken made can = one_taken old new event taken made can
+one_goes_on (Err e) old new event taken made can = tt
 
 -- one that did not
 one_refused : (old : Happened) (event : Event) (fault : Fault) → (replayed old).events ≡ old.events →
@@ -82,35 +44,14 @@ one_refused old event fault taken (inr same) bad =
     let never : (nat_lt (length old.events) 200000 && is_possible (replayed old) event) ≡ false = bad same in
     rw (same, taken, never) refl
 
-whole_refused : (old : Happened) (event : Event) (fault : Fault) (whole : ScenarioEvent)
-    → ((most : ℕ) (world : World) → scenario_event most world whole ≡ event_if_any most world (core_event whole)) →
-    Some event ≡ core_event whole
-    → (replayed old).events ≡ old.events → (fault ≡ OutOfMemory) ⊎ (fault ≡ BadEvent)
-    → (fault ≡ BadEvent → can_happen old event ≡ false) → scenario_event (room_at fault old) (replayed old) whole ≡ Err (replayed old)
-whole_refused old event fault whole alike same taken which bad =
-    alike (room_at fault old) (replayed old) ∙ ap (event_if_any (room_at fault old) (replayed old)) (sym same) ∙
-    one_refused old event fault taken which bad
-
-pub one_stops : {T : Type 0} (result : Result T Fault) (old new : Happened) (event : Event) (whole : ScenarioEvent)
-    → ((most : ℕ) (world : World) → scenario_event most world whole ≡ event_if_any most world (core_event whole)) →
-    Some event ≡ core_event whole
+pub one_stops : {T : Type 0} (result : Result T Fault) (old new : Happened) (event : Event)
     → (replayed old).events ≡ old.events → IfErr result (λ fault. (fault ≡ OutOfMemory) ⊎ (fault ≡ BadEvent)) →
     (result ≡ Err BadEvent → can_happen old event ≡ false)
-    → OnErr result (new ≡ old) → IfErr result (λ fault. StopsIn (λ most world. scenario_event most world whole) fault old new)
-one_stops (Ok t) old new event whole alike same taken which bad kept = tt
-one_stops (Err fault) old new event whole alike same taken which bad kept =
-    rw kept (whole_refused old event fault whole alike same taken which (λ is. bad (ap Err is)))
-
--- where the event could not be copied, the run stops before it
-pub copy_stops : (old : Happened) (whole : ScenarioEvent) → ((kinds : Kinds) (hosts : Hosts) → whole ≡ scene.Settle kinds hosts → ⊥)
-    → (replayed old).events ≡ old.events → StopsIn (λ most world. scenario_event most world whole) OutOfMemory old old
-copy_stops old whole other taken =
-    let core = has_event whole other in
-    whole_refused old core.0 OutOfMemory whole (as_event whole other) (sym core.1) taken (inl refl)
-    (λ same. absurd (memory_is_not_bad same))
-  where
-    memory_is_not_bad : OutOfMemory ≡ BadEvent → ⊥
-    memory_is_not_bad same = cc
+    → OnErr result (new ≡ old)
+    → IfErr result (λ fault. StopsIn (λ most world. scenario_event most world (scene.Core event)) fault old new)
+one_stops (Ok t) old new event taken which bad kept = tt
+one_stops (Err fault) old new event taken which bad kept =
+    rw kept (one_refused old event fault taken which (λ is. bad (ap Err is)))
 
 pub scene_stops : (most place : ℕ) (world next : World) (event : ScenarioEvent) (events rest : List ScenarioEvent) → events ≡ event ∷ rest
     → scenario_event most world event ≡ Err next → run_from most place world events ≡ record { world = next; stopped = Some place }

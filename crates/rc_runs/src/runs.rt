@@ -142,18 +142,15 @@ impl<A: Allocator + Clone> Run<A> {
         ensures more { length self.old.events ≤ length self.new.events }
         ensures few { length self.new.events ≤ MAX_EVENTS }
     {
-        if let ScenarioEvent::Settle { kinds, hosts } = event {
-            let passing = Passing {
-                kinds: *kinds,
-                hosts: *hosts,
-            };
-            return self.settle(alloc, &passing);
-        }
-        let _world = self.world();
-        match event.core(alloc) {
-            Ok(Some(core)) => self.take(alloc, &core),
-            Ok(None) => Ok(()),
-            Err(_) => Err(Fault::OutOfMemory),
+        match event {
+            ScenarioEvent::Core(core) => self.take(alloc, core),
+            ScenarioEvent::Settle { kinds, hosts } => {
+                let passing = Passing {
+                    kinds: *kinds,
+                    hosts: *hosts,
+                };
+                self.settle(alloc, &passing)
+            }
         }
     }
 

@@ -8,8 +8,7 @@ use Rattle.rc_scenes.specs.Settling.{events_left, due_from, none_left, one_left,
 use Rattle.rc_reading.specs.declared.scenarios.Scenario.{Scenario}
 use Rattle.rc_reading.specs.declared.scenarios.ScenarioEvent.{ScenarioEvent}
 use Rattle.rc_reading.specs.declared.scenarios.ScenarioEvent.TheVariants as scene
-use Rattle.rc_reading.specs.Scenario.{core_event}
-use Rattle.rc_scenes.specs.Runs.{event_if_any, scenario_event, Ended, goes_on, run_from, run_within}
+use Rattle.rc_scenes.specs.Runs.{scenario_event, Ended, goes_on, run_from, run_within}
 
 -- the world is what its events lead to, and there are at most so many of them
 pub record IsRun (most : ℕ) (setup : Setup) (world : World) : Type 0 where
@@ -81,26 +80,10 @@ in_pass most setup passing zero world n run room = in_none_left most setup world
 in_pass most setup passing (suc left) world n run room = in_one_left most setup left (pass passing left) world
     (due_from passing world.events world.sent n) (in_pass most setup passing left) run room
 
-in_event_if_any : (most : ℕ) (setup : Setup) (world : World) (event : Option Event) → IsRun most setup world →
-    EndsInRun most setup (event_if_any most world event)
-unfolding EndsInRun
-in_event_if_any most setup world None run = run
-in_event_if_any most setup world (Some event) run = in_core_event most setup world event _ _ run refl refl
-
 in_event : (most : ℕ) (setup : Setup) (world : World) (event : ScenarioEvent) → IsRun most setup world →
     EndsInRun most setup (scenario_event most world event)
-unfolding GoesOn
-in_event most setup world (scene.Start host kept) run = in_event_if_any most setup world (core_event (scene.Start host kept)) run
-in_event most setup world (scene.Stop id) run = in_event_if_any most setup world (core_event (scene.Stop id)) run
-in_event most setup world (scene.Suspect id) run = in_event_if_any most setup world (core_event (scene.Suspect id)) run
-in_event most setup world (scene.Decide id) run = in_event_if_any most setup world (core_event (scene.Decide id)) run
-in_event most setup world (scene.Tick addr) run = in_event_if_any most setup world (core_event (scene.Tick addr)) run
-in_event most setup world (scene.Write to table key value) run =
-    in_event_if_any most setup world (core_event (scene.Write to table key value)) run
-in_event most setup world (scene.Read to table key) run = in_event_if_any most setup world (core_event (scene.Read to table key)) run
-in_event most setup world (scene.Deliver n) run = in_event_if_any most setup world (core_event (scene.Deliver n)) run
-in_event most setup world (scene.Create table owner) run = in_event_if_any most setup world (core_event (scene.Create table owner)) run
-in_event most setup world (scene.Split table at) run = in_event_if_any most setup world (core_event (scene.Split table at)) run
+unfolding EndsInRun GoesOn
+in_event most setup world (scene.Core event) run = in_core_event most setup world event _ _ run refl refl
 in_event most setup world (scene.Settle kinds hosts) run =
     in_pass most setup (record { kinds = kinds; hosts = hosts }) (events_left most world) world 0 run (omega (arith, run.few))
 

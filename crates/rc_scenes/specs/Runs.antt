@@ -7,8 +7,7 @@ use Rattle.rc_types.specs.declared.limits.TheConstants.{MAX_EVENTS}
 use Rattle.rc_model.specs.World.{World, opening, step, is_possible}
 use Rattle.rc_reading.specs.declared.scenarios.Scenario.{Scenario}
 use Rattle.rc_reading.specs.declared.scenarios.ScenarioEvent.{ScenarioEvent}
-use Rattle.rc_reading.specs.declared.scenarios.ScenarioEvent.TheVariants.{Settle}
-use Rattle.rc_reading.specs.Scenario.{core_event}
+use Rattle.rc_reading.specs.declared.scenarios.ScenarioEvent.TheVariants.{Core, Settle}
 use Rattle.rc_scenes.specs.Settling.{settles}
 
 -- the run goes on after the event of the world; where that isn't possible, or no room is left, this world stands
@@ -16,14 +15,10 @@ abbrev pub one_event : ℕ → World → Event → Result World World
 one_event most world event =
     if nat_lt (length world.events) most && is_possible world event then Ok (step world event) else Err world
 
-abbrev pub event_if_any : ℕ → World → Option Event → Result World World
-event_if_any most world None = Ok world
-event_if_any most world (Some event) = one_event most world event
-
--- an event of the scenario: a pass over the messages, or one event of the world
+-- an event of the scenario: one event of the world, or a pass over the messages
 abbrev pub scenario_event : ℕ → World → ScenarioEvent → Result World World
+scenario_event most world (Core event) = one_event most world event
 scenario_event most world (Settle kinds hosts) = settles most (record { kinds = kinds; hosts = hosts }) world
-scenario_event most world event = event_if_any most world (core_event event)
 
 -- what a run has come to: the world, and the scenario's event at which it stopped
 pub record Ended : Type 0 where

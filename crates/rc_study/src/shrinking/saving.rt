@@ -78,21 +78,8 @@ fn put_event(pen: &mut Pen, event: &Event) {
 /// An event of a scenario; if it is a delivery, of this message.
 fn put_scenario_event(pen: &mut Pen, event: &ScenarioEvent, message: usize) {
     match event {
-        ScenarioEvent::Write {
-            to,
-            table,
-            key,
-            value,
-        } => lines::put_write(pen, *to, *table, *key, value.as_ref()),
-        ScenarioEvent::Read { to, table, key } => lines::put_read(pen, *to, *table, *key),
-        ScenarioEvent::Deliver(_) => lines::put_deliver(pen, message as u64),
-        ScenarioEvent::Tick(addr) => put_tick(pen, *addr),
-        ScenarioEvent::Stop(id) => lines::put_named(pen, "stop", *id),
-        ScenarioEvent::Start { host, kept } => lines::put_start(pen, *host, kept),
-        ScenarioEvent::Suspect(id) => lines::put_named(pen, "suspect", *id),
-        ScenarioEvent::Decide(id) => lines::put_named(pen, "decide", *id),
-        ScenarioEvent::Create { table, owner } => lines::put_create(pen, *table, *owner),
-        ScenarioEvent::Split { table, at } => lines::put_split(pen, *table, *at),
+        ScenarioEvent::Core(Event::Deliver(_)) => lines::put_deliver(pen, message as u64),
+        ScenarioEvent::Core(event) => put_event(pen, event),
         ScenarioEvent::Settle { kinds, hosts } => lines::put_settle(pen, *kinds, *hosts),
     }
 }

@@ -6,7 +6,7 @@ use crate::shrinking::courses::Course;
 use crate::shrinking::saving::saved_scenario;
 use crate::shrinking::trying::{Cut, Task, without};
 use rc_reading::{Scenario, ScenarioEvent};
-use rc_types::Fault;
+use rc_types::{Event, Fault};
 use std::alloc::{AllocError, Global};
 
 /// A scenario with as few of this one's events that its report still has a line that begins with the text, and none of
@@ -44,7 +44,7 @@ fn messages_of(alloc: Global, events: &[ScenarioEvent]) -> Result<Vec<usize>, Al
     let mut messages = Vec::new(alloc);
     for event in events {
         messages.push(match event {
-            ScenarioEvent::Deliver(number) => *number as usize,
+            ScenarioEvent::Core(Event::Deliver(number)) => *number,
             _ => 0,
         })?;
     }

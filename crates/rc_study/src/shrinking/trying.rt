@@ -100,7 +100,7 @@ fn go_on(
         return Ok(false);
     };
     let mut message = item.left.message;
-    if let (ScenarioEvent::Deliver(_), true) = (event, moves) {
+    if let (ScenarioEvent::Core(Event::Deliver(_)), true) = (event, moves) {
         match moved.message(item.origin) {
             Some(number) => message = number,
             None => return Ok(false),
@@ -125,7 +125,8 @@ fn played(
     message: usize,
 ) -> Result<(), Fault> {
     match event {
-        ScenarioEvent::Deliver(_) => run.take(alloc, &Event::Deliver(message)),
+        ScenarioEvent::Core(Event::Deliver(_)) => run.take(alloc, &Event::Deliver(message)),
+        ScenarioEvent::Core(core) => run.take(alloc, core),
         ScenarioEvent::Settle { kinds, hosts } => {
             let settle = [ScenarioEvent::Settle {
                 kinds: *kinds,
@@ -136,11 +137,6 @@ fn played(
                 Err((_, fault)) => Err(fault),
             }
         }
-        _ => match event.core(alloc) {
-            Ok(Some(core)) => run.take(alloc, &core),
-            Ok(None) => Ok(()),
-            Err(fault) => Err(fault),
-        },
     }
 }
 

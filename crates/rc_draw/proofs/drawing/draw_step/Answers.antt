@@ -1,5 +1,4 @@
-use Rattle.std.proofs.Common.{◌≡◌, ◌∙◌, Some, None, option_map, sym, ap}
-use Rattle.rc_reading.specs.Scenario.{core_event}
+use Rattle.std.proofs.Common.{◌≡◌, ◌∙◌, Some, None, sym, ap}
 use Rattle.rc_world.specs.Happened.{replayed}
 use Rattle.rc_draw.specs.Draw.{event_of, drawn_step}
 use Rattle.rc_draw.proofs.Played.{step_played, step_passed}
@@ -9,9 +8,9 @@ pub returns-in-Some-clause-ok : goal.returns-in-Some-clause-ok
 unfolding drawn_step
 returns-in-Some-clause-ok c =
     let world = replayed c.args.run.now in
-    let same : Some (core_event c.in-Some.event) ≡ option_map Some (event_of world c.args.number c.args.words) =
-    ap (option_map core_event) (sym c.in-Some.is) ∙ c.in_ok-event.ensures.ok
-    ∙ ap (λ w. option_map Some (event_of (replayed w) c.args.number c.args.words)) c.world.ensures.world in
+    let same : Some c.in-Some.event ≡ event_of world c.args.number c.args.words =
+    sym c.in-Some.is ∙ c.in_ok-event.ensures.ok
+    ∙ ap (λ w. event_of (replayed w) c.args.number c.args.words) c.world.ensures.world in
     step_played c.play.result world (replayed c.play.new.run) c.in-Some.event
     (event_of world c.args.number c.args.words) same c.play.ensures.ok
 
@@ -19,7 +18,7 @@ pub returns-in-None-clause-ok : goal.returns-in-None-clause-ok
 unfolding drawn_step
 returns-in-None-clause-ok c =
     let world = replayed c.args.run.now in
-    let same : None ≡ option_map Some (event_of world c.args.number c.args.words) =
-    ap (option_map core_event) (sym c.in-None.is) ∙ c.in_ok-event.ensures.ok
-    ∙ ap (λ w. option_map Some (event_of (replayed w) c.args.number c.args.words)) c.world.ensures.world in
+    let same : None ≡ event_of world c.args.number c.args.words =
+    sym c.in-None.is ∙ c.in_ok-event.ensures.ok
+    ∙ ap (λ w. event_of (replayed w) c.args.number c.args.words) c.world.ensures.world in
     step_passed world (event_of world c.args.number c.args.words) same
