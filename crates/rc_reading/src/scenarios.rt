@@ -1,5 +1,7 @@
 //! What a scenario says: a setup, and the events that happen in turn.
 
+ghost use Rattle.std.specs.Prelude.{◌≡◌};
+
 use crate::hosts::Hosts;
 use crate::kinds::Kinds;
 use json::Invalid;
