@@ -194,8 +194,8 @@ body_again (body.List version rows) rest = made_again (pair_lawful u32_law (list
 body_again (body.Gather attempt master) rest = made_again (pair_lawful u32_law id_law) (λ p. body.Gather p.0 p.1) (attempt, master) rest
 body_again (body.Replicas attempt rows) rest = made_again (pair_lawful u32_law (listed_lawful row_law)) (λ p. body.Replicas p.0 p.1)
     (attempt, rows) rest
-body_again (body.Plan attempt master head rows parts) rest = made_again
-    (five_lawful u32_law id_law u16_law (listed_lawful plan_row_law) (listed_lawful part_law)) (λ p. body.Plan p.0 p.1 p.2 p.3 p.4)
+body_again (body.Plan head attempt master rows parts) rest = made_again
+    (five_lawful u32_law id_law u16_law (listed_lawful plan_row_law) (listed_lawful part_law)) (λ p. body.Plan p.2 p.0 p.1 p.3 p.4)
     (attempt, master, head, rows, parts) rest
 body_again (body.Fetch attempt master seg len part) rest = made_again (five_lawful u32_law id_law u16_law u64_law part_law)
     (λ p. body.Fetch p.0 p.1 p.2 p.3 p.4) (attempt, master, seg, len, part) rest
@@ -245,7 +245,7 @@ body_right = (
                                     (λ x. refl),
                                 (
                                   kind_right (five_lawful u32_law id_law u16_law (listed_lawful plan_row_law) (listed_lawful part_law))
-                                      (λ p. body.Plan p.0 p.1 p.2 p.3 p.4) body_code 16 (λ x. refl),
+                                      (λ p. body.Plan p.2 p.0 p.1 p.3 p.4) body_code 16 (λ x. refl),
                                   (
                                     kind_right (five_lawful u32_law id_law u16_law u64_law part_law)
                                         (λ p. body.Fetch p.0 p.1 p.2 p.3 p.4) body_code 17 (λ x. refl),

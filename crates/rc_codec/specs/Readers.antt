@@ -144,7 +144,7 @@ replicas_at = made (u32_at ⊗ listed_at row_at) (λ p. body.Replicas p.0 p.1)
 
 abbrev pub plan_at : Reader Body
 plan_at = made (five u32_at id_at u16_at (listed_at plan_row_at) (listed_at part_at))
-    (λ p. body.Plan p.0 p.1 p.2 p.3 p.4)
+    (λ p. body.Plan p.2 p.0 p.1 p.3 p.4)
 
 abbrev pub fetch_at : Reader Body
 fetch_at = made (five u32_at id_at u16_at u64_at part_at) (λ p. body.Fetch p.0 p.1 p.2 p.3 p.4)

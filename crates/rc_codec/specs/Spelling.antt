@@ -93,7 +93,7 @@ body_code body.Ready = 12 ∷ []
 body_code (body.List version rows) = 13 ∷ four_bytes version ++ listed up_code rows
 body_code (body.Gather attempt master) = 14 ∷ four_bytes attempt ++ id_code master
 body_code (body.Replicas attempt rows) = 15 ∷ four_bytes attempt ++ listed row_code rows
-body_code (body.Plan attempt master head rows parts) =
+body_code (body.Plan head attempt master rows parts) =
     16 ∷ four_bytes attempt ++ id_code master ++ two_bytes head ++ listed plan_row_code rows ++ listed part_code parts
 body_code (body.Fetch attempt master seg len part) =
     17 ∷ four_bytes attempt ++ id_code master ++ two_bytes seg ++ eight_bytes len ++ part_code part

@@ -187,7 +187,7 @@ module _ (sent : List Message) (masters : ServerId → Master) (hosts : ℕ → 
   fine-later (Server m) to (body.CommitOk s e) at fine = absurd fine
   fine-later Outside to (body.CommitOk s e) at fine = absurd fine
   fine-later from to (body.Gather number master) at fine = of-later c c_now number master w.c_later fine
-  fine-later from to (body.Plan number master head rows parts) at fine = plan-later c c_now number master head rows w.c_later fine
+  fine-later from to (body.Plan head number master rows parts) at fine = plan-later c c_now number master head rows w.c_later fine
   fine-later from to (body.List version rows) at fine = fine
   fine-later from to (body.Write table key value) at fine = tt
   fine-later from to (body.Read table key) at fine = tt

@@ -170,7 +170,7 @@ good-coordinator sent masters hosts c after good moved grants =
         body_fine (sent ++ after.1) masters hosts after.0 AtCoordinator to says
     by_body to (body.CommitOk s e) said = said
     by_body to (body.Gather number master) said = said
-    by_body to (body.Plan number master head rows parts) said = said
+    by_body to (body.Plan head number master rows parts) said = said
     by_body to (body.List version rows) said = said
     by_body to (body.Own table lo hi term previous attempt) said = tt
     by_body to (body.Refused reason) said = tt

@@ -124,12 +124,12 @@ WasAcknowledged-in sent ack p = any-said sent ack p.message p.among p.says
 record PlanSays (plan : Accepted) (body : Body) : Type 0 where
   head : ℕ
   parts : List Part
-  is : body ≡ Plan plan.attempt plan.master head plan.rows parts
+  is : body ≡ Plan head plan.attempt plan.master plan.rows parts
 
 plan_in-says : (plan : Accepted) (body : Body) → In plan (plan_in body) → PlanSays plan body
-plan_in-says plan (Plan attempt master head rows parts) (inl e) =
-    record { head = head; parts = parts; is = ap (λ (p : Accepted). Plan p.attempt p.master head p.rows parts) (sym e) }
-plan_in-says plan (Plan attempt master head rows parts) (inr rest) = absurd rest
+plan_in-says plan (Plan head attempt master rows parts) (inl e) =
+    record { head = head; parts = parts; is = ap (λ (p : Accepted). Plan head p.attempt p.master p.rows parts) (sym e) }
+plan_in-says plan (Plan head attempt master rows parts) (inr rest) = absurd rest
 plan_in-says plan _ at = absurd at
 
 pub WasAccepted-from : (sent : List Message) (plan : Accepted) → In plan (accepted sent) → WasAccepted sent plan
@@ -149,7 +149,7 @@ WasAccepted-from (first ∷ sent) plan at = by (WasAccepted-from sent plan) (In-
     }
 
 plan-said : (sent : List Message) (plan : Accepted) (message : Message) (head : ℕ) (parts : List Part) →
-    In message sent → message.body ≡ Plan plan.attempt plan.master head plan.rows parts → In plan (accepted sent)
+    In message sent → message.body ≡ Plan head plan.attempt plan.master plan.rows parts → In plan (accepted sent)
 plan-said [] plan message head parts at says = absurd at
 plan-said (first ∷ sent) plan message head parts (inl e) says =
     In-left plan (plan_in first.body) (accepted sent)

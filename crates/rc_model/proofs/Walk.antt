@@ -71,7 +71,7 @@ pub record Taken (R : Master → Master × List Message → Type 0) (master : Ma
   pub deposes : R master (record master { deposed = true }, [])
   -- a part of a plan, when others may have been begun before it
   pub begins : (one : Master) (attempt : ℕ) (crashed : ServerId) (head : ℕ) (rows : List PlanRow) (parts : List Part) (part : Part) →
-      body ≡ Plan attempt crashed head rows parts → In part parts → knows_term one.ownership part.term ≡ false →
+      body ≡ Plan head attempt crashed rows parts → In part parts → knows_term one.ownership part.term ≡ false →
       R one (begun (task_of attempt crashed rows part) one, map (fetch_of one.log.own (task_of attempt crashed rows part)) rows)
   pub comes : (holder : ServerId) (attempt seg term : ℕ) (entries : List Entry) → from ≡ Server holder →
       body ≡ Data attempt seg term entries →
@@ -340,7 +340,7 @@ module _ (R : Master → Master × List Message → Type 0) (joined : Joined R) 
   kept-takes_first l master Coordinator (Refused reason) t =
       either (λ (after : Master). R master (after, [])) (says_deposed reason) (record master { deposed = true }) master
       (λ _. t.deposes) (λ _. joined.still master)
-  kept-takes_first l master from (Plan attempt crashed head rows parts) t =
+  kept-takes_first l master from (Plan head attempt crashed rows parts) t =
       kept-plan attempt crashed rows parts (λ one part. t.begins one attempt crashed head rows parts part refl) master
   kept-takes_first l master (Server holder) (Data attempt seg term entries) t = t.comes holder attempt seg term entries refl refl
   kept-takes_first l master from (Own table lo hi term previous attempt) t = t.owns table lo hi term previous attempt refl

@@ -43,7 +43,7 @@ pub record WasAccepted (sent : List Message) (plan : Accepted) : Type 0 where
   pub among : In message sent
   pub head : ℕ
   pub parts : List Part
-  pub says : message.body ≡ Plan plan.attempt plan.master head plan.rows parts
+  pub says : message.body ≡ Plan head plan.attempt plan.master plan.rows parts
 
 -- a row holds the place
 pub record IsHeld (rows : List PlanRow) (s o : ℕ) : Type 0 where

@@ -41,7 +41,7 @@ pub record Accepted : Type 0 where
   pub rows : List PlanRow
 
 abbrev pub plan_in : Body → List Accepted
-plan_in (Plan attempt master head rows parts) = record { attempt = attempt; master = master; rows = rows } ∷ []
+plan_in (Plan head attempt master rows parts) = record { attempt = attempt; master = master; rows = rows } ∷ []
 plan_in _ = []
 
 -- the accepted recoveries, in order: each Plan message by itself

@@ -38,7 +38,7 @@ body_line from to (ReadOk table key version value) =
     then_number (codes " version ") version ++ line_feed
 body_line from to (Refused code) =
     then_number (codes "refused ") (code_number code) ++ codes " from " ++ from ++ codes " to " ++ to ++ line_feed
-body_line from to (Plan attempt master head rows parts) =
+body_line from to (Plan head attempt master rows parts) =
     then_number (codes "plan ") attempt ++ codes " of " ++ id_text master ++ codes " to " ++ to ++
     then_number (codes " head ") head
     ++ codes " rows" ++ rows_text rows ++ line_feed
@@ -68,7 +68,7 @@ counts_refused (Refused code) = 1
 counts_refused _ = 0
 
 abbrev pub counts_plan : Body → ℕ
-counts_plan (Plan attempt master head rows parts) = 1
+counts_plan (Plan head attempt master rows parts) = 1
 counts_plan _ = 0
 
 abbrev pub counts_grant : Body → ℕ

@@ -68,7 +68,7 @@ module _ (sent : List Message) (masters : ServerId → Master) (hosts : ℕ → 
       plan = (all.parts.each x).planned task at
 
       is : IsPlanOf c (Server x) task.attempt task.master task.rows plan.parts
-      is = subst (λ (to : Addr). own_said c to (body.Plan task.attempt task.master plan.head task.rows plan.parts)) plan.to
+      is = subst (λ (to : Addr). own_said c to (body.Plan plan.head task.attempt task.master task.rows plan.parts)) plan.to
           (subst (own_said c plan.message.to) plan.says (all.kept.known plan.message plan.among))
 
       to-same : (a b : ServerId) → ◌≡◌ {A = Addr} (Server a) (Server b) → a ≡ b

@@ -361,10 +361,10 @@ module _ (sent : List Message) (m : ServerId) where
   -- A message
 
   planned-heard : (from : Addr) (v : PartView) (attempt : ℕ) (crashed : ServerId) (seg : ℕ) (rows : List PlanRow)
-      (parts : List Part) → PartsHear sent m v from (body.Plan attempt crashed seg rows parts) →
+      (parts : List Part) → PartsHear sent m v from (body.Plan seg attempt crashed rows parts) →
       (part : Part) → In part parts → WasPlanned sent m (task_of attempt crashed rows part)
   planned-heard from v attempt crashed seg rows parts hear part at = record {
-    message = record { from = from; to = Server m; body = body.Plan attempt crashed seg rows parts };
+    message = record { from = from; to = Server m; body = body.Plan seg attempt crashed rows parts };
     among = hears from hear;
     to = refl;
     head = seg;
@@ -373,8 +373,8 @@ module _ (sent : List Message) (m : ServerId) where
     part = at;
   }
     where
-      hears : (one : Addr) → PartsHear sent m v one (body.Plan attempt crashed seg rows parts) →
-          In (record { from = one; to = Server m; body = body.Plan attempt crashed seg rows parts }) sent
+      hears : (one : Addr) → PartsHear sent m v one (body.Plan seg attempt crashed rows parts) →
+          In (record { from = one; to = Server m; body = body.Plan seg attempt crashed rows parts }) sent
       hears (Server x) p = p
       hears Coordinator p = p
       hears Outside p = p

@@ -94,7 +94,7 @@ module _ (world : World) (grants : OfWorld world) (terms : GoodTerms world.sent 
             IsPlanOf world.coordinator (Server m) task_of_state.task.attempt
             task_of_state.task.master task_of_state.task.rows plan.parts
         of_body said = subst (λ (to : Addr). Rattle.rc_owner_laws.specs.Grants.own_said world.coordinator to
-            (body.Plan task_of_state.task.attempt task_of_state.task.master plan.head task_of_state.task.rows
+            (body.Plan plan.head task_of_state.task.attempt task_of_state.task.master task_of_state.task.rows
             plan.parts)) plan.to
             (subst (Rattle.rc_owner_laws.specs.Grants.own_said world.coordinator plan.message.to) plan.says said)
 
@@ -122,7 +122,7 @@ module _ (world : World) (grants : OfWorld world) (terms : GoodTerms world.sent 
   hears-parts : (m : ServerId) (from : Addr) (says : Body) →
       In (record { from = from; to = Server m; body = says }) world.sent →
       PartsHear world.sent m (part_view (world.masters m)) from says
-  hears-parts m from (body.Plan attempt crashed seg rows parts) at = at
+  hears-parts m from (body.Plan seg attempt crashed rows parts) at = at
   hears-parts m (Server x) (body.Data attempt seg term entries) at = at
   hears-parts m from (body.Own table lo hi term before attempt) at = (
     at,

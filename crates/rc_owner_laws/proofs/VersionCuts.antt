@@ -143,7 +143,7 @@ module _ (sent : List Message) (masters : ServerId → Master) (hosts : ℕ → 
     head = plan.head;
     rows = asked.task.rows;
     parts = plan.parts;
-    says = subst (λ n. plan.message.body ≡ body.Plan n asked.task.master plan.head asked.task.rows plan.parts) asked.attempt_is plan.says;
+    says = subst (λ n. plan.message.body ≡ body.Plan plan.head n asked.task.master asked.task.rows plan.parts) asked.attempt_is plan.says;
     part = asked.task.part;
     part_among = plan.part;
     term_is = ap (λ (part : Part). part.term) asked.part_is ∙ cut.term_is;

@@ -97,8 +97,8 @@ pub record PartsMoved (sent : List Message) (m : ServerId) (old : Master) (after
 
 -- what a master hears of its parts was sent to it; and an Own of a part's term comes after its end
 abbrev pub PartsHear : List Message → ServerId → PartView → Addr → Body → Type 0
-PartsHear sent m v from (body.Plan attempt master head rows parts) =
-    In (record { from = from; to = Server m; body = body.Plan attempt master head rows parts }) sent
+PartsHear sent m v from (body.Plan head attempt master rows parts) =
+    In (record { from = from; to = Server m; body = body.Plan head attempt master rows parts }) sent
 PartsHear sent m v (Server x) (body.Data attempt seg term entries) =
     In (between x m (body.Data attempt seg term entries)) sent
 PartsHear sent m v from (body.Own table lo hi term previous attempt) =

@@ -26,7 +26,7 @@ pub record IsPlanned (sent : List Message) (id : ServerId) (number : ℕ) (maste
   pub head : ℕ
   pub rows : List PlanRow
   pub parts : List Part
-  pub planned : In (from_coordinator id (Plan number master head rows parts)) sent
+  pub planned : In (from_coordinator id (Plan head number master rows parts)) sent
   pub among : In part parts
 
 -- an Own of the part's term was sent to the server

@@ -88,7 +88,7 @@ fn add_plan(
 ) -> Result<(), AllocError>
     ensures { OnOk result
         (string_bytes text.new ≡ string_bytes text.old ++ body_line [] (addr_text to)
-        (Plan attempt master head rows.now [])) }
+        (Plan head attempt master rows.now [])) }
 {
     write!(text, "plan {attempt} of {master} to {to} head {head} rows")?;
     add_rows(text, rows)?;

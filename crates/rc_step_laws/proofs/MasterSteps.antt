@@ -127,7 +127,7 @@ moved-first sent m master from (ServersOf version rows) view may =
 moved-first sent m master (Server from) (Stored s epoch len closed) view may = moved-stored sent m master from s epoch len closed view may
 moved-first sent m master from (CommitOk s epoch) view may = moved-commit sent m master s epoch view (commit-heard sent m from s epoch may)
 moved-first sent m master Coordinator (Refused reason) view may = moved-deposes sent m master (says_deposed reason) view
-moved-first sent m master from (Plan attempt crashed head rows parts) view may =
+moved-first sent m master from (Plan head attempt crashed rows parts) view may =
     moved-takes_plan sent m attempt crashed rows parts master view
 moved-first sent m master (Server from) (Data attempt seg term entries) view may =
     quietly sent m master (record master { ownership = put_data term seg from entries master.ownership }) view refl refl

@@ -116,7 +116,7 @@ pub record CoordinatorLater (old new : Coordinator) : Type 0 where
 abbrev pub coordinator_body_said : Coordinator → Addr → Body → Type 0
 coordinator_body_said c to (body.CommitOk s e) = commit_ok_fine c AtCoordinator to s e
 coordinator_body_said c to (body.Gather number master) = IsOf c.attempts number master
-coordinator_body_said c to (body.Plan number master head rows parts) = IsPlan c number master head rows
+coordinator_body_said c to (body.Plan head number master rows parts) = IsPlan c number master head rows
 coordinator_body_said c to (body.List version rows) = OnDifferentHosts (up_rows rows)
 coordinator_body_said c to (body.Own table lo hi term previous attempt) = Unit {0}
 coordinator_body_said c to (body.Refused reason) = Unit {0}

@@ -42,7 +42,7 @@ sent_none : (from : ServerId) (body : Body) → found_float (sent_data from body
 sent_none from (Place seg epoch digest entries closed) = ap (λ b. b || false) (entries_none entries)
 sent_none from (Append seg offset entries) = ap (λ b. b || false) (entries_none entries)
 sent_none from (WriteOk s o t n k v) = refl
-sent_none from (Plan a m h r p) = refl
+sent_none from (Plan h a m r p) = refl
 sent_none from (Own n l h t p a) = refl
 sent_none from (Write t k v) = refl
 sent_none from (Read t k) = refl
@@ -74,7 +74,7 @@ own_none Coordinator n l h t p a = refl
 own_none Outside n l h t p a = refl
 
 body_none : (from to : Addr) (body : Body) → found_float (body_data from to body) ≡ false
-body_none from to (Plan a m h rows p) = ap (λ b. b || false) (rows_none rows)
+body_none from to (Plan h a m rows p) = ap (λ b. b || false) (rows_none rows)
 body_none from to (Own n l h t p a) = own_none to n l h t p a
 body_none from to (Place s e d es c) = from_none from (Place s e d es c)
 body_none from to (Append s o es) = from_none from (Append s o es)

@@ -92,7 +92,7 @@ ok_of d = only ok_members d (given7 ok_with
 
 abbrev pub plan_with : ℕ → ServerId → List PlanRow → Message
 plan_with attempt master rows =
-    record { from = Coordinator; to = nobody; body = body.Plan attempt master 0 rows [] }
+    record { from = Coordinator; to = nobody; body = body.Plan 0 attempt master rows [] }
 
 abbrev pub plan_of : Data → Option Message
 plan_of d = only plan_members d (given3 plan_with

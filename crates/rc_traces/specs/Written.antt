@@ -99,7 +99,7 @@ sent_from _ body = None
 
 -- what stands in a trace for a message: nothing for one of another kind
 abbrev pub body_data : Addr → Addr → Body → Option Data
-body_data from to (Plan attempt master head rows parts) = Some (plan_data attempt master rows)
+body_data from to (Plan head attempt master rows parts) = Some (plan_data attempt master rows)
 body_data from to (Own table lo hi term previous attempt) = grant_in to (Own table lo hi term previous attempt)
 body_data from to body = sent_from from body
 

@@ -161,12 +161,12 @@ pub enum Body {
     },
     /// C to S: the crashed master's log is in these rows; take these parts of it.
     Plan {
+        /// The greatest segment of the log.
+        head: u16,
         /// The number of the recovery attempt, counted from 1.
         attempt: u32,
         /// The crashed master.
         master: ServerId,
-        /// The greatest segment of the log.
-        head: u16,
         /// Where each segment of the log is read, and how much of it.
         rows: Seq<PlanRow>,
         /// The parts of its ranges that the addressee recovers.

@@ -28,7 +28,7 @@ sent_by_lines setup lines = (runs (opening setup) lines).sent
 
 -- the heads of the accepted recoveries, in order
 abbrev pub head_in : Body → List ℕ
-head_in (Plan attempt master head rows parts) = head ∷ []
+head_in (Plan head attempt master rows parts) = head ∷ []
 head_in _ = []
 
 abbrev pub heads : List Message → List ℕ
