@@ -35,7 +35,7 @@ use Rattle.rc_owner_laws.proofs.Kept.{was-granted}
 use Rattle.rc_owner_laws.proofs.VersionReplays.{all-world}
 use Rattle.rc_write_laws.proofs.Worlds.{counted-is-durable}
 use Rattle.rc_write_laws.proofs.Handing.{durable-is-made}
-use Rattle.rc_promises.specs.Service.{IsWritten, IsOfKey, IsShown, SeesEveryWrite, ReadsSeeAcknowledgedWrites}
+use Rattle.rc_promises.specs.Service.{IsWritten, IsOfKey, IsShown, MissesOnlyLater, ReadsSeeAcknowledgedWrites}
 use Rattle.rc_promises.proofs.Asked.{versions-begin-at-one}
 use Rattle.rc_promises.proofs.Once.{granted-to}
 use Rattle.rc_promises.proofs.Time.{still-granted}
@@ -562,7 +562,7 @@ module _ (setup : Setup) (past rest : List Event) where
               = (write-of x ack w.acknowledged).holds in
               cc
 
-      pub sees : SeesEveryWrite setup (past ++ rest) m old.sent (record { table = table; key = key; version = version; value = value })
+      pub sees : MissesOnlyLater setup (past ++ rest) m old.sent (record { table = table; key = key; version = version; value = value })
       sees = record {
         term = term;
         owned = granted-to old.sent old.masters old.hosts old.coordinator all_old m term table key own;
@@ -575,8 +575,8 @@ module _ (setup : Setup) (past rest : List Event) where
 
 pub reads-see-acknowledged-writes : ReadsSeeAcknowledgedWrites
 reads-see-acknowledged-writes setup events m before answer read =
-    subst (λ (all : List Event). SeesEveryWrite setup all m before answer) was.whole
-    (subst (λ (then_sent : List Message). SeesEveryWrite setup (was.past ++ was.rest) m then_sent answer) (sym was.sent_is)
+    subst (λ (all : List Event). MissesOnlyLater setup all m before answer) was.whole
+    (subst (λ (then_sent : List Message). MissesOnlyLater setup (was.past ++ was.rest) m then_sent answer) (sym was.sent_is)
     (sees setup was.past was.rest m was.term answer.table answer.key answer.version answer.value was.owned was.found))
   where
     was : WasRead setup events m before answer.table answer.key answer.version answer.value

@@ -14,7 +14,7 @@ use Rattle.rc_worked.specs.Sentences.{acks_by, acks_of, is_of_key, asked_by, ask
 use Rattle.rc_worked.specs.Sentences.{is_one_write, keeps_versions, is_in_time, is_after, keeps_time, is_no_more, sees_earlier}
 use Rattle.rc_worked.specs.Sentences.{sees_own, sees_by_then, sees_value, sees_under, sees_all, keeps_reads_from, keeps_reads}
 use Rattle.rc_log_laws.specs.WordClaims.{sent_after}
-use Rattle.rc_promises.specs.Service.{WasGranted, HasAsked, IsOfKey, IsWritten, IsOneWrite, Answer, HasRead, SeesEveryWrite}
+use Rattle.rc_promises.specs.Service.{WasGranted, HasAsked, IsOfKey, IsWritten, IsOneWrite, Answer, HasRead, MissesOnlyLater}
 use Rattle.rc_model.proofs.Ids.{same_id-true, same_id-refl}
 use Rattle.rc_model.proofs.Headlines.{same_value-refl}
 
@@ -205,7 +205,7 @@ no-more table key version ack holds = where-from (is_of_key table key ack) (nat_
     (λ e. le-leb ack.version version (holds (of-key table key ack e)))
 
 module _ (setup : Setup) (events : List Event) (m : ServerId) (before : List Message) (answer : Answer)
-    (p : SeesEveryWrite setup events m before answer)
+    (p : MissesOnlyLater setup events m before answer)
   where
     abbrev sent : List Message
     sent = sent_after setup events
@@ -282,7 +282,7 @@ module _ (setup : Setup) (events : List Event) (m : ServerId) (before : List Mes
 
 module _ (setup : Setup) (events : List Event)
     (each : (m : ServerId) (before : List Message) (answer : Answer) → HasRead (sent_after setup events) m before answer →
-    SeesEveryWrite setup events m before answer)
+    MissesOnlyLater setup events m before answer)
   where
     message-seen : (before after : List Message) (message : Message) (from : Addr) (body : Body) →
         sent_after setup events ≡ before ++ message ∷ after → message.from ≡ from → message.body ≡ body →

@@ -72,7 +72,7 @@ WritesFollowTime = (setup : Setup) (events more : List Event) (m x : ServerId) (
     IsOfKey first.table first.key later → (HasAsked (sent_after setup events) x later.table later.key entry.value → ⊥) →
     first.version < later.version
 
--- Reads see every acknowledged write
+-- A read misses only what was acknowledged under a later term
 
 -- what a read was answered
 pub record Answer : Type 0 where
@@ -105,8 +105,9 @@ pub record IsShown (setup : Setup) (events : List Event) (m : ServerId) (term : 
 -- acknowledged under an earlier term, then or since, and none that this master had acknowledged by then under this
 -- term. Of all that anyone had acknowledged by then it misses only what was acknowledged under a later term, as a
 -- master may that was replaced and does not know it. So it shows version 0 only where there is nothing that it must
--- not miss; else it shows the value of the one write of its version.
-pub record SeesEveryWrite (setup : Setup) (events : List Event) (m : ServerId) (before : List Message)
+-- not miss. A version above 0 stands with its value at a durable place, where segments have replicas; where a write of
+-- its version was acknowledged, its value is that write's.
+pub record MissesOnlyLater (setup : Setup) (events : List Event) (m : ServerId) (before : List Message)
     (answer : Answer) : Type 0 where
   pub term : ℕ
   pub owned : WasGranted before m term answer.table answer.key
@@ -124,4 +125,4 @@ pub record SeesEveryWrite (setup : Setup) (events : List Event) (m : ServerId) (
 abbrev pub ReadsSeeAcknowledgedWrites : Type 0
 ReadsSeeAcknowledgedWrites =
     (setup : Setup) (events : List Event) (m : ServerId) (before : List Message) (answer : Answer) →
-    HasRead (sent_after setup events) m before answer → SeesEveryWrite setup events m before answer
+    HasRead (sent_after setup events) m before answer → MissesOnlyLater setup events m before answer

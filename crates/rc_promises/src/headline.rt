@@ -12,8 +12,9 @@ pub fn headline()
     ensures strong { Strong }
 {}
 
-/// The same of nodes that run apart: whatever steps they took, in whatever order in which each message is sent before
-/// it is delivered, in the messages that they sent there is no breach.
+/// Of nodes that run apart: whatever steps they took, in whatever order in which each message is sent before it is
+/// delivered, in the messages that they sent there is no breach. That an acknowledged write itself is there where
+/// masters free nothing (`strong`) is not said of them.
 pub fn headline_of_nodes_apart()
     ensures { NoBreachApart }
 {}

@@ -12,20 +12,22 @@ pub fn one_version_is_one_write()
     ensures written { AcknowledgedIsWritten }
 {}
 
-/// Writes are ordered as time orders them: where a write of a key was acknowledged within the first
-/// events, each write of that key that its master was asked for only afterwards has a greater version.
-/// So it is also where one of the two masters was replaced, and does not know it, and where masters free
-/// segments.
+/// Writes are ordered as time orders them: where a write of a key was acknowledged within the first events, each write
+/// of that key that was asked for only afterwards, and is acknowledged, has a greater version. Asked for only
+/// afterwards: within the first events no Write of this table, key and value had been sent to its master. It is said of
+/// writes that were sent. So it is also where one of the two masters was replaced, and does not know it, and where
+/// masters free segments.
 pub fn writes_follow_time()
     ensures { WritesFollowTime }
 {}
 
-/// Reads see every acknowledged write: what a master answers to a read, under a term that had been granted to it by
-/// then, has at least the version of each write of the key that was acknowledged under an earlier term, then or since,
-/// of each that it had itself acknowledged by then under this term, and of each that anyone had acknowledged by then,
-/// but under a later term: those a master that was replaced, and does not know it, may miss. The value is that of the
-/// one write of its version, and stands at a durable place. Versions begin at 1, so 0 is shown only where there is no
-/// such write.
+/// A read misses only what was acknowledged under a later term: what a master answers to a read, under a term that had
+/// been granted to it by then, has at least the version of each write of the key that was acknowledged under an earlier
+/// term, then or since, of each that it had itself acknowledged by then under this term, and of each that anyone had
+/// acknowledged by then, but under a later term: those a master that was replaced, and does not know it, may miss.
+/// Where a write of its version was acknowledged, the value is that write's. Where segments have replicas, a version
+/// above 0 stands with its value at a durable place. Versions begin at 1, so 0 is shown only where nothing was
+/// acknowledged that it must not miss.
 pub fn reads_see_acknowledged_writes()
     ensures { ReadsSeeAcknowledgedWrites }
 {}

@@ -87,7 +87,7 @@ is_after early sent first (x, later) =
 abbrev pub keeps_time : List Message → List Message → Bool
 keeps_time early sent = list_all (λ first. list_all (is_after early sent first) (acks_of sent)) (acks_of early)
 
--- Reads see every acknowledged write
+-- A read misses only what was acknowledged under a later term
 
 -- the write is of another key, or of no greater version than the answer
 abbrev pub is_no_more : ℕ → ℕ → ℕ → Ack → Bool

@@ -7,7 +7,7 @@ use Rattle.rc_types.specs.declared.messages.Message.{Message}
 use Rattle.rc_model.specs.Recovered.{Ack}
 use Rattle.rc_model.specs.Headline.{HasAcknowledged}
 use Rattle.rc_log_laws.specs.WordClaims.{sent_after}
-use Rattle.rc_promises.specs.Service.{IsOneWrite, IsWritten, IsOfKey, HasAsked, Answer, HasRead, SeesEveryWrite}
+use Rattle.rc_promises.specs.Service.{IsOneWrite, IsWritten, IsOfKey, HasAsked, Answer, HasRead, MissesOnlyLater}
 use Rattle.rc_world.specs.Happened.{Happened}
 
 pub record IsServed (world : Happened) (sent : List Message) : Type 0 where
@@ -15,12 +15,13 @@ pub record IsServed (world : Happened) (sent : List Message) : Type 0 where
   pub once : (m : ServerId) (ack : Ack) → HasAcknowledged sent m ack → IsOneWrite sent m ack
   -- its master has sent it for its place
   pub written : (m : ServerId) (ack : Ack) → HasAcknowledged sent m ack → (entry : Entry) × IsWritten sent m ack entry
-  -- what was first asked for after a write was acknowledged, within the first events, has a greater version
+  -- an acknowledged write that was first asked for after a write of its key was acknowledged, within the first events,
+  -- has a greater version
   pub ordered : (earlier more : List Event) (m x : ServerId) (first later : Ack) (entry : Entry) →
       world.events ≡ earlier ++ more → HasAcknowledged (sent_after world.setup earlier) m first →
       IsWritten sent x later entry → IsOfKey first.table first.key later →
       (HasAsked (sent_after world.setup earlier) x later.table later.key entry.value → ⊥) →
       first.version < later.version
-  -- each read sees every acknowledged write
+  -- a read misses only what was acknowledged under a later term
   pub seen : (m : ServerId) (before : List Message) (answer : Answer) → HasRead sent m before answer →
-      SeesEveryWrite world.setup world.events m before answer
+      MissesOnlyLater world.setup world.events m before answer

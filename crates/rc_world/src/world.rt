@@ -89,8 +89,9 @@ impl<A: Allocator + Clone> World<A> {
     /// each one acknowledged, then or since, under an earlier one. Where masters free nothing, each
     /// acknowledged write itself is at its own place.
     ///
-    /// So does what a client may rely on: one version of a key is one write; what was first asked for
-    /// after a write was acknowledged has a greater version; and reads see every acknowledged write.
+    /// So does what a client may rely on: an acknowledged version of a key is one write; a write that was first asked
+    /// for after a write of its key was acknowledged, and is itself acknowledged, has a greater version; and of all
+    /// that was acknowledged before its answer a read misses only what was acknowledged under a later term.
     pub fn sent(&self) -> &[Message]
         ensures messages { result.now ≡ sent_in self.now }
         ensures served { IsServed self.now result.now }
