@@ -30,7 +30,8 @@ gathered part (suc n) = gathered part n ++ part n
 -- the newest server of the host stops, where it runs
 abbrev pub stop_of : World → ℕ → List ScenarioEvent
 stop_of world host =
-    if is_running_at (world.hosts host) (Server (newest_server world host)) then Core (Stop (newest_server world host)) ∷ []
+    if is_running_at (world.hosts host) (Server (newest_server world host))
+    then Core (Stop (newest_server world host)) ∷ []
     else []
 
 -- the host starts, where it was ever started
@@ -49,8 +50,8 @@ decisions_of world host = gathered (decision_of host) (world.hosts host).generat
 -- what follows a power failure in this world
 abbrev pub cut_scene : Keeping → World → List ScenarioEvent
 cut_scene keeping world =
-    gathered (stop_of world) 5 ++ gathered (start_of keeping world) 5 ++ settled ∷ Core (Tick Coordinator) ∷ settled ∷ []
-    ++ gathered (decisions_of world) 5 ++ settled ∷ []
+    gathered (stop_of world) 5 ++ gathered (start_of keeping world) 5
+    ++ settled ∷ Core (Tick Coordinator) ∷ settled ∷ [] ++ gathered (decisions_of world) 5 ++ settled ∷ []
 
 -- the world that it leads to, after these events
 abbrev pub cut_from : Keeping → World → World
