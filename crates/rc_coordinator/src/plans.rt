@@ -81,7 +81,7 @@ fn plan_to(
     parts: Vec<Part>,
 ) -> Result<Message, Fault>
     ensures ok { IfOk result (λ message. message ≡ from_coordinator id
-        (Planned number master plan.now.head plan.now.rows parts.items)) }
+        (Planned plan.now.head number master plan.now.rows parts.items)) }
     ensures no_memory { IfErr result (λ fault. fault ≡ OutOfMemory) }
 {
     let rows = plan.rows.try_clone(alloc)?;

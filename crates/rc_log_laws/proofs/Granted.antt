@@ -113,7 +113,7 @@ plain-plan : (number : ℕ) (master : ServerId) (plan : Plan) (id : ServerId) (p
 unfolding is_grant
 plain-plan number master plan id [] = plain-none
 plain-plan number master plan id (part ∷ parts) =
-    plain-one (from_coordinator id (PlanBody number master plan.head plan.rows (part ∷ parts))) refl
+    plain-one (from_coordinator id (PlanBody plan.head number master plan.rows (part ∷ parts))) refl
 
 plain-plans : (number : ℕ) (master : ServerId) (decision : Decision) (ids : List ServerId) →
     Plain (plan_messages number master decision ids)

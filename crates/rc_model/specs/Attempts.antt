@@ -72,7 +72,7 @@ parts_of id (given ∷ others) = if same_id id given.to then given.part ∷ part
 abbrev pub plan_message : ℕ → ServerId → Plan → ServerId → List Part → List Message
 plan_message number master plan id [] = []
 plan_message number master plan id (part ∷ parts) =
-    from_coordinator id (PlanBody number master plan.head plan.rows (part ∷ parts)) ∷ []
+    from_coordinator id (PlanBody plan.head number master plan.rows (part ∷ parts)) ∷ []
 
 -- the plan to each of these that has a part
 abbrev pub plan_messages : ℕ → ServerId → Decision → List ServerId → List Message

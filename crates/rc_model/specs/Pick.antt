@@ -116,8 +116,8 @@ plan_of head (Ok rows) = Ok (record { head = head; rows = rows })
 plan_of head (Err fault) = Err fault
 
 -- the plan by the head row
-abbrev pub pick_by : Pair → List (ServerId × List Row) → Option HeldRow → Result Plan min
-Fault pick_by replies None = Err HeadMissing
+abbrev pub pick_by : Pair → List (ServerId × List Row) → Option HeldRow → Result Plan Fault
+pick_by min replies None = Err HeadMissing
 pick_by min replies (Some head) = plan_of head.row.seg (taken_rows min replies head (ascending head.row.digest))
 
 -- the plan: no head row, F8; a segment of its digest without a valid row, F9 of the least one

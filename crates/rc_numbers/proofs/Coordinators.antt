@@ -163,7 +163,7 @@ plan-within : (n number : ℕ) (master : ServerId) (plan : Plan) (id : ServerId)
     MessagesWithin n (plan_message number master plan id parts)
 plan-within n number master plan id [] = none-within n
 plan-within n number master plan id (part ∷ parts) =
-    one-within n (from_coordinator id (PlanBody number master plan.head plan.rows (part ∷ parts))) tt
+    one-within n (from_coordinator id (PlanBody plan.head number master plan.rows (part ∷ parts))) tt
 
 plans-within : (n number : ℕ) (master : ServerId) (decision : Decision) (ids : List ServerId) →
     MessagesWithin n (plan_messages number master decision ids)

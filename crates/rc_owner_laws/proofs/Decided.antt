@@ -81,7 +81,7 @@ says-plans c number master decision decided (id ∷ ids) =
         OwnSays c (plan_message number master decision.plan id parts)
     one [] among = says-none c
     one (part ∷ parts) among =
-        says-one c (Server id) (PlanBody number master decision.plan.head decision.plan.rows (part ∷ parts)) (record {
+        says-one c (Server id) (PlanBody decision.plan.head number master decision.plan.rows (part ∷ parts)) (record {
           id = id;
           to_is = refl;
           decision = decision;

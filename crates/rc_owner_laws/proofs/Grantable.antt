@@ -195,7 +195,7 @@ module _ (setup : Setup) (events : List Event) (id : ServerId) (number : ℕ) (m
   tablets = (tablets-world setup events).good
 
   of : IsPlanOf (replay setup events).coordinator (Server id) number master planned.rows planned.parts
-  of = grants.kept.known (from_coordinator id (PlanBody number master planned.head planned.rows planned.parts)) planned.planned
+  of = grants.kept.known (from_coordinator id (PlanBody planned.head number master planned.rows planned.parts)) planned.planned
 
   given : In (gives id part) of.decision.parts
   given = subst (λ (m : ServerId). In (gives m part) of.decision.parts) (server-same of.id id (sym of.to_is)) (of.given part planned.among)

@@ -70,7 +70,7 @@ module _ (sent : List Message) (c : Coordinator) (good : GoodTerms sent c) (kept
       by : (issue ≡ of_grant own.grant) ⊎ ⊥ → OfTable c issue ⊎ OfPart c issue
       by (inl same) = subst (λ (one : Issue). OfTable c one ⊎ OfPart c one) (sym same) (of-grant own.grant own.among)
       by (inr never) = absurd never
-  of-body to (PlanBody number master head rows parts) issue plan at =
+  of-body to (PlanBody head number master rows parts) issue plan at =
       let found = In-map (issue_of to number) issue parts at in
       inr (record {
         number = number;

@@ -19,7 +19,7 @@ said-later : (old new : Coordinator) → CoordinatorLater old new →
     own_said new to body
 said-later old new later more to (Own table lo hi term before attempt) is =
     record { grant = is.grant; among = more is.grant is.among; to_is = is.to_is; body_is = is.body_is }
-said-later old new later more to (PlanBody number master head rows parts) is = record {
+said-later old new later more to (PlanBody head number master rows parts) is = record {
   id = is.id;
   to_is = is.to_is;
   decision = is.decision;

@@ -89,7 +89,7 @@ plans-lack number master decision (id ∷ ids) =
   where
     one : (parts : List Part) → NoneLacksTablet (plan_message number master decision.plan id parts)
     one [] = none-lacks
-    one (part ∷ parts) = one-lacks (Server id) (PlanBody number master decision.plan.head decision.plan.rows (part ∷ parts)) refl
+    one (part ∷ parts) = one-lacks (Server id) (PlanBody decision.plan.head number master decision.plan.rows (part ∷ parts)) refl
 
 -- What stays
 

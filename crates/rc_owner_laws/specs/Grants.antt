@@ -130,7 +130,7 @@ pub record IsPlanOf (c : Coordinator) (to : Addr) (number : ℕ) (master : Serve
 
 abbrev pub own_said : Coordinator → Addr → Body → Type 0
 own_said c to (Own table lo hi term previous attempt) = IsOwn c to (Own table lo hi term previous attempt)
-own_said c to (PlanBody number master head rows parts) = IsPlanOf c to number master rows parts
+own_said c to (PlanBody head number master rows parts) = IsPlanOf c to number master rows parts
 own_said c to _ = Unit {0}
 
 -- a step of the coordinator: grants are remembered for good, and a new one is sent in the step that makes it

@@ -60,7 +60,7 @@ pub record WasPlanned (sent : List Message) (m : ServerId) (task : Task) : Type 
   pub to : message.to ≡ Server m
   pub head : ℕ
   pub parts : List Part
-  pub says : message.body ≡ PlanBody task.attempt task.master head task.rows parts
+  pub says : message.body ≡ PlanBody head task.attempt task.master task.rows parts
   pub part : In task.part parts
 
 -- a holder has sent these entries of a segment for the part of a term

@@ -44,7 +44,7 @@ issue_of to attempt part =
 abbrev pub issues_in : Addr → Body → List Issue
 issues_in to (Own table lo hi term previous attempt) =
     record { term = term; to = to; table = table; lo = lo; hi = hi; previous = previous; attempt = attempt } ∷ []
-issues_in to (PlanBody attempt master head rows parts) = map (issue_of to attempt) parts
+issues_in to (PlanBody head attempt master rows parts) = map (issue_of to attempt) parts
 issues_in to _ = []
 
 -- an Own or a Plan that was sent says so

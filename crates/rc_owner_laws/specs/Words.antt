@@ -67,7 +67,7 @@ pub record IsPlanCut (sent : List Message) (message : Message) (attempt seg term
   pub head : ℕ
   pub rows : List PlanRow
   pub parts : List Part
-  pub says : plan.body ≡ PlanBody attempt master head rows parts
+  pub says : plan.body ≡ PlanBody head attempt master rows parts
   pub part : Part
   pub part_among : In part parts
   pub term_is : part.term ≡ term

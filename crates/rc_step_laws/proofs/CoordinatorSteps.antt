@@ -269,7 +269,7 @@ module _ (sent : List Message) (c : Coordinator) (good : GoodCoordinator sent c)
     where
       one : (parts : List Part) → Says new (plan_message number master decision.plan id parts)
       one [] = says-none new
-      one (part ∷ parts) = says-one new (Server id) (PlanBody number master decision.plan.head decision.plan.rows (part ∷ parts)) is
+      one (part ∷ parts) = says-one new (Server id) (PlanBody decision.plan.head number master decision.plan.rows (part ∷ parts)) is
 
   -- the decision on an attempt that is gathering
   moved-decides_on : (number : ℕ) (attempt : Attempt) (decision : Decision) (ids : List ServerId) →

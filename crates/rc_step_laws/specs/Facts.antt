@@ -255,7 +255,7 @@ body_fine sent masters hosts c from to (Stored s e len closed) = stored_fine sen
 body_fine sent masters hosts c from to (Replicas number rows) = answer_fine sent masters hosts c from number rows
 body_fine sent masters hosts c from to (CommitOk s e) = commit_ok_fine c from to s e
 body_fine sent masters hosts c from to (Gather number master) = IsOf c.attempts number master
-body_fine sent masters hosts c from to (PlanBody number master head rows parts) = IsPlan c number master head rows
+body_fine sent masters hosts c from to (PlanBody head number master rows parts) = IsPlan c number master head rows
 body_fine sent masters hosts c from to (ServersOf version rows) = OnDifferentHosts (up_rows rows)
 body_fine sent masters hosts c from to _ = Unit {0}
 
