@@ -13,7 +13,8 @@ abbrev pub first_after : (HeldRow → HeldRow → Bool) → Option HeldRow → L
 first_after before None rows = first_by before rows
 first_after before (Some best) rows = Some (first_by_from before best rows)
 
--- the head row of the best so far and of these rows
+-- the head row of the best so far and of these rows; not the first open segment of a log, which has this name in the
+-- rules that a master follows up with
 abbrev pub first_open : Pair → Option HeldRow → List HeldRow → Option HeldRow
 first_open min best rows = first_after head_first best (filter (is_open_valid min) rows)
 

@@ -121,7 +121,7 @@ impl Before {
         Ok(())
     }
 
-    /// Goes back to now. It costs as much as was kept since it was last called.
+    /// From here on `put_back` goes back to now. It costs as much as was kept since it was last called.
     pub(crate) fn begin(
         &mut self,
         segments: &[Segment],

@@ -37,7 +37,7 @@ impl LogHead {
         }
     }
 
-    /// Whether the first head can write: it is placed on all its members.
+    /// Whether the first head can write: it is placed on all its members, under a committed epoch.
     pub fn may_start(&self) -> bool
         ensures { result ≡ may_start (log_of self.now) }
     {

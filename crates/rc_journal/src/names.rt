@@ -24,7 +24,9 @@ impl Naming for Brand {
 /// Whose seat it is. All generations of a host are one node.
 #[derive(Clone, Copy, PartialEq, Eq)]
 pub enum SeatName {
+    /// The outside.
     Outside,
+    /// The coordinator.
     Coordinator,
     /// The host of this index.
     Host(u8),

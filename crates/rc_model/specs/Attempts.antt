@@ -21,7 +21,8 @@ pub record Decision : Type 0 where
   pub plan : Plan
   pub parts : List GivenPart
 
--- an attempt to recover a crashed master: the answers of the backups, in the order of their coming
+-- an attempt to recover a crashed master: the answers to its Gathers, in the order of their coming, each from a backup
+-- with its rows; and what was decided
 pub record Attempt : Type 0 where
   pub master : ServerId
   pub replies : List (ServerId × List Row)

@@ -3,6 +3,7 @@
 use crate::dialects::MESSAGES;
 use crate::pieces::{ItemWalk, Piece, item};
 use rc_pen::{Pen, Piece as Told};
+use rc_types::limits::{MAX_FACTOR, MAX_HOSTS, MAX_SEGMENT};
 
 /// What a value has to be.
 #[derive(Clone, Copy)]
@@ -29,12 +30,17 @@ pub enum Want {
     Row,
     /// An entry of a log.
     Entry,
-    /// Lists of these.
+    /// A list of names of messages' bodies.
     Names,
+    /// A list of indexes of hosts.
     Hosts,
+    /// A list of factors.
     Factors,
+    /// A list of names of replicas.
     Kept,
+    /// A list of rows of a plan.
     Rows,
+    /// A list of entries.
     Entries,
     /// A list of anything.
     List,
@@ -77,8 +83,8 @@ impl Want {
     /// What the member of this name has to be that is a number.
     fn of_number(member: &str) -> Want {
         match member {
-            "factor" => Want::Whole(1, 5),
-            "segment" => Want::Whole(1, 1_024),
+            "factor" => Want::Whole(1, MAX_FACTOR as u64),
+            "segment" => Want::Whole(1, MAX_SEGMENT as u64),
             "seg" => Want::Whole(0, 65_535),
             "key" | "at" | "lo" | "hi" | "version" => LONG,
             _ => WORD,
@@ -90,7 +96,7 @@ impl Want {
         match self {
             Want::Names => Some(Want::Name),
             Want::Hosts => Some(Want::Host),
-            Want::Factors => Some(Want::Whole(1, 5)),
+            Want::Factors => Some(Want::Whole(1, MAX_FACTOR as u64)),
             Want::Kept => Some(Want::Replica),
             Want::Rows => Some(Want::Row),
             Want::Entries => Some(Want::Entry),
@@ -101,7 +107,7 @@ impl Want {
     /// How many items it may have.
     fn most_items(self) -> usize {
         match self {
-            Want::Factors => 64,
+            Want::Factors => MAX_HOSTS as usize,
             _ => usize::MAX,
         }
     }

@@ -284,7 +284,9 @@ impl Segment {
         self.freed = state.freed;
     }
 
-    /// Replaces members that have crashed, as `LogHead::lose` says.
+    /// Replaces members that are lost or that the list shows crashed: of an open segment as `Config::lose` does, of a
+    /// shut one as `Config::refill` does. Answers who is to be sent a Place. After F4 and F19 members are marked lost;
+    /// where memory is refused, nothing has changed.
     pub fn lose(
         &mut self,
         alloc: Global,

@@ -9,7 +9,8 @@ pub(crate) const EVENTS: usize = 9;
 /// How many kinds of messages there are.
 pub(crate) const BODIES: usize = 23;
 
-/// How many codes there are, and one more, for their numbers begin at 1.
+/// How many codes there are, and one more, for their numbers begin at 1. One beyond it would not be counted: a new
+/// code raises it.
 pub(crate) const CODES: usize = 22;
 
 /// How many outcomes are counted by name.
