@@ -2,4 +2,4 @@ pub mod Beginnings
 pub mod Unknown
 pub mod SegmentLists
 pub mod Senders
-pub mod Tasks
+pub mod TaskPlaces

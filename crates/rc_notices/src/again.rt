@@ -1,6 +1,7 @@
 //! What the coordinator and the holders of rows have not answered is said again.
 
-ghost use Rattle.std.specs.Prelude.{◌≡◌, ◌++◌, [], true, take, OnOk, OnErr};
+ghost use Rattle.std.specs.Prelude.{◌≡◌, ◌++◌, [], true, slice_get, take, OnOk, OnErr};
+ghost use Rattle.std.specs.Option.{option_map_or};
 ghost use Rattle.rc_model.specs.Log.{has_segment, entries_of};
 ghost use Rattle.rc_model.specs.MasterTick.{commits_again, fetches_again, recovered_again, ready_again};
 ghost use Rattle.rc_headroll.specs.LogData.{log_of};
@@ -66,6 +67,24 @@ fn add_fetches_of(
     Ok(())
 }
 
+/// Adds a Fetch of each row that has not come of the task at a place.
+fn add_fetches_at(
+    own: ServerId,
+    ownership: &Ownership,
+    tasks: &[Task],
+    place: usize,
+    sent: &mut Vec<Message>,
+) -> Result<(), AllocError>
+    ensures ok { OnOk result (sent.new.items ≡ sent.old.items ++
+        option_map_or (fetches_of own ownership.now.own) (slice_get tasks.now place) []) }
+    ensures begun { OnErr result (IsBeginning sent.old.items sent.new.items) }
+{
+    match tasks.get(place) {
+        Some(task) => add_fetches_of(own, ownership, task, sent),
+        None => Ok(()),
+    }
+}
+
 /// Adds a Fetch of each row of these tasks that has not come. It looks at those tasks alone whose part may
 /// be unfinished.
 pub fn add_fetches_again(
@@ -80,9 +99,7 @@ pub fn add_fetches_again(
     ensures begun { OnErr result (IsBeginning sent.old.items sent.new.items) }
 {
     for place in ownership.unfinished() {
-        if let Some(task) = tasks.get(*place) {
-            add_fetches_of(log.own(), ownership, task, sent)?;
-        }
+        add_fetches_at(log.own(), ownership, tasks, *place, sent)?;
     }
     Ok(())
 }
