@@ -1,4 +1,4 @@
-use Rattle.std.proofs.Common.{◌≡◌, ◌++◌, arith}
+use Rattle.std.proofs.Common.{arith}
 use Rattle.std.proofs.lemmas.Grind.{common_steps}
 use Rattle.rc_headroll.specs.LogData.{log_of}
 use Rattle.rc_notices.proofs.TaskPlaces.{fetches-unfinished}
