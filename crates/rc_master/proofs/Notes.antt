@@ -11,7 +11,7 @@ use Rattle.rc_model.specs.Model.{head_of, old_head_of, has_old_head, has_segment
 use Rattle.rc_model.specs.Model.{entries_of, numbers_to, durable_now, is_closing, is_writing, is_full, append_fault, opens_head, appends}
 use Rattle.rc_model.specs.Model.{next_digest, rolled, begin_roll, with_config, stored, commit_noted, opens_change, refills, loses, shuts}
 use Rattle.rc_model.specs.Model.{with_shut, may_start, may_write, left_out, starts, closes_old, writes_on, close_marked, is_dead, Master}
-use Rattle.rc_model.specs.Model.{durable_entries, is_dead_segment}
+use Rattle.rc_model.specs.Model.{durable_entries, is_dead_segment, PartState, Task}
 use Rattle.rc_model.proofs.Tests.{either, true_false}
 use Rattle.rc_model.proofs.Tables.{put_each, put-same, put-other}
 use Rattle.rc_model.proofs.LogParts.{places_to-agrees, total, total-places, durable-within, marked, with_freed-marked, marked-alone}
@@ -28,13 +28,14 @@ pub record SamePlaces (old new : Log) : Type 0 where
   pub opened : (is_writing old.phase ≡ true → 0 < old.head) → is_writing new.phase ≡ true → 0 < new.head
   pub factor : new.factor ≡ old.factor
 
-pub notes-same : (old new : Log) (notes : List Entry) (durable : ℕ) → SamePlaces old new → AreNotes old notes durable →
-    AreNotes new notes durable
+pub notes-same : {parts : List PartState} {tasks : List Task} (old new : Log) (notes : List Entry) (durable : ℕ) →
+    SamePlaces old new → AreNotes old notes durable parts tasks → AreNotes new notes durable parts tasks
 notes-same old new notes durable same are = record {
   entries = are.entries ∙ ap (map (λ (place : LogPlace). place.entry)) (sym same.places);
   durable_are = are.durable_are ∙ sym same.durable;
   opened = same.opened are.opened;
   replicas = subst (λ n. 0 < n) (sym same.factor) are.replicas;
+  tasks_are = are.tasks_are;
 }
 
 pub same-log : (log : Log) → SamePlaces log log
@@ -183,18 +184,20 @@ entries-appended log entry client some =
     ap (map (λ (p : LogPlace). p.entry)) (places-push log.segments log.head entry client some)
     ∙ map-append (λ (p : LogPlace). p.entry) (places_of log) (place ∷ [])
 
-pub notes-appended : (log : Log) (notes : List Entry) (durable : ℕ) (entry : Entry) (client : Bool) → 0 < log.head →
-    AreNotes log notes durable →
-    AreNotes (appends entry client log) (notes ++ entry ∷ []) durable
+pub notes-appended : {parts : List PartState} {tasks : List Task} (log : Log) (notes : List Entry) (durable : ℕ) (entry : Entry)
+    (client : Bool) → 0 < log.head → AreNotes log notes durable parts tasks →
+    AreNotes (appends entry client log) (notes ++ entry ∷ []) durable parts tasks
 notes-appended log notes durable entry client some are = record {
   entries = ap (λ (es : List Entry). es ++ entry ∷ []) are.entries ∙ sym (entries-appended log entry client some);
   durable_are = are.durable_are;
   opened = are.opened;
   replicas = are.replicas;
+  tasks_are = are.tasks_are;
 }
 
 -- no more is durable than was noted
-pub durable-fits : (log : Log) (notes : List Entry) (durable : ℕ) → AreNotes log notes durable → durable_now log ≤ length notes
+pub durable-fits : {parts : List PartState} {tasks : List Task} (log : Log) (notes : List Entry) (durable : ℕ) →
+    AreNotes log notes durable parts tasks → durable_now log ≤ length notes
 durable-fits log notes durable are =
     let most : durable_now log ≤ total (map log.segments (numbers_to log.head)) = durable-within (map log.segments (numbers_to log.head)) in
     let all : total (map log.segments (numbers_to log.head)) ≡ length (places_of log) = total-places log.segments log.head in
@@ -229,7 +232,8 @@ none-unknown true x e = cc
 none-unknown false x e = refl
 
 -- the durable entries, by the notes
-pub durable-same : (log : Log) (notes : List Entry) (durable : ℕ) → AreNotes log notes durable →
+pub durable-same : {parts : List PartState} {tasks : List Task} (log : Log) (notes : List Entry) (durable : ℕ) →
+    AreNotes log notes durable parts tasks →
     take durable notes ≡ take log.durable (entries_of log)
 durable-same log notes durable are =
     ap (λ (n : ℕ). take n notes) are.durable_are ∙ ap (take log.durable) are.entries

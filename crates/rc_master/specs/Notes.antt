@@ -1,12 +1,17 @@
--- The notes beside a log: the owner numbers versions and reads by them.
+-- The notes beside a log, by which the owner numbers versions and reads, and the tasks beside the owner's parts.
 use Rattle.std.specs.Prelude.{◌≡◌, ◌<◌, ℕ, true, List}
 use Rattle.rc_types.specs.declared.entries.Entry.{Entry}
 use Rattle.rc_model.specs.Log.{Log, entries_of, is_writing}
+use Rattle.rc_model.specs.Ownership.{PartState}
+use Rattle.rc_model.specs.Master.{Task}
+use Rattle.rc_notices.specs.Tasks.{AreTasksOf}
 
 -- the entries of the log were noted, and how many of them are durable; a log that is written to has a head, and each
--- segment has replicas
-pub record AreNotes (log : Log) (noted : List Entry) (durable : ℕ) : Type 0 where
+-- segment has replicas; and each part has its task
+pub record AreNotes (log : Log) (noted : List Entry) (durable : ℕ) (parts : List PartState) (tasks : List Task) :
+    Type 0 where
   pub entries : noted ≡ entries_of log
   pub durable_are : durable ≡ log.durable
   pub opened : is_writing log.phase ≡ true → 0 < log.head
   pub replicas : 0 < log.factor
+  pub tasks_are : AreTasksOf parts tasks

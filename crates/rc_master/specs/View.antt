@@ -29,9 +29,10 @@ data_of s = record {
   deposed = s.deposed;
 }
 
--- the notes are those of the log
+-- the notes are those of the log, and the tasks those of the parts
 abbrev pub IsNoted : State → Type 0
-IsNoted s = AreNotes (log_of s.log) s.ownership.noted s.ownership.durable
+IsNoted s =
+    AreNotes (log_of s.log) s.ownership.noted s.ownership.durable s.ownership.own.parts s.tasks.items
 
 -- a master with its notes, at one moment
 pub record Moment : Type 0 where

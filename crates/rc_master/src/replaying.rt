@@ -98,7 +98,7 @@ impl State {
         let Some(term) = self.ownership.complete()? else {
             return Ok(false);
         };
-        sent.push(recovered(self.log.own(), self.tasks.as_slice(), term))?;
+        sent.push(recovered(self.log.own(), &self.ownership, self.tasks.as_slice(), term))?;
         Ok(true)
     }
 }

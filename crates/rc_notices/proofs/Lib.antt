@@ -2,3 +2,4 @@ pub mod Beginnings
 pub mod Unknown
 pub mod SegmentLists
 pub mod Senders
+pub mod TaskPlaces

@@ -2,3 +2,4 @@ pub mod Beginnings
 pub mod Sender
 pub mod Placed
 pub mod Reminders
+pub mod Tasks

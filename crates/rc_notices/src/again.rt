@@ -1,14 +1,15 @@
 //! What the coordinator and the holders of rows have not answered is said again.
 
-ghost use Rattle.std.specs.Prelude.{◌≡◌, ◌++◌, [], true, map, filter, take, OnOk, OnErr};
+ghost use Rattle.std.specs.Prelude.{◌≡◌, ◌++◌, [], true, slice_get, take, OnOk, OnErr};
+ghost use Rattle.std.specs.Option.{option_map_or};
 ghost use Rattle.rc_model.specs.Log.{has_segment, entries_of};
-ghost use Rattle.rc_model.specs.MasterTick.{fetch_of, has_not_come, commits_again, fetches_again, recovered_again};
-ghost use Rattle.rc_model.specs.MasterTick.{ready_again};
+ghost use Rattle.rc_model.specs.MasterTick.{commits_again, fetches_again, recovered_again, ready_again};
 ghost use Rattle.rc_headroll.specs.LogData.{log_of};
 ghost use Rattle.rc_ownership.specs.Owner.{durable_of};
 ghost use Rattle.rc_notices.specs.Beginnings.{IsBeginning};
 ghost use Rattle.rc_notices.specs.Reminders.{commit_again, recovered_of};
 ghost use Rattle.rc_notices.specs.Sender.{sender};
+ghost use Rattle.rc_notices.specs.Tasks.{AreTasksOf, fetches_of};
 
 use crate::single::{commit, ready, recovered};
 use crate::tasks::Task;
@@ -54,7 +55,7 @@ fn add_fetches_of(
     sent: &mut Vec<Message>,
 ) -> Result<(), AllocError>
     ensures ok { OnOk result (sent.new.items ≡ sent.old.items ++
-        map (fetch_of own task.now) (filter (has_not_come ownership.now.own task.now) task.now.rows)) }
+        fetches_of own ownership.now.own task.now) }
     ensures begun { OnErr result (IsBeginning sent.old.items sent.new.items) }
 {
     let term = task.part().term;
@@ -66,19 +67,39 @@ fn add_fetches_of(
     Ok(())
 }
 
-/// Adds a Fetch of each row of these tasks that has not come.
+/// Adds a Fetch of each row that has not come of the task at a place.
+fn add_fetches_at(
+    own: ServerId,
+    ownership: &Ownership,
+    tasks: &[Task],
+    place: usize,
+    sent: &mut Vec<Message>,
+) -> Result<(), AllocError>
+    ensures ok { OnOk result (sent.new.items ≡ sent.old.items ++
+        option_map_or (fetches_of own ownership.now.own) (slice_get tasks.now place) []) }
+    ensures begun { OnErr result (IsBeginning sent.old.items sent.new.items) }
+{
+    match tasks.get(place) {
+        Some(task) => add_fetches_of(own, ownership, task, sent),
+        None => Ok(()),
+    }
+}
+
+/// Adds a Fetch of each row of these tasks that has not come. It looks at those tasks alone whose part may
+/// be unfinished.
 pub fn add_fetches_again(
     log: &LogHead,
     ownership: &Ownership,
     tasks: &[Task],
     sent: &mut Vec<Message>,
 ) -> Result<(), AllocError>
+    requires { AreTasksOf ownership.now.own.parts tasks.now }
     ensures ok { OnOk result (sent.new.items ≡ sent.old.items ++
         fetches_again (sender (log_of log.now) ownership.now.own tasks.now) tasks.now) }
     ensures begun { OnErr result (IsBeginning sent.old.items sent.new.items) }
 {
-    for task in tasks {
-        add_fetches_of(log.own(), ownership, task, sent)?;
+    for place in ownership.unfinished() {
+        add_fetches_at(log.own(), ownership, tasks, *place, sent)?;
     }
     Ok(())
 }
@@ -86,15 +107,17 @@ pub fn add_fetches_again(
 /// Adds a Recovered for each of these terms.
 fn add_recovered(
     own: ServerId,
+    ownership: &Ownership,
     tasks: &[Task],
     terms: &[u32],
     sent: &mut Vec<Message>,
 ) -> Result<(), AllocError>
+    requires { AreTasksOf ownership.now.own.parts tasks.now }
     ensures ok { OnOk result (sent.new.items ≡ sent.old.items ++ recovered_of own tasks.now terms.now) }
     ensures begun { OnErr result (IsBeginning sent.old.items sent.new.items) }
 {
     for term in terms {
-        sent.push(recovered(own, tasks, *term))?;
+        sent.push(recovered(own, ownership, tasks, *term))?;
     }
     Ok(())
 }
@@ -107,7 +130,8 @@ pub fn add_recovered_again(
     tasks: &[Task],
     sent: &mut Vec<Message>,
 ) -> Result<(), AllocError>
-    requires { durable_of ownership.now ≡ take (log_of log.now).durable (entries_of (log_of log.now)) }
+    requires durable { durable_of ownership.now ≡ take (log_of log.now).durable (entries_of (log_of log.now)) }
+    requires tasks { AreTasksOf ownership.now.own.parts tasks.now }
     ensures ok { OnOk result (sent.new.items ≡ sent.old.items ++
         recovered_again (sender (log_of log.now) ownership.now.own tasks.now)) }
     ensures begun { OnErr result (IsBeginning sent.old.items sent.new.items) }
@@ -115,7 +139,7 @@ pub fn add_recovered_again(
     let Ok(terms) = ownership.awaiting_grant(alloc) else {
         return Err(AllocError);
     };
-    add_recovered(log.own(), tasks, terms.as_slice(), sent)
+    add_recovered(log.own(), ownership, tasks, terms.as_slice(), sent)
 }
 
 /// Adds a Ready where the head takes entries and nothing was granted yet.

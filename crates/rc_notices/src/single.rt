@@ -6,9 +6,11 @@ ghost use Rattle.rc_model.specs.Messages.{between, to_coordinator, to_outside, r
 ghost use Rattle.rc_model.specs.Log.{has_segment};
 ghost use Rattle.rc_model.specs.FollowUps.{attempt_of};
 ghost use Rattle.rc_headroll.specs.LogData.{log_of};
+ghost use Rattle.rc_notices.specs.Tasks.{AreTasksOf};
 
 use crate::tasks::{Task, attempt_of};
 use rc_headroll::{LogHead, Segment};
+use rc_ownership::Ownership;
 use rc_types::{Addr, Body, Fault, Message, Seq, ServerId};
 
 /// From a server to a server.
@@ -94,9 +96,10 @@ pub fn commit(log: &LogHead, seg: u16) -> Message
 }
 
 /// The message that the part of this term is durable, in the attempt in which it was given.
-pub fn recovered(own: ServerId, tasks: &[Task], term: u32) -> Message
+pub fn recovered(own: ServerId, ownership: &Ownership, tasks: &[Task], term: u32) -> Message
+    requires { AreTasksOf ownership.now.own.parts tasks.now }
     ensures { result ≡ to_coordinator own (Recovered (attempt_of term tasks.now) term) }
 {
-    let attempt = attempt_of(term, tasks);
+    let attempt = attempt_of(term, ownership, tasks);
     to_coordinator(own, Body::Recovered { attempt, term })
 }

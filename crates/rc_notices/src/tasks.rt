@@ -1,12 +1,15 @@
 //! What a master keeps of a part that it is to recover, and the Fetches for it.
 
-ghost use Rattle.std.specs.Prelude.{◌≡◌, ◌++◌, map, IfOk, OnOk, OnErr};
+ghost use Rattle.std.specs.Prelude.{◌≡◌, ◌++◌, map, slice_get, IfOk, OnOk, OnErr};
+ghost use Rattle.std.specs.Option.{option_map_or};
 ghost use Rattle.rc_model.specs.FollowUps.{attempt_of};
 ghost use Rattle.rc_model.specs.MasterStep.{task_of};
 ghost use Rattle.rc_model.specs.MasterTick.{fetch_of};
 ghost use Rattle.rc_notices.specs.Beginnings.{IsBeginning};
+ghost use Rattle.rc_notices.specs.Tasks.{AreTasksOf};
 
 use crate::single::to_server;
+use rc_ownership::Ownership;
 use rc_types::{Body, Message, Part, PlanRow, Seq, ServerId};
 use std::alloc::{AllocError, Global};
 use std::marker::Model;
@@ -87,16 +90,25 @@ impl Task {
     }
 }
 
-/// The attempt in which the part of this term was given, 0 where none was.
-pub fn attempt_of(term: u32, tasks: &[Task]) -> u32
+/// The attempt of the task at a place, 0 where there is none.
+fn attempt_at(tasks: &[Task], place: usize) -> u32
+    ensures { result ≡ option_map_or (λ task. task.attempt) (slice_get tasks.now place) 0 }
+{
+    match tasks.get(place) {
+        Some(task) => task.attempt,
+        None => 0,
+    }
+}
+
+/// The attempt in which the part of this term was given, 0 where none was: by one look-up of the part.
+pub fn attempt_of(term: u32, ownership: &Ownership, tasks: &[Task]) -> u32
+    requires { AreTasksOf ownership.now.own.parts tasks.now }
     ensures { result ≡ attempt_of term tasks.now }
 {
-    for task in tasks {
-        if task.part.term == term {
-            return task.attempt;
-        }
+    match ownership.place_of(term) {
+        Some(place) => attempt_at(tasks, place),
+        None => 0,
     }
-    0
 }
 
 /// Adds a Fetch of each row of a task, to its holder.

@@ -7,6 +7,7 @@ ghost use Rattle.rc_headroll.specs.LogData.{log_of, before_of};
 ghost use Rattle.rc_ownership.specs.Owner.{durable_of};
 ghost use Rattle.rc_notices.specs.Beginnings.{IsBeginning};
 ghost use Rattle.rc_notices.specs.Sender.{sender};
+ghost use Rattle.rc_notices.specs.Tasks.{AreTasksOf};
 
 use crate::tasks::Task;
 use crate::{again, reminding};
@@ -23,7 +24,8 @@ pub fn add_reminders(
     tasks: &[Task],
     sent: &mut Vec<Message>,
 ) -> Result<(), AllocError>
-    requires { durable_of ownership.now ≡ take (log_of log.now).durable (entries_of (log_of log.now)) }
+    requires durable { durable_of ownership.now ≡ take (log_of log.now).durable (entries_of (log_of log.now)) }
+    requires tasks { AreTasksOf ownership.now.own.parts tasks.now }
     ensures ok { OnOk result (sent.new.items ≡ sent.old.items ++
         (reminds (before_of log.now) (sender (log_of log.now) ownership.now.own tasks.now)).1) }
     ensures begun { OnErr result (IsBeginning sent.old.items sent.new.items) }

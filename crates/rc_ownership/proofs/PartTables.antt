@@ -1,9 +1,13 @@
 -- The table of parts by term: what a look-up finds, and what a write changes.
-use Rattle.std.proofs.Common.{◌≡◌, ℕ, Bool, true, false, cond, not, length, ◌&&◌, ◌||◌, nat_eq, is_some, find, option_map, Option}
-use Rattle.std.proofs.Common.{Some, None, List, [], ◌∷◌, ◌++◌, sym, ap, subst, ◌∙◌, refl, arith, true≢false}
+use Rattle.std.proofs.Common.{◌≡◌, ℕ, ◌+◌, Bool, true, false, cond, not, length, ◌&&◌, ◌||◌, nat_eq, is_some, find, option_map, Option}
+use Rattle.std.proofs.Common.{Some, None, List, [], ◌∷◌, ◌++◌, zero, suc, sym, ap, subst, ◌∙◌, refl, arith, true≢false}
 use Rattle.std.proofs.lemmas.Bool.Decides.{nat_tests}
 use Rattle.std.proofs.lemmas.List.{append-nil}
-use Rattle.std.specs.List.{list_any}
+use Rattle.std.proofs.lemmas.Iterator.Adapters.{position_from-zero}
+use Rattle.std.specs.List.{position_from}
+use Rattle.std.specs.Map.{keys_of}
+use Rattle.std.specs.Prelude.{slice_get}
+use Rattle.std.specs.List.{list_any, position}
 use Rattle.std.specs.Map.{lookup, set_value}
 use Rattle.std.specs.Option.{option_map_or}
 use Rattle.indexmap.specs.IndexMap.{IndexMap, insert_entry}
@@ -25,6 +29,41 @@ same one other h = grind (arith, nat_tests)
 absent : (term : ℕ) (entries : List (ℕ × PartState)) → HasNone term entries → lookup (nat_eq term) entries ≡ None
 absent term [] h = refl
 absent term (entry ∷ entries) h = ap (λ b. cond b (Some entry.1) (lookup (nat_eq term) entries)) h.0 ∙ absent term entries h.1
+
+apart-at : (key : ℕ) (entries : List (ℕ × PartState)) (place : ℕ) (entry : ℕ × PartState) → HasNone key entries →
+    slice_get entries place ≡ Some entry → nat_eq key entry.0 ≡ false
+apart-at key [] place entry h at = absurd (cc)
+apart-at key (first ∷ entries) zero entry h at =
+    let it : entry ≡ first = cc in
+    ap (λ one. nat_eq key one.0) it ∙ h.0
+apart-at key (first ∷ entries) (suc place) entry h at = apart-at key entries place entry h.1 at
+
+own-at : (entries : List (ℕ × PartState)) (place : ℕ) (entry : ℕ × PartState) → AreUnderTheirTerms entries →
+    slice_get entries place ≡ Some entry → entry.0 ≡ entry.1.part.term
+own-at [] place entry h at = absurd (cc)
+own-at (first ∷ entries) zero entry h at =
+    let it : first ≡ entry = cc in
+    subst (λ one. one.0 ≡ one.1.part.term) it h.0
+own-at (first ∷ entries) (suc place) entry h at = own-at entries place entry h.2 at
+
+-- a part is found under its term
+pub lookup-at : (entries : List (ℕ × PartState)) (place : ℕ) (entry : ℕ × PartState) → AreUnderTheirTerms entries →
+    slice_get entries place ≡ Some entry → lookup (nat_eq entry.1.part.term) entries ≡ Some entry.1
+lookup-at [] place entry h at = absurd (cc)
+lookup-at (first ∷ entries) zero entry h at =
+    let it : first ≡ entry = cc in
+    let here : nat_eq entry.1.part.term first.0 ≡ true =
+    subst (λ one. nat_eq one.1.part.term first.0 ≡ true) it
+    (flip first.1.part.term first.0 ∙ ap (nat_eq first.0) (sym h.0) ∙ itself first.0) in
+    ap (λ b. cond b (Some first.1) (lookup (nat_eq entry.1.part.term) entries)) here ∙ ap (λ one. Some one.1) it
+  where
+    itself : (n : ℕ) → nat_eq n n ≡ true
+    itself n = grind (arith, nat_tests)
+lookup-at (first ∷ entries) (suc place) entry h at =
+    let there : nat_eq entry.1.part.term first.0 ≡ false =
+    flip entry.1.part.term first.0 ∙ ap (nat_eq first.0) (sym (own-at entries place entry h.2 at))
+    ∙ apart-at first.0 entries place entry h.1 at in
+    ap (λ b. cond b (Some first.1) (lookup (nat_eq entry.1.part.term) entries)) there ∙ lookup-at entries place entry h.2 at
 
 -- a part awaits a row where the part under its term does
 pub awaits-lookup : (entries : List (ℕ × PartState)) (term seg : ℕ) (from : ServerId) → AreUnderTheirTerms entries →
@@ -119,6 +158,20 @@ has_part-lookup (entry ∷ entries) term h =
         list_any (λ state. nat_eq state.part.term term) (parts_in entries))
     by true later = refl
     by false later = later
+
+-- it stands where its term does
+pub position-lookup : (entries : List (ℕ × PartState)) (term : ℕ) → AreUnderTheirTerms entries →
+    position (nat_eq term) (keys_of entries) ≡ position (λ state. nat_eq state.part.term term) (parts_in entries)
+position-lookup entries term h =
+    position_from-zero (nat_eq term) (keys_of entries) ∙ from 0 entries h
+    ∙ sym (position_from-zero (λ (state : PartState). nat_eq state.part.term term) (parts_in entries))
+  where
+    from : (at : ℕ) (rest : List (ℕ × PartState)) → AreUnderTheirTerms rest →
+        position_from (nat_eq term) at (keys_of rest) ≡ position_from (λ state. nat_eq state.part.term term) at (parts_in rest)
+    from at [] h = refl
+    from at (entry ∷ rest) h =
+        ap (λ b. cond b (Some at) (position_from (nat_eq term) (at + 1) (keys_of rest))) (sym (under term entry h.0))
+        ∙ ap (cond (nat_eq entry.1.part.term term) (Some at)) (from (at + 1) rest h.2)
 
 none_found : (found : Option PartState) → is_some found ≡ false → found ≡ None
 none_found None h = refl
@@ -352,13 +405,6 @@ pub joined-named : (state : PartState) → (joined state).part.term ≡ state.pa
 joined-named state = by (all_came state.rows)
   where
     by : (b : Bool) → (cond b (record state { rows = []; size = length (entries_that_came state.rows) }) state).part.term ≡ state.part.term
-    by true = refl
-    by false = refl
-
-pub joined-told : (state : PartState) → (joined state).answered ≡ state.answered
-joined-told state = by (all_came state.rows)
-  where
-    by : (b : Bool) → (cond b (record state { rows = []; size = length (entries_that_came state.rows) }) state).answered ≡ state.answered
     by true = refl
     by false = refl
 

@@ -8,14 +8,16 @@ use Rattle.std.specs.Map.{lookup, set_value}
 use Rattle.std.specs.List.{list_any}
 use Rattle.std.proofs.lemmas.List.{take-append-le, take-take, take_all, length-take-le}
 use Rattle.indexmap.specs.IndexMap.{IndexMap, insert_entry}
-use Rattle.rc_model.specs.Ownership.{PartState}
+use Rattle.rc_types.specs.declared.kept.GrantedRange.{GrantedRange}
+use Rattle.rc_model.specs.Ownership.{PartState, grant}
+use Rattle.rc_ownership.specs.Grants.{owner_of}
 use Rattle.rc_ownership.specs.declared.part.Before.{Before}
 use Rattle.rc_ownership.specs.declared.part.Before.TheVariants.{Awaited, Whole, Unanswered}
 use Rattle.rc_ownership.specs.Parts.{Fetched, HasNone, AreUnderTheirTerms, AreOfTheirTerms, IsOfTerm, parts_in, part_before}
 use Rattle.rc_ownership.specs.Parts.{undo_in, undone, IsPartTable}
-use Rattle.rc_ownership.specs.Unanswered.{HoldUnanswered}
+use Rattle.rc_ownership.specs.Unfinished.{HoldUnfinished, is_finished}
 use Rattle.rc_ownership.proofs.PartTables.{under-insert, inserted-last}
-use Rattle.rc_ownership.proofs.Places.{places-push, places-set}
+use Rattle.rc_ownership.proofs.Places.{places-push, places-set, places-weaker, finished-granted}
 
 same : (one other : ℕ) → nat_eq one other ≡ true → one ≡ other
 same one other h = grind (arith, nat_tests)
@@ -230,23 +232,23 @@ of-term term Unanswered old new back named = tt
 
 -- The whole table
 
-pub same_fetched : (one other : Fetched) → one.parts ≡ other.parts → one.replay ≡ other.replay →
+pub same_fetched : (one other : Fetched) → one.grants ≡ other.grants → one.parts ≡ other.parts → one.replay ≡ other.replay →
     one.parts_before ≡ other.parts_before → one.replay_before ≡ other.replay_before → one ≡ other
-same_fetched one other p q r t j = record { parts = p j; replay = q j; parts_before = r j; replay_before = t j }
+same_fetched one other g p q r t j = record { grants = g j; parts = p j; replay = q j; parts_before = r j; replay_before = t j }
 
 -- it is as it was when the step began
-pub table-begun : (entries : List (ℕ × PartState)) (changes : List (ℕ × Before)) (kept : ℕ) (places : List ℕ) (count : ℕ) →
-    AreUnderTheirTerms entries → HoldUnanswered 0 places entries → changes ≡ [] → kept ≡ length entries →
-    count ≡ length places → IsPartTable entries changes kept places count
-table-begun entries changes kept places count under hold none all all_places = record {
+pub table-begun : (entries : List (ℕ × PartState)) (changes : List (ℕ × Before)) (kept : ℕ) (grants : List GrantedRange) (places : List ℕ) (count : ℕ) →
+    AreUnderTheirTerms entries → HoldUnfinished grants places (parts_in entries) → changes ≡ [] → kept ≡ length entries →
+    count ≡ length places → IsPartTable entries changes kept grants places count
+table-begun entries changes kept grants places count under hold none all all_places = record {
   under_terms = under;
   of_terms = subst AreOfTheirTerms (sym none) tt;
   within = omega (arith, all);
   places_now = hold;
-  places_before = subst (λ cs. HoldUnanswered 0 (take count places) (undone cs (take kept entries))) (sym none)
-      (subst (λ ps. HoldUnanswered 0 ps (take kept entries))
+  places_before = subst (λ cs. HoldUnfinished grants (take count places) (parts_in (undone cs (take kept entries)))) (sym none)
+      (subst (λ ps. HoldUnfinished grants ps (parts_in (take kept entries)))
       (sym (take_all count places (omega (arith, all_places))))
-      (subst (HoldUnanswered 0 places) (sym (take_all kept entries (omega (arith, all)))) hold));
+      (subst (λ es. HoldUnfinished grants places (parts_in es)) (sym (take_all kept entries (omega (arith, all)))) hold));
   places_within = omega (arith, all_places);
 }
 
@@ -257,24 +259,24 @@ undone-begun entries changes kept none all =
 
 -- one more part was begun
 pub table-insert : {S : Type 0} (old new : IndexMap ℕ PartState S) (term : ℕ) (state : PartState)
-    (changes : List (ℕ × Before)) (kept : ℕ) (places after : List ℕ) (count : ℕ) →
-    IsPartTable old.entries changes kept places count →
+    (changes : List (ℕ × Before)) (kept : ℕ) (grants : List GrantedRange) (places after : List ℕ) (count : ℕ) →
+    IsPartTable old.entries changes kept grants places count →
     list_any (λ one. nat_eq one.part.term term) (parts_in old.entries) ≡ false →
     new.entries ≡ insert_entry nat_eq old.entries term state → term ≡ state.part.term →
-    after ≡ places ++ length old.entries ∷ [] → IsPartTable new.entries changes kept after count
-table-insert old new term state changes kept places after count table none inserted named pushed =
+    after ≡ places ++ length old.entries ∷ [] → IsPartTable new.entries changes kept grants after count
+table-insert old new term state changes kept grants places after count table none inserted named pushed =
     let last = inserted-last old new term state table.under_terms none inserted in
     record {
       under_terms = under-insert old new term state table.under_terms none inserted named;
       of_terms = table.of_terms;
       within = omega (arith, table.within, ap length last, length-append old.entries ((term, state) ∷ []));
-      places_now = subst (HoldUnanswered 0 after) (sym last)
-          (subst (λ ps. HoldUnanswered 0 ps (old.entries ++ (term, state) ∷ []))
+      places_now = subst (λ es. HoldUnfinished grants after (parts_in es)) (sym last)
+          (subst (λ ps. HoldUnfinished grants ps (parts_in (old.entries ++ (term, state) ∷ [])))
           (ap (λ n. places ++ n ∷ []) (let e : 0 + length old.entries ≡ length old.entries = omega arith in e) ∙ sym pushed)
-          (places-push 0 places old.entries (term, state) table.places_now));
-      places_before = subst (λ ps. HoldUnanswered 0 ps (undone changes (take kept new.entries)))
+          (places-push (λ state. is_finished grants state ≡ true) 0 places old.entries (term, state) table.places_now));
+      places_before = subst (λ ps. HoldUnfinished grants ps (parts_in (undone changes (take kept new.entries))))
           (sym (ap (take count) pushed ∙ take-append-le count places (length old.entries ∷ []) table.places_within))
-          (subst (λ es. HoldUnanswered 0 (take count places) (undone changes es))
+          (subst (λ es. HoldUnfinished grants (take count places) (parts_in (undone changes es)))
           (sym (ap (take kept) last ∙ take-append-le kept old.entries ((term, state) ∷ []) table.within)) table.places_before);
       places_within = omega (arith, table.places_within, ap length pushed, length-append places (length old.entries ∷ []));
     }
@@ -289,26 +291,26 @@ undone-insert old new term state changes kept under within none inserted =
     ((term, state) ∷ []) within)
 
 -- a change of a part, and how it is undone
-pub record IsChange (entries changed : List (ℕ × PartState)) (changes now : List (ℕ × Before)) (term : ℕ)
-    (before : Before) (old new : PartState) : Type 0 where
+pub record IsChange (grants : List GrantedRange) (entries changed : List (ℕ × PartState)) (changes now : List (ℕ × Before))
+    (term : ℕ) (before : Before) (old new : PartState) : Type 0 where
   pub found : lookup (nat_eq term) entries ≡ Some old
   pub written : changed ≡ set_value (nat_eq term) entries new
   pub noted : now ≡ changes ++ (term, before) ∷ []
   pub back : part_before before new ≡ old
-  pub told : old.answered ≡ true → new.answered ≡ true
+  pub finished : is_finished grants old ≡ true → is_finished grants new ≡ true
   pub named : new.part.term ≡ old.part.term
 
 pub undone-noted : (entries changed : List (ℕ × PartState)) (changes now : List (ℕ × Before)) (term : ℕ) (before : Before)
-    (old new : PartState) (kept : ℕ) → IsChange entries changed changes now term before old new →
+    (old new : PartState) (kept : ℕ) (grants : List GrantedRange) → IsChange grants entries changed changes now term before old new →
     undone now (take kept changed) ≡ undone changes (take kept entries)
-undone-noted entries changed changes now term before old new kept it =
+undone-noted entries changed changes now term before old new kept grants it =
     ap (λ cs. undone cs (take kept changed)) it.noted ∙
     undone-change changes entries changed term before old new kept it.found it.back it.written
 
 pub table-change : (entries changed : List (ℕ × PartState)) (changes now : List (ℕ × Before)) (term : ℕ) (before : Before)
-    (old new : PartState) (kept : ℕ) (places : List ℕ) (count : ℕ) → IsPartTable entries changes kept places count →
-    IsChange entries changed changes now term before old new → IsPartTable changed now kept places count
-table-change entries changed changes now term before old new kept places count table it =
+    (old new : PartState) (kept : ℕ) (grants : List GrantedRange) (places : List ℕ) (count : ℕ) → IsPartTable entries changes kept grants places count →
+    IsChange grants entries changed changes now term before old new → IsPartTable changed now kept grants places count
+table-change entries changed changes now term before old new kept grants places count table it =
     let term_is = found-term term entries old table.under_terms it.found in
     record {
       under_terms = subst AreUnderTheirTerms (sym it.written)
@@ -316,25 +318,26 @@ table-change entries changed changes now term before old new kept places count t
       of_terms = subst AreOfTheirTerms (sym it.noted)
           (of-push changes (term, before) table.of_terms (of-term term before old new it.back term_is));
       within = omega (arith, table.within, ap length it.written, length-set_value (nat_eq term) entries new);
-      places_now = subst (HoldUnanswered 0 places) (sym it.written)
-          (places-set 0 places (nat_eq term) entries old new it.found it.told table.places_now);
-      places_before = subst (HoldUnanswered 0 (take count places))
-          (sym (undone-noted entries changed changes now term before old new kept it)) table.places_before;
+      places_now = subst (λ es. HoldUnfinished grants places (parts_in es)) (sym it.written)
+          (places-set (λ state. is_finished grants state ≡ true) 0 places (nat_eq term) entries old new it.found it.finished
+          table.places_now);
+      places_before = subst (λ es. HoldUnfinished grants (take count places) (parts_in es))
+          (sym (undone-noted entries changed changes now term before old new kept grants it)) table.places_before;
       places_within = table.places_within;
     }
 
 -- each part is again what it was
 pub table-restored : (entries : List (ℕ × PartState)) (changes : List (ℕ × Before)) (now : List (ℕ × PartState))
-    (left : List (ℕ × Before)) (kept : ℕ) (places after : List ℕ) (count : ℕ) → IsPartTable entries changes kept places count →
+    (left : List (ℕ × Before)) (kept : ℕ) (grants : List GrantedRange) (places after : List ℕ) (count : ℕ) → IsPartTable entries changes kept grants places count →
     now ≡ take kept (undone changes entries) → left ≡ [] → after ≡ take count places →
-    IsPartTable now left kept after count
-table-restored entries changes now left kept places after count table is none cut =
-    let hold : HoldUnanswered 0 after now = subst (λ ps. HoldUnanswered 0 ps now) (sym cut)
-    (subst (HoldUnanswered 0 (take count places)) (sym (is ∙ undone-take changes entries kept)) table.places_before) in
+    IsPartTable now left kept grants after count
+table-restored entries changes now left kept grants places after count table is none cut =
+    let hold : HoldUnfinished grants after (parts_in now) = subst (λ ps. HoldUnfinished grants ps (parts_in now)) (sym cut)
+    (subst (λ es. HoldUnfinished grants (take count places) (parts_in es)) (sym (is ∙ undone-take changes entries kept)) table.places_before) in
     let all : length now ≡ kept = ap length is ∙ length-take-le kept (undone changes entries)
     (omega (arith, table.within, length-undone changes entries)) in
     let all_places : length after ≡ count = ap length cut ∙ length-take-le count places table.places_within in
-    table-begun now left kept after count
+    table-begun now left kept grants after count
     (subst AreUnderTheirTerms (sym is)
     (under-take kept (undone changes entries) (under-undone changes entries table.of_terms table.under_terms)))
     hold none (sym all) (sym all_places)
@@ -346,6 +349,23 @@ undone-restored entries changes now left kept is none =
     ap (λ cs. parts_in (undone cs (take kept now))) none
     ∙ ap (λ rest. parts_in (take kept rest)) is
     ∙ ap parts_in (take-take kept kept (undone changes entries) (omega arith) ∙ undone-take changes entries kept)
+
+-- more is granted
+pub table-granted : (entries : List (ℕ × PartState)) (changes : List (ℕ × Before)) (kept : ℕ) (grants after : List GrantedRange)
+    (places : List ℕ) (count : ℕ) (granted : GrantedRange) → IsPartTable entries changes kept grants places count →
+    after ≡ (grant granted (owner_of grants)).grants → IsPartTable entries changes kept after places count
+table-granted entries changes kept grants after places count granted table is =
+    subst (λ list. IsPartTable entries changes kept list places count) (sym is)
+    (record {
+      under_terms = table.under_terms;
+      of_terms = table.of_terms;
+      within = table.within;
+      places_now = places-weaker _ _ (finished-granted grants granted) 0 places (parts_in entries) table.places_now;
+      places_before =
+          places-weaker _ _ (finished-granted grants granted) 0 (take count places) (parts_in (undone changes (take kept entries)))
+          table.places_before;
+      places_within = table.places_within;
+    })
 
 -- an end that was told for the first time
 pub answered-back : (old new : PartState) → new ≡ record old { answered = true } → old.answered ≡ false →

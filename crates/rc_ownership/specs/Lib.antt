@@ -8,6 +8,6 @@ pub mod Replay
 pub mod Rows
 pub mod Slots
 pub mod Tops
-pub mod Unanswered
+pub mod Unfinished
 pub mod Notes
 pub mod Looks

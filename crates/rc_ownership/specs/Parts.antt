@@ -2,11 +2,12 @@
 use Rattle.std.specs.Prelude.{◌≡◌, ℕ, ◌≤◌, nat_eq, false, not, ◌&&◌, if◌then◌else◌, List, [], ◌∷◌, length, map, filter}
 use Rattle.std.specs.Prelude.{take}
 use Rattle.rc_types.specs.declared.entries.Entry.{Entry}
-use Rattle.rc_model.specs.Ownership.{Ownership, owns_nothing, PartState, is_complete, owns_term}
+use Rattle.rc_types.specs.declared.kept.GrantedRange.{GrantedRange}
+use Rattle.rc_model.specs.Ownership.{Ownership, PartState, is_complete, owns_term}
 use Rattle.rc_ownership.specs.declared.part.Before.{Before}
 use Rattle.rc_ownership.specs.declared.part.Before.TheVariants.{Awaited, Whole, Unanswered}
 use Rattle.rc_ownership.specs.Rows.{awaited_again}
-use Rattle.rc_ownership.specs.Unanswered.{HoldUnanswered}
+use Rattle.rc_ownership.specs.Unfinished.{HoldUnfinished}
 
 -- no entry of a table has this key
 abbrev pub HasNone : ℕ → List (ℕ × PartState) → Type 0
@@ -51,26 +52,29 @@ abbrev pub AreOfTheirTerms : List (ℕ × Before) → Type 0
 AreOfTheirTerms [] = Unit {0}
 AreOfTheirTerms (change ∷ changes) = IsOfTerm change.0 change.1 × AreOfTheirTerms changes
 
--- the parts that were begun, and the entries that wait to be appended; and both as `restore` lets them be again
+-- what was granted; the parts that were begun, and the entries that wait to be appended; and the latter two as
+-- `restore` lets them be again
 pub record Fetched : Type 0 where
+  pub grants : List GrantedRange
   pub parts : List PartState
   pub replay : List Entry
   pub parts_before : List PartState
   pub replay_before : List Entry
 
--- who has begun these and has nothing else
+-- who was granted these, and has begun these
 abbrev pub who_fetched : Fetched → Ownership
-who_fetched fetched = record owns_nothing { parts = fetched.parts; replay = fetched.replay }
+who_fetched fetched = record { grants = fetched.grants; parts = fetched.parts; replay = fetched.replay }
 
--- a table of parts, their changes, and how many parts there were before; and of the parts that may be unanswered the
--- places, and how many of these there were
-pub record IsPartTable (entries : List (ℕ × PartState)) (changes : List (ℕ × Before)) (kept : ℕ) (places : List ℕ)
-    (kept_places : ℕ) : Type 0 where
+-- a table of parts, their changes, and how many parts there were before; what is granted, and of the parts that may be
+-- unfinished the places, and how many of these there were
+pub record IsPartTable (entries : List (ℕ × PartState)) (changes : List (ℕ × Before)) (kept : ℕ)
+    (grants : List GrantedRange) (places : List ℕ) (kept_places : ℕ) : Type 0 where
   pub under_terms : AreUnderTheirTerms entries
   pub of_terms : AreOfTheirTerms changes
   pub within : kept ≤ length entries
-  pub places_now : HoldUnanswered 0 places entries
-  pub places_before : HoldUnanswered 0 (take kept_places places) (undone changes (take kept entries))
+  pub places_now : HoldUnfinished grants places (parts_in entries)
+  pub places_before :
+      HoldUnfinished grants (take kept_places places) (parts_in (undone changes (take kept entries)))
   pub places_within : kept_places ≤ length places
 
 -- the terms of the complete parts that aren't granted yet

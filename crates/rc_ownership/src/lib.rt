@@ -17,7 +17,7 @@ mod rows;
 mod shared;
 mod tops;
 mod touched;
-mod unanswered;
+mod unfinished;
 
 pub use looks::PartProgress;
 pub use ownership::Ownership;

@@ -3,6 +3,7 @@
 ghost use Rattle.std.specs.Prelude.{◌≡◌, ◌<◌, ◌≤◌, ◌+◌, ◌^◌, ◌++◌, ◌∷◌, [], length, not, nat_eq, nat_lt, slice_get};
 ghost use Rattle.std.specs.Prelude.{OnOk, OnErr, IfOk, IfErr, true, ◌↔◌, option_map};
 ghost use Rattle.rc_types.specs.declared.faults.Fault.TheVariants.{OutOfMemory};
+ghost use Rattle.std.specs.List.{position};
 ghost use Rattle.rc_model.specs.Ownership.{owns_nothing};
 ghost use Rattle.rc_model.specs.Ownership as owning;
 ghost use Rattle.rc_model.specs.Versions as versions;
@@ -13,8 +14,8 @@ ghost use Rattle.rc_ownership.specs.Looks.{progress_of};
 ghost use Rattle.rc_ownership.specs.Owner.{durable_of, kept_now, kept_nothing};
 ghost use Rattle.rc_ownership.specs.Parts.{awaiting_grant};
 ghost use Rattle.rc_ownership.specs.Tops.{LeaveRoom};
+ghost use Rattle.rc_ownership.specs.Unfinished.{HoldOthers, IsDone};
 
-use crate::grants::Grants;
 use crate::looks::PartProgress;
 use crate::notes::Notes;
 use crate::parts::Parts;
@@ -26,18 +27,13 @@ use std::marker::Model;
 /// The ranges that a master was granted, the notes of its log, and the parts of crashed masters'
 /// logs that it fetches and replays.
 pub struct Ownership {
-    grants: Grants,
     notes: Notes,
     parts: Parts,
 }
 
 impl Drop for Ownership {
     fn drop(self) {
-        let Ownership {
-            grants: _,
-            notes: _,
-            parts: _,
-        } = self;
+        let Ownership { notes: _, parts: _ } = self;
     }
 }
 
@@ -47,12 +43,12 @@ impl Model for Ownership {
     ghost Value = { Owner };
 
     ghost view = { λ s. record {
-      own = record { grants = s.grants; parts = s.parts.parts; replay = s.parts.replay };
+      own = record { grants = s.parts.grants; parts = s.parts.parts; replay = s.parts.replay };
       noted = s.notes.noted;
       durable = s.notes.durable;
       before = record {
         own = record {
-          grants = s.grants;
+          grants = s.parts.grants;
           parts = s.parts.parts_before;
           replay = s.parts.replay_before;
         };
@@ -68,7 +64,6 @@ impl Ownership {
         ensures { result ≡ record { own = owns_nothing; noted = []; durable = 0; before = kept_nothing } }
     {
         Ownership {
-            grants: Grants::new(alloc),
             notes: Notes::new(alloc),
             parts: Parts::new(alloc),
         }
@@ -110,7 +105,7 @@ impl Ownership {
         ensures err { OnErr result (self.new ≡ self.old) }
         ensures no_memory { IfErr result (λ fault. fault ≡ OutOfMemory) }
     {
-        self.grants.grant(range, term)?;
+        self.parts.grant(range, term)?;
         Ok(())
     }
 
@@ -118,28 +113,28 @@ impl Ownership {
     pub fn term_of(&self, table: u32, key: u64) -> Option<u32>
         ensures { result ≡ owning.term_of self.now.own table key }
     {
-        self.grants.term_of(table, key)
+        self.parts.grants().term_of(table, key)
     }
 
     /// Whether a range was granted under the term.
     pub fn owns_term(&self, term: u32) -> bool
         ensures { result ≡ owning.owns_term self.now.own term }
     {
-        self.grants.owns_term(term)
+        self.parts.grants().owns_term(term)
     }
 
     /// Whether any range was granted.
     pub fn has_grants(&self) -> bool
         ensures { result ≡ nat_lt 0 (length self.now.own.grants) }
     {
-        !self.grants.is_empty()
+        !self.parts.grants().is_empty()
     }
 
     /// The granted ranges by term, in the order of granting. It takes no memory.
     pub fn grants(&self) -> &IndexMap<u32, KeyRange>
         ensures { grants_in result.now.entries ≡ self.now.own.grants }
     {
-        self.grants.ranges()
+        self.parts.grants().ranges()
     }
 
     /// Notes an entry that was appended to the log, after those noted before.
@@ -235,7 +230,7 @@ impl Ownership {
     pub fn knows_term(&self, term: u32) -> bool
         ensures { result ≡ owning.knows_term self.now.own term }
     {
-        self.parts.has_part(term) || self.grants.owns_term(term)
+        self.parts.has_part(term) || self.parts.grants().owns_term(term)
     }
 
     /// Begins a part: it waits for these rows, each a segment and the backup that holds it. The answer
@@ -312,6 +307,23 @@ impl Ownership {
         self.parts.progress(number, &self.notes)
     }
 
+    /// The place of the part of this term among the parts in the order in which they were begun: by one look-up. It
+    /// takes no memory.
+    pub fn place_of(&self, term: u32) -> Option<usize>
+        ensures { result ≡ position (λ state. nat_eq state.part.term term) self.now.own.parts }
+    {
+        self.parts.place_of(term)
+    }
+
+    /// The places of the parts that may be unfinished, in rising order, so that nobody has to go over all that were
+    /// ever begun. Of each part at another place the end was told, the term is granted, and no row is awaited. Which
+    /// parts are finished is looked at by `begin` alone. It takes no memory.
+    pub fn unfinished(&self) -> &[usize]
+        ensures { HoldOthers (IsDone self.now.own) 0 result.now self.now.own.parts }
+    {
+        self.parts.unfinished()
+    }
+
     /// How many entries wait to be appended, or the greatest number where more do. It goes over the rows of which
     /// any wait, and takes no memory.
     pub fn count_replay(&self) -> usize
@@ -370,7 +382,7 @@ impl Ownership {
             self.now.own.parts) }
         ensures no_memory { IfErr result (λ fault. fault ≡ OutOfMemory) }
     {
-        let terms = self.parts.awaiting_grant(alloc, &self.notes, &self.grants)?;
+        let terms = self.parts.awaiting_grant(alloc, &self.notes)?;
         Ok(terms)
     }
 }

@@ -1,6 +1,6 @@
 //! One part of a crashed master's log, from its begin to its end, and how a change of it is undone.
 
-ghost use Rattle.std.specs.Prelude.{◌≡◌, ◌<◌, true, length, take, [], IfOk, IfErr, OnOk, OnErr};
+ghost use Rattle.std.specs.Prelude.{◌≡◌, ◌<◌, true, nat_eq, length, take, [], IfOk, IfErr, OnOk, OnErr};
 ghost use Rattle.std.specs.List.{list_any};
 ghost use Rattle.rc_types.specs.declared.faults.Fault.TheVariants.{OutOfMemory};
 ghost use Rattle.rc_model.specs.Ownership.{new_part, is_awaited, part_with_row, all_came};
@@ -129,6 +129,13 @@ impl FetchedPart {
         }
     }
 
+    /// Whether it waits for no row.
+    pub(crate) fn awaits_none(&self) -> bool
+        ensures { result ≡ nat_eq (length self.now.rows) 0 }
+    {
+        self.rows.is_empty()
+    }
+
     /// Whether all its rows have come.
     pub(crate) fn has_all(&self) -> bool
         ensures { result ≡ all_came self.now.rows }
@@ -168,7 +175,7 @@ impl FetchedPart {
     pub(crate) fn is_complete(&self, notes: &Notes) -> bool
         ensures { result ≡ is_complete (take notes.now.durable notes.now.noted) self.now }
     {
-        self.rows.is_empty() && self.count <= notes.count_durable(self.part.term)
+        self.awaits_none() && self.count <= notes.count_durable(self.part.term)
     }
 
     /// Whether it is complete and its end wasn't told.

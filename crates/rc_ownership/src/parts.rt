@@ -1,32 +1,37 @@
-//! The parts that were begun, and the replay.
+//! The parts that were begun, the grants by which they are finished, and the replay.
 
-ghost use Rattle.std.specs.Prelude.{◌≡◌, ◌++◌, ◌∷◌, [], true, false, nat_lt, length, slice_get, take, OnOk, OnErr};
+ghost use Rattle.std.specs.Prelude.{◌≡◌, ◌++◌, ◌∷◌, [], true, false, nat_eq, nat_lt, length, slice_get, take, OnOk, OnErr};
 ghost use Rattle.std.specs.Prelude.{IfOk, IfErr};
 ghost use Rattle.rc_types.specs.declared.faults.Fault.TheVariants.{OutOfMemory};
+ghost use Rattle.std.specs.List.{position};
 ghost use Rattle.rc_model.specs.Ownership as owning;
 ghost use Rattle.rc_ownership.specs.Parts.{who_fetched, awaiting_grant};
 ghost use Rattle.rc_ownership.specs.Grants.{owner_of};
+ghost use Rattle.rc_ownership.specs.Unfinished.{HoldOthers, IsDone};
 
 use crate::grants::Grants;
 use crate::notes::Notes;
 use crate::part::{Before, FetchedPart};
 use crate::replay::{self, Replay};
-use crate::{touched, unanswered};
+use crate::{touched, unfinished};
 use indexmap::IndexMap;
-use rc_types::{Entry, Fault, Part, ServerId};
+use rc_types::{Entry, Fault, KeyRange, Part, ServerId};
 use std::alloc::{AllocError, Global};
 use std::marker::Model;
 
 /// The parts by term, in the order in which they were begun, and the entries that wait; what changed
-/// since `begin` was called, and how many parts there were then. Beside them the places of those parts
-/// whose end may not have been told, and how many of these places there were.
+/// since `begin` was called, and how many parts there were then. Beside them what was granted, the places
+/// of those parts that may be unfinished, how many of these places there were, and whether a part may have
+/// been finished since places were last let go.
 #[derive(Drop)]
 pub(crate) struct Parts {
     pub(crate) begun: IndexMap<u32, FetchedPart>,
     kept: usize,
     touched: Vec<(u32, Before)>,
-    unanswered: Vec<usize>,
-    kept_unanswered: usize,
+    grants: Grants,
+    unfinished: Vec<usize>,
+    kept_unfinished: usize,
+    may_finish: bool,
     pub(crate) replay: Replay,
 }
 
@@ -37,6 +42,7 @@ impl Model for Parts {
     ghost Value = { Fetched };
 
     ghost view = { λ s. record {
+      grants = s.grants;
       parts = parts_in s.begun.entries;
       replay = s.replay.entries;
       parts_before = parts_in (undone s.touched.items (take s.kept s.begun.entries));
@@ -44,21 +50,23 @@ impl Model for Parts {
           s.replay.before;
     } };
 
-    ghost invariant = { λ s. IsPartTable s.begun.entries s.touched.items s.kept s.unanswered.items
-        s.kept_unanswered };
+    ghost invariant = { λ s. IsPartTable s.begun.entries s.touched.items s.kept s.grants
+        s.unfinished.items s.kept_unfinished };
 }
 
 impl Parts {
     /// No parts. It takes no memory until one is begun.
     pub(crate) fn new(alloc: Global) -> Parts
-        ensures { result ≡ record { parts = []; replay = []; parts_before = []; replay_before = [] } }
+        ensures { result ≡ record { grants = []; parts = []; replay = []; parts_before = []; replay_before = [] } }
     {
         Parts {
             begun: IndexMap::new(alloc),
             kept: 0,
             touched: Vec::new(alloc),
-            unanswered: Vec::new(alloc),
-            kept_unanswered: 0,
+            grants: Grants::new(alloc),
+            unfinished: Vec::new(alloc),
+            kept_unfinished: 0,
+            may_finish: false,
             replay: Replay::new(alloc),
         }
     }
@@ -67,22 +75,43 @@ impl Parts {
     pub(crate) fn begin(&mut self)
         ensures { self.new ≡ record self.old { parts_before = self.old.parts; replay_before = self.old.replay } }
     {
-        if !self.touched.is_empty() {
-            unanswered::keep_unanswered(&self.begun, &mut self.unanswered);
-            self.touched.clear();
+        if self.may_finish {
+            unfinished::keep_unfinished(&self.begun, &self.grants, &mut self.unfinished);
+            self.may_finish = false;
         }
+        self.touched.clear();
         self.kept = self.begun.len();
-        self.kept_unanswered = self.unanswered.len();
+        self.kept_unfinished = self.unfinished.len();
         self.replay.begin();
     }
 
-    /// Goes back to where `begin` was called.
+    /// What was granted.
+    pub(crate) fn grants(&self) -> &Grants
+        ensures { result.now ≡ self.now.grants }
+    {
+        &self.grants
+    }
+
+    /// Takes a granted range, unless one was granted under its term before. `restore` doesn't undo it.
+    pub(crate) fn grant(&mut self, range: KeyRange, term: u32) -> Result<(), AllocError>
+        ensures ok { OnOk result (self.new ≡ record self.old {
+          grants = (owning.grant (record { range = range; term = term })
+              (owner_of self.old.grants)).grants;
+        }) }
+        ensures err { OnErr result (self.new ≡ self.old) }
+    {
+        self.grants.grant(range, term)?;
+        self.may_finish = true;
+        Ok(())
+    }
+
+    /// Goes back to where `begin` was called, but for the grants.
     pub(crate) fn restore(&mut self)
         ensures { self.new ≡ record self.old { parts = self.old.parts_before; replay = self.old.replay_before } }
     {
         touched::undo(&mut self.begun, &mut self.touched);
         self.begun.truncate(self.kept);
-        self.unanswered.truncate(self.kept_unanswered);
+        self.unfinished.truncate(self.kept_unfinished);
         self.replay.restore();
     }
 
@@ -108,10 +137,10 @@ impl Parts {
         ensures err { OnErr result (self.new ≡ self.old) }
     {
         let begun = FetchedPart::new(alloc, part, rows)?;
-        self.unanswered.reserve(1)?;
+        self.unfinished.reserve(1)?;
         let place = self.begun.len();
         self.begun.insert(part.term, begun)?;
-        self.unanswered.push(place).unwrap();
+        self.unfinished.push(place).unwrap();
         Ok(())
     }
 
@@ -169,13 +198,28 @@ impl Parts {
         self.replay.next(alloc)
     }
 
+    /// The places of the parts that may be unfinished, in order: those that were not finished when `begin`
+    /// was called, and those that were begun since.
+    pub(crate) fn unfinished(&self) -> &[usize]
+        ensures { HoldOthers (IsDone (who_fetched self.now)) 0 result.now self.now.parts }
+    {
+        self.unfinished.as_slice()
+    }
+
+    /// The place of the part of this term.
+    pub(crate) fn place_of(&self, term: u32) -> Option<usize>
+        ensures { result ≡ position (λ state. nat_eq state.part.term term) self.now.parts }
+    {
+        self.begun.get_index_of(&term)
+    }
+
     /// The term of the first complete part whose end wasn't told. It looks at those parts alone that
-    /// were not answered when `begin` was called, or were begun since.
+    /// may be unfinished.
     fn to_answer(&self, notes: &Notes) -> Option<u32>
         ensures { result ≡ owning.to_answer (take notes.now.durable notes.now.noted) (who_fetched self.now) }
     {
-        let places = self.unanswered.as_slice();
-        let Some(place) = unanswered::first_due(&self.begun, notes, places) else {
+        let places = self.unfinished.as_slice();
+        let Some(place) = unfinished::first_due(&self.begun, notes, places) else {
             return None;
         };
         match self.begun.get_index(place) {
@@ -204,24 +248,21 @@ impl Parts {
         };
         part.answer();
         self.touched.push((term, Before::Unanswered)).unwrap();
+        self.may_finish = true;
         Ok(Some(term))
     }
 
     /// The terms of the complete parts that aren't granted yet, in the order in which the parts were
-    /// begun.
+    /// begun. It looks at those parts alone that may be unfinished.
     pub(crate) fn awaiting_grant(
         &self,
         alloc: Global,
         notes: &Notes,
-        grants: &Grants,
     ) -> Result<Vec<u32>, AllocError>
         ensures { IfOk result (λ terms. terms.items ≡ awaiting_grant (take notes.now.durable notes.now.noted)
-            (owner_of grants.now) self.now.parts) }
+            (who_fetched self.now) self.now.parts) }
     {
-        self.begun
-            .values()
-            .filter(|part| part.is_complete(notes) && !grants.owns_term(part.term()))
-            .map(|part| part.term())
-            .collect(alloc)
+        let places = self.unfinished.as_slice();
+        unfinished::awaiting_terms(alloc, &self.begun, notes, &self.grants, places)
     }
 }

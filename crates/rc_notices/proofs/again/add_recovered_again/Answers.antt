@@ -9,5 +9,5 @@ pub returns-clause-ok : goal.returns-clause-ok
 returns-clause-ok c =
     let same =
     recovered-again (log_of c.args.log.now) c.args.ownership.now.own c.args.tasks.now (durable_of c.args.ownership.now)
-    c.requires in
+    c.requires.durable in
     grind (arith, common_steps, same)

@@ -1,4 +1,4 @@
-use Rattle.std.proofs.Common.{◌≡◌, false, refl, sym, subst}
+use Rattle.std.proofs.Common.{◌≡◌, false, [], refl, sym, subst}
 use Rattle.rc_model.specs.Master.{Master, new_master}
 use Rattle.rc_model.proofs.Tests.{true_false}
 use Rattle.rc_headroll.specs.LogData.{log_of}
@@ -7,8 +7,16 @@ use Rattle.rc_master.proofs.Quiet.{new-quiet}
 use Rattle.rc_master.proofs.state.State.new.Goals as goal
 
 pub returns-clause-noted : goal.returns-clause-noted
-returns-clause-noted c = rw (c.new-2.ensures.log, c.new-3.ensures)
-    (record { entries = refl; durable_are = refl; opened = λ writing. true_false (sym writing); replicas = c.requires.some })
+returns-clause-noted c =
+    let none : c.new-4.result.items ≡ [] = cc in
+    rw (c.new-2.ensures.log, c.new-3.ensures, none)
+    (record {
+      entries = refl;
+      durable_are = refl;
+      opened = λ writing. true_false (sym writing);
+      replicas = c.requires.some;
+      tasks_are = refl;
+    })
 
 pub returns-clause-quiet : goal.returns-clause-quiet
 returns-clause-quiet c =

@@ -1,14 +1,19 @@
-use Rattle.std.proofs.Common.{◌++◌, List, sym, ap, ◌∙◌}
+use Rattle.std.proofs.Common.{◌++◌, List, sym, ap, ◌∙◌, subst}
 use Rattle.rc_model.specs.Model.{Message, Task, reminds}
 use Rattle.rc_headroll.specs.LogData.{log_of, before_of}
 use Rattle.rc_notices.specs.Sender.{sender}
+use Rattle.rc_notices.specs.Tasks.{AreTasksOf}
 use Rattle.rc_notices.proofs.Senders.{reminds-sender}
 use Rattle.rc_master.specs.View.{state_view}
 use Rattle.rc_master.proofs.Notes.{durable-same}
 use Rattle.rc_master.proofs.state.State.remind.Goals as goal
 
-pub add_reminders-requires : goal.add_reminders-requires
-add_reminders-requires c = durable-same _ _ _ c.requires.noted
+pub add_reminders-requires-clause-durable : goal.add_reminders-requires-clause-durable
+add_reminders-requires-clause-durable c = durable-same _ _ _ c.requires.noted
+
+pub add_reminders-requires-clause-tasks : goal.add_reminders-requires-clause-tasks
+add_reminders-requires-clause-tasks c =
+    subst (AreTasksOf c.args.self.now.ownership.own.parts) (sym c.as_slice.ensures.value) c.requires.noted.tasks_are
 
 pub returns-clause-sends : goal.returns-clause-sends
 returns-clause-sends c =

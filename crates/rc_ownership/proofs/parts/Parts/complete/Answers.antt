@@ -5,6 +5,7 @@ use Rattle.rc_model.specs.Ownership.{is_to_answer, answered_in}
 use Rattle.rc_ownership.specs.declared.part.Before.TheVariants.{Unanswered}
 use Rattle.rc_ownership.specs.Parts.{Fetched, parts_in}
 use Rattle.rc_ownership.proofs.PartTables.{answered_in-none, not_told, told, told-first, unmapped}
+use Rattle.rc_ownership.proofs.Places.{finished-answered}
 use Rattle.rc_ownership.proofs.Undone.{same_fetched, IsChange, answered-back, table-change, undone-noted}
 use Rattle.rc_ownership.proofs.parts.Parts.complete.Goals as goal
 
@@ -34,18 +35,18 @@ invariant_of-self-2 c =
     let found = sym c.in-Some-get_mut.ensures.value in
     let pushed : c.push.new.self.items ≡ c.self.inside.touched.items ++ (c.in-Some.term, Unanswered) ∷ [] =
     grind (arith, common_steps) in
-    let it : IsChange entries changed c.self.inside.touched.items c.push.new.self.items c.in-Some.term Unanswered part
+    let it : IsChange c.self.inside.grants entries changed c.self.inside.touched.items c.push.new.self.items c.in-Some.term Unanswered part
     c.answer.new.self = record {
       found = found;
       written = (c.get_mut.follows.holds c.answer.new.self).0;
       noted = pushed;
       back = answered-back part c.answer.new.self c.answer.ensures
           (told-first durable entries c.in-Some.term part c.self.invariant.under_terms asked found);
-      told = λ before. ap (λ state. state.answered) c.answer.ensures;
+      finished = λ is. finished-answered c.self.inside.grants part c.answer.new.self c.answer.ensures is;
       named = ap (λ state. state.part.term) c.answer.ensures;
     } in
     table-change entries changed c.self.inside.touched.items c.push.new.self.items c.in-Some.term Unanswered part
-    c.answer.new.self c.self.inside.kept c.self.inside.unanswered.items c.self.inside.kept_unanswered c.self.invariant it
+    c.answer.new.self c.self.inside.kept c.self.inside.grants c.self.inside.unfinished.items c.self.inside.kept_unfinished c.self.invariant it
 
 pub returns-clause-answered : goal.returns-clause-answered
 returns-clause-answered c =
@@ -58,22 +59,23 @@ returns-clause-answered c =
     let found = sym c.in-Some-get_mut.ensures.value in
     let pushed : c.push.new.self.items ≡ c.self.inside.touched.items ++ (c.in-Some.term, Unanswered) ∷ [] =
     grind (arith, common_steps) in
-    let it : IsChange entries changed c.self.inside.touched.items c.push.new.self.items c.in-Some.term Unanswered part
+    let it : IsChange c.self.inside.grants entries changed c.self.inside.touched.items c.push.new.self.items c.in-Some.term Unanswered part
     c.answer.new.self = record {
       found = found;
       written = (c.get_mut.follows.holds c.answer.new.self).0;
       noted = pushed;
       back = answered-back part c.answer.new.self c.answer.ensures
           (told-first durable entries c.in-Some.term part c.self.invariant.under_terms asked found);
-      told = λ before. ap (λ state. state.answered) c.answer.ensures;
+      finished = λ is. finished-answered c.self.inside.grants part c.answer.new.self c.answer.ensures is;
       named = ap (λ state. state.part.term) c.answer.ensures;
     } in
     same_fetched _ _
+    (ap (λ fetched. fetched.grants) c.self.view_is)
     (ap parts_in (it.written ∙ ap (set_value (nat_eq c.in-Some.term) entries) c.answer.ensures)
     ∙ told durable entries c.in-Some.term part c.self.invariant.under_terms asked found
     ∙ ap (λ fetched. answered_in durable fetched.parts) c.self.view_is)
     (ap (λ fetched. fetched.replay) c.self.view_is)
     (ap parts_in (undone-noted entries changed c.self.inside.touched.items c.push.new.self.items c.in-Some.term Unanswered part
-    c.answer.new.self c.self.inside.kept it)
+    c.answer.new.self c.self.inside.kept c.self.inside.grants it)
     ∙ ap (λ fetched. fetched.parts_before) c.self.view_is)
     (ap (λ fetched. fetched.replay_before) c.self.view_is)

@@ -4,7 +4,8 @@ use Rattle.std.proofs.lemmas.Map.Steps.{set_value_same}
 use Rattle.std.specs.Map.{set_value}
 use Rattle.rc_model.specs.Ownership.{awaits_data, part_with_row, data_in, replay_in}
 use Rattle.rc_ownership.specs.Parts.{who_fetched, parts_in, undone, IsPartTable}
-use Rattle.rc_ownership.proofs.PartTables.{none-awaited, some-awaited, replay_in-set, data-changed, joined-named, joined-told}
+use Rattle.rc_ownership.proofs.PartTables.{none-awaited, some-awaited, replay_in-set, data-changed, joined-named}
+use Rattle.rc_ownership.proofs.Places.{finished-awaits}
 use Rattle.rc_ownership.proofs.Undone.{same_fetched, IsChange, table-change, undone-noted, on_err}
 use Rattle.rc_ownership.proofs.parts.Parts.put_data.Goals as goal
 
@@ -27,9 +28,9 @@ invariant_of-self-in_err-before c =
     let same : changed ≡ entries = (c.get_mut.follows.holds c.take_row.new.part).0
     ∙ ap (set_value (nat_eq c.args.term) entries) c.in_err-before.ensures.same_part
     ∙ set_value_same (nat_eq c.args.term) entries c.in-Some.part.now (sym c.in-Some.ensures.value) in
-    subst (λ es. IsPartTable es c.reserve.new.self.items c.self.inside.kept c.self.inside.unanswered.items c.self.inside.kept_unanswered)
+    subst (λ es. IsPartTable es c.reserve.new.self.items c.self.inside.kept c.self.inside.grants c.self.inside.unfinished.items c.self.inside.kept_unfinished)
     (sym same)
-    (subst (λ touched. IsPartTable entries touched c.self.inside.kept c.self.inside.unanswered.items c.self.inside.kept_unanswered)
+    (subst (λ touched. IsPartTable entries touched c.self.inside.kept c.self.inside.grants c.self.inside.unfinished.items c.self.inside.kept_unfinished)
     (sym c.reserve.ensures.items) c.self.invariant)
 
 pub returns-in_err-before-clause-err : goal.returns-in_err-before-clause-err
@@ -41,6 +42,7 @@ returns-in_err-before-clause-err c =
     ∙ set_value_same (nat_eq c.args.term) entries c.in-Some.part.now (sym c.in-Some.ensures.value) in
     on_err _ _
     (same_fetched _ _
+    (ap (λ fetched. fetched.grants) c.self.view_is)
     (ap parts_in same ∙ ap (λ fetched. fetched.parts) c.self.view_is)
     (ap (λ waiting. waiting.entries) c.in_err-before.ensures.same_replay ∙ ap (λ fetched. fetched.replay) c.self.view_is)
     (ap (λ es. parts_in (undone c.reserve.new.self.items (take c.self.inside.kept es))) same
@@ -54,19 +56,22 @@ invariant_of-self-2 c =
     let changed = (c.get_mut.follows.lender c.take_row.new.part).entries in
     let part = c.in-Some.part.now in
     let came = part_with_row c.args.seg c.args.from c.args.entries.now part in
+    let found = sym c.in-Some.ensures.value in
+    let some = some-awaited entries c.args.term c.args.seg c.args.from part c.self.invariant.under_terms found
+    (ap (λ fetched. awaits_data c.args.term c.args.seg c.args.from (who_fetched fetched)) c.self.view_is ∙ c.requires) in
     let pushed : c.push.new.self.items ≡ c.self.inside.touched.items ++ (c.args.term, c.in_ok-before.before) ∷ [] =
     grind (arith, common_steps) in
-    let it : IsChange entries changed c.self.inside.touched.items c.push.new.self.items c.args.term
+    let it : IsChange c.self.inside.grants entries changed c.self.inside.touched.items c.push.new.self.items c.args.term
     c.in_ok-before.before part c.take_row.new.part = record {
-      found = sym c.in-Some.ensures.value;
+      found = found;
       written = (c.get_mut.follows.holds c.take_row.new.part).0;
       noted = pushed;
       back = c.in_ok-before.ensures.before;
-      told = λ answered. ap (λ state. state.answered) c.in_ok-before.ensures.part ∙ joined-told came ∙ answered;
+      finished = λ is. absurd (finished-awaits c.self.inside.grants part c.args.seg c.args.from is some);
       named = ap (λ state. state.part.term) c.in_ok-before.ensures.part ∙ joined-named came;
     } in
     table-change entries changed c.self.inside.touched.items c.push.new.self.items c.args.term c.in_ok-before.before part
-    c.take_row.new.part c.self.inside.kept c.self.inside.unanswered.items c.self.inside.kept_unanswered c.self.invariant it
+    c.take_row.new.part c.self.inside.kept c.self.inside.grants c.self.inside.unfinished.items c.self.inside.kept_unfinished c.self.invariant it
 
 pub returns-clause-ok : goal.returns-clause-ok
 returns-clause-ok c =
@@ -79,16 +84,17 @@ returns-clause-ok c =
     (ap (λ fetched. awaits_data c.args.term c.args.seg c.args.from (who_fetched fetched)) c.self.view_is ∙ c.requires) in
     let pushed : c.push.new.self.items ≡ c.self.inside.touched.items ++ (c.args.term, c.in_ok-before.before) ∷ [] =
     grind (arith, common_steps) in
-    let it : IsChange entries changed c.self.inside.touched.items c.push.new.self.items c.args.term
+    let it : IsChange c.self.inside.grants entries changed c.self.inside.touched.items c.push.new.self.items c.args.term
     c.in_ok-before.before part c.take_row.new.part = record {
       found = found;
       written = (c.get_mut.follows.holds c.take_row.new.part).0;
       noted = pushed;
       back = c.in_ok-before.ensures.before;
-      told = λ answered. ap (λ state. state.answered) c.in_ok-before.ensures.part ∙ joined-told came ∙ answered;
+      finished = λ is. absurd (finished-awaits c.self.inside.grants part c.args.seg c.args.from is some);
       named = ap (λ state. state.part.term) c.in_ok-before.ensures.part ∙ joined-named came;
     } in
     same_fetched _ _
+    (ap (λ fetched. fetched.grants) c.self.view_is)
     (data-changed entries changed c.args.term c.args.seg c.args.from c.args.entries.now part c.take_row.new.part
     c.self.invariant.under_terms found some c.in_ok-before.ensures.part it.written
     ∙ ap (λ fetched. data_in c.args.term c.args.seg c.args.from c.args.entries.now fetched.parts) c.self.view_is)
@@ -97,6 +103,6 @@ returns-clause-ok c =
     part c.self.invariant.under_terms found some)
     ∙ ap (λ fetched. fetched.replay ++ replay_in c.args.term c.args.seg c.args.from c.args.entries.now fetched.parts) c.self.view_is)
     (ap parts_in (undone-noted entries changed c.self.inside.touched.items c.push.new.self.items c.args.term c.in_ok-before.before part
-    c.take_row.new.part c.self.inside.kept it)
+    c.take_row.new.part c.self.inside.kept c.self.inside.grants it)
     ∙ ap (λ fetched. fetched.parts_before) c.self.view_is)
     (ap (λ waiting. waiting.before) c.in_ok-before.ensures.replay ∙ ap (λ fetched. fetched.replay_before) c.self.view_is)

@@ -7,8 +7,8 @@ use Rattle.rc_ownership.proofs.parts.Parts.restore.Goals as goal
 pub invariant_of-self : goal.invariant_of-self
 invariant_of-self c =
     table-restored c.self.inside.begun.entries c.self.inside.touched.items c.truncate.new.self.entries
-    c.undo.new.touched.items c.self.inside.kept c.self.inside.unanswered.items c.truncate-2.new.self.items
-    c.self.inside.kept_unanswered c.self.invariant
+    c.undo.new.touched.items c.self.inside.kept c.self.inside.grants c.self.inside.unfinished.items c.truncate-2.new.self.items
+    c.self.inside.kept_unfinished c.self.invariant
     (c.truncate.ensures.entries ∙ ap (take c.self.inside.kept) c.undo.ensures.entries) c.undo.ensures.none
     (grind (arith, common_steps))
 
@@ -20,6 +20,7 @@ returns c =
     let now : c.truncate.new.self.entries ≡ take kept (undone touched entries) =
     c.truncate.ensures.entries ∙ ap (take kept) c.undo.ensures.entries in
     same_fetched _ _
+    (ap (λ fetched. fetched.grants) c.self.view_is)
     (ap parts_in (now ∙ undone-take touched entries kept) ∙ ap (λ fetched. fetched.parts_before) c.self.view_is)
     (ap (λ waiting. waiting.entries) c.restore.ensures ∙ ap (λ fetched. fetched.replay_before) c.self.view_is)
     (undone-restored entries touched c.truncate.new.self.entries c.undo.new.touched.items kept now c.undo.ensures.none ∙

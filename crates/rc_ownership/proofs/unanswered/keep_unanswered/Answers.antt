@@ -1,8 +1,0 @@
-use Rattle.std.proofs.Common.{rules}
-use Rattle.std.proofs.lemmas.Fn.{filter_same}
-use Rattle.rc_ownership.specs.Unanswered.{is_unanswered}
-use Rattle.rc_ownership.proofs.unanswered.keep_unanswered.Goals as goal
-
-pub returns : goal.returns
-returns c =
-    filter_same _ (is_unanswered c.args.begun.now.entries) _ (λ place b f called. search rules) _ _ c.retain.ensures.filtered

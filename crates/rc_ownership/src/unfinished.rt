@@ -1,0 +1,103 @@
+//! The places of the parts that may be unfinished: what a step and the timer look at in the place of all
+//! parts that were ever begun.
+
+ghost use Rattle.std.specs.Prelude.{◌≡◌, filter, find, take, IfOk};
+ghost use Rattle.std.specs.List.{filter_map};
+ghost use Rattle.rc_ownership.specs.Unfinished.{is_finished, is_unfinished, is_due, is_awaiting, awaiting_at};
+
+use crate::grants::Grants;
+use crate::notes::Notes;
+use crate::part::FetchedPart;
+use indexmap::IndexMap;
+use std::alloc::{AllocError, Global};
+
+/// Whether the part waits for no row, its end was told, and its term is granted.
+fn is_finished(part: &FetchedPart, grants: &Grants) -> bool
+    ensures { result ≡ is_finished grants.now part.now }
+{
+    part.awaits_none() && part.is_answered() && grants.owns_term(part.term())
+}
+
+/// Whether the part at a place isn't finished.
+fn is_unfinished(begun: &IndexMap<u32, FetchedPart>, grants: &Grants, place: usize) -> bool
+    ensures { result ≡ is_unfinished grants.now begun.now.entries place }
+{
+    match begun.get_index(place) {
+        Some((_, part)) => !is_finished(part, grants),
+        None => false,
+    }
+}
+
+/// Keeps the places of the parts that aren't finished.
+pub(crate) fn keep_unfinished(
+    begun: &IndexMap<u32, FetchedPart>,
+    grants: &Grants,
+    places: &mut Vec<usize>,
+)
+    ensures { places.new.items ≡ filter (is_unfinished grants.now begun.now.entries) places.old.items }
+{
+    places.retain(|place| is_unfinished(begun, grants, *place));
+}
+
+/// Whether the part at a place is complete and its end wasn't told.
+fn is_due(begun: &IndexMap<u32, FetchedPart>, notes: &Notes, place: usize) -> bool
+    ensures { result ≡ is_due (take notes.now.durable notes.now.noted) begun.now.entries place }
+{
+    match begun.get_index(place) {
+        Some((_, part)) => part.is_to_answer(notes),
+        None => false,
+    }
+}
+
+/// The first of these places whose part is complete and whose end wasn't told.
+pub(crate) fn first_due(
+    begun: &IndexMap<u32, FetchedPart>,
+    notes: &Notes,
+    places: &[usize],
+) -> Option<usize>
+    ensures { result ≡ find (is_due (take notes.now.durable notes.now.noted) begun.now.entries) places.now }
+{
+    places
+        .iter()
+        .copied()
+        .find(|place| is_due(begun, notes, *place))
+}
+
+/// Whether the part is complete and its term isn't granted yet.
+fn is_awaiting(part: &FetchedPart, notes: &Notes, grants: &Grants) -> bool
+    ensures { result ≡ is_awaiting (take notes.now.durable notes.now.noted) grants.now part.now }
+{
+    part.is_complete(notes) && !grants.owns_term(part.term())
+}
+
+/// The term of the part at a place, where the part is complete and its term isn't granted yet.
+fn awaiting_at(
+    begun: &IndexMap<u32, FetchedPart>,
+    notes: &Notes,
+    grants: &Grants,
+    place: usize,
+) -> Option<u32>
+    ensures { result ≡ awaiting_at (take notes.now.durable notes.now.noted) grants.now begun.now.entries place }
+{
+    match begun.get_index(place) {
+        Some((_, part)) if is_awaiting(part, notes, grants) => Some(part.term()),
+        _ => None,
+    }
+}
+
+/// The terms of those parts at these places that are complete and not granted yet.
+pub(crate) fn awaiting_terms(
+    alloc: Global,
+    begun: &IndexMap<u32, FetchedPart>,
+    notes: &Notes,
+    grants: &Grants,
+    places: &[usize],
+) -> Result<Vec<u32>, AllocError>
+    ensures { IfOk result (λ terms. terms.items ≡ filter_map
+        (awaiting_at (take notes.now.durable notes.now.noted) grants.now begun.now.entries) places.now) }
+{
+    places
+        .iter()
+        .filter_map(|place| awaiting_at(begun, notes, grants, *place))
+        .collect(alloc)
+}
