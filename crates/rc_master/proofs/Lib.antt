@@ -1,6 +1,5 @@
 pub mod Notes
 pub mod Settling
-pub mod Outdated
 pub mod Versions
 pub mod Answering
 pub mod Quiet

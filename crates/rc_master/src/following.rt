@@ -12,7 +12,8 @@ ghost use Rattle.rc_master.specs.Quiet.{IsQuiet};
 ghost use Rattle.rc_master.specs.View.{state_view, before_step, IsNoted};
 
 use crate::state::State;
-use rc_notices::{add_closes, add_frees, add_write_oks, commit, ready};
+use rc_lognotes::acknowledge;
+use rc_notices::{add_closes, add_frees, commit, ready};
 use rc_types::{Fault, Message};
 
 /// A rule that a master follows up with.
@@ -166,13 +167,10 @@ impl State {
         ensures before { before_step self.new ≡ before_step self.old }
         ensures no_memory { IfErr result (λ fault. fault ≡ OutOfMemory) }
     {
-        let count = self.log.durable_now();
-        if self.log.durable() >= count {
+        if self.log.durable() >= self.log.durable_now() {
             return Ok(false);
         }
-        add_write_oks(self.alloc, &self.log, sent)?;
-        self.ownership.set_durable(count);
-        self.log.keep_durable();
+        acknowledge(self.alloc, &mut self.log, &mut self.ownership, sent)?;
         Ok(true)
     }
 

@@ -8,7 +8,7 @@ ghost use Rattle.rc_master.specs.Rules.{did, or_still, full_replays};
 ghost use Rattle.rc_master.specs.View.{state_view, before_step, IsNoted};
 
 use crate::state::State;
-use rc_notices::{add_head_places, recovered};
+use rc_lognotes::tell_part;
 use rc_types::{Fault, Message};
 
 impl State {
@@ -51,15 +51,8 @@ impl State {
         ensures before { before_step self.new ≡ before_step self.old }
         ensures no_memory { IfErr result (λ fault. fault ≡ OutOfMemory) }
     {
-        let dead = self.dead_segments()?;
-        match self
-            .log
-            .begin_roll(self.alloc, &self.known, dead.as_slice())
-        {
-            Ok(()) => {
-                add_head_places(self.alloc, &self.log, sent)?;
-                Ok(true)
-            }
+        match self.roll(sent) {
+            Ok(()) => Ok(true),
             Err(Fault::OutOfMemory) => Err(Fault::OutOfMemory),
             Err(_) => Ok(false),
         }
@@ -77,10 +70,7 @@ impl State {
         ensures before { before_step self.new ≡ before_step self.old }
         ensures no_memory { IfErr result (λ fault. fault ≡ OutOfMemory) }
     {
-        let Some(term) = self.ownership.complete()? else {
-            return Ok(false);
-        };
-        sent.push(recovered(self.log.own(), self.tasks.as_slice(), term))?;
-        Ok(true)
+        let own = self.log.own();
+        tell_part(own, &mut self.ownership, self.tasks.as_slice(), sent)
     }
 }
