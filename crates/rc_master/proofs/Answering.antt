@@ -1,6 +1,8 @@
 -- Where no part is to be answered, none is.
-use Rattle.std.proofs.Common.{◌≡◌, Bool, true, false, cond, List, [], ◌∷◌, find, Option, Some, None, option_map, refl, ap}
-use Rattle.rc_model.specs.Model.{Entry, Ownership, PartState, is_to_answer, to_answer, answered_in, after_answer}
+use Rattle.std.proofs.Common.{◌≡◌, ℕ, Bool, true, false, cond, List, [], ◌∷◌, find, Option, Some, None, option_map, refl, sym, ap}
+use Rattle.rc_model.specs.Model.{Entry, Ownership, PartState, is_to_answer, to_answer, answered_in, after_answer, Master}
+use Rattle.rc_model.specs.Model.{durable_entries, answers_part, follows_replay}
+use Rattle.rc_master.specs.Rules.{or_still}
 
 answered-none : (durable : List Entry) (states : List PartState) → find (is_to_answer durable) states ≡ None →
     answered_in durable states ≡ states
@@ -17,7 +19,20 @@ mapped-none : (found : Option PartState) → None ≡ option_map (λ state. stat
 mapped-none None e = refl
 mapped-none (Some state) e = cc
 
-pub answer-none : (durable : List Entry) (own : Ownership) → None ≡ to_answer durable own → after_answer durable own ≡ own
+answer-none : (durable : List Entry) (own : Ownership) → None ≡ to_answer durable own → after_answer durable own ≡ own
 answer-none durable own e =
     ap (λ (parts : List PartState). record own { parts = parts })
     (answered-none durable own.parts (mapped-none (find (is_to_answer durable) own.parts) e))
+
+-- whether or not a part is told of, the ownership is the one after the answer
+pub answered-state : (master : Master) → (or_still master (follows_replay master)).0 ≡
+    record master { ownership = after_answer (durable_entries master) master.ownership }
+answered-state master = by (to_answer (durable_entries master) master.ownership) refl
+  where
+    by : (term : Option ℕ) → to_answer (durable_entries master) master.ownership ≡ term →
+        (or_still master (answers_part master term)).0 ≡
+        record master { ownership = after_answer (durable_entries master) master.ownership }
+    by None is =
+        ap (λ (own : Ownership). record master { ownership = own })
+        (sym (answer-none (durable_entries master) master.ownership (sym is)))
+    by (Some term) is = refl

@@ -1,7 +1,6 @@
 pub mod Notes
 pub mod Settling
 pub mod TasksOfParts
-pub mod Outdated
 pub mod Versions
 pub mod Answering
 pub mod Quiet

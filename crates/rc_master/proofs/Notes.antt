@@ -1,23 +1,20 @@
 -- The notes of a log stay those of the log, whatever is done to it.
-use Rattle.std.proofs.Common.{◌≡◌, ℕ, zero, suc, ◌+◌, ◌-◌, ◌<◌, ◌≤◌, Bool, true, false, cond, not, ◌&&◌, nat_eq, nat_lt, List, [], ◌∷◌}
+use Rattle.std.proofs.Common.{◌≡◌, ℕ, suc, ◌+◌, ◌-◌, ◌<◌, ◌≤◌, Bool, true, false, cond, not, ◌&&◌, nat_eq, nat_lt, List, [], ◌∷◌}
 use Rattle.std.proofs.Common.{◌++◌, length, take, map, Option, Some, None, Result, Ok, Err, is_err, refl, sym, ap, ◌∙◌, subst, arith}
-use Rattle.std.proofs.lemmas.List.{append-nil, map-append, length-map, get_or_past}
-use Rattle.std.proofs.lemmas.Bool.Decides.{nat_tests}
+use Rattle.std.proofs.lemmas.List.{append-nil, map-append, length-map}
 use Rattle.std.proofs.lemmas.Bool.{and_parts, ltb-true, ne_eqb}
 use Rattle.std.proofs.Math.Numerals.{add-one}
 use Rattle.rc_model.specs.Model.{ServerId, Entry, Fault, LogFull, Rolling, Writing, LAST_SEGMENT, put, ServerList, Config, choose, noted}
-use Rattle.rc_model.specs.Model.{committed_at, lose, refill, Segment, no_segment, new_segment, is_ready, with_closes_sent, Log, LogPlace}
+use Rattle.rc_model.specs.Model.{committed_at, lose, refill, Segment, new_segment, is_ready, with_closes_sent, Log, LogPlace}
 use Rattle.rc_model.specs.Model.{head_of, old_head_of, has_old_head, has_segment, with_segment, places_in, places_to, places_of}
 use Rattle.rc_model.specs.Model.{entries_of, numbers_to, durable_now, is_closing, is_writing, is_full, append_fault, opens_head, appends}
 use Rattle.rc_model.specs.Model.{next_digest, rolled, begin_roll, with_config, stored, commit_noted, opens_change, refills, loses, shuts}
-use Rattle.rc_model.specs.Model.{with_shut, may_start, may_write, left_out, starts, closes_old, writes_on, close_marked, is_dead, Master}
-use Rattle.rc_model.specs.Model.{durable_entries, is_dead_segment, PartState, Task}
+use Rattle.rc_model.specs.Model.{with_shut, may_start, may_write, left_out, starts, closes_old, writes_on, close_marked}
+use Rattle.rc_model.specs.Model.{PartState, Task}
 use Rattle.rc_model.proofs.Tests.{either, true_false}
 use Rattle.rc_model.proofs.Tables.{put_each, put-same, put-other}
 use Rattle.rc_model.proofs.LogParts.{places_to-agrees, total, total-places, durable-within, marked, with_freed-marked, marked-alone}
 use Rattle.rc_model.proofs.Numbering.{places-push}
-use Rattle.rc_segment.specs.Lists.{segment_at}
-use Rattle.rc_headroll.specs.LogData.{LogData, log_of}
 use Rattle.rc_headroll.proofs.LogSteps.{may_start-parts}
 use Rattle.rc_master.specs.Notes.{AreNotes}
 
@@ -213,23 +210,6 @@ possible-writes log e = by (is_writing log.phase) refl
     by false is = let rolling : append_fault log ≡ Some Rolling =
         ap (λ b. cond (not b) (Some Rolling)
         (cond (not (is_full log)) None (cond (nat_lt log.head LAST_SEGMENT) (Some Rolling) (Some LogFull)))) is in cc
-
--- a segment that the log doesn't have isn't shut
-pub unknown-open : (kept : LogData) (seg : ℕ) → has_segment (log_of kept) seg ≡ false → (segment_at kept.segments seg).shut ≡ false
-unfolding segment_at
-unknown-open kept zero e = refl
-unknown-open kept (suc place) e =
-    let past : length kept.segments ≤ place = grind (arith, nat_tests) in
-    ap (λ (s : Segment). s.shut) (get_or_past kept.segments place (no_segment (suc place)) past)
-
--- what isn't shut is not dead
-pub open-alive : (master : Master) (seg : ℕ) → (master.log.segments seg).shut ≡ false → false ≡ is_dead_segment master seg
-open-alive master seg e =
-    ap (λ b. b && is_dead (durable_entries master) (map (λ one. one.0) (master.log.segments seg).entries)) (sym e)
-
-pub none-unknown : {X : Type 0} (b : Bool) (x : X) → None ≡ cond b (Some x) None → b ≡ false
-none-unknown true x e = cc
-none-unknown false x e = refl
 
 -- the durable entries, by the notes
 pub durable-same : {parts : List PartState} {tasks : List Task} (log : Log) (notes : List Entry) (durable : ℕ) →

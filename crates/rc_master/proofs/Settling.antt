@@ -1,12 +1,15 @@
 -- The rules, repeated until none applies, are the definitions' repetition.
-use Rattle.std.proofs.Common.{◌≡◌, ◌≢◌, ℕ, zero, suc, ◌-◌, ◌<◌, ◌≤◌, Bool, true, false, List, [], ◌++◌, Option, Some}
-use Rattle.std.proofs.Common.{None, Result, IfOk, OnOk, refl, sym, ap, ◌∙◌, subst, arith, append_assoc}
-use Rattle.std.proofs.lemmas.List.{append-nil}
-use Rattle.rc_model.specs.Model.{Message, Fault, Log, with_segment, old_head_of, shuts, Master, or_rule, follow_up, marks_shut, further}
+use Rattle.std.proofs.Common.{◌≡◌, ◌≢◌, ℕ, zero, suc, ◌+◌, ◌-◌, ◌<◌, ◌≤◌, true, false, List, [], ◌++◌, drop, get_or}
+use Rattle.std.proofs.Common.{Option, Some, None, refl, sym, ap, ◌∙◌, subst, arith, append_assoc}
+use Rattle.std.proofs.lemmas.List.{append-nil, drop_more}
+use Rattle.rc_model.specs.Model.{Message, Log, with_segment, old_head_of, shuts, Master, or_rule, follow_up, marks_shut, further}
 use Rattle.rc_model.specs.Model.{followed, measure}
 use Rattle.rc_model.proofs.Tests.{either, true_false}
 use Rattle.rc_model.proofs.Measures.{AllLower, lowers, measure-marks_shut}
-use Rattle.rc_master.specs.Rules.{did, or_still, settled}
+use Rattle.rc_master.specs.declared.following.TheConstants.{RULES}
+use Rattle.rc_master.specs.declared.following.Rule.{Rule}
+use Rattle.rc_master.specs.declared.following.Rule.TheVariants as rule
+use Rattle.rc_master.specs.Rules.{did, or_still, does, first_of, settled}
 
 -- Many times
 
@@ -148,30 +151,62 @@ round-end start now next before sent more way applied state sends =
       sends ∙ (ap (λ (d : Option (Master × List Message)). sent ++ (or_still (marks_shut now) d).1) none ∙ (append-nil sent ∙ sym ended.1)),
     )
 
--- A rule that didn't apply, and then the others
+-- Rules in their order, of which the first that applies is made
 
-pub or-else-applied : (m next : Master) (one : Option (Master × List Message)) (rest : Master →
-    Option (Master × List Message)) (r : Result Bool Fault) →
-    false ≡ did one → next ≡ (or_still m one).0 → IfOk r (λ applied. applied ≡ did (rest next)) →
-    IfOk r (λ applied. applied ≡ did (or_rule one (rest m)))
-or-else-applied m next None rest r isn't state is = subst (λ (n : Master). IfOk r (λ applied. applied ≡ did (rest n))) state is
-or-else-applied m next (Some done) rest r isn't state is = true_false (sym isn't)
+abbrev pub rule_at : ℕ → Rule
+rule_at i = get_or RULES i rule.Start
 
-pub or-else-state : (m next after : Master) (one : Option (Master × List Message)) (rest : Master →
-    Option (Master × List Message)) (r : Result Bool Fault) →
-    false ≡ did one → next ≡ (or_still m one).0 → OnOk r (after ≡ (or_still next (rest next)).0) →
-    OnOk r (after ≡ (or_still m (or_rule one (rest m))).0)
-or-else-state m next after None rest r isn't state is = subst (λ (n : Master). OnOk r (after ≡ (or_still n (rest n)).0)) state is
-or-else-state m next after (Some done) rest r isn't state is = true_false (sym isn't)
+from-here : (i : ℕ) (master : Master) → i < 8 → first_of (drop i RULES) master ≡ follow_up master →
+    or_rule (does (rule_at i) master) (first_of (drop (i + 1) RULES) master) ≡ follow_up master
+from-here i master inside left = sym (ap (λ rules. first_of rules master) (drop_more RULES i rule.Start inside)) ∙ left
 
-pub or-else-sends : (m next : Master) (sent mid new : List Message) (one : Option (Master × List Message))
-    (rest : Master → Option (Master × List Message)) (r : Result Bool Fault) →
-    false ≡ did one → next ≡ (or_still m one).0 → mid ≡ sent ++ (or_still m one).1 →
-    OnOk r (new ≡ mid ++ (or_still next (rest next)).1) → OnOk r (new ≡ sent ++ (or_still m (or_rule one (rest m))).1)
-or-else-sends m next sent mid new None rest r isn't state sends is =
-    subst (λ (s : List Message). OnOk r (new ≡ s ++ (or_still m (rest m)).1)) (sends ∙ append-nil sent)
-    (subst (λ (n : Master). OnOk r (new ≡ mid ++ (or_still n (rest n)).1)) state is)
-or-else-sends m next sent mid new (Some done) rest r isn't state sends is = true_false (sym isn't)
+-- what was done is what the first rule that applies does
+pub record IsFirst (start next : Master) (before sent : List Message) : Type 0 where
+  pub applied : true ≡ did (follow_up start)
+  pub state : next ≡ (or_still start (follow_up start)).0
+  pub sends : sent ≡ before ++ (or_still start (follow_up start)).1
+
+applies : (start next : Master) (before sent : List Message) (one rest : Option (Master × List Message)) →
+    or_rule one rest ≡ follow_up start → true ≡ did one → next ≡ (or_still start one).0 → sent ≡ before ++ (or_still start one).1 →
+    IsFirst start next before sent
+applies start next before sent None rest left is state sends = true_false is
+applies start next before sent (Some done) rest left is state sends = record {
+  applied = ap did left;
+  state = state ∙ ap (λ (one : Option (Master × List Message)). (or_still start one).0) left;
+  sends = sends ∙ ap (λ (one : Option (Master × List Message)). before ++ (or_still start one).1) left;
+}
+
+pub rule-applies : (i : ℕ) (start now next : Master) (before sent more : List Message) → i < 8 → now ≡ start → sent ≡ before →
+    first_of (drop i RULES) start ≡ follow_up start → true ≡ did (does (rule_at i) now) →
+    next ≡ (or_still now (does (rule_at i) now)).0 → more ≡ sent ++ (or_still now (does (rule_at i) now)).1 →
+    IsFirst start next before more
+rule-applies i start now next before sent more inside same unsent left is state sends =
+    applies start next before more (does (rule_at i) start) (first_of (drop (i + 1) RULES) start) (from-here i start inside left)
+    (is ∙ ap (λ m. did (does (rule_at i) m)) same) (state ∙ ap (λ m. (or_still m (does (rule_at i) m)).0) same)
+    (sends ∙ (ap (λ messages. messages ++ (or_still now (does (rule_at i) now)).1) unsent
+    ∙ ap (λ m. before ++ (or_still m (does (rule_at i) m)).1) same))
+
+-- nothing was done, and the rules that are left are all
+pub record IsStill (start next : Master) (before sent : List Message) (rest : Option (Master × List Message)) : Type 0 where
+  pub same : next ≡ start
+  pub sends : sent ≡ before
+  pub left : rest ≡ follow_up start
+
+fails : (start next : Master) (before sent : List Message) (one rest : Option (Master × List Message)) →
+    or_rule one rest ≡ follow_up start → false ≡ did one → next ≡ (or_still start one).0 → sent ≡ before ++ (or_still start one).1 →
+    IsStill start next before sent rest
+fails start next before sent None rest left isn't state sends = record { same = state; sends = sends ∙ append-nil before; left = left }
+fails start next before sent (Some done) rest left isn't state sends = true_false (sym isn't)
+
+pub rule-fails : (i : ℕ) (start now next : Master) (before sent more : List Message) → i < 8 → now ≡ start → sent ≡ before →
+    first_of (drop i RULES) start ≡ follow_up start → false ≡ did (does (rule_at i) now) →
+    next ≡ (or_still now (does (rule_at i) now)).0 → more ≡ sent ++ (or_still now (does (rule_at i) now)).1 →
+    IsStill start next before more (first_of (drop (i + 1) RULES) start)
+rule-fails i start now next before sent more inside same unsent left isn't state sends =
+    fails start next before more (does (rule_at i) start) (first_of (drop (i + 1) RULES) start) (from-here i start inside left)
+    (isn't ∙ ap (λ m. did (does (rule_at i) m)) same) (state ∙ ap (λ m. (or_still m (does (rule_at i) m)).0) same)
+    (sends ∙ (ap (λ messages. messages ++ (or_still now (does (rule_at i) now)).1) unsent
+    ∙ ap (λ m. before ++ (or_still m (does (rule_at i) m)).1) same))
 
 pub apart-some : (n : ℕ) → 0 < n → n ≢ 0
 apart-some n some e = omega arith

@@ -7,14 +7,39 @@ ghost use Rattle.rc_model.specs.FollowUps.{follows_start, follows_placed, follow
 ghost use Rattle.rc_model.specs.FollowUps.{wants_commit, follows_change, follows_stored, follow_up, marks_shut};
 ghost use Rattle.rc_model.specs.FollowUps.{goes_on};
 ghost use Rattle.rc_headroll.specs.LogData.{log_of};
-ghost use Rattle.rc_master.specs.Rules.{did, or_still, from_placed, from_closing, from_shut, from_change};
-ghost use Rattle.rc_master.specs.Rules.{from_stored, settled};
+ghost use Rattle.rc_master.specs.Rules.{did, or_still, does, settled};
 ghost use Rattle.rc_master.specs.Quiet.{IsQuiet};
 ghost use Rattle.rc_master.specs.View.{state_view, before_step, IsNoted};
 
 use crate::state::State;
-use rc_notices::{add_closes, add_frees, add_write_oks, commit, ready};
+use rc_lognotes::acknowledge;
+use rc_notices::{add_closes, add_frees, commit, ready};
 use rc_types::{Fault, Message};
+
+/// A rule that a master follows up with.
+#[derive(Clone, Copy)]
+enum Rule {
+    Start,
+    Placed,
+    Closing,
+    Shut,
+    Change,
+    Stored,
+    Data,
+    Replay,
+}
+
+/// Each of them, in the order in which they are tried.
+const RULES: [Rule; 8] = [
+    Rule::Start,
+    Rule::Placed,
+    Rule::Closing,
+    Rule::Shut,
+    Rule::Change,
+    Rule::Stored,
+    Rule::Data,
+    Rule::Replay,
+];
 
 impl State {
     /// The first head writes, once it is placed on all its members: the master is ready.
@@ -142,13 +167,10 @@ impl State {
         ensures before { before_step self.new ≡ before_step self.old }
         ensures no_memory { IfErr result (λ fault. fault ≡ OutOfMemory) }
     {
-        let count = self.log.durable_now();
-        if self.log.durable() >= count {
+        if self.log.durable() >= self.log.durable_now() {
             return Ok(false);
         }
-        add_write_oks(self.alloc, &self.log, sent)?;
-        self.ownership.set_durable(count);
-        self.log.keep_durable();
+        acknowledge(self.alloc, &mut self.log, &mut self.ownership, sent)?;
         Ok(true)
     }
 
@@ -170,7 +192,7 @@ impl State {
         self.follow_first(sent)
     }
 
-    /// The first rule, or else a later one.
+    /// The first of the rules that applies.
     fn follow_first(&mut self, sent: &mut Vec<Message>) -> Result<bool, Fault>
         requires noted { IsNoted self.old }
         ensures applied { IfOk result (λ applied. applied ≡ did (follow_up (state_view self.old))) }
@@ -182,100 +204,36 @@ impl State {
         ensures before { before_step self.new ≡ before_step self.old }
         ensures no_memory { IfErr result (λ fault. fault ≡ OutOfMemory) }
     {
-        if self.follow_start(sent)? {
-            return Ok(true);
+        for rule in &RULES {
+            if self.follow(*rule, sent)? {
+                return Ok(true);
+            }
         }
-        self.follow_from_placed(sent)
+        Ok(false)
     }
 
-    /// The second rule, or else a later one.
-    fn follow_from_placed(&mut self, sent: &mut Vec<Message>) -> Result<bool, Fault>
+    /// One rule, if it applies.
+    fn follow(&mut self, rule: Rule, sent: &mut Vec<Message>) -> Result<bool, Fault>
         requires noted { IsNoted self.old }
-        ensures applied { IfOk result (λ applied. applied ≡ did (from_placed (state_view self.old))) }
+        ensures applied { IfOk result (λ applied. applied ≡ did (does rule (state_view self.old))) }
         ensures state { OnOk result
-            (state_view self.new ≡ (or_still (state_view self.old) (from_placed (state_view self.old))).0) }
+            (state_view self.new ≡ (or_still (state_view self.old) (does rule (state_view self.old))).0) }
         ensures sends { OnOk result (sent.new.items ≡ sent.old.items ++
-            (or_still (state_view self.old) (from_placed (state_view self.old))).1) }
+            (or_still (state_view self.old) (does rule (state_view self.old))).1) }
         ensures noted { OnOk result (IsNoted self.new) }
         ensures before { before_step self.new ≡ before_step self.old }
         ensures no_memory { IfErr result (λ fault. fault ≡ OutOfMemory) }
     {
-        if self.follow_placed() {
-            return Ok(true);
+        match rule {
+            Rule::Start => self.follow_start(sent),
+            Rule::Placed => Ok(self.follow_placed()),
+            Rule::Closing => self.follow_closing(sent),
+            Rule::Shut => self.follow_shut(sent),
+            Rule::Change => self.follow_change(sent),
+            Rule::Stored => self.follow_stored(sent),
+            Rule::Data => self.follow_data(sent),
+            Rule::Replay => self.follow_replay(sent),
         }
-        self.follow_from_closing(sent)
-    }
-
-    /// The third rule, or else a later one.
-    fn follow_from_closing(&mut self, sent: &mut Vec<Message>) -> Result<bool, Fault>
-        requires noted { IsNoted self.old }
-        ensures applied { IfOk result (λ applied. applied ≡ did (from_closing (state_view self.old))) }
-        ensures state { OnOk result
-            (state_view self.new ≡ (or_still (state_view self.old) (from_closing (state_view self.old))).0) }
-        ensures sends { OnOk result (sent.new.items ≡ sent.old.items ++
-            (or_still (state_view self.old) (from_closing (state_view self.old))).1) }
-        ensures noted { OnOk result (IsNoted self.new) }
-        ensures before { before_step self.new ≡ before_step self.old }
-        ensures no_memory { IfErr result (λ fault. fault ≡ OutOfMemory) }
-    {
-        if self.follow_closing(sent)? {
-            return Ok(true);
-        }
-        self.follow_from_shut(sent)
-    }
-
-    /// The fourth rule, or else a later one.
-    fn follow_from_shut(&mut self, sent: &mut Vec<Message>) -> Result<bool, Fault>
-        requires noted { IsNoted self.old }
-        ensures applied { IfOk result (λ applied. applied ≡ did (from_shut (state_view self.old))) }
-        ensures state { OnOk result
-            (state_view self.new ≡ (or_still (state_view self.old) (from_shut (state_view self.old))).0) }
-        ensures sends { OnOk result (sent.new.items ≡ sent.old.items ++
-            (or_still (state_view self.old) (from_shut (state_view self.old))).1) }
-        ensures noted { OnOk result (IsNoted self.new) }
-        ensures before { before_step self.new ≡ before_step self.old }
-        ensures no_memory { IfErr result (λ fault. fault ≡ OutOfMemory) }
-    {
-        if self.follow_shut(sent)? {
-            return Ok(true);
-        }
-        self.follow_from_change(sent)
-    }
-
-    /// The fifth rule, or else a later one.
-    fn follow_from_change(&mut self, sent: &mut Vec<Message>) -> Result<bool, Fault>
-        requires noted { IsNoted self.old }
-        ensures applied { IfOk result (λ applied. applied ≡ did (from_change (state_view self.old))) }
-        ensures state { OnOk result
-            (state_view self.new ≡ (or_still (state_view self.old) (from_change (state_view self.old))).0) }
-        ensures sends { OnOk result (sent.new.items ≡ sent.old.items ++
-            (or_still (state_view self.old) (from_change (state_view self.old))).1) }
-        ensures noted { OnOk result (IsNoted self.new) }
-        ensures before { before_step self.new ≡ before_step self.old }
-        ensures no_memory { IfErr result (λ fault. fault ≡ OutOfMemory) }
-    {
-        if self.follow_change(sent)? {
-            return Ok(true);
-        }
-        self.follow_from_stored(sent)
-    }
-
-    /// The sixth rule, or else a later one.
-    fn follow_from_stored(&mut self, sent: &mut Vec<Message>) -> Result<bool, Fault>
-        requires noted { IsNoted self.old }
-        ensures applied { IfOk result (λ applied. applied ≡ did (from_stored (state_view self.old))) }
-        ensures state { OnOk result
-            (state_view self.new ≡ (or_still (state_view self.old) (from_stored (state_view self.old))).0) }
-        ensures sends { OnOk result (sent.new.items ≡ sent.old.items ++
-            (or_still (state_view self.old) (from_stored (state_view self.old))).1) }
-        ensures noted { OnOk result (IsNoted self.new) }
-        ensures before { before_step self.new ≡ before_step self.old }
-        ensures no_memory { IfErr result (λ fault. fault ≡ OutOfMemory) }
-    {
-        if self.follow_stored(sent)? {
-            return Ok(true);
-        }
-        self.follow_from_data(sent)
     }
 
     /// The rules, until none applies. A deposed master follows none.

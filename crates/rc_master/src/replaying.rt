@@ -4,35 +4,17 @@ ghost use Rattle.std.specs.Prelude.{◌≡◌, ◌++◌, true, IfOk, OnOk, IfErr
 ghost use Rattle.rc_types.specs.declared.faults.Fault.TheVariants.{OutOfMemory};
 ghost use Rattle.rc_model.specs.Log.{is_writing};
 ghost use Rattle.rc_model.specs.FollowUps.{follows_data, follows_replay};
-ghost use Rattle.rc_master.specs.Rules.{did, or_still, from_data, full_replays};
+ghost use Rattle.rc_master.specs.Rules.{did, or_still, full_replays};
 ghost use Rattle.rc_master.specs.View.{state_view, before_step, IsNoted};
 
 use crate::state::State;
-use rc_notices::{add_head_places, recovered};
+use rc_lognotes::tell_part;
 use rc_types::{Fault, Message};
 
 impl State {
-    /// The seventh rule or the last one.
-    pub(crate) fn follow_from_data(&mut self, sent: &mut Vec<Message>) -> Result<bool, Fault>
-        requires noted { IsNoted self.old }
-        ensures applied { IfOk result (λ applied. applied ≡ did (from_data (state_view self.old))) }
-        ensures state { OnOk result
-            (state_view self.new ≡ (or_still (state_view self.old) (from_data (state_view self.old))).0) }
-        ensures sends { OnOk result (sent.new.items ≡ sent.old.items ++
-            (or_still (state_view self.old) (from_data (state_view self.old))).1) }
-        ensures noted { OnOk result (IsNoted self.new) }
-        ensures before { before_step self.new ≡ before_step self.old }
-        ensures no_memory { IfErr result (λ fault. fault ≡ OutOfMemory) }
-    {
-        if self.follow_data(sent)? {
-            return Ok(true);
-        }
-        self.follow_replay(sent)
-    }
-
     /// The first entry that waits is appended, where the head writes; a full head is rolled, where that
     /// can be.
-    fn follow_data(&mut self, sent: &mut Vec<Message>) -> Result<bool, Fault>
+    pub(crate) fn follow_data(&mut self, sent: &mut Vec<Message>) -> Result<bool, Fault>
         requires noted { IsNoted self.old }
         ensures applied { IfOk result (λ applied. applied ≡ did (follows_data (state_view self.old))) }
         ensures state { OnOk result
@@ -69,22 +51,15 @@ impl State {
         ensures before { before_step self.new ≡ before_step self.old }
         ensures no_memory { IfErr result (λ fault. fault ≡ OutOfMemory) }
     {
-        let dead = self.dead_segments()?;
-        match self
-            .log
-            .begin_roll(self.alloc, &self.known, dead.as_slice())
-        {
-            Ok(()) => {
-                add_head_places(self.alloc, &self.log, sent)?;
-                Ok(true)
-            }
+        match self.roll(sent) {
+            Ok(()) => Ok(true),
             Err(Fault::OutOfMemory) => Err(Fault::OutOfMemory),
             Err(_) => Ok(false),
         }
     }
 
     /// The end of the first part that is complete is told, once.
-    fn follow_replay(&mut self, sent: &mut Vec<Message>) -> Result<bool, Fault>
+    pub(crate) fn follow_replay(&mut self, sent: &mut Vec<Message>) -> Result<bool, Fault>
         requires noted { IsNoted self.old }
         ensures applied { IfOk result (λ applied. applied ≡ did (follows_replay (state_view self.old))) }
         ensures state { OnOk result
@@ -95,10 +70,7 @@ impl State {
         ensures before { before_step self.new ≡ before_step self.old }
         ensures no_memory { IfErr result (λ fault. fault ≡ OutOfMemory) }
     {
-        let Some(term) = self.ownership.complete()? else {
-            return Ok(false);
-        };
-        sent.push(recovered(self.log.own(), &self.ownership, self.tasks.as_slice(), term))?;
-        Ok(true)
+        let own = self.log.own();
+        tell_part(own, &mut self.ownership, self.tasks.as_slice(), sent)
     }
 }

@@ -1,24 +1,23 @@
 //! The master's state, and what its rules have in common.
 
-ghost use Rattle.std.specs.Prelude.{◌≡◌, ◌++◌, ◌∷◌, [], ◌<◌, ◌≤◌, None, map, IfOk, OnOk, IfErr};
+ghost use Rattle.std.specs.Prelude.{◌≡◌, ◌++◌, ◌∷◌, [], ◌<◌, ◌≤◌, ◌⊎◌, true, None, Ok, Err, OnOk, IfErr};
 ghost use Rattle.rc_types.specs.declared.faults.Fault.TheVariants.{OutOfMemory};
 ghost use Rattle.rc_types.specs.declared.limits.TheConstants.{MAX_FACTOR as FACTOR, MAX_SEGMENT as SEGMENT};
 ghost use Rattle.rc_model.specs.Messages.{refuses};
-ghost use Rattle.rc_model.specs.Heads.{append_fault};
-ghost use Rattle.rc_model.specs.Versions.{is_dead};
-ghost use Rattle.rc_ownership.specs.Owner.{durable_of};
-ghost use Rattle.rc_model.specs.Master.{new_master, appends_entry, is_dead_segment, dead_segments};
+ghost use Rattle.rc_model.specs.Log.{is_writing};
+ghost use Rattle.rc_model.specs.Heads.{append_fault, begin_roll};
+ghost use Rattle.rc_model.specs.Master.{new_master, with_log, appends_entry, dead_segments, places_head};
 ghost use Rattle.rc_headroll.specs.LogData.{log_of};
 ghost use Rattle.rc_master.specs.Quiet.{IsQuiet};
 ghost use Rattle.rc_master.specs.View.{state_view, before_step, IsNoted};
 
 use rc_headroll::LogHead;
+use rc_lognotes::roll;
 use rc_notices::{Task, add_append, refusal};
 use rc_ownership::Ownership;
 use rc_serverlist::ServerList;
 use rc_types::{Entry, Fault, Message, ServerId};
 use std::alloc::Global;
-use std::slice;
 
 /// What a master knows.
 #[derive(Drop)]
@@ -100,48 +99,29 @@ impl State {
         Ok(())
     }
 
-    /// The dead segments of the head's digest, where the master frees any.
-    pub(crate) fn dead_segments(&self) -> Result<Vec<u16>, Fault>
-        requires noted { IsNoted self.now }
-        requires some { 0 < (log_of self.now.log).head }
-        ensures ok { IfOk result (λ segs. segs.items ≡ dead_segments (state_view self.now)) }
-        ensures no_memory { IfErr result (λ fault. fault ≡ OutOfMemory) }
+    /// A roll begins, and the Places of the new head are sent.
+    pub(crate) fn roll(&mut self, sent: &mut Vec<Message>) -> Result<(), Fault>
+        requires noted { IsNoted self.old }
+        requires writing { is_writing self.old.log.phase ≡ true }
+        ensures ok { OnOk result (begin_roll self.old.known (dead_segments (state_view self.old)) (log_of self.old.log)
+            ≡ (log_of self.new.log, Ok true)) }
+        ensures state { OnOk result (state_view self.new ≡ with_log (state_view self.old) (log_of self.new.log)) }
+        ensures sends { OnOk result (sent.new.items ≡ sent.old.items ++ places_head (log_of self.new.log)) }
+        ensures err { IfErr result (λ fault. (fault ≡ OutOfMemory)
+            ⊎ (begin_roll self.old.known (dead_segments (state_view self.old)) (log_of self.old.log)
+            ≡ (log_of self.new.log, Err fault))) }
+        ensures unchanged { IfErr result (λ fault. (fault ≡ OutOfMemory)
+            ⊎ ((self.new ≡ self.old) × (sent.new.items ≡ sent.old.items))) }
+        ensures noted { OnOk result (IsNoted self.new) }
+        ensures before { before_step self.new ≡ before_step self.old }
     {
-        let mut dead = Vec::new(self.alloc);
-        if !self.free {
-            return Ok(dead);
-        }
-        let digest = self.log.newest().digest();
-        for seg in digest {
-            if self.is_dead_segment(*seg) {
-                dead.push(*seg)?;
-            }
-        }
-        Ok(dead)
-    }
-
-    /// Whether the segment is shut and each of its entries has a greater version of its key under its
-    /// term among the durable ones.
-    fn is_dead_segment(&self, seg: u16) -> bool
-        requires noted { IsNoted self.now }
-        ensures { result ≡ is_dead_segment (state_view self.now) seg }
-    {
-        let Some(segment) = self.log.segment(seg) else {
-            return false;
-        };
-        segment.is_shut() && self.are_outdated(segment.entries())
-    }
-
-    /// Whether each of these entries has a greater version of its key under its term among the durable
-    /// ones.
-    fn are_outdated(&self, entries: &[(Entry, bool)]) -> bool
-        ensures { result ≡ is_dead (durable_of self.now.ownership) (map (λ one. one.0) entries.now) }
-    {
-        for (entry, _) in entries {
-            if !self.ownership.is_dead(slice::from_ref(entry)) {
-                return false;
-            }
-        }
-        true
+        roll(
+            self.alloc,
+            &self.known,
+            self.free,
+            &mut self.log,
+            &self.ownership,
+            sent,
+        )
     }
 }

@@ -11,9 +11,10 @@ ghost use Rattle.rc_master.specs.View.{state_view, before_step, IsNoted};
 ghost use Rattle.rc_master.specs.Numbers.{HasVersions};
 
 use crate::state::State;
-use rc_notices::{add_head_places, read_ok, refusal};
+use rc_lognotes::new_entry;
+use rc_notices::{read_ok, refusal};
 use rc_types::limits::MAX_VALUE;
-use rc_types::{Entry, Fault, Message, Seq, TryClone};
+use rc_types::{Fault, Message, Seq};
 
 /// Whether the value is longer than a value may be.
 fn is_too_long(value: &Option<Seq<u8>>) -> bool
@@ -79,15 +80,7 @@ impl State {
         if self.log.is_full() {
             return self.roll_for_write(sent);
         }
-        let version = self.ownership.next_version(term, table, key);
-        let value = value.try_clone(self.alloc)?;
-        let entry = Entry {
-            term,
-            table,
-            key,
-            version,
-            value,
-        };
+        let entry = new_entry(self.alloc, &self.ownership, term, table, key, value)?;
         self.append(entry, true, sent)
     }
 
@@ -103,13 +96,8 @@ impl State {
         ensures before { before_step self.new ≡ before_step self.old }
         ensures no_memory { IfErr result (λ fault. fault ≡ OutOfMemory) }
     {
-        let dead = self.dead_segments()?;
-        match self
-            .log
-            .begin_roll(self.alloc, &self.known, dead.as_slice())
-        {
+        match self.roll(sent) {
             Ok(()) => {
-                add_head_places(self.alloc, &self.log, sent)?;
                 sent.push(refusal(self.log.own(), Fault::Rolling))?;
                 Ok(())
             }

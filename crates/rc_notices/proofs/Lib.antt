@@ -3,3 +3,4 @@ pub mod Unknown
 pub mod SegmentLists
 pub mod Senders
 pub mod TaskPlaces
+pub mod TasksOfParts

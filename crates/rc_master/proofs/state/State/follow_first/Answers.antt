@@ -1,27 +1,33 @@
 use Rattle.std.proofs.Common.{sym, ◌∙◌}
-use Rattle.rc_model.specs.FollowUps.{follows_start}
-use Rattle.rc_master.specs.Rules.{from_placed}
 use Rattle.rc_master.specs.View.{state_view}
-use Rattle.rc_master.proofs.Settling.{or-else-applied, or-else-state, or-else-sends}
+use Rattle.rc_master.proofs.Settling.{IsFirst, rule-applies, rule-fails}
 use Rattle.rc_master.proofs.state.State.follow_first.Goals as goal
 
-pub returns-clause-applied : goal.returns-clause-applied
-returns-clause-applied c =
-    or-else-applied (state_view c.args.self.now) (state_view c.follow_start.new.self)
-    (follows_start (state_view c.args.self.now)) from_placed c.follow_from_placed.result
-    (sym c.if-branch.false ∙ c.in_ok-follow_start.ensures.applied) c.in_ok-follow_start.ensures.state c.follow_from_placed.ensures.applied
+first : (c : goal.Then-branch) →
+    IsFirst (state_view c.args.self.now) (state_view c.follow.new.self) c.args.sent.now.items c.follow.new.sent.items
+first c =
+    rule-applies c.loop-rule.rule-index _ _ _ _ _ _ c.loop-rule-test.true c.loop-rule.invariant.same c.loop-rule.invariant.sends
+    c.loop-rule.invariant.left (sym c.if-branch.true ∙ c.in_ok-follow.ensures.applied)
+    c.in_ok-follow.ensures.state c.in_ok-follow.ensures.sends
 
-pub returns-clause-state : goal.returns-clause-state
-returns-clause-state c =
-    or-else-state (state_view c.args.self.now) (state_view c.follow_start.new.self)
-    (state_view c.follow_from_placed.new.self) (follows_start (state_view c.args.self.now)) from_placed
-    c.follow_from_placed.result
-    (sym c.if-branch.false ∙ c.in_ok-follow_start.ensures.applied) c.in_ok-follow_start.ensures.state c.follow_from_placed.ensures.state
+pub returns-then-branch-clause-applied : goal.returns-then-branch-clause-applied
+returns-then-branch-clause-applied c = (first c).applied
 
-pub returns-clause-sends : goal.returns-clause-sends
-returns-clause-sends c =
-    or-else-sends (state_view c.args.self.now) (state_view c.follow_start.new.self) c.args.sent.now.items
-    c.follow_start.new.sent.items c.follow_from_placed.new.sent.items
-    (follows_start (state_view c.args.self.now)) from_placed c.follow_from_placed.result
-    (sym c.if-branch.false ∙ c.in_ok-follow_start.ensures.applied) c.in_ok-follow_start.ensures.state
-    c.in_ok-follow_start.ensures.sends c.follow_from_placed.ensures.sends
+pub returns-then-branch-clause-state : goal.returns-then-branch-clause-state
+returns-then-branch-clause-state c = (first c).state
+
+pub returns-then-branch-clause-sends : goal.returns-then-branch-clause-sends
+returns-then-branch-clause-sends c = (first c).sends
+
+pub loop-rule-preserved : goal.loop-rule-preserved
+loop-rule-preserved c =
+    let still = rule-fails c.loop-rule.rule-index _ _ _ _ _ _ c.loop-rule-test.true c.loop-rule.invariant.same
+    c.loop-rule.invariant.sends c.loop-rule.invariant.left (sym c.if-branch.false ∙ c.in_ok-follow.ensures.applied)
+    c.in_ok-follow.ensures.state c.in_ok-follow.ensures.sends in
+    record {
+      noted = c.in_ok-follow.ensures.noted;
+      before = c.in_ok-follow.ensures.before ∙ c.loop-rule.invariant.before;
+      same = still.same;
+      sends = still.sends;
+      left = still.left;
+    }

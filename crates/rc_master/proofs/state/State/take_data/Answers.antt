@@ -1,4 +1,5 @@
-use Rattle.rc_master.proofs.TasksOfParts.{tasks-data, notes-parts}
+use Rattle.rc_notices.proofs.TasksOfParts.{tasks-data}
+use Rattle.rc_master.proofs.TasksOfParts.{notes-parts}
 use Rattle.rc_master.proofs.state.State.take_data.Goals as goal
 
 pub returns-clause-noted : goal.returns-clause-noted

@@ -1,0 +1,8 @@
+use Rattle.std.proofs.Common.{◌≡◌, true, take, filter}
+use Rattle.rc_model.specs.Master.{is_dead_segment}
+use Rattle.rc_headroll.specs.LogData.{log_of}
+use Rattle.rc_lognotes.specs.Keeper.{keeper}
+use Rattle.rc_lognotes.proofs.dead.dead_segments.Given as goal
+
+abbrev pub invariant-loop-seg : goal.invariant-loop-seg
+invariant-loop-seg l = l.dead.items ≡ filter (is_dead_segment (keeper true (log_of l.log))) (take l.seg-index l.digest)
