@@ -2,8 +2,9 @@
 use Rattle.std.proofs.Common.{◌≡◌, ◌≢◌, ℕ, zero, suc, ◌+◌, ◌-◌, ◌<◌, ◌≤◌, true, false, List, [], ◌++◌, drop, get_or}
 use Rattle.std.proofs.Common.{Option, Some, None, refl, sym, ap, ◌∙◌, subst, arith, append_assoc}
 use Rattle.std.proofs.lemmas.List.{append-nil, drop_more}
-use Rattle.rc_model.specs.Model.{Message, Log, with_segment, old_head_of, shuts, Master, or_rule, follow_up, marks_shut, further}
-use Rattle.rc_model.specs.Model.{followed, measure}
+use Rattle.rc_model.specs.Model.{Message, Log, with_segment, old_head_of, shuts, Master, or_rule, follows_start, follows_placed}
+use Rattle.rc_model.specs.Model.{follows_closing, follows_shut, follows_change, follows_stored, follows_data, follows_replay, follow_up}
+use Rattle.rc_model.specs.Model.{marks_shut, further, followed, measure}
 use Rattle.rc_model.proofs.Tests.{either, true_false}
 use Rattle.rc_model.proofs.Measures.{AllLower, lowers, measure-marks_shut}
 use Rattle.rc_master.specs.declared.following.TheConstants.{RULES}
@@ -152,6 +153,16 @@ round-end start now next before sent more way applied state sends =
     )
 
 -- Rules in their order, of which the first that applies is made
+
+or-none : (one : Option (Master × List Message)) → or_rule one None ≡ one
+or-none None = refl
+or-none (Some done) = refl
+
+pub first-of-all : (master : Master) → first_of RULES master ≡ follow_up master
+first-of-all master =
+    ap (λ last. or_rule (follows_start master) (or_rule (follows_placed master) (or_rule (follows_closing master)
+    (or_rule (follows_shut master) (or_rule (follows_change master) (or_rule (follows_stored master)
+    (or_rule (follows_data master) last))))))) (or-none (follows_replay master))
 
 abbrev pub rule_at : ℕ → Rule
 rule_at i = get_or RULES i rule.Start

@@ -1,6 +1,6 @@
-use Rattle.std.proofs.Common.{sym, ◌∙◌}
+use Rattle.std.proofs.Common.{refl, sym, ◌∙◌}
 use Rattle.rc_master.specs.View.{state_view}
-use Rattle.rc_master.proofs.Settling.{IsFirst, rule-applies, rule-fails}
+use Rattle.rc_master.proofs.Settling.{IsFirst, first-of-all, rule-applies, rule-fails}
 use Rattle.rc_master.proofs.state.State.follow_first.Goals as goal
 
 first : (c : goal.Then-branch) →
@@ -9,6 +9,15 @@ first c =
     rule-applies c.loop-rule.rule-index _ _ _ _ _ _ c.loop-rule-test.true c.loop-rule.invariant.same c.loop-rule.invariant.sends
     c.loop-rule.invariant.left (sym c.if-branch.true ∙ c.in_ok-follow.ensures.applied)
     c.in_ok-follow.ensures.state c.in_ok-follow.ensures.sends
+
+pub loop-rule-init : goal.loop-rule-init
+loop-rule-init c = record {
+  noted = c.requires.noted;
+  before = refl;
+  same = refl;
+  sends = refl;
+  left = first-of-all (state_view c.args.self.now);
+}
 
 pub returns-then-branch-clause-applied : goal.returns-then-branch-clause-applied
 returns-then-branch-clause-applied c = (first c).applied
