@@ -215,7 +215,8 @@ finished-not_due grants durable state is =
 
 -- the first of the places whose part is due is that of the first part that is
 pub first-due : (grants : List GrantedRange) (durable : List Entry) (all : List (ℕ × PartState)) (at : ℕ) (places : List ℕ)
-    (entries : List (ℕ × PartState)) → Stand all at entries → HoldOthers (λ state. is_finished grants state ≡ true) at places (parts_in entries) →
+    (entries : List (ℕ × PartState)) → Stand all at entries →
+    HoldOthers (λ state. is_finished grants state ≡ true) at places (parts_in entries) →
     find (is_to_answer durable) (parts_in entries)
     ≡ option_map_or (λ place. option_map (λ entry. entry.1) (slice_get all place)) (find (is_due durable all) places) None
 first-due grants durable all at places [] stand none =

@@ -237,8 +237,9 @@ pub same_fetched : (one other : Fetched) → one.grants ≡ other.grants → one
 same_fetched one other g p q r t j = record { grants = g j; parts = p j; replay = q j; parts_before = r j; replay_before = t j }
 
 -- it is as it was when the step began
-pub table-begun : (entries : List (ℕ × PartState)) (changes : List (ℕ × Before)) (kept : ℕ) (grants : List GrantedRange) (places : List ℕ) (count : ℕ) →
-    AreUnderTheirTerms entries → HoldUnfinished grants places (parts_in entries) → changes ≡ [] → kept ≡ length entries →
+pub table-begun : (entries : List (ℕ × PartState)) (changes : List (ℕ × Before)) (kept : ℕ) (grants : List GrantedRange)
+    (places : List ℕ) (count : ℕ) → AreUnderTheirTerms entries →
+    HoldUnfinished grants places (parts_in entries) → changes ≡ [] → kept ≡ length entries →
     count ≡ length places → IsPartTable entries changes kept grants places count
 table-begun entries changes kept grants places count under hold none all all_places = record {
   under_terms = under;
@@ -308,7 +309,8 @@ undone-noted entries changed changes now term before old new kept grants it =
     undone-change changes entries changed term before old new kept it.found it.back it.written
 
 pub table-change : (entries changed : List (ℕ × PartState)) (changes now : List (ℕ × Before)) (term : ℕ) (before : Before)
-    (old new : PartState) (kept : ℕ) (grants : List GrantedRange) (places : List ℕ) (count : ℕ) → IsPartTable entries changes kept grants places count →
+    (old new : PartState) (kept : ℕ) (grants : List GrantedRange) (places : List ℕ) (count : ℕ) →
+    IsPartTable entries changes kept grants places count →
     IsChange grants entries changed changes now term before old new → IsPartTable changed now kept grants places count
 table-change entries changed changes now term before old new kept grants places count table it =
     let term_is = found-term term entries old table.under_terms it.found in
@@ -328,12 +330,14 @@ table-change entries changed changes now term before old new kept grants places 
 
 -- each part is again what it was
 pub table-restored : (entries : List (ℕ × PartState)) (changes : List (ℕ × Before)) (now : List (ℕ × PartState))
-    (left : List (ℕ × Before)) (kept : ℕ) (grants : List GrantedRange) (places after : List ℕ) (count : ℕ) → IsPartTable entries changes kept grants places count →
-    now ≡ take kept (undone changes entries) → left ≡ [] → after ≡ take count places →
+    (left : List (ℕ × Before)) (kept : ℕ) (grants : List GrantedRange) (places after : List ℕ) (count : ℕ) →
+    IsPartTable entries changes kept grants places count → now ≡ take kept (undone changes entries) → left ≡ [] →
+    after ≡ take count places →
     IsPartTable now left kept grants after count
 table-restored entries changes now left kept grants places after count table is none cut =
     let hold : HoldUnfinished grants after (parts_in now) = subst (λ ps. HoldUnfinished grants ps (parts_in now)) (sym cut)
-    (subst (λ es. HoldUnfinished grants (take count places) (parts_in es)) (sym (is ∙ undone-take changes entries kept)) table.places_before) in
+    (subst (λ es. HoldUnfinished grants (take count places) (parts_in es)) (sym (is ∙ undone-take changes entries kept))
+    table.places_before) in
     let all : length now ≡ kept = ap length is ∙ length-take-le kept (undone changes entries)
     (omega (arith, table.within, length-undone changes entries)) in
     let all_places : length after ≡ count = ap length cut ∙ length-take-le count places table.places_within in

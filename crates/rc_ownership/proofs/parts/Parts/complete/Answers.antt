@@ -46,7 +46,8 @@ invariant_of-self-2 c =
       named = ap (λ state. state.part.term) c.answer.ensures;
     } in
     table-change entries changed c.self.inside.touched.items c.push.new.self.items c.in-Some.term Unanswered part
-    c.answer.new.self c.self.inside.kept c.self.inside.grants c.self.inside.unfinished.items c.self.inside.kept_unfinished c.self.invariant it
+    c.answer.new.self c.self.inside.kept c.self.inside.grants c.self.inside.unfinished.items c.self.inside.kept_unfinished
+    c.self.invariant it
 
 pub returns-clause-answered : goal.returns-clause-answered
 returns-clause-answered c =

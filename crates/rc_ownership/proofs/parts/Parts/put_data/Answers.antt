@@ -28,9 +28,11 @@ invariant_of-self-in_err-before c =
     let same : changed ≡ entries = (c.get_mut.follows.holds c.take_row.new.part).0
     ∙ ap (set_value (nat_eq c.args.term) entries) c.in_err-before.ensures.same_part
     ∙ set_value_same (nat_eq c.args.term) entries c.in-Some.part.now (sym c.in-Some.ensures.value) in
-    subst (λ es. IsPartTable es c.reserve.new.self.items c.self.inside.kept c.self.inside.grants c.self.inside.unfinished.items c.self.inside.kept_unfinished)
+    subst (λ es. IsPartTable es c.reserve.new.self.items c.self.inside.kept c.self.inside.grants c.self.inside.unfinished.items
+    c.self.inside.kept_unfinished)
     (sym same)
-    (subst (λ touched. IsPartTable entries touched c.self.inside.kept c.self.inside.grants c.self.inside.unfinished.items c.self.inside.kept_unfinished)
+    (subst (λ touched. IsPartTable entries touched c.self.inside.kept c.self.inside.grants c.self.inside.unfinished.items
+    c.self.inside.kept_unfinished)
     (sym c.reserve.ensures.items) c.self.invariant)
 
 pub returns-in_err-before-clause-err : goal.returns-in_err-before-clause-err
@@ -71,7 +73,8 @@ invariant_of-self-2 c =
       named = ap (λ state. state.part.term) c.in_ok-before.ensures.part ∙ joined-named came;
     } in
     table-change entries changed c.self.inside.touched.items c.push.new.self.items c.args.term c.in_ok-before.before part
-    c.take_row.new.part c.self.inside.kept c.self.inside.grants c.self.inside.unfinished.items c.self.inside.kept_unfinished c.self.invariant it
+    c.take_row.new.part c.self.inside.kept c.self.inside.grants c.self.inside.unfinished.items c.self.inside.kept_unfinished
+    c.self.invariant it
 
 pub returns-clause-ok : goal.returns-clause-ok
 returns-clause-ok c =
