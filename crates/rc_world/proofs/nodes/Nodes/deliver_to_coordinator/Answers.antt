@@ -10,14 +10,14 @@ returns-clause-sends g c =
     let F : Message → List Message = λ m. (coordinator_takes (coordinator_of c.args.self.now.coordinator) m.from m.body).1 in
     OnOk-then c.tell_coordinator-done.result
     (λ says. sent_after F c.args.sent.now.items c.lend.new.sent.items c.tell_coordinator-done.new.sent.items
-    c.put_input_back.new.sent.items c.args.number c.lend.result
-    c.requires.number c.lend.ensures.message c.lend.ensures.left says (c.put_input_back.ensures c.lend.result refl))
+    c.put_work_back.new.sent.items c.args.number c.lend.result
+    c.requires.number c.lend.ensures.message c.lend.ensures.left says (c.put_work_back.ensures c.lend.result refl))
     c.tell_coordinator-done.ensures.sends
 
 pub returns-clause-unsent : goal.returns-clause-unsent
 returns-clause-unsent g c =
     OnErr-then c.tell_coordinator-done.result
     (λ says. sent_nothing c.args.sent.now.items c.lend.new.sent.items c.tell_coordinator-done.new.sent.items
-    c.put_input_back.new.sent.items c.args.number c.lend.result
-    c.lend.ensures.message c.lend.ensures.left says (c.put_input_back.ensures c.lend.result refl))
+    c.put_work_back.new.sent.items c.args.number c.lend.result
+    c.lend.ensures.message c.lend.ensures.left says (c.put_work_back.ensures c.lend.result refl))
     c.tell_coordinator-done.ensures.unsent
