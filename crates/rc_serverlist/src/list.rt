@@ -1,7 +1,6 @@
 //! The server list.
 
 ghost use Rattle.std.specs.Prelude.{◌≡◌, ◌<◌, ◌-◌, ◌↔◌, ◌^◌, true, false, nat_eq, length, OnOk, OnErr, IfOk, IfErr};
-ghost use Rattle.std.specs.Prelude.{IfSome};
 ghost use Rattle.std.specs.List.{IsDistinct};
 ghost use Rattle.std.specs.Map.{keys_of};
 ghost use Rattle.rc_types.specs.declared.faults.Fault.TheVariants.{OutOfMemory, StaleGeneration};
@@ -41,6 +40,7 @@ impl fmt::Debug for ServerList {
 }
 
 impl Model for ServerList {
+    ghost use Rattle.std.specs.Prelude.{◌≡◌, IfSome};
     ghost use Rattle.rc_model.specs.ServerList.{ServerList as Servers};
 
     ghost Value = { Servers };
