@@ -1,5 +1,5 @@
 -- What a list that grows begins with.
-use Rattle.std.proofs.Common.{◌≡◌, ℕ, zero, suc, List, [], ◌∷◌, ◌++◌, length, take, refl, sym, ap, subst, ◌∙◌, append_assoc, arith}
+use Rattle.std.proofs.Common.{◌≡◌, ℕ, List, [], ◌∷◌, ◌++◌, length, take, refl, sym, ap, subst, ◌∙◌}
 use Rattle.rc_codec.specs.Parts.{Begins}
 
 front_of : (xs ys : List ℕ) → take (length xs) (xs ++ ys) ≡ xs

@@ -1,10 +1,9 @@
 -- A first byte that names no kind.
-use Rattle.std.proofs.Common.{◌≡◌, ◌≢◌, ℕ, zero, suc, ◌<◌, ◌≤◌, List, [], ◌∷◌, length, Option, Some, None, refl, sym, ap, arith}
+use Rattle.std.proofs.Common.{◌≡◌, ℕ, zero, suc, ◌≤◌, List, [], ◌∷◌, length, None, refl, arith}
 use Rattle.std.specs.Prelude.{slice_get}
-use Rattle.rc_codec.specs.Reading.{Reader, ◌>>=◌}
 use Rattle.rc_codec.specs.Readers.{chosen_at, bodies, events}
 
-past : {A : Type 0} (table : List A) (k : ℕ) → length table ≤ k → slice_get table k ≡ None
+pub past : {A : Type 0} (table : List A) (k : ℕ) → length table ≤ k → slice_get table k ≡ None
 past [] k h = refl
 past (x ∷ table) zero h = absurd (omega arith)
 past (x ∷ table) (suc k) h = past table k (omega arith)

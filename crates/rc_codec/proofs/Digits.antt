@@ -1,9 +1,8 @@
 -- Numbers in bytes: as the machine writes them, and where too few bytes stand.
-use Rattle.std.proofs.Common.{◌≡◌, ℕ, zero, suc, ◌+◌, ◌*◌, ◌/◌, ◌%◌, ◌<◌, ◌≤◌, ◌^◌, List, [], ◌∷◌, ◌++◌, length, Option, Some, None, refl}
-use Rattle.std.proofs.Common.{sym, ap, subst, ◌∙◌, arith}
+use Rattle.std.proofs.Common.{◌≡◌, ℕ, zero, suc, ◌+◌, ◌<◌, ◌^◌, List, [], ◌∷◌, length, None, refl, arith}
 use Rattle.std.specs.Int.{w32, w64, to_le_bytes}
 use Rattle.rc_codec.specs.Parts.{number}
-use Rattle.rc_codec.specs.Reading.{number_at, ◌>>=◌}
+use Rattle.rc_codec.specs.Reading.{number_at}
 
 pub number_short : (more : ℕ) (xs : List ℕ) → length xs < more + 1 → number_at more xs ≡ None
 number_short more [] h = refl

@@ -1,51 +1,45 @@
 -- Each coding is read back, and nothing else is: the parts, the messages, the events.
-use Rattle.std.proofs.Common.{◌≡◌, ℕ, zero, suc, ◌+◌, Bool, List, [], ◌∷◌, ◌++◌, Option, Some, None, refl, sym, ap, subst, ◌∙◌, arith}
-use Rattle.std.specs.Prelude.{slice_get}
+use Rattle.std.proofs.Common.{◌≡◌, ℕ, zero, suc, ◌+◌, List, [], ◌∷◌, ◌++◌, Some, refl, sym, ap, ◌∙◌, arith}
+use Rattle.std.specs.Prelude.{map, slice_get}
 use Rattle.rc_types.specs.Codes.{code_number}
-use Rattle.rc_types.specs.declared.entries.Entry.{Entry}
 use Rattle.rc_types.specs.declared.events.Event.{Event}
 use Rattle.rc_types.specs.declared.events.Event.TheVariants as event
 use Rattle.rc_types.specs.declared.faults.Code.{Code}
 use Rattle.rc_types.specs.declared.faults.Code.TheVariants as code
 use Rattle.rc_types.specs.declared.ids.Addr.{Addr}
 use Rattle.rc_types.specs.declared.ids.Addr.TheVariants as addr
-use Rattle.rc_types.specs.declared.ids.ServerId.{ServerId}
-use Rattle.rc_types.specs.declared.messages.Message.{Message}
 use Rattle.rc_types.specs.declared.messages.Body.{Body}
 use Rattle.rc_types.specs.declared.messages.Body.TheVariants as body
-use Rattle.rc_types.specs.declared.rows.Part.{Part}
-use Rattle.rc_types.specs.declared.rows.PlanRow.{PlanRow}
-use Rattle.rc_types.specs.declared.rows.Row.{Row}
-use Rattle.rc_codec.specs.Parts.{number, byte, two_bytes, four_bytes, eight_bytes, flag, bytes, optional, listed}
+use Rattle.rc_codec.specs.Parts.{number, byte, two_bytes, four_bytes, eight_bytes, flag}
 use Rattle.rc_codec.specs.Spelling.{id_code, addr_code, refusal_code, value_code, entry_code, row_code, plan_row_code, part_code, up_code}
 use Rattle.rc_codec.specs.Spelling.{kept_code, body_code, message_code, event_code, coded_message, coded_event}
-use Rattle.rc_codec.specs.Reading.{◌>>=◌, Reader, flag_at}
+use Rattle.rc_codec.specs.Reading.{flag_at}
 use Rattle.rc_codec.specs.Readers.{u8_at, u16_at, u32_at, u64_at, id_at, addr_at, addrs, chosen_at, refusals, refusal_at, value_at}
 use Rattle.rc_codec.specs.Readers.{entry_at, row_at, plan_row_at, part_at, up_at, kept_at, bodies, body_at, message_at, events, event_at}
 use Rattle.rc_codec.specs.Readers.{versioned_at}
 use Rattle.rc_codec.proofs.Lawful.{IsBytes, Lawful, bind_some, some_is, made_again, made_lawful, pair_lawful, three_lawful, four_lawful}
 use Rattle.rc_codec.proofs.Lawful.{five_lawful, six_lawful, number_lawful, flag_lawful, bytes_lawful, optional_lawful, listed_lawful}
-use Rattle.rc_codec.proofs.Lawful.{nothing_lawful, AreRight, kind_right, chosen_lawful, versioned_lawful}
+use Rattle.rc_codec.proofs.Lawful.{nothing_lawful, AreRight, all_right, kind_right, chosen_lawful, versioned_lawful}
 
-u8_law : Lawful byte u8_at
+pub u8_law : Lawful byte u8_at
 u8_law = number_lawful 0
 
-u16_law : Lawful two_bytes u16_at
+pub u16_law : Lawful two_bytes u16_at
 u16_law = number_lawful 1
 
-u32_law : Lawful four_bytes u32_at
+pub u32_law : Lawful four_bytes u32_at
 u32_law = number_lawful 3
 
-u64_law : Lawful eight_bytes u64_at
+pub u64_law : Lawful eight_bytes u64_at
 u64_law = number_lawful 7
 
-flag_law : Lawful flag flag_at
+pub flag_law : Lawful flag flag_at
 flag_law = flag_lawful
 
-value_law : Lawful value_code value_at
+pub value_law : Lawful value_code value_at
 value_law = optional_lawful bytes_lawful
 
-id_law : Lawful id_code id_at
+pub id_law : Lawful id_code id_at
 id_law = made_lawful (pair_lawful u8_law u32_law) (λ p. record { index = p.0; generation = p.1 })
     (λ id. (id.index, id.generation)) id_code (λ id. refl) (λ p. refl)
 
@@ -55,16 +49,10 @@ addr_again (addr.Server id) rest = made_again id_law addr.Server id rest
 addr_again addr.Outside rest = made_again nothing_lawful (λ _. addr.Outside) tt rest
 
 addr_right : AreRight addr_code 0 addrs
-addr_right = (
-  kind_right nothing_lawful (λ _. addr.Coordinator) addr_code 0 (λ x. refl),
-  (
-    kind_right id_law addr.Server addr_code 1 (λ x. refl),
-    (
-      kind_right nothing_lawful (λ _. addr.Outside) addr_code 2 (λ x. refl),
-      tt,
-    ),
-  ),
-)
+addr_right = all_right addr_code 0 addrs (AreRight addr_code 0 addrs) (λ all. all)
+    (kind_right nothing_lawful (λ _. addr.Coordinator) addr_code 0 (λ x. refl))
+    (kind_right id_law addr.Server addr_code 1 (λ x. refl))
+    (kind_right nothing_lawful (λ _. addr.Outside) addr_code 2 (λ x. refl))
 
 addr_law : Lawful addr_code addr_at
 addr_law = chosen_lawful addr_code addrs addr_right addr_again
@@ -92,80 +80,53 @@ refusal_again code.EpochsExhausted rest = refl
 refusal_again code.Pending rest = refl
 refusal_again code.StaleGeneration rest = refl
 
--- each code of a list, the first of which has the number k
-abbrev Numbered : ℕ → List Code → Type 0
-Numbered k [] = Unit {0}
-Numbered k (c ∷ cs) = (code_number c ≡ k) × Numbered (suc k) cs
+-- so many numbers from k on
+abbrev counted : ℕ → List Code → List ℕ
+counted k [] = []
+counted k (c ∷ cs) = k ∷ counted (suc k) cs
 
-numbered : Numbered 1 refusals
-numbered = (
-  refl,
-  (
-    refl,
-    (
-      refl,
-      (
-        refl,
-        (
-          refl,
-          (
-            refl,
-            (
-              refl,
-              (
-                refl,
-                (
-                  refl,
-                  (refl, (refl, (refl, (refl, (refl, (refl, (refl, (refl, (refl, (refl, (refl, (refl, tt)))))))))))),
-                ),
-              ),
-            ),
-          ),
-        ),
-      ),
-    ),
-  ),
-)
-
-numbered_at : (k : ℕ) (cs : List Code) → Numbered k cs → (n : ℕ) (c : Code) → slice_get cs n ≡ Some c → code_number c ≡ k + n
+numbered_at : (k : ℕ) (cs : List Code) → map code_number cs ≡ counted k cs → (n : ℕ) (c : Code) → slice_get cs n ≡ Some c →
+    code_number c ≡ k + n
 numbered_at k [] h n c e = absurd cc
-numbered_at k (d ∷ cs) h zero c e = ap code_number (sym (some_is d c e)) ∙ h.0 ∙ omega arith
-numbered_at k (d ∷ cs) h (suc n) c e = numbered_at (suc k) cs h.1 n c e ∙ omega arith
+numbered_at k (d ∷ cs) h zero c e = let first : code_number d ≡ k = cc in ap code_number (sym (some_is d c e)) ∙ first ∙ omega arith
+numbered_at k (d ∷ cs) h (suc n) c e =
+    let later : map code_number cs ≡ counted (suc k) cs = cc in
+    numbered_at (suc k) cs later n c e ∙ omega arith
 
 refusal_takes : (xs : List ℕ) (c : Code) (rest : List ℕ) → IsBytes xs → refusal_at xs ≡ Some (c, rest) → xs ≡ refusal_code c ++ rest
 refusal_takes [] c rest fits e = absurd cc
 refusal_takes (zero ∷ xs) c rest fits e = absurd cc
 refusal_takes (suc n ∷ xs) c rest fits e =
     let b = bind_some (slice_get refusals n) (λ d. Some (d, xs)) (c, rest) e in
-    let k : suc n ≡ code_number b.0 = sym (numbered_at 1 refusals numbered n b.0 b.1 ∙ omega arith) in
+    let k : suc n ≡ code_number b.0 = sym (numbered_at 1 refusals refl n b.0 b.1 ∙ omega arith) in
     rw k (ap (λ (p : Code × List ℕ). refusal_code p.0 ++ p.1) (some_is (b.0, xs) (c, rest) b.2))
 
 refusal_law : Lawful refusal_code refusal_at
 refusal_law = record { again = refusal_again; takes = refusal_takes }
 
-entry_law : Lawful entry_code entry_at
+pub entry_law : Lawful entry_code entry_at
 entry_law = made_lawful (five_lawful u32_law u32_law u64_law u64_law value_law)
     (λ p. record { term = p.0; table = p.1; key = p.2; version = p.3; value = p.4 })
     (λ e. (e.term, e.table, e.key, e.version, e.value)) entry_code (λ e. refl) (λ p. refl)
 
-row_law : Lawful row_code row_at
+pub row_law : Lawful row_code row_at
 row_law = made_lawful (five_lawful u16_law u16_law flag_law u64_law (listed_lawful u16_law))
     (λ p. record { seg = p.0; epoch = p.1; closed = p.2; len = p.3; digest = p.4 })
     (λ r. (r.seg, r.epoch, r.closed, r.len, r.digest)) row_code (λ r. refl) (λ p. refl)
 
-plan_row_law : Lawful plan_row_code plan_row_at
+pub plan_row_law : Lawful plan_row_code plan_row_at
 plan_row_law = made_lawful (three_lawful u16_law id_law u64_law) (λ p. record { seg = p.0; holder = p.1; len = p.2 })
     (λ r. (r.seg, r.holder, r.len)) plan_row_code (λ r. refl) (λ p. refl)
 
-part_law : Lawful part_code part_at
+pub part_law : Lawful part_code part_at
 part_law = made_lawful (five_lawful u32_law u64_law u64_law u32_law u32_law)
     (λ p. record { table = p.0; lo = p.1; hi = p.2; previous = p.3; term = p.4 })
     (λ r. (r.table, r.lo, r.hi, r.previous, r.term)) part_code (λ r. refl) (λ p. refl)
 
-up_law : Lawful up_code up_at
+pub up_law : Lawful up_code up_at
 up_law = pair_lawful id_law flag_law
 
-kept_law : Lawful kept_code kept_at
+pub kept_law : Lawful kept_code kept_at
 kept_law = pair_lawful id_law u16_law
 
 body_again : (x : Body) (rest : List ℕ) → chosen_at bodies (body_code x ++ rest) ≡ Some (x, rest)
@@ -208,89 +169,40 @@ body_again (body.SplitOk table at) rest = made_again (pair_lawful u32_law u64_la
 body_again (body.Free seg) rest = made_again u16_law body.Free seg rest
 
 body_right : AreRight body_code 0 bodies
-body_right = (
-  kind_right (three_lawful u32_law u64_law value_law) (λ p. body.Write p.0 p.1 p.2) body_code 0 (λ x. refl),
-  (
-    kind_right (pair_lawful u32_law u64_law) (λ p. body.Read p.0 p.1) body_code 1 (λ x. refl),
-    (
-      kind_right (six_lawful u16_law u64_law u32_law u32_law u64_law u64_law) (λ p. body.WriteOk p.0 p.1 p.2 p.3 p.4 p.5) body_code 2
-          (λ x. refl),
-      (
-        kind_right (four_lawful u32_law u64_law u64_law value_law) (λ p. body.ReadOk p.0 p.1 p.2 p.3) body_code 3 (λ x. refl),
-        (
-          kind_right refusal_law body.Refused body_code 4 (λ x. refl),
-          (
-            kind_right (five_lawful u16_law u16_law (listed_lawful u16_law) (listed_lawful entry_law) flag_law)
-                (λ p. body.Place p.0 p.1 p.2 p.3 p.4) body_code 5 (λ x. refl),
-            (
-              kind_right (three_lawful u16_law u64_law (listed_lawful entry_law)) (λ p. body.Append p.0 p.1 p.2) body_code 6 (λ x. refl),
-              (
-                kind_right (pair_lawful u16_law u64_law) (λ p. body.Close p.0 p.1) body_code 7 (λ x. refl),
-                (
-                  kind_right (four_lawful u16_law u16_law u64_law flag_law) (λ p. body.Stored p.0 p.1 p.2 p.3) body_code 8 (λ x. refl),
-                  (
-                    kind_right (pair_lawful u16_law u16_law) (λ p. body.Commit p.0 p.1) body_code 9 (λ x. refl),
-                    (
-                      kind_right (pair_lawful u16_law u16_law) (λ p. body.CommitOk p.0 p.1) body_code 10 (λ x. refl),
-                      (
-                        kind_right nothing_lawful (λ _. body.Enlist) body_code 11 (λ x. refl),
-                        (
-                          kind_right nothing_lawful (λ _. body.Ready) body_code 12 (λ x. refl),
-                          (
-                            kind_right (pair_lawful u32_law (listed_lawful up_law)) (λ p. body.List p.0 p.1) body_code 13 (λ x. refl),
-                            (
-                              kind_right (pair_lawful u32_law id_law) (λ p. body.Gather p.0 p.1) body_code 14 (λ x. refl),
-                              (
-                                kind_right (pair_lawful u32_law (listed_lawful row_law)) (λ p. body.Replicas p.0 p.1) body_code 15
-                                    (λ x. refl),
-                                (
-                                  kind_right (five_lawful u32_law id_law u16_law (listed_lawful plan_row_law) (listed_lawful part_law))
-                                      (λ p. body.Plan p.2 p.0 p.1 p.3 p.4) body_code 16 (λ x. refl),
-                                  (
-                                    kind_right (five_lawful u32_law id_law u16_law u64_law part_law)
-                                        (λ p. body.Fetch p.0 p.1 p.2 p.3 p.4) body_code 17 (λ x. refl),
-                                    (
-                                      kind_right (four_lawful u32_law u16_law u32_law (listed_lawful entry_law))
-                                          (λ p. body.Data p.0 p.1 p.2 p.3) body_code 18 (λ x. refl),
-                                      (
-                                        kind_right (pair_lawful u32_law u32_law) (λ p. body.Recovered p.0 p.1) body_code 19 (λ x. refl),
-                                        (
-                                          kind_right (six_lawful u32_law u64_law u64_law u32_law u32_law u32_law)
-                                              (λ p. body.Own p.0 p.1 p.2 p.3 p.4 p.5) body_code 20 (λ x. refl),
-                                          (
-                                            kind_right (pair_lawful u32_law u64_law) (λ p. body.SplitOk p.0 p.1) body_code 21 (λ x. refl),
-                                            (
-                                              kind_right u16_law body.Free body_code 22 (λ x. refl),
-                                              tt,
-                                            ),
-                                          ),
-                                        ),
-                                      ),
-                                    ),
-                                  ),
-                                ),
-                              ),
-                            ),
-                          ),
-                        ),
-                      ),
-                    ),
-                  ),
-                ),
-              ),
-            ),
-          ),
-        ),
-      ),
-    ),
-  ),
-)
+body_right = all_right body_code 0 bodies (AreRight body_code 0 bodies) (λ all. all)
+    (kind_right (three_lawful u32_law u64_law value_law) (λ p. body.Write p.0 p.1 p.2) body_code 0 (λ x. refl))
+    (kind_right (pair_lawful u32_law u64_law) (λ p. body.Read p.0 p.1) body_code 1 (λ x. refl))
+    (kind_right (six_lawful u16_law u64_law u32_law u32_law u64_law u64_law) (λ p. body.WriteOk p.0 p.1 p.2 p.3 p.4 p.5) body_code 2
+    (λ x. refl))
+    (kind_right (four_lawful u32_law u64_law u64_law value_law) (λ p. body.ReadOk p.0 p.1 p.2 p.3) body_code 3 (λ x. refl))
+    (kind_right refusal_law body.Refused body_code 4 (λ x. refl))
+    (kind_right (five_lawful u16_law u16_law (listed_lawful u16_law) (listed_lawful entry_law) flag_law)
+    (λ p. body.Place p.0 p.1 p.2 p.3 p.4) body_code 5 (λ x. refl))
+    (kind_right (three_lawful u16_law u64_law (listed_lawful entry_law)) (λ p. body.Append p.0 p.1 p.2) body_code 6 (λ x. refl))
+    (kind_right (pair_lawful u16_law u64_law) (λ p. body.Close p.0 p.1) body_code 7 (λ x. refl))
+    (kind_right (four_lawful u16_law u16_law u64_law flag_law) (λ p. body.Stored p.0 p.1 p.2 p.3) body_code 8 (λ x. refl))
+    (kind_right (pair_lawful u16_law u16_law) (λ p. body.Commit p.0 p.1) body_code 9 (λ x. refl))
+    (kind_right (pair_lawful u16_law u16_law) (λ p. body.CommitOk p.0 p.1) body_code 10 (λ x. refl))
+    (kind_right nothing_lawful (λ _. body.Enlist) body_code 11 (λ x. refl))
+    (kind_right nothing_lawful (λ _. body.Ready) body_code 12 (λ x. refl))
+    (kind_right (pair_lawful u32_law (listed_lawful up_law)) (λ p. body.List p.0 p.1) body_code 13 (λ x. refl))
+    (kind_right (pair_lawful u32_law id_law) (λ p. body.Gather p.0 p.1) body_code 14 (λ x. refl))
+    (kind_right (pair_lawful u32_law (listed_lawful row_law)) (λ p. body.Replicas p.0 p.1) body_code 15 (λ x. refl))
+    (kind_right (five_lawful u32_law id_law u16_law (listed_lawful plan_row_law) (listed_lawful part_law))
+    (λ p. body.Plan p.2 p.0 p.1 p.3 p.4) body_code 16 (λ x. refl))
+    (kind_right (five_lawful u32_law id_law u16_law u64_law part_law) (λ p. body.Fetch p.0 p.1 p.2 p.3 p.4) body_code 17 (λ x. refl))
+    (kind_right (four_lawful u32_law u16_law u32_law (listed_lawful entry_law)) (λ p. body.Data p.0 p.1 p.2 p.3) body_code 18 (λ x. refl))
+    (kind_right (pair_lawful u32_law u32_law) (λ p. body.Recovered p.0 p.1) body_code 19 (λ x. refl))
+    (kind_right (six_lawful u32_law u64_law u64_law u32_law u32_law u32_law) (λ p. body.Own p.0 p.1 p.2 p.3 p.4 p.5) body_code 20
+    (λ x. refl))
+    (kind_right (pair_lawful u32_law u64_law) (λ p. body.SplitOk p.0 p.1) body_code 21 (λ x. refl))
+    (kind_right u16_law body.Free body_code 22 (λ x. refl))
 
-body_law : Lawful body_code body_at
+pub body_law : Lawful body_code body_at
 unfolding body_at
 body_law = chosen_lawful body_code bodies body_right body_again
 
-message_law : Lawful message_code message_at
+pub message_law : Lawful message_code message_at
 message_law = made_lawful (three_lawful addr_law addr_law body_law) (λ p. record { from = p.0; to = p.1; body = p.2 })
     (λ m. (m.from, m.to, m.body)) message_code (λ m. refl) (λ p. refl)
 
@@ -307,34 +219,16 @@ event_again (event.Create table owner) rest = made_again (pair_lawful u32_law id
 event_again (event.Split table at) rest = made_again (pair_lawful u32_law u64_law) (λ p. event.Split p.0 p.1) (table, at) rest
 
 event_right : AreRight event_code 0 events
-event_right = (
-  kind_right (pair_lawful id_law body_law) (λ p. event.Ask p.0 p.1) event_code 0 (λ x. refl),
-  (
-    kind_right u64_law event.Deliver event_code 1 (λ x. refl),
-    (
-      kind_right addr_law event.Tick event_code 2 (λ x. refl),
-      (
-        kind_right id_law event.Stop event_code 3 (λ x. refl),
-        (
-          kind_right (pair_lawful u8_law (listed_lawful kept_law)) (λ p. event.Start p.0 p.1) event_code 4 (λ x. refl),
-          (
-            kind_right id_law event.Suspect event_code 5 (λ x. refl),
-            (
-              kind_right id_law event.Decide event_code 6 (λ x. refl),
-              (
-                kind_right (pair_lawful u32_law id_law) (λ p. event.Create p.0 p.1) event_code 7 (λ x. refl),
-                (
-                  kind_right (pair_lawful u32_law u64_law) (λ p. event.Split p.0 p.1) event_code 8 (λ x. refl),
-                  tt,
-                ),
-              ),
-            ),
-          ),
-        ),
-      ),
-    ),
-  ),
-)
+event_right = all_right event_code 0 events (AreRight event_code 0 events) (λ all. all)
+    (kind_right (pair_lawful id_law body_law) (λ p. event.Ask p.0 p.1) event_code 0 (λ x. refl))
+    (kind_right u64_law event.Deliver event_code 1 (λ x. refl))
+    (kind_right addr_law event.Tick event_code 2 (λ x. refl))
+    (kind_right id_law event.Stop event_code 3 (λ x. refl))
+    (kind_right (pair_lawful u8_law (listed_lawful kept_law)) (λ p. event.Start p.0 p.1) event_code 4 (λ x. refl))
+    (kind_right id_law event.Suspect event_code 5 (λ x. refl))
+    (kind_right id_law event.Decide event_code 6 (λ x. refl))
+    (kind_right (pair_lawful u32_law id_law) (λ p. event.Create p.0 p.1) event_code 7 (λ x. refl))
+    (kind_right (pair_lawful u32_law u64_law) (λ p. event.Split p.0 p.1) event_code 8 (λ x. refl))
 
 event_law : Lawful event_code event_at
 unfolding event_at

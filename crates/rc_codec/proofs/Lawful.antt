@@ -1,5 +1,5 @@
 -- Readers that read each coding back and nothing else, and what is made of them.
-use Rattle.std.proofs.Common.{◌≡◌, ℕ, zero, suc, ◌+◌, ◌-◌, ◌*◌, ◌/◌, ◌%◌, ◌<◌, ◌≤◌, Bool, true, false, cond, ltb, List, [], ◌∷◌, ◌++◌}
+use Rattle.std.proofs.Common.{◌≡◌, ℕ, zero, suc, ◌+◌, ◌*◌, ◌/◌, ◌%◌, ◌<◌, ◌≤◌, Bool, true, false, cond, ltb, List, [], ◌∷◌, ◌++◌}
 use Rattle.std.proofs.Common.{length, get_or, take, drop, Option, Some, None, refl, sym, ap, subst, ◌∙◌, append_assoc, arith}
 use Rattle.std.specs.Prelude.{slice_get}
 use Rattle.std.specs.List.{flat_map}
@@ -267,6 +267,16 @@ IsRight {B} code k read = (xs : List ℕ) (y : B) (rest : List ℕ) → IsBytes 
 abbrev pub AreRight : {B : Type 0} → (B → List ℕ) → ℕ → List (Reader B) → Type 0
 AreRight code k [] = Unit {0}
 AreRight code k (read ∷ table) = IsRight code k read × AreRight code (suc k) table
+
+-- the same, of one reader after another
+abbrev pub EachRight : {B : Type 0} → (B → List ℕ) → ℕ → List (Reader B) → Type 0 → Type 0
+EachRight code k [] goal = goal
+EachRight code k (read ∷ table) goal = IsRight code k read → EachRight code (suc k) table goal
+
+pub all_right : {B : Type 0} (code : B → List ℕ) (k : ℕ) (table : List (Reader B)) (goal : Type 0) → (AreRight code k table → goal) →
+    EachRight code k table goal
+all_right code k [] goal all = all tt
+all_right code k (read ∷ table) goal all = λ one. all_right code (suc k) table goal (λ more. all (one, more))
 
 pub kind_right : {A B : Type 0} {c : A → List ℕ} {read : Reader A} → Lawful c read → (f : A → B) (code : B → List ℕ) (k : ℕ)
     → ((x : A) → code (f x) ≡ k ∷ c x) → IsRight code k (made read f)

@@ -1,7 +1,7 @@
 -- What encoding and decoding promise, of any coding.
 use Rattle.std.specs.Prelude.{◌≡◌, ◌⊎◌, ℕ, List, ◌++◌, length, Result, Ok, Err}
 use Rattle.rc_codec.specs.declared.faults.DecodeFault.{DecodeFault}
-use Rattle.rc_codec.specs.declared.faults.DecodeFault.TheVariants.{OutOfMemory, Malformed}
+use Rattle.rc_codec.specs.declared.faults.DecodeFault.TheVariants.{OutOfMemory}
 
 -- the first n of the bytes are this coding
 abbrev pub IsFront : List ℕ → ℕ → List ℕ → Type 0

@@ -1,6 +1,6 @@
 -- What a part of a run comes to.
 use Rattle.std.proofs.Common.{◌≡◌, ℕ, ◌≤◌, Bool, true, false, nat_lt, ◌&&◌, if◌then◌else◌, List, [], ◌∷◌, length}
-use Rattle.std.proofs.Common.{Option, Some, None, option_map, Result, Ok, Err, OnOk, refl, sym, ap, subst, ◌∙◌}
+use Rattle.std.proofs.Common.{Option, Some, None, Result, Ok, Err, OnOk, refl, sym, ap, subst, ◌∙◌}
 use Rattle.rc_model.specs.Model.{Event, Fault, World, is_possible, step}
 use Rattle.rc_types.specs.declared.faults.Fault.TheVariants.{BadEvent}
 use Rattle.rc_model.proofs.Replays.{step-impossible}

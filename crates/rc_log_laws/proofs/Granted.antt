@@ -1,5 +1,5 @@
 -- The coordinator grants a commit only to a server that is up.
-use Rattle.std.proofs.Common.{◌≡◌, ◌⊎◌, ℕ, ◌+◌, Bool, true, false, cond, not, ◌&&◌, List, [], ◌∷◌, ◌++◌, filter}
+use Rattle.std.proofs.Common.{◌≡◌, ℕ, ◌+◌, Bool, true, false, cond, not, ◌&&◌, List, [], ◌∷◌, ◌++◌, filter}
 use Rattle.std.proofs.Common.{Option, Some, None, Result, Ok, Err, refl, sym, ap, ◌∙◌, subst, inl, inr}
 use Rattle.rc_model.specs.Model.{ServerId, Pair, Addr, Server, Part, Grant, Fault, Deposed, StaleGeneration, StaleAttempt, NotReady}
 use Rattle.rc_model.specs.Model.{NoTable, TableExists, TooManyTablets, Message, Body, Enlist, Ready, Commit, CommitOk, Replicas}
@@ -15,9 +15,9 @@ use Rattle.rc_model.specs.Model.{asks_again, asks_again_of, coordinator_ticks, c
 use Rattle.rc_types.specs.declared.rows.Plan.{Plan}
 use Rattle.rc_types.specs.declared.messages.Body.TheVariants.{Plan as PlanBody}
 use Rattle.rc_model.specs.Coordinator.{Coordinator}
-use Rattle.rc_model.proofs.Members.{In-append}
 use Rattle.rc_model.proofs.Tests.{true_false, either}
 use Rattle.rc_model.proofs.Ids.{server-same}
+use Rattle.rc_step_laws.proofs.Copies.{In-either}
 
 -- each grant among these goes to a server that is up
 abbrev pub GrantsUp : Coordinator → List Message → Type 0
@@ -43,11 +43,7 @@ plain-one one e message (inl same) = ap (λ (other : Message). is_grant other.bo
 plain-one one e message (inr never) = absurd never
 
 plain-join : (first second : List Message) → Plain first → Plain second → Plain (first ++ second)
-plain-join first second p q message at = by (In-append message first second at)
-  where
-    by : In message first ⊎ In message second → is_grant message.body ≡ false
-    by (inl there) = p message there
-    by (inr there) = q message there
+plain-join first second p q message at = In-either message first second at (λ there. p message there) (λ there. q message there)
 
 plain-each : (body : Body) → is_grant body ≡ false → (ids : List ServerId) → Plain (to_each ids body)
 plain-each body e [] message at = absurd at

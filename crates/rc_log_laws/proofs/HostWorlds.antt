@@ -8,13 +8,13 @@ use Rattle.rc_model.specs.Coordinator.{Coordinator}
 use Rattle.rc_model.proofs.Members.{In-left, In-append}
 use Rattle.rc_step_laws.specs.All.{held_at, GoodHeld, GoodHost, GoodCoordinator, Good, IsTold, StillStands, IsStored, body_fine, Fine}
 use Rattle.rc_step_laws.specs.All.{HostLater, IsNewStored, BackupMoved, backup_body_said}
-use Rattle.rc_step_laws.proofs.Copies.{More}
+use Rattle.rc_step_laws.proofs.Copies.{More, In-either}
 use Rattle.rc_step_laws.proofs.Attempting.{kept-refl, attempt-kept}
 use Rattle.rc_step_laws.proofs.Backups.{Quiet, own-fine}
 use Rattle.rc_log_laws.proofs.Granted.{GrantsUp}
 use Rattle.rc_log_laws.proofs.Lasting.{Onward}
 use Rattle.rc_log_laws.proofs.Unmoved.{NoNewPlaceOf, NewlyToldFits, unmoved-grown, unmoved-good, unmoved-own}
-use Rattle.rc_log_laws.proofs.Worlds.{Led, good-onward, host-still, host_later-refl, coordinator_later-refl}
+use Rattle.rc_log_laws.proofs.Worlds.{Led, onward-quiet, told-quiet, good-onward, host-still, host_later-refl, coordinator_later-refl}
 use Rattle.rc_log_laws.proofs.MasterWorlds.{put-cases}
 use Rattle.rc_model.proofs.Tables.{put-same, put_each}
 use Rattle.rc_model.proofs.Ids.{server-same}
@@ -40,27 +40,17 @@ module _ (sent : List Message) (masters : ServerId → Master) (hosts : ℕ → 
   more message at = In-left message sent messages at
 
   back : (m : ServerId) → NoNewPlaceOf sent (sent ++ messages) m
-  back m x s e digest entries closed at = by (In-append (between m x (body.Place s e digest entries closed)) sent messages at)
-    where
-      by : In (between m x (body.Place s e digest entries closed)) sent ⊎
-          In (between m x (body.Place s e digest entries closed)) messages →
-          In (between m x (body.Place s e digest entries closed)) sent
-      by (inl there) = there
-      by (inr new) = absurd (moved.says (between m x (body.Place s e digest entries closed)) new)
+  back m x s e digest entries closed at = In-either (between m x (body.Place s e digest entries closed)) sent messages at (λ there. there)
+      (λ new. absurd (moved.says (between m x (body.Place s e digest entries closed)) new))
 
   -- who newly tells is the host's server
   teller : (x m : ServerId) (s e len : ℕ) (closed : Bool) → In (between x m (body.Stored s e len closed)) messages → x ≡ server_of (hosts i)
   teller x m s e len closed at = server-same x (server_of (hosts i)) (moved.from (between x m (body.Stored s e len closed)) at)
 
   fits : (m : ServerId) → NewlyToldFits sent (sent ++ messages) m (masters m).log
-  fits m x s e len closed at = by (In-append (between x m (body.Stored s e len closed)) sent messages at)
-    where
-      by : In (between x m (body.Stored s e len closed)) sent ⊎ In (between x m (body.Stored s e len closed)) messages →
-          In (between x m (body.Stored s e len closed)) sent ⊎ IsTold (sent ++ messages) m (masters m).log x s e len
-          closed
-      by (inl there) = inl there
-      by (inr new) = inr (subst (λ (y : ServerId). IsTold (sent ++ messages) m (masters m).log y s e len closed)
-          (sym (teller x m s e len closed new)) (moved.says (between x m (body.Stored s e len closed)) new).0)
+  fits m x s e len closed at = In-either (between x m (body.Stored s e len closed)) sent messages at (λ there. inl there)
+      (λ new. inr (subst (λ (y : ServerId). IsTold (sent ++ messages) m (masters m).log y s e len closed)
+      (sym (teller x m s e len closed new)) (moved.says (between x m (body.Stored s e len closed)) new).0))
 
   new-stored : (x m : ServerId) (s e len : ℕ) (closed : Bool) →
       In (between x m (body.Stored s e len closed)) (sent ++ messages) →
@@ -81,12 +71,8 @@ module _ (sent : List Message) (masters : ServerId → Master) (hosts : ℕ → 
 
   granted-back : (m : ServerId) (s e : ℕ) → In (from_coordinator m (body.CommitOk s e)) (sent ++ messages) →
       In (from_coordinator m (body.CommitOk s e)) sent ⊎ (is_up c.servers m ≡ true)
-  granted-back m s e at = by (In-append (from_coordinator m (body.CommitOk s e)) sent messages at)
-    where
-      by : In (from_coordinator m (body.CommitOk s e)) sent ⊎ In (from_coordinator m (body.CommitOk s e)) messages →
-          In (from_coordinator m (body.CommitOk s e)) sent ⊎ (is_up c.servers m ≡ true)
-      by (inl there) = inl there
-      by (inr new) = absurd (moved.says (from_coordinator m (body.CommitOk s e)) new)
+  granted-back m s e at = In-either (from_coordinator m (body.CommitOk s e)) sent messages at (λ there. inl there)
+      (λ new. absurd (moved.says (from_coordinator m (body.CommitOk s e)) new))
 
   onward : Onward sent masters hosts c (sent ++ messages) masters (put hosts i (record (hosts i) { backup = after })) c
   onward = record {
@@ -119,12 +105,8 @@ module _ (sent : List Message) (masters : ServerId → Master) (hosts : ℕ → 
       nothing : (m x : ServerId) (s e len : ℕ) (closed : Bool) → x.index ≡ j →
           In (between x m (body.Stored s e len closed)) (sent ++ messages) →
           In (between x m (body.Stored s e len closed)) sent
-      nothing m x s e len closed on at = by (In-append (between x m (body.Stored s e len closed)) sent messages at)
-        where
-          by : In (between x m (body.Stored s e len closed)) sent ⊎ In (between x m (body.Stored s e len closed))
-              messages → In (between x m (body.Stored s e len closed)) sent
-          by (inl there) = there
-          by (inr new) = absurd (differs (sym was.index ∙ (sym (ap (λ (id : ServerId). id.index) (teller x m s e len closed new)) ∙ on)))
+      nothing m x s e len closed on at = In-either (between x m (body.Stored s e len closed)) sent messages at (λ there. there)
+          (λ new. absurd (differs (sym was.index ∙ (sym (ap (λ (id : ServerId). id.index) (teller x m s e len closed new)) ∙ on))))
 
   stored-now : (m : ServerId) (s e len : ℕ) (closed : Bool) →
       IsTold (sent ++ messages) m (masters m).log (server_of (hosts i)) s e len closed →
@@ -173,57 +155,17 @@ module _ (sent messages : List Message) (masters : ServerId → Master) (hosts :
     (later : HostLater (hosts i) host) (mine_now : GoodHost (sent ++ messages) masters i host)
     (fine_now : (message : Message) → In message messages →
     Fine (sent ++ messages) masters (put hosts i host) c message) where
-  moved_more : More sent (sent ++ messages)
-  moved_more message at = In-left message sent messages at
-
-  moved_back : (m : ServerId) → NoNewPlaceOf sent (sent ++ messages) m
-  moved_back m x s e digest entries closed at = by (In-append (between m x (body.Place s e digest entries closed)) sent messages at)
-    where
-      by : In (between m x (body.Place s e digest entries closed)) sent ⊎
-          In (between m x (body.Place s e digest entries closed)) messages →
-          In (between m x (body.Place s e digest entries closed)) sent
-      by (inl there) = there
-      by (inr new) = absurd (quiet.places m x s e digest entries closed new)
-
-  moved_told : (x m : ServerId) (s e len : ℕ) (closed : Bool) →
-      In (between x m (body.Stored s e len closed)) (sent ++ messages) →
-      In (between x m (body.Stored s e len closed)) sent
-  moved_told x m s e len closed at = by (In-append (between x m (body.Stored s e len closed)) sent messages at)
-    where
-      by : In (between x m (body.Stored s e len closed)) sent ⊎ In (between x m (body.Stored s e len closed)) messages →
-          In (between x m (body.Stored s e len closed)) sent
-      by (inl there) = there
-      by (inr new) = absurd (quiet.told x m s e len closed new)
-
-  granted-moved : (m : ServerId) (s e : ℕ) → In (from_coordinator m (body.CommitOk s e)) (sent ++ messages) →
-      In (from_coordinator m (body.CommitOk s e)) sent ⊎ (is_up c.servers m ≡ true)
-  granted-moved m s e at = by (In-append (from_coordinator m (body.CommitOk s e)) sent messages at)
-    where
-      by : In (from_coordinator m (body.CommitOk s e)) sent ⊎ In (from_coordinator m (body.CommitOk s e)) messages →
-          In (from_coordinator m (body.CommitOk s e)) sent ⊎ (is_up c.servers m ≡ true)
-      by (inl there) = inl there
-      by (inr new) = inr (grants m s e new)
-
   moved_onward : Onward sent masters hosts c (sent ++ messages) masters (put hosts i host) c
-  moved_onward = record {
-    more = moved_more;
-    grown = λ m. unmoved-grown sent (sent ++ messages) m (masters m) (good.masters_are m) moved_more (moved_back m);
-    masters_are = λ m. unmoved-good sent (sent ++ messages) m (masters m) (good.masters_are m) moved_more (moved_back m);
-    own = λ m. unmoved-own sent (sent ++ messages) m (masters m) (good.masters_are m)
-        (own-fine sent masters hosts c good m) moved_more (moved_back m)
-        (λ x s e len closed at. inl (moved_told x m s e len closed at));
-    hosts_later = λ j. put_each (λ k one. HostLater (hosts k) one) hosts i host later (λ k. host_later-refl (hosts k)) j;
-    c_later = coordinator_later-refl c;
-    stored = λ x m s e len closed at. inl (moved_told x m s e len closed at);
-    granted = granted-moved;
-  }
+  moved_onward = onward-quiet sent messages masters hosts c c good quiet (coordinator_later-refl c) grants (put hosts i host)
+      (λ j. put_each (λ k one. HostLater (hosts k) one) hosts i host later (λ k. host_later-refl (hosts k)) j)
 
   pub good-host : Led sent masters hosts c (sent ++ messages) masters (put hosts i host) c
   good-host =
       good-onward sent masters hosts c (sent ++ messages) masters (put hosts i host) c good moved_onward
       (λ j. put-cases (λ k one. GoodHost (sent ++ messages) masters k one) hosts i host mine_now
       (λ k differs. host-still sent masters hosts c (sent ++ messages) masters (put hosts i host) c good moved_onward k
-      (λ g. refl) (λ m x s e len closed on at. moved_told x m s e len closed at)) j)
+      (λ g. refl) (λ m x s e len closed on at. told-quiet sent messages masters hosts c c good quiet (coordinator_later-refl c) grants x m
+      s e len closed at)) j)
       (coordinator-still sent messages c good.coordinator) (λ message at. by message (In-append message sent messages at))
     where
       by : (message : Message) → In message sent ⊎ In message messages →

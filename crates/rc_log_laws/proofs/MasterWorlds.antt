@@ -10,7 +10,7 @@ use Rattle.rc_model.specs.Coordinator.{Coordinator}
 use Rattle.rc_model.proofs.Members.{In-left, In-append}
 use Rattle.rc_step_laws.specs.All.{GoodMaster, GoodHost, Good, body_fine, Fine, HostLater, IsNewPlace, OwnFine, MasterMoved, MasterSays}
 use Rattle.rc_step_laws.specs.All.{body_said}
-use Rattle.rc_step_laws.proofs.Copies.{More}
+use Rattle.rc_step_laws.proofs.Copies.{More, In-either}
 use Rattle.rc_step_laws.proofs.Logs.{Grown}
 use Rattle.rc_step_laws.proofs.Attempting.{kept-refl, attempt-kept}
 use Rattle.rc_step_laws.proofs.Backups.{own-fine}
@@ -83,22 +83,14 @@ module _ (sent : List Message) (masters : ServerId → Master) (hosts : ℕ → 
   told-back : (x m : ServerId) (s e len : ℕ) (closed : Bool) →
       In (between x m (body.Stored s e len closed)) (sent ++ messages) →
       In (between x m (body.Stored s e len closed)) sent
-  told-back x m s e len closed at = by (In-append (between x m (body.Stored s e len closed)) sent messages at)
-    where
-      by : In (between x m (body.Stored s e len closed)) sent ⊎ In (between x m (body.Stored s e len closed)) messages →
-          In (between x m (body.Stored s e len closed)) sent
-      by (inl there) = there
-      by (inr new) = absurd (moved.says (between x m (body.Stored s e len closed)) new).says
+  told-back x m s e len closed at = In-either (between x m (body.Stored s e len closed)) sent messages at (λ there. there)
+      (λ new. absurd (moved.says (between x m (body.Stored s e len closed)) new).says)
 
   -- nor does another master place
   back : (m : ServerId) → (z ≡ m → ⊥) → NoNewPlaceOf sent (sent ++ messages) m
-  back m differs x s e digest entries closed at = by (In-append (between m x (body.Place s e digest entries closed)) sent messages at)
-    where
-      by : In (between m x (body.Place s e digest entries closed)) sent ⊎
-          In (between m x (body.Place s e digest entries closed)) messages →
-          In (between m x (body.Place s e digest entries closed)) sent
-      by (inl there) = there
-      by (inr new) = absurd (differs (sym (server-same m z (moved.says (between m x (body.Place s e digest entries closed)) new).from)))
+  back m differs x s e digest entries closed at = In-either (between m x (body.Place s e digest entries closed)) sent messages at
+      (λ there. there) (λ new. absurd (differs (sym
+      (server-same m z (moved.says (between m x (body.Place s e digest entries closed)) new).from))))
 
   grown_own : Grown sent (sent ++ messages) z (masters z).log after.log
   grown_own = record {
@@ -123,12 +115,8 @@ module _ (sent : List Message) (masters : ServerId → Master) (hosts : ℕ → 
 
   granted-back : (m : ServerId) (s e : ℕ) → In (from_coordinator m (body.CommitOk s e)) (sent ++ messages) →
       In (from_coordinator m (body.CommitOk s e)) sent ⊎ (is_up c.servers m ≡ true)
-  granted-back m s e at = by (In-append (from_coordinator m (body.CommitOk s e)) sent messages at)
-    where
-      by : In (from_coordinator m (body.CommitOk s e)) sent ⊎ In (from_coordinator m (body.CommitOk s e)) messages →
-          In (from_coordinator m (body.CommitOk s e)) sent ⊎ (is_up c.servers m ≡ true)
-      by (inl there) = inl there
-      by (inr new) = absurd (moved.says (from_coordinator m (body.CommitOk s e)) new).says
+  granted-back m s e at = In-either (from_coordinator m (body.CommitOk s e)) sent messages at (λ there. inl there)
+      (λ new. absurd (moved.says (from_coordinator m (body.CommitOk s e)) new).says)
 
   onward : Onward sent masters hosts c (sent ++ messages) (put_id masters z after)
       (put hosts i (record (hosts i) { master = Some after })) c

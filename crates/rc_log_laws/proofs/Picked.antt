@@ -1,5 +1,5 @@
 -- What a picked plan has: a valid open head row, and for each segment of its digest a valid row, all from the answers.
-use Rattle.std.proofs.Common.{◌≡◌, ◌⊎◌, ℕ, Bool, true, false, cond, not, List, [], ◌∷◌, filter, nat_eq, nat_lt, Option}
+use Rattle.std.proofs.Common.{◌≡◌, ◌⊎◌, ℕ, Bool, true, false, cond, not, List, [], ◌∷◌, filter, nat_eq, Option}
 use Rattle.std.proofs.Common.{Some, None, Result, Ok, Err, refl, sym, ap, ◌∙◌, subst, inl, inr}
 use Rattle.std.proofs.lemmas.Bool.{eqb-true, and_parts, not-true}
 use Rattle.rc_model.specs.Model.{ServerId, Pair, Row, PlanRow, Fault, HeldRow, rows_of, held_rows, is_valid, is_open_valid, is_valid_of}

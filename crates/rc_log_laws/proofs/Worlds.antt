@@ -7,7 +7,7 @@ use Rattle.rc_model.specs.Coordinator.{Coordinator}
 use Rattle.rc_model.proofs.Members.{In-left, In-append}
 use Rattle.rc_step_laws.specs.All.{GoodHost, GoodCoordinator, Good, body_fine, Fine, HostLater, CoordinatorMoved, CoordinatorLater}
 use Rattle.rc_step_laws.specs.All.{coordinator_body_said}
-use Rattle.rc_step_laws.proofs.Copies.{More}
+use Rattle.rc_step_laws.proofs.Copies.{More, In-either}
 use Rattle.rc_step_laws.proofs.Attempting.{kept-refl, attempt_later-refl}
 use Rattle.rc_step_laws.proofs.Storing.{held_later-refl}
 use Rattle.rc_step_laws.proofs.Backups.{Quiet, own-fine}
@@ -92,42 +92,30 @@ module _ (sent messages : List Message) (masters : ServerId → Master) (hosts :
   more-quiet message at = In-left message sent messages at
 
   back-quiet : (m : ServerId) → NoNewPlaceOf sent (sent ++ messages) m
-  back-quiet m x s e digest entries closed at = by (In-append (between m x (body.Place s e digest entries closed)) sent messages at)
-    where
-      by : In (between m x (body.Place s e digest entries closed)) sent ⊎
-          In (between m x (body.Place s e digest entries closed)) messages →
-          In (between m x (body.Place s e digest entries closed)) sent
-      by (inl there) = there
-      by (inr new) = absurd (quiet.places m x s e digest entries closed new)
+  back-quiet m x s e digest entries closed at = In-either (between m x (body.Place s e digest entries closed)) sent messages at
+      (λ there. there) (λ new. absurd (quiet.places m x s e digest entries closed new))
 
-  told-quiet : (x m : ServerId) (s e len : ℕ) (closed : Bool) →
+  pub told-quiet : (x m : ServerId) (s e len : ℕ) (closed : Bool) →
       In (between x m (body.Stored s e len closed)) (sent ++ messages) →
       In (between x m (body.Stored s e len closed)) sent
-  told-quiet x m s e len closed at = by (In-append (between x m (body.Stored s e len closed)) sent messages at)
-    where
-      by : In (between x m (body.Stored s e len closed)) sent ⊎ In (between x m (body.Stored s e len closed)) messages →
-          In (between x m (body.Stored s e len closed)) sent
-      by (inl there) = there
-      by (inr new) = absurd (quiet.told x m s e len closed new)
+  told-quiet x m s e len closed at = In-either (between x m (body.Stored s e len closed)) sent messages at (λ there. there)
+      (λ new. absurd (quiet.told x m s e len closed new))
 
   granted-quiet : (m : ServerId) (s e : ℕ) → In (from_coordinator m (body.CommitOk s e)) (sent ++ messages) →
       In (from_coordinator m (body.CommitOk s e)) sent ⊎ (is_up c.servers m ≡ true)
-  granted-quiet m s e at = by (In-append (from_coordinator m (body.CommitOk s e)) sent messages at)
-    where
-      by : In (from_coordinator m (body.CommitOk s e)) sent ⊎ In (from_coordinator m (body.CommitOk s e)) messages →
-          In (from_coordinator m (body.CommitOk s e)) sent ⊎ (is_up c.servers m ≡ true)
-      by (inl there) = inl there
-      by (inr new) = inr (grants m s e new)
+  granted-quiet m s e at = In-either (from_coordinator m (body.CommitOk s e)) sent messages at (λ there. inl there)
+      (λ new. inr (grants m s e new))
 
-  onward-quiet : Onward sent masters hosts c (sent ++ messages) masters hosts c_now
-  onward-quiet = record {
+  pub onward-quiet : (hosts_now : ℕ → HostNode) → ((i : ℕ) → HostLater (hosts i) (hosts_now i)) →
+      Onward sent masters hosts c (sent ++ messages) masters hosts_now c_now
+  onward-quiet hosts_now up = record {
     more = more-quiet;
     grown = λ m. unmoved-grown sent (sent ++ messages) m (masters m) (good.masters_are m) more-quiet (back-quiet m);
     masters_are = λ m. unmoved-good sent (sent ++ messages) m (masters m) (good.masters_are m) more-quiet (back-quiet m);
     own = λ m. unmoved-own sent (sent ++ messages) m (masters m) (good.masters_are m)
         (own-fine sent masters hosts c good m) more-quiet (back-quiet m)
         (λ x s e len closed at. inl (told-quiet x m s e len closed at));
-    hosts_later = λ i. host_later-refl (hosts i);
+    hosts_later = up;
     c_later = later;
     stored = λ x m s e len closed at. inl (told-quiet x m s e len closed at);
     granted = granted-quiet;
@@ -137,11 +125,14 @@ module _ (sent messages : List Message) (masters : ServerId → Master) (hosts :
       ((message : Message) → In message messages → Fine (sent ++ messages) masters hosts c_now message) →
       Led sent masters hosts c (sent ++ messages) masters hosts c_now
   good-quiet coordinator fine =
-      good-onward sent masters hosts c (sent ++ messages) masters hosts c_now good onward-quiet
-      (λ i. host-still sent masters hosts c (sent ++ messages) masters hosts c_now good onward-quiet i (λ g. refl)
+      good-onward sent masters hosts c (sent ++ messages) masters hosts c_now good onward
+      (λ i. host-still sent masters hosts c (sent ++ messages) masters hosts c_now good onward i (λ g. refl)
       (λ m x s e len closed on at. told-quiet x m s e len closed at))
       coordinator (λ message at. by message (In-append message sent messages at))
     where
+      onward : Onward sent masters hosts c (sent ++ messages) masters hosts c_now
+      onward = onward-quiet hosts (λ i. host_later-refl (hosts i))
+
       by : (message : Message) → In message sent ⊎ In message messages →
           In message sent ⊎ Fine (sent ++ messages) masters hosts c_now message
       by message (inl there) = inl there

@@ -9,7 +9,6 @@ use Rattle.rc_model.specs.Model.{work_of, node_can, is_possible_job, is_possible
 use Rattle.rc_types.specs.declared.messages.Body.TheVariants as body
 use Rattle.rc_model.specs.Coordinator.{Coordinator}
 use Rattle.rc_model.specs.Nodes.{Ask, Tick, Start, Suspect, Decide}
-use Rattle.rc_model.proofs.Members.{In-append}
 use Rattle.rc_step_laws.specs.Moves.{MasterMoved, CoordinatorMoved, body_said, coordinator_body_said}
 use Rattle.rc_step_laws.proofs.MasterSteps.{master_takes_keeps, master_ticks_keeps}
 use Rattle.rc_step_laws.proofs.CoordinatorSteps as coordinator
@@ -18,6 +17,7 @@ use Rattle.rc_log_laws.proofs.Replays.{work_of-given, may-hear, to-coordinator-i
 use Rattle.rc_owner_laws.specs.Data.{data_fine, DataAreCuts}
 use Rattle.rc_owner_laws.proofs.DataCuts.{data-later, IsNoData, no-data-fine, backup-fine}
 use Rattle.rc_model.proofs.Tests.{true_false, either}
+use Rattle.rc_step_laws.proofs.Copies.{In-either}
 
 abbrev pub CutsOf : World → Type 0
 CutsOf world = DataAreCuts world.sent world.masters
@@ -144,12 +144,7 @@ IsNext world after = (message : Message) → In message after.sent →
 next-sent : (world : World) (messages : List Message) → AllFine world messages → (message : Message) →
     In message (world.sent ++ messages) → In message world.sent ⊎ data_fine world.sent world.masters message.from
     message.to message.body
-next-sent world messages fine message at = by (In-append message world.sent messages at)
-  where
-    by : In message world.sent ⊎ In message messages →
-        In message world.sent ⊎ data_fine world.sent world.masters message.from message.to message.body
-    by (inl old) = inl old
-    by (inr new) = inr (fine message new)
+next-sent world messages fine message at = In-either message world.sent messages at (λ old. inl old) (λ new. inr (fine message new))
 
 next-node : (world : World) (one : Event) (node : NodeName) (work : Work) → GoodWorld world →
     IsGiven world.sent node work → node_can world node work ≡ true → IsNext world (node_done world one node work)

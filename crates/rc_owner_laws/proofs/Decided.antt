@@ -1,19 +1,25 @@
 -- Attempts, answers and decisions: what is decided after one of them, and what the messages say that tell it.
 use Rattle.std.proofs.Common.{◌≡◌, ◌⊎◌, ℕ, ◌+◌, ◌-◌, ◌<◌, Bool, true, false, cond, List, [], ◌∷◌, ◌++◌, length, find, slice_get}
-use Rattle.std.proofs.Common.{slice_set, Some, None, refl, sym, ap, ◌∙◌, subst, inl, inr, arith}
+use Rattle.std.proofs.Common.{◌&&◌, slice_set, Some, None, refl, sym, ap, ◌∙◌, subst, inl, inr, arith, nat_eq, Option}
 use Rattle.rc_model.specs.Model.{ServerId, Addr, Server, Row, Part, Message, Body, put_id, to_each, same_id, Attempt, Decision, GivenPart}
 use Rattle.rc_model.specs.Model.{new_attempt, parts_of, plan_message, plan_messages, begins_attempt, with_answer, In}
+use Rattle.rc_model.specs.Model.{part_in, part_if_current, is_current, grant_to, is_grant_to}
 use Rattle.rc_types.specs.declared.ids.Addr.TheVariants.{Coordinator as AtCoordinator}
 use Rattle.rc_types.specs.declared.messages.Body.TheVariants.{Plan as PlanBody}
 use Rattle.rc_model.specs.Coordinator.{Coordinator}
-use Rattle.rc_model.proofs.Members.{In-append, In-get}
+use Rattle.rc_model.proofs.Members.{In-get}
 use Rattle.rc_step_laws.proofs.Lists.{get-append, get-within, get-set}
-use Rattle.rc_owner_laws.specs.Grants.{IsDecided, GoodGrants, own_said}
+use Rattle.rc_owner_laws.specs.Grants.{IsDecided, GoodGrants, own_said, IsGiven}
 use Rattle.rc_owner_laws.proofs.Tablets.{some-none}
 use Rattle.rc_owner_laws.proofs.Granting.{kept-good}
 use Rattle.rc_model.proofs.Ids.{same_id-true}
-use Rattle.rc_model.proofs.Tests.{true_false}
+use Rattle.rc_model.proofs.Tests.{true_false, either}
 use Rattle.rc_model.proofs.Tables.{put_id_each}
+use Rattle.rc_step_laws.proofs.Copies.{In-either}
+use Rattle.std.proofs.lemmas.Bool.{eqb-true}
+use Rattle.std.proofs.lemmas.Bool.Decides.{nat_tests}
+use Rattle.rc_step_laws.specs.All.{IsNumbered}
+use Rattle.rc_step_laws.proofs.Tests.{find-one}
 
 pub find-none : {X : Type 0} (test : X → Bool) (xs : List X) (x : X) → find test xs ≡ None → In x xs → test x ≡ true → ⊥
 find-none test [] x e at passes = absurd at
@@ -62,11 +68,7 @@ says-each c body holds (id ∷ ids) message (inl e) = subst (λ (one : Message).
 says-each c body holds (id ∷ ids) message (inr rest) = says-each c body holds ids message rest
 
 pub says-join : (c : Coordinator) (first second : List Message) → OwnSays c first → OwnSays c second → OwnSays c (first ++ second)
-says-join c first second p q message at = by (In-append message first second at)
-  where
-    by : In message first ⊎ In message second → own_said c message.to message.body
-    by (inl a) = p message a
-    by (inr b) = q message b
+says-join c first second p q message at = In-either message first second at (λ a. p message a) (λ b. q message b)
 
 -- each message of a plan is of the decision
 pub says-plans : (c : Coordinator) (number : ℕ) (master : ServerId) (decision : Decision) →
@@ -183,3 +185,61 @@ newly-decided c number attempt new other master decision decided =
       where
         same : Some decision ≡ Some new → decision ≡ new
         same e = cc
+
+-- Whose part it is
+
+module _ (c : Coordinator) where
+  -- the part that is granted: it was given to the sender in an attempt that is current
+  pub record IsSenders (id : ServerId) (number term : ℕ) (part : Part) : Type 0 where
+    pub attempt : Attempt
+    pub numbered : IsNumbered c.attempts number attempt
+    pub current : c.current attempt.master ≡ number
+    pub decision : Decision
+    pub decided : attempt.decided ≡ Some decision
+    pub among : In (gives id part) decision.parts
+    pub term_is : part.term ≡ term
+
+  senders-in : (id : ServerId) (number term : ℕ) (part : Part) (attempt : Attempt) (decided : Option Decision) →
+      IsNumbered c.attempts number attempt → c.current attempt.master ≡ number → attempt.decided ≡ decided →
+      part_in id term decided ≡ Some part → IsSenders id number term part
+  senders-in id number term part attempt None numbered current is found = cc
+  senders-in id number term part attempt (Some decision) numbered current is found =
+      let one : In part (parts_of id decision.parts) × (nat_eq part.term term ≡ true) =
+      find-one (λ (p : Part). nat_eq p.term term) (parts_of id decision.parts) part found in
+      record {
+        attempt = attempt;
+        numbered = numbered;
+        current = current;
+        decision = decision;
+        decided = is;
+        among = given-in id decision.parts part one.0;
+        term_is = eqb-true part.term term one.1;
+      }
+
+  pub senders : (id : ServerId) (number term : ℕ) (part : Part) (found : Option Attempt) →
+      ((attempt : Attempt) → found ≡ Some attempt → IsNumbered c.attempts number attempt) →
+      part_if_current c id number term found ≡ Some part → IsSenders id number term part
+  senders id number term part None numbered is = cc
+  senders id number term part (Some attempt) numbered is =
+      either (λ (one : Option Part). one ≡ Some part → IsSenders id number term part) (is_current c number attempt)
+      (part_in id term attempt.decided) None
+      (λ current found. senders-in id number term part attempt attempt.decided (numbered attempt refl)
+      (eqb-true (c.current attempt.master) number current) refl found)
+      (λ _ none. cc) is
+
+  -- its attempt was decided, and where no grant of its term is found it was not granted
+  pub senders-decided : (id : ServerId) (number term : ℕ) (part : Part) → (mine : IsSenders id number term part) →
+      IsDecided c.attempts number mine.attempt.master mine.decision
+  senders-decided id number term part mine =
+      record { attempt = mine.attempt; numbered = mine.numbered; master_is = refl; decided = mine.decided }
+
+  pub senders-open : (id : ServerId) (number term : ℕ) (part : Part) → IsSenders id number term part →
+      grant_to c id term ≡ None → IsGiven c.grants (gives id part) → ⊥
+  senders-open id number term part mine none p = find-none (is_grant_to id term) c.grants p.grant none p.among passes
+    where
+      passes : (nat_eq p.grant.term term && same_id p.grant.owner id) ≡ true
+      passes = ap (λ n. nat_eq n term && same_id p.grant.owner id) (p.term ∙ mine.term_is) ∙
+          (ap (λ (m : ServerId). nat_eq term term && same_id m id) p.owner ∙ own term)
+        where
+          own : (n : ℕ) → (nat_eq n n && same_id id id) ≡ true
+          own n = grind (arith, nat_tests)

@@ -1,5 +1,5 @@
 -- A recovery that was decided can be granted, in every world.
-use Rattle.std.proofs.Common.{◌≡◌, ◌⊎◌, ℕ, ◌+◌, ◌-◌, true, false, cond, List, [], ◌∷◌, ◌++◌, find, nat_eq, slice_get}
+use Rattle.std.proofs.Common.{◌≡◌, ℕ, ◌+◌, ◌-◌, true, false, cond, List, [], ◌∷◌, ◌++◌, find, nat_eq, slice_get}
 use Rattle.std.proofs.Common.{Option, Some, None, refl, sym, ap, ◌∙◌, subst, inl, inr, arith}
 use Rattle.std.proofs.lemmas.Bool.{and_parts, eqb-true, eq-eqb}
 use Rattle.std.proofs.lemmas.Bool.Decides.{nat_tests}
@@ -14,7 +14,6 @@ use Rattle.rc_model.specs.Model.{node_done, job_done, step, replay_from, replay,
 use Rattle.rc_types.specs.declared.messages.Body.TheVariants.{Plan as PlanBody}
 use Rattle.rc_model.specs.Coordinator.{Coordinator}
 use Rattle.rc_model.specs.Nodes.{Ask, Tick, Start}
-use Rattle.rc_model.proofs.Members.{In-append}
 use Rattle.rc_step_laws.specs.All.{IsNumbered, MasterMoved, BackupMoved}
 use Rattle.rc_step_laws.proofs.Attempting.{numbered-at}
 use Rattle.rc_step_laws.proofs.MasterSteps.{master_takes_keeps, master_ticks_keeps}
@@ -26,7 +25,7 @@ use Rattle.rc_owner_laws.specs.Waiting.{IsTablet, GoodTablets, lacks_tablet, Non
 use Rattle.rc_owner_laws.specs.Recoveries.{IsPlanned, IsOwned, IsAnsweredByOwn, PlannedPartsAreTablets}
 use Rattle.rc_owner_laws.specs.Recoveries.{PlannedPartsCanBeGranted, NoServerLacksATablet}
 use Rattle.rc_owner_laws.proofs.Decided.{find-none, gives}
-use Rattle.rc_owner_laws.proofs.OwnerSteps.{IsSenders, senders}
+use Rattle.rc_owner_laws.proofs.Decided.{IsSenders, senders}
 use Rattle.rc_owner_laws.proofs.Marks.{ranged}
 use Rattle.rc_owner_laws.proofs.Waiting.{sender-waits, tablets-moved, new-tablets}
 use Rattle.rc_owner_laws.proofs.OwnerReplays.{OfWorld, grants-step, grants-opening, grants-world}
@@ -34,6 +33,7 @@ use Rattle.rc_model.proofs.Tables.{put-same}
 use Rattle.rc_model.proofs.Ids.{same_id-true, same_id-refl, server-same}
 use Rattle.rc_model.proofs.Tests.{true_false, either}
 use Rattle.rc_step_laws.proofs.Tests.{find-one}
+use Rattle.rc_step_laws.proofs.Copies.{In-either}
 
 -- Each world keeps the tablets, and refuses no server for want of one
 
@@ -46,11 +46,7 @@ abbrev FromServers : List Message → Type 0
 FromServers messages = (message : Message) → In message messages → (id : ServerId) × (message.from ≡ Server id)
 
 more-says : (sent messages : List Message) → NoneLacksTablet sent → NoneLacksTablet messages → NoneLacksTablet (sent ++ messages)
-more-says sent messages old new message at = by (In-append message sent messages at)
-  where
-    by : In message sent ⊎ In message messages → lacks_tablet message.from message.to message.body ≡ false
-    by (inl was) = old message was
-    by (inr is) = new message is
+more-says sent messages old new message at = In-either message sent messages at (λ was. old message was) (λ is. new message is)
 
 servers-say : (messages : List Message) → FromServers messages → NoneLacksTablet messages
 servers-say messages from message at = ap (λ (one : Addr). lacks_tablet one message.to message.body) (from message at).1
@@ -284,8 +280,8 @@ module _ (setup : Setup) (events : List Event) (id : ServerId) (number : ℕ) (m
       good : GoodWorld (replay setup events)
       good = good-world setup events
 
-      sender : IsSenders (replay setup events).sent (replay setup events).coordinator good.coordinator grants.good id number part.term mine
-      sender = senders (replay setup events).sent (replay setup events).coordinator good.coordinator grants.good id
+      sender : IsSenders (replay setup events).coordinator id number part.term mine
+      sender = senders (replay setup events).coordinator id
           number part.term mine (attempt_at (replay setup events).coordinator number)
           (numbered-at (replay setup events).coordinator number) is
 

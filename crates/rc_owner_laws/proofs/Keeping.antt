@@ -249,9 +249,6 @@ parts-once ids place term (tablet ∷ tablets) one other at there e =
 module _ (sent : List Message) (c : Coordinator) (grants : GoodGrants c) (good : GoodTerms sent c) (number : ℕ)
     (attempt : Attempt) (plan : Plan) (id : ServerId) (ids : List ServerId)
     (numbered : IsNumbered c.attempts number attempt) where
-  chosen : Decision
-  chosen = decision_of c number attempt.master plan (id ∷ ids)
-
   abbrev decided_now : Coordinator
   decided_now = (decides_on c number attempt (decision_of c number attempt.master plan (id ∷ ids)) (id ∷ ids)).0
 

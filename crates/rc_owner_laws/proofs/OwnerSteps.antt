@@ -2,7 +2,7 @@
 use Rattle.std.proofs.Common.{◌≡◌, ◌⊎◌, ℕ, suc, ◌+◌, ◌-◌, ◌<◌, ◌≤◌, Bool, true, false, cond, not, ◌&&◌, List, [], ◌∷◌}
 use Rattle.std.proofs.Common.{◌++◌, length, filter, nat_eq, slice_get, slice_set, Option, Some, None, option_map}
 use Rattle.std.proofs.Common.{Result, Ok, Err, refl, sym, ap, ◌∙◌, subst, inl, inr, arith}
-use Rattle.std.proofs.lemmas.Bool.{eqb-true, and_parts, not-false}
+use Rattle.std.proofs.lemmas.Bool.{and_parts, not-false}
 use Rattle.std.proofs.lemmas.Bool.Decides.{nat_tests}
 use Rattle.rc_model.specs.Model.{ServerId, Pair, Addr, Server, Outside, Row, Part, Tablet, Grant, Fault, Deposed, StaleGeneration}
 use Rattle.rc_model.specs.Model.{StaleAttempt, NotReady, NoTable, BadSplit, TableExists, TooManyTablets, Recovering, Message, Body}
@@ -10,11 +10,11 @@ use Rattle.rc_model.specs.Model.{Enlist, Ready, Commit, CommitOk, Replicas, Reco
 use Rattle.rc_model.specs.Model.{from_coordinator, coordinator_refuses, coordinator_tells, same_id, ServerList, is_up, has_crashed}
 use Rattle.rc_model.specs.Model.{is_newest, enlisted, crashed, up, holds, has_table, tablet_of, tablets_of, with_table, whole_table}
 use Rattle.rc_model.specs.Model.{split_at, marked_crashed, has_range, assigned, pick, greater_pair, Attempt, Decision, GivenPart}
-use Rattle.rc_model.specs.Model.{has_answered, is_gathering, parts_of, plan_messages, gives_parts, new_coordinator, refuses_server}
+use Rattle.rc_model.specs.Model.{has_answered, is_gathering, plan_messages, gives_parts, new_coordinator, refuses_server}
 use Rattle.rc_model.specs.Model.{list_body, spreads_list, begins_attempt, has_tablets, begins_if_needed, spreads_then_begins, attempt_at}
 use Rattle.rc_model.specs.Model.{with_attempt, up_of_host, follows_generation, enlists, notes_ready, with_crashed, suspects, commits_pair}
 use Rattle.rc_model.specs.Model.{is_current, with_answer, keeps_answer_in, ready_ids, decision_of, decides_on, decides_with}
-use Rattle.rc_model.specs.Model.{decides_attempt, decides, own_body, range_of, grant_of, is_grant_to, grant_to, part_in, part_if_current}
+use Rattle.rc_model.specs.Model.{decides_attempt, decides, own_body, range_of, grant_of, is_grant_to, grant_to}
 use Rattle.rc_model.specs.Model.{part_of_sender, grants_part, grants_if_given, grants_or_repeats, takes_recovered, first_grant}
 use Rattle.rc_model.specs.Model.{creates_table, is_too_many, creates, split_fault, splits_unless, splits, has_open_part, asks_again}
 use Rattle.rc_model.specs.Model.{asks_again_of, coordinator_ticks, coordinator_takes, Work, Take, Create, Split, coordinator_step}
@@ -32,8 +32,9 @@ use Rattle.rc_owner_laws.proofs.Tablets.{some-none, owner_at-marked, apart-marke
 use Rattle.rc_owner_laws.proofs.Tablets.{owner_at-beside, owner_at-before, apart-new, assigned-beside, assigned-within, apart-assigned}
 use Rattle.rc_owner_laws.proofs.Chains.{found-at, of_owner, apart-of_owner, IsPartOf, part-of, length-gives, parts-apart, part-once}
 use Rattle.rc_owner_laws.proofs.Granting.{kept-good, IsNewGrant, granted-good}
-use Rattle.rc_owner_laws.proofs.Decided.{find-none, gives, given-in, OwnSays, says-none, says-one}
+use Rattle.rc_owner_laws.proofs.Decided.{gives, OwnSays, says-none, says-one}
 use Rattle.rc_owner_laws.proofs.Decided.{says-each, says-join, says-plans, begun-good, answered-decided, newly-decided}
+use Rattle.rc_owner_laws.proofs.Decided.{IsSenders, senders, senders-decided, senders-open}
 use Rattle.rc_model.proofs.Ids.{same_id-true}
 use Rattle.rc_model.proofs.Tests.{true_false, either}
 use Rattle.rc_step_laws.proofs.Tests.{find-one}
@@ -409,62 +410,7 @@ module _ (sent : List Message) (c : Coordinator) (base : GoodCoordinator sent c)
       told one (inr (inl same)) = inr (inl (ap (λ (g : Grant). from_coordinator g.owner (own_body g)) same))
       told one (inr (inr never)) = absurd never
 
-  -- the part that is granted: it was given to the sender in an attempt that is current
-  pub record IsSenders (id : ServerId) (number term : ℕ) (part : Part) : Type 0 where
-    pub attempt : Attempt
-    pub numbered : IsNumbered c.attempts number attempt
-    pub current : c.current attempt.master ≡ number
-    pub decision : Decision
-    pub decided : attempt.decided ≡ Some decision
-    pub among : In (gives id part) decision.parts
-    pub term_is : part.term ≡ term
-
-  senders-in : (id : ServerId) (number term : ℕ) (part : Part) (attempt : Attempt) (decided : Option Decision) →
-      IsNumbered c.attempts number attempt → c.current attempt.master ≡ number → attempt.decided ≡ decided →
-      part_in id term decided ≡ Some part → IsSenders id number term part
-  senders-in id number term part attempt None numbered current is found = cc
-  senders-in id number term part attempt (Some decision) numbered current is found =
-      let one : In part (parts_of id decision.parts) × (nat_eq part.term term ≡ true) =
-      find-one (λ (p : Part). nat_eq p.term term) (parts_of id decision.parts) part found in
-      record {
-        attempt = attempt;
-        numbered = numbered;
-        current = current;
-        decision = decision;
-        decided = is;
-        among = given-in id decision.parts part one.0;
-        term_is = eqb-true part.term term one.1;
-      }
-
-  pub senders : (id : ServerId) (number term : ℕ) (part : Part) (found : Option Attempt) →
-      ((attempt : Attempt) → found ≡ Some attempt → IsNumbered c.attempts number attempt) →
-      part_if_current c id number term found ≡ Some part → IsSenders id number term part
-  senders id number term part None numbered is = cc
-  senders id number term part (Some attempt) numbered is =
-      either (λ (one : Option Part). one ≡ Some part → IsSenders id number term part) (is_current c number attempt)
-      (part_in id term attempt.decided) None
-      (λ current found. senders-in id number term part attempt attempt.decided (numbered attempt refl)
-      (eqb-true (c.current attempt.master) number current) refl found)
-      (λ _ none. cc) is
-
-  -- its attempt was decided, and where no grant of its term is found it was not granted
-  pub senders-decided : (id : ServerId) (number term : ℕ) (part : Part) → (mine : IsSenders id number term part) →
-      IsDecided c.attempts number mine.attempt.master mine.decision
-  senders-decided id number term part mine =
-      record { attempt = mine.attempt; numbered = mine.numbered; master_is = refl; decided = mine.decided }
-
-  pub senders-open : (id : ServerId) (number term : ℕ) (part : Part) → IsSenders id number term part →
-      grant_to c id term ≡ None → IsGiven c.grants (gives id part) → ⊥
-  senders-open id number term part mine none p = find-none (is_grant_to id term) c.grants p.grant none p.among passes
-    where
-      passes : (nat_eq p.grant.term term && same_id p.grant.owner id) ≡ true
-      passes = ap (λ n. nat_eq n term && same_id p.grant.owner id) (p.term ∙ mine.term_is) ∙
-          (ap (λ (m : ServerId). nat_eq term term && same_id m id) p.owner ∙ own term)
-        where
-          own : (n : ℕ) → (nat_eq n n && same_id id id) ≡ true
-          own n = grind (arith, nat_tests)
-
-  pub new-grant : (id : ServerId) (number term : ℕ) (part : Part) → IsSenders id number term part →
+  pub new-grant : (id : ServerId) (number term : ℕ) (part : Part) → IsSenders c id number term part →
       is_up c.servers id ≡ true → grant_to c id term ≡ None → has_range (range_of part) c.tablets ≡ true →
       IsNewGrant c (assigned (range_of part) id part.term c.tablets) (grant_of number id part) c.last_term
   new-grant id number term part mine is_up_now none has = record {
@@ -487,10 +433,10 @@ module _ (sent : List Message) (c : Coordinator) (base : GoodCoordinator sent c)
   }
     where
       is_decided : IsDecided c.attempts number mine.attempt.master mine.decision
-      is_decided = senders-decided id number term part mine
+      is_decided = senders-decided c id number term part mine
 
       not_yet : IsGiven c.grants (gives id part) → ⊥
-      not_yet = senders-open id number term part mine none
+      not_yet = senders-open c id number term part mine none
 
       waits : (table key : ℕ) → in_range (range_of part) table key ≡ true →
           owner_at c.tablets table key ≡ Some (mine.attempt.master, part.previous)
@@ -543,7 +489,7 @@ module _ (sent : List Message) (c : Coordinator) (base : GoodCoordinator sent c)
               (good.parted number mine.attempt.master mine.decision is_decided)
               (subst (λ (one : Decision). In given one.parts) decision_same at) mine.among within e
 
-  moved-grants_part : (id : ServerId) (number term : ℕ) (part : Part) → IsSenders id number term part →
+  moved-grants_part : (id : ServerId) (number term : ℕ) (part : Part) → IsSenders c id number term part →
       is_up c.servers id ≡ true → grant_to c id term ≡ None → GrantsMoved c (grants_part c id number part)
   moved-grants_part id number term part mine is_up_now none =
       either (λ (after : Coordinator × List Message). GrantsMoved c after) (has_range (range_of part) c.tablets) (
@@ -564,7 +510,8 @@ module _ (sent : List Message) (c : Coordinator) (base : GoodCoordinator sent c)
       GrantsMoved c (grants_if_given c id number part)
   moved-grants_if_given id number term None found is_up_now none = refused_server id StaleAttempt
   moved-grants_if_given id number term (Some part) found is_up_now none =
-      moved-grants_part id number term part (senders id number term part (attempt_at c number) (numbered-at c number) found) is_up_now none
+      moved-grants_part id number term part (senders c id number term part (attempt_at c number) (numbered-at c number) found) is_up_now
+      none
 
   moved-grants_or_repeats : (id : ServerId) (number term : ℕ) (grant : Option Grant) → grant_to c id term ≡ grant →
       is_up c.servers id ≡ true → GrantsMoved c (grants_or_repeats c id number term grant)

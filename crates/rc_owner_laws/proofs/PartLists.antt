@@ -63,9 +63,6 @@ under-In term x (y ∷ xs) at =
 
 -- How many there are
 
-pub count-append : (term : ℕ) (xs ys : List Entry) → count_under term (xs ++ ys) ≡ count_under term xs + count_under term ys
-count-append term xs ys = ap length (under-append term xs ys) ∙ length-append (under term xs) (under term ys)
-
 count-step : (term d : ℕ) (x : Entry) (xs ys : List Entry) → count_under term xs ≤ count_under term ys →
     count_under term (x ∷ xs) ≤ count_under term (x ∷ ys)
 count-step term d x xs ys less = by (nat_eq x.term term)

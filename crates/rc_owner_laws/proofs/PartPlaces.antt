@@ -1,11 +1,11 @@
 -- Changes of a log that leave its places.
-use Rattle.std.proofs.Common.{◌≡◌, ℕ, suc, ◌+◌, ◌-◌, ◌<◌, Bool, true, false, List, [], ◌++◌, nat_eq, nat_lt, Option}
+use Rattle.std.proofs.Common.{◌≡◌, ℕ, suc, ◌+◌, ◌<◌, Bool, true, false, List, [], ◌++◌, nat_eq, nat_lt, Option}
 use Rattle.std.proofs.Common.{Some, None, Ok, Err, refl, sym, ap, add-one, ◌∙◌, subst, arith}
 use Rattle.std.proofs.lemmas.Bool.{and_parts, eqb-true, ltb-true, ne_eqb}
-use Rattle.rc_model.specs.Model.{ServerId, Writing, Fault, Message, put, ServerList, Config, lose, refill, with_lost, any_lost, changed}
+use Rattle.rc_model.specs.Model.{ServerId, Writing, Message, put, ServerList, Config, lose, refill, with_lost, any_lost, changed}
 use Rattle.rc_model.specs.Model.{changes_to, substitutes_for, refills_with, Segment, new_segment, under_new_epoch, Log, places_in}
-use Rattle.rc_model.specs.Model.{places_to, places_of, old_head_of, has_old_head, has_segment, with_segment, is_opening, is_closing}
-use Rattle.rc_model.specs.Model.{opens_head, with_config, stored, commit_noted, opens_change, refills, loses, shuts, with_shut, may_start}
+use Rattle.rc_model.specs.Model.{places_to, places_of, has_old_head, has_segment, with_segment, is_opening, is_closing}
+use Rattle.rc_model.specs.Model.{opens_head, with_config, stored, commit_noted, opens_change, refills, loses, may_start}
 use Rattle.rc_model.specs.Model.{may_write, left_out, starts, closes_old, writes_on, Master, with_log}
 use Rattle.rc_model.proofs.Tables.{put_each, put-same, put-other}
 use Rattle.rc_model.proofs.LogParts.{places_to-agrees, marked, with_freed-marked, marked-alone}
@@ -117,11 +117,6 @@ same-opens log digest ids = record {
     last = ap (λ k. (new k).entries) (sym (add-one log.head)) ∙ ap (λ (s : Segment). s.entries) (put-same log.segments (log.head + 1) fresh)
 
 -- Going on
-
-pub same-shut : (log : Log) → SamePlaces log (with_shut log)
-same-shut log =
-    either (SamePlaces log) (shuts log) (with_segment (log.head - 1) (record (old_head_of log) { shut = true }) log) log
-    (λ _. same-segment log (log.head - 1) (record (old_head_of log) { shut = true }) refl) (λ _. same-refl log)
 
 pub same-starts : (log : Log) → may_start log ≡ true → SamePlaces log (starts log)
 same-starts log e =

@@ -7,8 +7,8 @@ use Rattle.rc_model.specs.Model.{ServerId, Addr, Server, Outside, Entry, Part, P
 use Rattle.rc_model.specs.Model.{to_coordinator, refuses, from_rows, Log, LogPlace, places_of, head_of, is_writing, durable_now, stored}
 use Rattle.rc_model.specs.Model.{commit_noted, PartState, Ownership, term_of, owns_term, knows_term, put_data, grant, is_to_answer}
 use Rattle.rc_model.specs.Model.{is_complete, to_answer, after_answer, after_replay, without_first, Master, Task, with_log}
-use Rattle.rc_model.specs.Model.{durable_entries, ids_of, not_lost, appends_entry, refused, written, writes, reads_if_owned, reads}
-use Rattle.rc_model.specs.Model.{write_oks, new_durable, replays, attempt_of, fetch_of, reminds, task_of, In, closes_old, left_out}
+use Rattle.rc_model.specs.Model.{durable_entries, ids_of, not_lost, appends_entry, refused, written, reads_if_owned}
+use Rattle.rc_model.specs.Model.{write_oks, new_durable, attempt_of, fetch_of, reminds, task_of, In, closes_old, left_out}
 use Rattle.rc_model.specs.Model.{starts, writes_on, old_head_of, with_segment, is_unclosed, with_closes_sent, close_marked}
 use Rattle.rc_model.specs.Model.{frees_segments}
 use Rattle.rc_types.specs.declared.ids.Addr.TheVariants.{Coordinator}

@@ -1,7 +1,7 @@
 -- Moves that leave what the facts read, and moves one after another.
 use Rattle.std.proofs.Common.{◌≡◌, ◌⊎◌, ℕ, ◌≤◌, List, [], ◌∷◌, ◌++◌, take, map, refl, sym, ap, ◌∙◌, subst, inl, inr, arith}
 use Rattle.rc_model.specs.Model.{ServerId, Addr, Entry, Part, Message, Body, between, PartRow, PartState, count_under, Master, Task}
-use Rattle.rc_model.specs.Model.{to_ids, attempt_of, then_does, In}
+use Rattle.rc_model.specs.Model.{to_ids, attempt_of, In}
 use Rattle.rc_types.specs.declared.messages.Body.TheVariants as body
 use Rattle.rc_model.proofs.Members.{In-left, In-append, In-map}
 use Rattle.rc_step_laws.proofs.Lists.{begins-refl, begins-trans}
@@ -119,13 +119,6 @@ pub plain-one : (one : Message) → IsPlain one.body → AllPlain (one ∷ [])
 plain-one one is message (inl e) = subst (λ (some : Message). IsPlain some.body) (sym e) is
 plain-one one is message (inr rest) = absurd rest
 
-pub plain-both : (first second : List Message) → AllPlain first → AllPlain second → AllPlain (first ++ second)
-plain-both first second p q message at = by (In-append message first second at)
-  where
-    by : In message first ⊎ In message second → IsPlain message.body
-    by (inl there) = p message there
-    by (inr there) = q message there
-
 pub plain-mapped : {X : Type 0} (f : X → Message) (xs : List X) → ((x : X) → IsPlain (f x).body) → AllPlain (map f xs)
 plain-mapped f xs all message at =
     let found = In-map f message xs at in subst (λ (one : Message). IsPlain one.body) (sym found.2) (all found.0)
@@ -163,12 +156,6 @@ moved-then sent m one done after p q = record {
     by message (inl there) = said-later sent m (part_view done.0) (part_view after.0) p.good q.later message.to
         message.body (p.says message there)
     by message (inr there) = q.says message there
-
-pub moved-then_does : (sent : List Message) (m : ServerId) (one : Master) (done : Master × List Message)
-    (rule : Master → Master × List Message) → PartsMoved sent m one done
-    → (HasHead done.0.log → GoodParts sent m (part_view done.0) → PartsMoved sent m done.0 (rule done.0)) →
-    PartsMoved sent m one (then_does done rule)
-moved-then_does sent m one done rule p next = moved-then sent m one done (rule done.0) p (next p.head p.good)
 
 -- More was sent
 

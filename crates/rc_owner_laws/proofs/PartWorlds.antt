@@ -1,5 +1,5 @@
 -- What holds of each master's parts holds of every world that a list of events leads to.
-use Rattle.std.proofs.Common.{◌≡◌, ◌⊎◌, ℕ, ◌+◌, List, [], ◌∷◌, ◌++◌, refl, sym, ap, ◌∙◌, subst, inl, inr, true}
+use Rattle.std.proofs.Common.{◌≡◌, ◌⊎◌, ℕ, List, [], ◌∷◌, ◌++◌, refl, sym, ap, ◌∙◌, subst, inl, inr, true}
 use Rattle.rc_model.specs.Model.{ServerId, Addr, Server, Outside, Part, Grant, Setup, Event, Message, Body, to_coordinator, PartState}
 use Rattle.rc_model.specs.Model.{Master, master_takes, master_ticks, own_body, master_setup, World, opening, step, replay_from, replay}
 use Rattle.rc_model.specs.Model.{In}
@@ -8,7 +8,6 @@ use Rattle.rc_types.specs.declared.messages.Body.TheVariants as body
 use Rattle.rc_model.proofs.Members.{In-append}
 use Rattle.rc_step_laws.specs.Facts.{GoodMaster}
 use Rattle.rc_step_laws.proofs.Rolling.{writing-is}
-use Rattle.rc_step_laws.proofs.CoordinatorSteps as coordinator
 use Rattle.rc_log_laws.proofs.Replays.{GoodWorld, good-world}
 use Rattle.rc_log_laws.proofs.Since.{replay_from-append}
 use Rattle.rc_owner_laws.specs.Grants.{IsOwn, IsPlanOf}

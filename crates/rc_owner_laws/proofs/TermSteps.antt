@@ -1,18 +1,18 @@
 -- Each step of the coordinator keeps what holds of terms.
 use Rattle.std.proofs.Common.{◌≡◌, ◌⊎◌, ℕ, ◌+◌, ◌-◌, ◌≤◌, true, false, cond, not, ◌&&◌, List, [], ◌∷◌, ◌++◌, length, nat_eq, slice_get}
 use Rattle.std.proofs.Common.{slice_set, Option, Some, None, option_map, Result, Ok, Err, refl, sym, ap, ◌∙◌, subst, inl, inr, arith}
-use Rattle.std.proofs.lemmas.Bool.{eqb-true, and_parts}
+use Rattle.std.proofs.lemmas.Bool.{and_parts}
 use Rattle.std.proofs.lemmas.Bool.Decides.{nat_tests}
 use Rattle.rc_model.specs.Model.{ServerId, Pair, Addr, Server, Row, Part, Tablet, Grant, Fault, Deposed, StaleGeneration, StaleAttempt}
 use Rattle.rc_model.specs.Model.{NotReady, NoTable, TableExists, TooManyTablets, Message, Body, Enlist, Ready, Commit, CommitOk, Replicas}
 use Rattle.rc_model.specs.Model.{Recovered, put_id, from_coordinator, to_coordinator, coordinator_refuses, same_id, is_up, has_crashed}
 use Rattle.rc_model.specs.Model.{is_newest, enlisted, has_table, tablet_of, with_table, split_at, marked_crashed, has_range, assigned}
-use Rattle.rc_model.specs.Model.{pick, greater_pair, Attempt, Decision, GivenPart, new_attempt, has_answered, is_gathering, parts_of}
+use Rattle.rc_model.specs.Model.{pick, greater_pair, Attempt, Decision, GivenPart, new_attempt, has_answered, is_gathering}
 use Rattle.rc_model.specs.Model.{new_coordinator, refuses_server, list_body, begins_attempt, has_tablets, begins_if_needed}
 use Rattle.rc_model.specs.Model.{spreads_then_begins, attempt_at, with_attempt, up_of_host, follows_generation, enlists, notes_ready}
 use Rattle.rc_model.specs.Model.{with_crashed, suspects, commits_pair, is_current, with_answer, keeps_answer_in, ready_ids, decision_of}
-use Rattle.rc_model.specs.Model.{decides_on, decides_with, decides_attempt, own_body, range_of, grant_of, is_grant_to, grant_to, part_in}
-use Rattle.rc_model.specs.Model.{part_if_current, part_of_sender, grants_part, grants_if_given, grants_or_repeats, takes_recovered}
+use Rattle.rc_model.specs.Model.{decides_on, decides_with, decides_attempt, own_body, range_of, grant_of, is_grant_to, grant_to}
+use Rattle.rc_model.specs.Model.{part_of_sender, grants_part, grants_if_given, grants_or_repeats, takes_recovered}
 use Rattle.rc_model.specs.Model.{first_grant, creates_table, is_too_many, creates, split_fault, splits_unless, splits, coordinator_takes}
 use Rattle.rc_model.specs.Model.{Work, Take, Create, Split, coordinator_step, in_range, In}
 use Rattle.rc_types.specs.declared.ids.Addr.TheVariants.{Coordinator as AtCoordinator}
@@ -22,12 +22,11 @@ use Rattle.rc_model.specs.Nodes.{Tick, Suspect, Decide}
 use Rattle.rc_model.proofs.Members.{In-get}
 use Rattle.rc_step_laws.specs.All.{IsNumbered, CoordinatorLater}
 use Rattle.rc_step_laws.proofs.Lists.{get-append, get-set}
-use Rattle.rc_step_laws.proofs.Tests.{find-one}
 use Rattle.rc_step_laws.proofs.Attempting.{numbered-at, undecided-none}
 use Rattle.rc_owner_laws.specs.Grants.{owner_of, owner_at, IsDecided, GoodGrants}
 use Rattle.rc_owner_laws.proofs.Tablets.{some-none, owner_at-marked, owner_at-split, owner_at-new, owner_at-beside}
 use Rattle.rc_owner_laws.proofs.Tablets.{assigned-beside, assigned-within}
-use Rattle.rc_owner_laws.proofs.Decided.{gives, given-in, find-none}
+use Rattle.rc_owner_laws.proofs.Decided.{gives, find-none, IsSenders, senders}
 use Rattle.rc_owner_laws.specs.Terms.{IsGivenBy, GoodTerms}
 use Rattle.rc_owner_laws.proofs.Keeping.{decided-later, SameTerms, same-refl, same-trans, kept-terms, IsNewTerm}
 use Rattle.rc_owner_laws.proofs.Keeping.{granted-terms, decided-terms}
@@ -204,45 +203,7 @@ module _ (sent : List Message) (c : Coordinator) (grants : GoodGrants c) (good :
 
   -- Grants
 
-  -- the part that is granted: it was given to the sender in an attempt that is current
-  record IsSenders (id : ServerId) (number term : ℕ) (part : Part) : Type 0 where
-    attempt : Attempt
-    numbered : IsNumbered c.attempts number attempt
-    current : c.current attempt.master ≡ number
-    decision : Decision
-    decided : attempt.decided ≡ Some decision
-    among : In (gives id part) decision.parts
-    term_is : part.term ≡ term
-
-  senders-in : (id : ServerId) (number term : ℕ) (part : Part) (attempt : Attempt) (decided : Option Decision) →
-      IsNumbered c.attempts number attempt → c.current attempt.master ≡ number → attempt.decided ≡ decided →
-      part_in id term decided ≡ Some part → IsSenders id number term part
-  senders-in id number term part attempt None numbered current is found = cc
-  senders-in id number term part attempt (Some decision) numbered current is found =
-      let one : In part (parts_of id decision.parts) × (nat_eq part.term term ≡ true) =
-      find-one (λ (p : Part). nat_eq p.term term) (parts_of id decision.parts) part found in
-      record {
-        attempt = attempt;
-        numbered = numbered;
-        current = current;
-        decision = decision;
-        decided = is;
-        among = given-in id decision.parts part one.0;
-        term_is = eqb-true part.term term one.1;
-      }
-
-  senders : (id : ServerId) (number term : ℕ) (part : Part) (found : Option Attempt) →
-      ((attempt : Attempt) → found ≡ Some attempt → IsNumbered c.attempts number attempt) →
-      part_if_current c id number term found ≡ Some part → IsSenders id number term part
-  senders id number term part None numbered is = cc
-  senders id number term part (Some attempt) numbered is =
-      either (λ (one : Option Part). one ≡ Some part → IsSenders id number term part) (is_current c number attempt)
-      (part_in id term attempt.decided) None
-      (λ current found. senders-in id number term part attempt attempt.decided (numbered attempt refl)
-      (eqb-true (c.current attempt.master) number current) refl found)
-      (λ _ none. cc) is
-
-  new-term : (id : ServerId) (number term : ℕ) (part : Part) → IsSenders id number term part →
+  new-term : (id : ServerId) (number term : ℕ) (part : Part) → IsSenders c id number term part →
       grant_to c id term ≡ None → has_range (range_of part) c.tablets ≡ true →
       In (to_coordinator id (Recovered number term)) sent →
       IsNewTerm sent c (assigned (range_of part) id part.term c.tablets) (grant_of number id part) c.last_term
@@ -295,7 +256,7 @@ module _ (sent : List Message) (c : Coordinator) (grants : GoodGrants c) (good :
       waits table key e = grants.waiting number mine.attempt.master mine.decision is_decided mine.current
           (gives id part) mine.among (λ p. no-grant p.grant p.among p.term p.owner) table key e
 
-  keeps-grants_part : (id : ServerId) (number term : ℕ) (part : Part) → IsSenders id number term part →
+  keeps-grants_part : (id : ServerId) (number term : ℕ) (part : Part) → IsSenders c id number term part →
       grant_to c id term ≡ None → In (to_coordinator id (Recovered number term)) sent →
       Keeps (grants_part c id number part)
   keeps-grants_part id number term part mine none at =
@@ -318,7 +279,7 @@ module _ (sent : List Message) (c : Coordinator) (grants : GoodGrants c) (good :
       Keeps (grants_if_given c id number part)
   keeps-grants_if_given id number term None found none at = still (refuses_server id StaleAttempt ∷ [])
   keeps-grants_if_given id number term (Some part) found none at =
-      keeps-grants_part id number term part (senders id number term part (attempt_at c number) (numbered-at c number) found) none at
+      keeps-grants_part id number term part (senders c id number term part (attempt_at c number) (numbered-at c number) found) none at
 
   keeps-recovered : (id : ServerId) (number term : ℕ) → In (to_coordinator id (Recovered number term)) sent →
       Keeps (takes_recovered c id number term)

@@ -22,7 +22,7 @@ use Rattle.rc_types.specs.declared.rows.Plan.{Plan}
 use Rattle.rc_types.specs.declared.messages.Body.TheVariants.{Plan as PlanBody}
 use Rattle.rc_model.specs.Coordinator.{Coordinator}
 use Rattle.rc_model.specs.Nodes.{Tick, Suspect, Decide}
-use Rattle.rc_model.proofs.Members.{In-left, In-append}
+use Rattle.rc_model.proofs.Members.{In-left}
 use Rattle.rc_step_laws.specs.All.{GoodCoordinator, IsNumbered}
 use Rattle.rc_step_laws.proofs.Servers.{crashed-not-up}
 use Rattle.rc_step_laws.proofs.Attempting.{numbered-at, undecided-none}
@@ -32,13 +32,14 @@ use Rattle.rc_owner_laws.proofs.Tablets.{some-none}
 use Rattle.rc_owner_laws.proofs.Chains.{of_owner, IsPartOf, part-of}
 use Rattle.rc_owner_laws.proofs.Granting.{IsNewGrant}
 use Rattle.rc_owner_laws.proofs.Decided.{gives, begun-decided, answered-decided, newly-decided}
-use Rattle.rc_owner_laws.proofs.OwnerSteps.{IsSenders, senders, senders-decided, senders-open, new-grant}
+use Rattle.rc_owner_laws.proofs.OwnerSteps.{new-grant}
+use Rattle.rc_owner_laws.proofs.Decided.{IsSenders, senders, senders-decided, senders-open}
 use Rattle.rc_owner_laws.proofs.Marks.{EachTablet, MarkedStay, stay-marked, each-marked, IsSplit, stay-split}
 use Rattle.rc_owner_laws.proofs.Marks.{each-split, stay-inserted, each-inserted, each-assigned, stay-assigned}
 use Rattle.rc_owner_laws.proofs.Marks.{its-range, first-key, ranged, tablet-in, up-crashed, up-enlisted, up-of_host}
 use Rattle.rc_model.proofs.Ids.{same_id-refl}
 use Rattle.rc_model.proofs.Tests.{true_false, either}
-use Rattle.rc_step_laws.proofs.Copies.{split}
+use Rattle.rc_step_laws.proofs.Copies.{split, In-either}
 
 -- Messages
 
@@ -57,11 +58,7 @@ each-lacks body is (id ∷ ids) message (inl same) = ap (λ (one : Message). lac
 each-lacks body is (id ∷ ids) message (inr rest) = each-lacks body is ids message rest
 
 both-lack : (first second : List Message) → NoneLacksTablet first → NoneLacksTablet second → NoneLacksTablet (first ++ second)
-both-lack first second p q message at = by (In-append message first second at)
-  where
-    by : In message first ⊎ In message second → lacks_tablet message.from message.to message.body ≡ false
-    by (inl a) = p message a
-    by (inr b) = q message b
+both-lack first second p q message at = In-either message first second at (λ a. p message a) (λ b. q message b)
 
 list-lacks : (servers : ServerList) → NoneLacksTablet (spreads_list servers)
 list-lacks servers = each-lacks (list_body servers) other (up servers)
@@ -430,14 +427,14 @@ module _ (sent : List Message) (c : Coordinator) (base : GoodCoordinator sent c)
 
   -- the part of a sender waits for its tablet, so there is one
   pub sender-waits : (id : ServerId) (number term : ℕ) (part : Part) →
-      (mine : IsSenders sent c base grants id number term part) → grant_to c id term ≡ None →
+      (mine : IsSenders c id number term part) → grant_to c id term ≡ None →
       IsTablet c.tablets mine.attempt.master part
   sender-waits id number term part mine none =
       good.waiting number mine.attempt.master mine.decision
-      (senders-decided sent c base grants id number term part mine) mine.current (gives id part) mine.among
-      (senders-open sent c base grants id number term part mine none)
+      (senders-decided c id number term part mine) mine.current (gives id part) mine.among
+      (senders-open c id number term part mine none)
 
-  granted-good : (id : ServerId) (number term : ℕ) (part : Part) → IsSenders sent c base grants id number term part →
+  granted-good : (id : ServerId) (number term : ℕ) (part : Part) → IsSenders c id number term part →
       is_up c.servers id ≡ true → grant_to c id term ≡ None → has_range (range_of part) c.tablets ≡ true →
       GoodTablets (record c {
         tablets = assigned (range_of part) id part.term c.tablets;
@@ -469,7 +466,7 @@ module _ (sent : List Message) (c : Coordinator) (base : GoodCoordinator sent c)
           (stay-assigned (range_of part) id part.term c.tablets waits.tablet waits.among differs))
 
   moves-grants_part : (id : ServerId) (number term : ℕ) (part : Part) →
-      IsSenders sent c base grants id number term part → is_up c.servers id ≡ true → grant_to c id term ≡ None →
+      IsSenders c id number term part → is_up c.servers id ≡ true → grant_to c id term ≡ None →
       Moves (grants_part c id number part)
   moves-grants_part id number term part mine is_up_now none =
       either Moves (has_range (range_of part) c.tablets) (
@@ -494,7 +491,7 @@ module _ (sent : List Message) (c : Coordinator) (base : GoodCoordinator sent c)
       Moves (grants_if_given c id number part)
   moves-grants_if_given id number term None found is_up_now none = refused_server id StaleAttempt refl
   moves-grants_if_given id number term (Some part) found is_up_now none =
-      moves-grants_part id number term part (senders sent c base grants id number term part (attempt_at c number)
+      moves-grants_part id number term part (senders c id number term part (attempt_at c number)
       (numbered-at c number) found) is_up_now none
 
   moves-grants_or_repeats : (id : ServerId) (number term : ℕ) (grant : Option Grant) → grant_to c id term ≡ grant →

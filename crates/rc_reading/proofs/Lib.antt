@@ -10,3 +10,5 @@ pub mod Noted
 pub mod TopNoted
 pub mod Texts
 pub mod Sets
+pub mod Loops
+pub mod Objects

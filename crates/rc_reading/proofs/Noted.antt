@@ -1,9 +1,8 @@
 -- The fields of an event after one more member.
-use Rattle.std.proofs.Common.{◌≡◌, ℕ, ◌-◌, ◌<◌, List, [], ◌∷◌, Bool, true, false, ◌&&◌, if◌then◌else◌, codes, Option}
+use Rattle.std.proofs.Common.{◌≡◌, ℕ, List, [], ◌∷◌, Bool, true, false, ◌&&◌, if◌then◌else◌, codes, Option}
 use Rattle.std.proofs.Common.{Some, None, option_map, option_and_then, bytes_eq, refl, ap, ◌∙◌}
-use Rattle.std.proofs.lemmas.Slice.Eq.{bytes_eq-Decides}
 use Rattle.json.specs.Token.{Token}
-use Rattle.serde_json.specs.Data.{Data, null, boolean, number, string, array, object, Members, no_members, put}
+use Rattle.serde_json.specs.Data.{Data, null, boolean, number, string, array, object, Members, put}
 use Rattle.serde_json.specs.Find.{get, as_object}
 use Rattle.rc_types.specs.declared.ids.ServerId.{ServerId}
 use Rattle.rc_types.specs.declared.ids.Addr.TheVariants.{Coordinator, Server}
@@ -12,14 +11,13 @@ use Rattle.rc_reading.specs.declared.names.EventName.{EventName}
 use Rattle.rc_reading.specs.declared.names.EventName.TheVariants as event
 use Rattle.rc_types.specs.declared.events.Event.{Event}
 use Rattle.rc_types.specs.declared.events.Event.TheVariants.{Stop, Suspect, Decide}
-use Rattle.rc_reading.specs.declared.scenarios.ScenarioEvent.{ScenarioEvent}
 use Rattle.rc_reading.specs.declared.scenarios.ScenarioEvent.TheVariants.{Core}
 use Rattle.rc_reading.specs.All.{no_kinds, no_hosts, start_members, id_members, write_members, read_members, deliver_members}
 use Rattle.rc_reading.specs.All.{settle_members, create_members, split_members, is_one_of, has_only, only, field, host_of, table_of, key_of}
 use Rattle.rc_reading.specs.All.{message_of, id_of, addr_of, kept_of, kinds_of, hosts_of, written, event_name, event_of, event_by}
-use Rattle.rc_reading.specs.All.{member_named, noted, fields_of, server_in, event_from, event_in, told, says, members_at}
-use Rattle.rc_reading.proofs.Turns.{told_of, says_some, opened_object}
-use Rattle.rc_reading.proofs.Puts.{field_put, optional_put, only_put, either}
+use Rattle.rc_reading.specs.All.{member_named, noted, fields_of, server_in, event_from, event_in, says}
+use Rattle.rc_reading.proofs.Objects.{no_object_says}
+use Rattle.rc_reading.proofs.Puts.{field_put, optional_put, only_put, by_names}
 
 -- the same, by the texts of the names
 abbrev expanded : List ℕ → Data → Fields → Fields
@@ -76,27 +74,13 @@ put_expanded k d ms =
     )
     refl
 
-module _ (k : List ℕ) (d : Data) (f : Fields) where
-  by : (name : List ℕ) → bytes_eq k name ≡ true → expanded name d f ≡ noted (member_named name) d f →
-      expanded k d f ≡ noted (member_named k) d f
-  by name is known = let same : k ≡ name = (bytes_eq-Decides k name).0 is in rw same known
-
-  expanded_noted : expanded k d f ≡ noted (member_named k) d f
-  expanded_noted =
-      either (bytes_eq k (codes "e")) (λ is. by (codes "e") is refl) (λ n1.
-      either (bytes_eq k (codes "host")) (λ is. by (codes "host") is refl) (λ n2.
-      either (bytes_eq k (codes "kept")) (λ is. by (codes "kept") is refl) (λ n3.
-      either (bytes_eq k (codes "id")) (λ is. by (codes "id") is refl) (λ n4.
-      either (bytes_eq k (codes "to")) (λ is. by (codes "to") is refl) (λ n5.
-      either (bytes_eq k (codes "table")) (λ is. by (codes "table") is refl) (λ n6.
-      either (bytes_eq k (codes "key")) (λ is. by (codes "key") is refl) (λ n7.
-      either (bytes_eq k (codes "value")) (λ is. by (codes "value") is refl) (λ n8.
-      either (bytes_eq k (codes "n")) (λ is. by (codes "n") is refl) (λ n9.
-      either (bytes_eq k (codes "kinds")) (λ is. by (codes "kinds") is refl) (λ n10.
-      either (bytes_eq k (codes "hosts")) (λ is. by (codes "hosts") is refl) (λ n11.
-      either (bytes_eq k (codes "owner")) (λ is. by (codes "owner") is refl) (λ n12.
-      either (bytes_eq k (codes "at")) (λ is. by (codes "at") is refl) (λ n13.
-      rw (n1, n2, n3, n4, n5, n6, n7, n8, n9, n10, n11, n12, n13) refl)))))))))))))
+expanded_noted : (k : List ℕ) (d : Data) (f : Fields) → expanded k d f ≡ noted (member_named k) d f
+expanded_noted k d f =
+    by_names (λ name. expanded name d f ≡ noted (member_named name) d f) k
+    (codes "e" ∷ codes "host" ∷ codes "kept" ∷ codes "id" ∷ codes "to" ∷ codes "table" ∷ codes "key" ∷ codes "value" ∷ codes "n" ∷
+    codes "kinds" ∷ codes "hosts" ∷ codes "owner" ∷ codes "at" ∷ [])
+    refl refl refl refl refl refl refl refl refl refl refl refl refl
+    (λ n1 n2 n3 n4 n5 n6 n7 n8 n9 n10 n11 n12 n13. rw (n1, n2, n3, n4, n5, n6, n7, n8, n9, n10, n11, n12, n13) refl)
 
 pub put_noted : (k : List ℕ) (d : Data) (ms : Members) → fields_of (object (put k d ms)) ≡ noted (member_named k) d (fields_of (object ms))
 put_noted k d ms = put_expanded k d ms ∙ expanded_noted k d (fields_of (object ms))
@@ -161,25 +145,6 @@ pub event_of_fields : (d : Data) → event_of d ≡ event_in (fields_of d)
 unfolding event_of
 event_of_fields d = by_field (field (codes "e") event_name d) d
 
-pub no_event_of : (d : Data) → as_object d ≡ None → event_of d ≡ None
-unfolding event_of
-no_event_of null is = refl
-no_event_of (boolean b) is = refl
-no_event_of (number n) is = refl
-no_event_of (string s) is = refl
-no_event_of (array ds) is = refl
-no_event_of (object ms) is = absurd (cc)
-
--- the members of an object, read whole
-pub event_says : (depth : ℕ) (ts r : List Token) (fields : Fields) → 0 < depth →
-    told (λ ms. fields_of (object ms)) (members_at no_members (depth - 1) ts) ≡ Some (fields, r)
-    → says event_of depth (Token.begin_object ∷ ts) ≡ Some (event_in fields, r)
-event_says depth ts r fields some e =
-    let q = told_of (members_at no_members (depth - 1) ts) (λ ms. fields_of (object ms)) fields r e in
-    ap (told event_of) (opened_object depth ts some ∙ ap (told object) q.1) ∙
-    ap (λ o. Some (o, r)) (event_of_fields (object q.0) ∙ ap event_in q.2)
-
 pub no_event_says : (depth : ℕ) (ts r : List Token) → says as_object depth ts ≡ Some (None, r) → says event_of depth ts ≡ Some (None, r)
-no_event_says depth ts r e =
-    let q = says_some as_object depth ts r None e in
-    ap (told event_of) q.1 ∙ ap (λ o. Some (o, r)) (no_event_of q.0 q.2)
+unfolding event_of
+no_event_says = no_object_says event_of None refl (λ b. refl) (λ n. refl) (λ s. refl) (λ ds. refl)

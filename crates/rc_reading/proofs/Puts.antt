@@ -1,5 +1,5 @@
 -- What the members of an object say after one more.
-use Rattle.std.proofs.Common.{◌≡◌, ℕ, List, [], Bool, true, false, ◌&&◌, if◌then◌else◌, Option, Some, option_and_then, Ordering, Less}
+use Rattle.std.proofs.Common.{◌≡◌, ℕ, List, [], ◌∷◌, Bool, true, false, ◌&&◌, if◌then◌else◌, Option, Some, option_and_then, Ordering, Less}
 use Rattle.std.proofs.Common.{Equal, Greater, nat_cmp, is_eq, bytes_eq, true≢false, refl, sym, ap, ◌∙◌, subst}
 use Rattle.std.proofs.lemmas.Map.Text.{is_eq-slice_cmp}
 use Rattle.std.proofs.lemmas.Slice.Eq.{bytes_eq-Decides}
@@ -73,3 +73,27 @@ only_put all k d ms = among_put all k d ms
 pub either : {P : Type 0} (b : Bool) → (b ≡ true → P) → (b ≡ false → P) → P
 either true yes_so not_so = yes_so refl
 either false yes_so not_so = not_so refl
+
+-- What holds at each of these names, and where a text is none of them
+
+abbrev at_each : (List ℕ → Type 0) → List (List ℕ) → Type 0 → Type 0
+at_each P [] goal = goal
+at_each P (name ∷ names) goal = P name → at_each P names goal
+
+abbrev at_none : List ℕ → List (List ℕ) → Type 0 → Type 0
+at_none text [] goal = goal
+at_none text (name ∷ names) goal = bytes_eq text name ≡ false → at_none text names goal
+
+passed : (P : List ℕ → Type 0) (names : List (List ℕ)) (goal : Type 0) → goal → at_each P names goal
+passed P [] goal is = is
+passed P (name ∷ names) goal is = λ _. passed P names goal is
+
+mapped : (P : List ℕ → Type 0) (names : List (List ℕ)) (one other : Type 0) → (one → other) → at_each P names one → at_each P names other
+mapped P [] one other f is = f is
+mapped P (name ∷ names) one other f is = λ here. mapped P names one other f (is here)
+
+pub by_names : (P : List ℕ → Type 0) (text : List ℕ) (names : List (List ℕ)) → at_each P names (at_none text names (P text) → P text)
+by_names P text [] = λ other. other
+by_names P text (name ∷ names) = λ is. either (bytes_eq text name)
+    (λ same. passed P names _ (λ other. subst P (sym ((bytes_eq-Decides text name).0 same)) is))
+    (λ apart. mapped P names _ _ (λ by other. by (other apart)) (by_names P text names))

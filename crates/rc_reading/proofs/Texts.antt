@@ -1,13 +1,12 @@
 -- Texts, as the value that they are.
-use Rattle.std.proofs.Common.{◌≡◌, ℕ, List, [], ◌∷◌, Option, Some, None, option_and_then, Result, Err, refl, ap, ◌∙◌}
+use Rattle.std.proofs.Common.{◌≡◌, ℕ, List, [], ◌∷◌, Option, Some, None, option_and_then, refl, ap, ◌∙◌}
 use Rattle.json.specs.Token.{Token}
 use Rattle.json.specs.Lex.{tokens}
 use Rattle.json.specs.Json as json
 use Rattle.json.specs.Json.{if_last, value}
 use Rattle.serde_json.specs.Data.{Data}
 use Rattle.serde_json.specs.Read.{of_json, converted, read}
-use Rattle.rc_reading.specs.declared.scenarios.Scenario.{Scenario}
-use Rattle.rc_reading.specs.All.{of_value, of_text, scenario_of, data_at, says}
+use Rattle.rc_reading.specs.All.{data_at, says}
 use Rattle.rc_reading.proofs.Turns.{converted_some, refused, says_some}
 
 abbrev whole : Option (json.Json × List Token) → Option Data
@@ -26,20 +25,23 @@ whole_none None e = refl
 whole_none (Some (j, [])) e = refused [] (of_json j) e
 whole_none (Some (j, t ∷ r)) e = refl
 
--- a value and nothing after it
-pub text_says : (text : List ℕ) (said : Result Scenario ℕ) → says scenario_of 127 (tokens text) ≡ Some (said, []) → of_text text ≡ said
-text_says text said e =
-    let d = says_some scenario_of 127 (tokens text) [] said e in
-    ap of_value (whole_read text d.0 d.1) ∙ d.2
+-- a text whose tokens were read
+module _ (text : List ℕ) (ts : List Token) (is : ts ≡ tokens text) where
+  -- a value and nothing after it
+  pub text_says : {A : Type 0} (of : Data → A) (said : A) (r : List Token) → says of 127 ts ≡ Some (said, r) → r ≡ [] →
+      (d : Data) × (read text ≡ Some d) × (of d ≡ said)
+  text_says of said r e over =
+      let d = says_some of 127 ts r said e in
+      (d.0, whole_read text d.0 (rw (← is, ← over) d.1), d.2)
 
--- something after a value
-pub text_and_more : (text : List ℕ) (said : Result Scenario ℕ) (t : Token) (r : List Token) →
-    says scenario_of 127 (tokens text) ≡ Some (said, t ∷ r) → of_text text ≡ Err 0
-text_and_more text said t r e =
-    let d = says_some scenario_of 127 (tokens text) (t ∷ r) said e in
-    ap of_value (whole_and_more text d.0 t r d.1)
+  -- something after a value
+  pub text_and_more : {A : Type 0} (of : Data → A) (said : A) (r : List Token) (t : Token) (more : List Token) →
+      says of 127 ts ≡ Some (said, r) → r ≡ t ∷ more → read text ≡ None
+  text_and_more of said r t more e some =
+      let d = says_some of 127 ts r said e in
+      whole_and_more text d.0 t more (rw (← is, ← some) d.1)
 
--- no value
-pub text_refused : (text : List ℕ) → data_at 127 (tokens text) ≡ None → of_text text ≡ Err 0
-unfolding data_at
-text_refused text e = ap of_value (whole_none (value 127 (tokens text)) e)
+  -- no value
+  pub text_refused : data_at 127 ts ≡ None → read text ≡ None
+  unfolding data_at
+  text_refused e = whole_none (value 127 (tokens text)) (rw (← is) e)

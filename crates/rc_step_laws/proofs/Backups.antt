@@ -1,7 +1,7 @@
 -- Each step of a backup keeps what holds of it, and says only what it may say.
 use Rattle.std.proofs.Common.{◌≡◌, ◌⊎◌, ℕ, ◌≤◌, Bool, true, false, cond, ◌||◌, List, [], ◌∷◌, ◌++◌, length, take, filter, nat_eq, nat_lt}
 use Rattle.std.proofs.Common.{nat_le, Option, Some, None, refl, sym, ap, ◌∙◌, subst, inl, inr, arith}
-use Rattle.std.proofs.lemmas.Bool.{cases_eq, eq-eqb, or_cases, or_right, or_parts}
+use Rattle.std.proofs.lemmas.Bool.{cases_eq, or_cases, or_right, or_parts}
 use Rattle.std.specs.List.{list_any}
 use Rattle.rc_model.specs.Model.{ServerId, Addr, Server, Entry, Row, Part, Message, Body, Place, Append, Close, Free, Gather, Fetch}
 use Rattle.rc_model.specs.Model.{Stored, Replicas, Data, same_id, between, to_coordinator, Replica, Backup, Held, replica_of}
@@ -9,7 +9,7 @@ use Rattle.rc_model.specs.Model.{without_replica, replica_after, with_held, is_f
 use Rattle.rc_model.specs.Model.{row_of_replica, rows_of_replicas, fences, is_in_part, data_of, answers_fetch, backup_takes, restarted}
 use Rattle.rc_model.specs.Model.{Master, HostNode, server_of, In}
 use Rattle.rc_model.specs.Coordinator.{Coordinator}
-use Rattle.rc_model.proofs.Members.{In-left, In-append}
+use Rattle.rc_model.proofs.Members.{In-left}
 use Rattle.rc_model.proofs.Storing.{inserted}
 use Rattle.rc_step_laws.specs.All.{IsOf, held_at, IsCopy, IsAnswer, IsStored, StillStands, GoodHeld, GoodReplica, GoodHost, Good}
 use Rattle.rc_step_laws.specs.All.{HeldLater, OwnFine, BackupMoved, backup_body_said}
@@ -21,6 +21,7 @@ use Rattle.rc_step_laws.proofs.Storing.{held_later-refl, AllHeld, moved-kept}
 use Rattle.rc_model.proofs.Tables.{put_id-same}
 use Rattle.rc_model.proofs.Ids.{same_id-true}
 use Rattle.rc_model.proofs.Tests.{true_false, either}
+use Rattle.rc_step_laws.proofs.Copies.{In-either}
 
 -- Messages that neither place nor tell
 
@@ -38,21 +39,12 @@ held-quiet sent messages masters m index generation generation_now held quiet up
     (λ message at. In-left message sent messages at) back up nothing good
   where
     back : NoNewPlaces sent (sent ++ messages)
-    back n x s e digest entries closed at = by (In-append (between n x (Place s e digest entries closed)) sent messages at)
-      where
-        by : In (between n x (Place s e digest entries closed)) sent ⊎
-            In (between n x (Place s e digest entries closed)) messages →
-            In (between n x (Place s e digest entries closed)) sent
-        by (inl there) = there
-        by (inr new) = absurd (quiet.places n x s e digest entries closed new)
+    back n x s e digest entries closed at = In-either (between n x (Place s e digest entries closed)) sent messages at (λ there. there)
+        (λ new. absurd (quiet.places n x s e digest entries closed new))
 
     nothing : NothingNewlyTold sent (sent ++ messages) m index
-    nothing x s e len closed on at = by (In-append (between x m (Stored s e len closed)) sent messages at)
-      where
-        by : In (between x m (Stored s e len closed)) sent ⊎ In (between x m (Stored s e len closed)) messages →
-            In (between x m (Stored s e len closed)) sent
-        by (inl there) = there
-        by (inr new) = absurd (quiet.told x m s e len closed new)
+    nothing x s e len closed on at = In-either (between x m (Stored s e len closed)) sent messages at (λ there. there)
+        (λ new. absurd (quiet.told x m s e len closed new))
 
 pub quiet-none : Quiet []
 quiet-none = record { places = λ m x s e digest entries closed at. at; told = λ x m s e len closed at. at }

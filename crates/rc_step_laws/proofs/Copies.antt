@@ -1,7 +1,8 @@
 -- What holds of a copy, a replica or a row of an answer, holds of it later.
-use Rattle.std.proofs.Common.{◌≡◌, ◌⊎◌, ℕ, ◌<◌, ◌≤◌, Bool, true, false, List, length, map, slice_get, Some, refl, sym}
+use Rattle.std.proofs.Common.{◌≡◌, ◌⊎◌, ⊎_elim, ℕ, ◌<◌, ◌≤◌, Bool, true, false, List, ◌++◌, length, map, slice_get, Some, refl, sym}
 use Rattle.std.proofs.Common.{ap, ◌∙◌, subst, inl, inr, arith}
 use Rattle.rc_model.specs.Model.{ServerId, Entry, Message, Place, Stored, between, Log, In, HasMade}
+use Rattle.rc_model.proofs.Members.{In-append}
 use Rattle.rc_step_laws.specs.All.{Begins, log_in, IsOpened, HasTold, HasToldClosed, IsMember, IsPlacedAt, IsOpenedAt, IsPlace, IsTold}
 use Rattle.rc_step_laws.specs.All.{IsCopy, LogLater, IsNewPlace, OwnFine}
 use Rattle.rc_step_laws.proofs.Lists.{begins-length, get-begins, begins-map}
@@ -10,6 +11,10 @@ use Rattle.rc_step_laws.proofs.Lists.{begins-length, get-begins, begins-map}
 pub split : {P : Type 0} (b : Bool) → (b ≡ true → P) → (b ≡ false → P) → P
 split true then_ else_ = then_ refl
 split false then_ else_ = else_ refl
+
+-- among what there was, or among what is new
+pub In-either : {X P : Type 0} (x : X) (xs ys : List X) → In x (xs ++ ys) → (In x xs → P) → (In x ys → P) → P
+In-either x xs ys at old new = ⊎_elim old new (In-append x xs ys at)
 
 -- a segment grows, and below the head it doesn't
 pub grows-log : (sent : List Message) (m : ServerId) (old new : Log) → LogLater sent m old new → (s : ℕ) →

@@ -10,7 +10,7 @@ use Rattle.rc_model.specs.Model.{Segment, is_ready, is_all_closed, is_unclosed, 
 use Rattle.rc_model.specs.Model.{head_of, old_head_of, has_old_head, with_segment, numbers_to, is_opening, is_closing, durable_now, shuts}
 use Rattle.rc_model.specs.Model.{may_start, may_close, may_write, left_out, with_freed, starts, closes_old, writes_on, after_replay}
 use Rattle.rc_model.specs.Model.{after_answer, Master, with_log, durable_entries, to_ids, ids_of, appends_entry, close_is_due}
-use Rattle.rc_model.specs.Model.{close_marked, frees_segments, first_open, commits, write_oks, new_durable, replays, attempt_of, goes_on}
+use Rattle.rc_model.specs.Model.{close_marked, frees_segments, first_open, commits, write_oks, new_durable, attempt_of, goes_on}
 use Rattle.rc_model.specs.Model.{In}
 use Rattle.rc_model.proofs.Members.{In-append, In-map, In-filter}
 use Rattle.rc_step_laws.specs.All.{log_in, IsOpened, HasToldClosed, IsSafe, LogLater, OwnFine, MasterSays}

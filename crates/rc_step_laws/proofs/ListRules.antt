@@ -41,9 +41,6 @@ place-whole sent m log x s closed opened is member = record {
 
 -- Marks of lost members
 
-abbrev marked : ServerList → Segment → Config
-marked servers segment = with_lost servers segment.config
-
 marked-log : (sent : List Message) (m : ServerId) (log : Log) (s : ℕ) (servers : ServerList) → GoodLog sent m log →
     OwnFine sent m log → IsOpened log s
     → LogMoved sent m log (with_config s (with_lost servers (log.segments s).config) log) []

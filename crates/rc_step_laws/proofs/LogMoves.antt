@@ -9,7 +9,7 @@ use Rattle.rc_types.specs.declared.ids.Addr.TheVariants.{Coordinator}
 use Rattle.rc_model.proofs.Members.{In-left, In-append}
 use Rattle.rc_step_laws.specs.All.{log_in, IsOpened, HasTold, HasToldClosed, IsMember, IsCommitted, OnDifferentHosts, IsSafe, IsDigest}
 use Rattle.rc_step_laws.specs.All.{IsPlace, LogLater, IsNewPlace, OwnFine, MasterSays, body_said}
-use Rattle.rc_step_laws.proofs.Copies.{More}
+use Rattle.rc_step_laws.proofs.Copies.{More, In-either}
 use Rattle.rc_step_laws.proofs.Logs.{Grown, member-more, told-more, told_closed-more, committed-more, length-log, log_later-trans}
 use Rattle.rc_step_laws.proofs.Logs.{safe-grown, digest-grown, place-grown, append-grown, close-grown, write_ok-grown, own_fine-grown}
 
@@ -88,12 +88,8 @@ pub new_places : (sent : List Message) (m : ServerId) (old new : Log) (messages 
     In (between m x (Place s e digest entries closed)) (sent ++ messages)
     → In (between m x (Place s e digest entries closed)) sent ⊎ IsNewPlace sent m old x s e entries closed
 new_places sent m old new messages says x s e digest entries closed at =
-    by (In-append (between m x (Place s e digest entries closed)) sent messages at)
-  where
-    by : In (between m x (Place s e digest entries closed)) sent ⊎ In (between m x (Place s e digest entries closed)) messages
-        → In (between m x (Place s e digest entries closed)) sent ⊎ IsNewPlace sent m old x s e entries closed
-    by (inl there) = inl there
-    by (inr now) = inr (places-said sent (sent ++ messages) m old new messages says x s e digest entries closed now).1
+    In-either (between m x (Place s e digest entries closed)) sent messages at (λ there. inl there)
+    (λ now. inr (places-said sent (sent ++ messages) m old new messages says x s e digest entries closed now).1)
 
 pub grown-moved : (sent : List Message) (m : ServerId) (old new : Log) (messages : List Message) → GoodLog sent m old →
     LogMoved sent m old new messages → Grown sent (sent ++ messages) m old new
@@ -253,21 +249,14 @@ moved-log sent m old new messages good fine parts = record {
     place_of : (x : ServerId) (s e : ℕ) (digest : List ℕ) (entries : List Entry) (closed : Bool) →
         In (between m x (Place s e digest entries closed)) (sent ++ messages) →
         In (between m x (Place s e digest entries closed)) sent ⊎ IsPlace (sent ++ messages) m new x s e digest entries closed
-    place_of x s e digest entries closed at = by (In-append (between m x (Place s e digest entries closed)) sent messages at)
-      where
-        by : In (between m x (Place s e digest entries closed)) sent ⊎ In (between m x (Place s e digest entries closed)) messages
-            → In (between m x (Place s e digest entries closed)) sent ⊎ IsPlace (sent ++ messages) m new x s e digest entries closed
-        by (inl there) = inl there
-        by (inr now) = inr (places-said sent (sent ++ messages) m old new messages parts.says x s e digest entries closed now).0
+    place_of x s e digest entries closed at = In-either (between m x (Place s e digest entries closed)) sent messages at
+        (λ there. inl there) (λ now. inr (places-said sent (sent ++ messages) m old new messages parts.says x s e digest entries closed
+        now).0)
 
     told_of : (x : ServerId) (s e len : ℕ) (closed : Bool) →
         In (between x m (Stored s e len closed)) (sent ++ messages) → In (between x m (Stored s e len closed)) sent
-    told_of x s e len closed at = by (In-append (between x m (Stored s e len closed)) sent messages at)
-      where
-        by : In (between x m (Stored s e len closed)) sent ⊎ In (between x m (Stored s e len closed)) messages →
-            In (between x m (Stored s e len closed)) sent
-        by (inl there) = there
-        by (inr now) = absurd (parts.says (between x m (Stored s e len closed)) now).says
+    told_of x s e len closed at = In-either (between x m (Stored s e len closed)) sent messages at (λ there. there)
+        (λ now. absurd (parts.says (between x m (Stored s e len closed)) now).says)
 
     split_head : (s : ℕ) → IsOpened new s → IsDigest (sent ++ messages) m new s (new.segments s).digest
     split_head s opened = by (below_or s old.head)
@@ -282,13 +271,9 @@ moved-log sent m old new messages good fine parts = record {
         by (inr over) = parts.digests s over opened.below
 
     news_of : (s e : ℕ) (x : ServerId) → IsMember (sent ++ messages) m s e x → IsMember sent m s e x ⊎ IsFresh old new x s e
-    news_of s e x at = by (In-append (between m x (Place s e at.digest at.entries false)) sent messages at.placed)
-      where
-        by : In (between m x (Place s e at.digest at.entries false)) sent ⊎
-            In (between m x (Place s e at.digest at.entries false)) messages →
-            IsMember sent m s e x ⊎ IsFresh old new x s e
-        by (inl there) = inl (record { digest = at.digest; entries = at.entries; placed = there })
-        by (inr now) = parts.news x s e at.digest at.entries now
+    news_of s e x at = In-either (between m x (Place s e at.digest at.entries false)) sent messages at.placed
+        (λ there. inl (record { digest = at.digest; entries = at.entries; placed = there }))
+        (λ now. parts.news x s e at.digest at.entries now)
 
     -- the old view knows what was sent then
     not_both : (s e : ℕ) (x y : ServerId) → IsMember sent m s e x → IsFresh old new y s e → ⊥

@@ -1,11 +1,11 @@
 -- Dead segments, the digest that leaves them out, and a roll.
 use Rattle.std.proofs.Common.{◌≡◌, ◌⊎◌, ℕ, ◌+◌, ◌<◌, ◌≤◌, Bool, true, false, cond, not, nat_eq, nat_lt, ◌&&◌, ◌||◌, List, [], ◌∷◌, ◌++◌}
-use Rattle.std.proofs.Common.{filter, Option, Some, None, Result, Ok, Err, refl, sym, ap, ◌∙◌, subst, inl, inr, arith}
+use Rattle.std.proofs.Common.{filter, Some, refl, sym, ap, ◌∙◌, subst, inl, inr, arith}
 use Rattle.std.proofs.lemmas.Bool.{and_parts, eqb-true, eq-eqb, ltb-true, or_left}
 use Rattle.std.specs.List.{list_any}
-use Rattle.rc_model.specs.Model.{ServerId, Entry, Fault, NoBackups, LogFull, LAST_SEGMENT, Phase, Opening, Closing, Writing, Message}
-use Rattle.rc_model.specs.Model.{ServerList, choose, Log, LogPlace, head_of, places_of, entries_of, is_writing, opens_head, next_digest}
-use Rattle.rc_model.specs.Model.{rolled, begin_roll, is_of, is_outdated, is_dead, Master, durable_entries, is_dead_segment, dead_segments}
+use Rattle.rc_model.specs.Model.{ServerId, Entry, Phase, Opening, Closing, Writing, Message}
+use Rattle.rc_model.specs.Model.{LogPlace, head_of, places_of, entries_of, is_writing, next_digest}
+use Rattle.rc_model.specs.Model.{is_of, is_outdated, is_dead, Master, durable_entries, is_dead_segment, dead_segments}
 use Rattle.rc_model.specs.Model.{In}
 use Rattle.rc_model.proofs.Members.{In-get, In-left, In-right, In-append, In-filter, filter-In}
 use Rattle.rc_step_laws.specs.All.{log_in, IsOutdated, IsDead, IsDigest}
@@ -14,7 +14,7 @@ use Rattle.rc_step_laws.proofs.Tests.{all-each, any-one, get-map, In-take}
 use Rattle.rc_step_laws.proofs.LogMoves.{GoodLog}
 use Rattle.rc_step_laws.proofs.Places.{IsOf, places_to-are, place-logged}
 use Rattle.rc_step_laws.proofs.Openings.{NewDigest}
-use Rattle.rc_model.proofs.Tests.{true_false, either}
+use Rattle.rc_model.proofs.Tests.{true_false}
 
 -- Dead segments
 
@@ -134,20 +134,6 @@ next-digest sent m master good above = record {
     by_lacks t (inr less) over = by_digest t (is.lacks t over less)
 
 -- What a roll comes to
-
-rolled-cases : (P : Log × Result Bool Fault → Type 0) (log : Log) (dead : List ℕ) (found : Option (List ServerId)) →
-    ((fault : Fault) → P (log, Err fault))
-    → ((ids : List ServerId) → found ≡ Some ids → P (opens_head log (next_digest log dead) ids, Ok true)) → P (rolled log dead found)
-rolled-cases P log dead None fails opens = fails NoBackups
-rolled-cases P log dead (Some ids) fails opens = opens ids refl
-
-pub roll-cases : (P : Log × Result Bool Fault → Type 0) (servers : ServerList) (dead : List ℕ) (log : Log) →
-    ((fault : Fault) → P (log, Err fault))
-    → ((ids : List ServerId) → choose (log.head + 1) log.own log.factor servers ≡ Some ids →
-    P (opens_head log (next_digest log dead) ids, Ok true)) → P (begin_roll servers dead log)
-roll-cases P servers dead log fails opens =
-    either P (nat_lt log.head LAST_SEGMENT) (rolled log dead (choose (log.head + 1) log.own log.factor servers)) (log, Err LogFull)
-    (λ _. rolled-cases P log dead (choose (log.head + 1) log.own log.factor servers) fails opens) (λ _. fails LogFull)
 
 -- the phase is Writing
 pub writing-is : (phase : Phase) → is_writing phase ≡ true → phase ≡ Writing

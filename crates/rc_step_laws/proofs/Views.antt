@@ -1,8 +1,8 @@
 -- A master's view and its moves; messages that claim nothing.
-use Rattle.std.proofs.Common.{◌≡◌, ◌⊎◌, ℕ, Bool, false, List, [], ◌∷◌, ◌++◌, refl, sym, ap, subst, inl, inr, arith}
+use Rattle.std.proofs.Common.{◌≡◌, ℕ, Bool, false, List, [], ◌∷◌, ◌++◌, refl, sym, ap, subst, inl, inr, arith}
 use Rattle.rc_model.specs.Model.{ServerId, Addr, Server, Entry, Message, Body, Place, ReadOk, Refused, Commit, Enlist, Ready, Fetch}
 use Rattle.rc_model.specs.Model.{Recovered, Free, between, up_rows, Log, Master, to_ids, then_does, In}
-use Rattle.rc_model.proofs.Members.{In-append, In-map}
+use Rattle.rc_model.proofs.Members.{In-map}
 use Rattle.rc_step_laws.specs.All.{IsMember, OnDifferentHosts, OwnFine, MasterSays, body_said}
 use Rattle.rc_step_laws.proofs.Logs.{log_later-refl}
 use Rattle.rc_model.proofs.Walk.{Joined}
@@ -123,13 +123,6 @@ quiet-none m message at = absurd at
 pub quiet-one : (m : ServerId) (one : Message) → IsQuietOf m one → AllQuiet m (one ∷ [])
 quiet-one m one is message (inl e) = subst (IsQuietOf m) (sym e) is
 quiet-one m one is message (inr rest) = absurd rest
-
-pub quiet-both : (m : ServerId) (first second : List Message) → AllQuiet m first → AllQuiet m second → AllQuiet m (first ++ second)
-quiet-both m first second p q message at = by (In-append message first second at)
-  where
-    by : In message first ⊎ In message second → IsQuietOf m message
-    by (inl there) = p message there
-    by (inr there) = q message there
 
 -- nothing happens
 pub still : (sent : List Message) (m : ServerId) (master : Master) → GoodView sent m master → Moved sent m master (master, [])

@@ -1,6 +1,4 @@
-mod Bytes
 mod Each
-mod Texts
 mod Noted
 mod TopNoted
 mod PartsFound

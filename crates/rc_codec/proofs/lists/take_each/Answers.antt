@@ -1,4 +1,3 @@
-use Rattle.std.proofs.Common.{◌≡◌, ◌++◌, ◌∷◌, []}
 use Rattle.std.proofs.lemmas.Result.{err_from_is_err_and}
 use Rattle.rc_codec.specs.Reading.{each_at}
 use Rattle.rc_codec.proofs.Repeating.{goes_on, ends, is_done}

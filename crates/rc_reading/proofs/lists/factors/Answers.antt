@@ -1,19 +1,14 @@
-use Rattle.std.proofs.Common.{◌≡◌, ◌<◌, ◌∷◌, arith, []}
-use Rattle.std.proofs.lemmas.Result.{IfOk-weaker}
-use Rattle.json.specs.Token.{Token}
+use Rattle.std.proofs.Common.{arith, []}
 use Rattle.rc_reading.specs.Values.{each, take_factor}
-use Rattle.rc_reading.proofs.Firsts.{listed_says, list_refused}
+use Rattle.rc_reading.proofs.Loops.{list_fails, list_says}
 use Rattle.rc_reading.proofs.lists.factors.Goals as goal
 
 pub returns-in-None-clause-ok : goal.returns-in-None-clause-ok
 returns-in-None-clause-ok c =
-    let begun : (c.args.reader.now ≡ Token.begin_array ∷ c.begin.new.reader) × (0 < c.args.depth) = grind arith in
-    IfOk-weaker c.factor_items.result _ _
-    (λ all e. rw begun.0 (listed_says (each take_factor []) c.args.depth c.begin.new.reader _ all begun.1 e))
+    list_says c.args.depth c.args.reader.now c.begin.new.reader (grind arith) (each take_factor []) _ c.factor_items.result
     c.factor_items.ensures.ok
 
 pub returns-in-None-clause-bad : goal.returns-in-None-clause-bad
 returns-in-None-clause-bad c place is =
-    let begun : (c.args.reader.now ≡ Token.begin_array ∷ c.begin.new.reader) × (0 < c.args.depth) = grind arith in
     let none = c.factor_items.ensures.bad place is in
-    (none.0, rw begun.0 (list_refused c.args.depth c.begin.new.reader begun.1 none.1))
+    (none.0, list_fails c.args.depth c.args.reader.now c.begin.new.reader (grind arith) none.1)

@@ -1,24 +1,24 @@
 use Rattle.std.proofs.Common.{Err, ap, ◌∙◌, sym, arith}
 use Rattle.std.proofs.lemmas.Result.{IfOk-weaker}
-use Rattle.rc_reading.specs.Scenario.{of_text}
-use Rattle.rc_reading.proofs.Bytes.{of_text_read, no_text, too_long, nothing_read}
+use Rattle.rc_reading.specs.Scenario.{of_value, of_text}
+use Rattle.rc_reading.proofs.Bytes.{text_in, no_text, too_long, nothing_read}
 use Rattle.rc_reading.proofs.reading.read_scenario.Goals as goal
 
 pub returns-then-is_empty-clause-bad : goal.returns-then-is_empty-clause-bad
-returns-then-is_empty-clause-bad c place is = nothing_read c.args.bytes.now (grind arith) ∙ ap Err (cc)
+returns-then-is_empty-clause-bad c place is = ap of_value (nothing_read c.args.bytes.now (grind arith)) ∙ ap Err (cc)
 
 pub returns-then-bytes-gt-MOST_BYTES-clause-bad : goal.returns-then-bytes-gt-MOST_BYTES-clause-bad
-returns-then-bytes-gt-MOST_BYTES-clause-bad c place is = too_long c.args.bytes.now (omega arith) ∙ ap Err (cc)
+returns-then-bytes-gt-MOST_BYTES-clause-bad c place is = ap of_value (too_long c.args.bytes.now (omega arith)) ∙ ap Err (cc)
 
 pub returns-in-Ok-clause-ok : goal.returns-in-Ok-clause-ok
 returns-in-Ok-clause-ok c =
-    let same = of_text_read c.args.bytes.now (omega arith) c.in-Ok.ensures.cases.1 in
+    let same = ap of_value (text_in c.args.bytes.now (omega arith) c.in-Ok.ensures.cases.1) in
     IfOk-weaker c.read_text.result _ _ (λ s e. same ∙ ap of_text (sym c.in-Ok.ensures.cases.0) ∙ e) c.read_text.ensures.ok
 
 pub returns-in-Ok-clause-bad : goal.returns-in-Ok-clause-bad
 returns-in-Ok-clause-bad c place is =
-    of_text_read c.args.bytes.now (omega arith) c.in-Ok.ensures.cases.1 ∙ ap of_text (sym c.in-Ok.ensures.cases.0) ∙
+    ap of_value (text_in c.args.bytes.now (omega arith) c.in-Ok.ensures.cases.1) ∙ ap of_text (sym c.in-Ok.ensures.cases.0) ∙
     c.read_text.ensures.bad place is
 
 pub returns-in-Err-clause-bad : goal.returns-in-Err-clause-bad
-returns-in-Err-clause-bad c place is = no_text c.args.bytes.now (omega arith) (λ text. c.in-Err.ensures.cases.0 text) ∙ ap Err (cc)
+returns-in-Err-clause-bad c place is = ap of_value (no_text c.args.bytes.now (omega arith) c.in-Err.ensures.cases.0) ∙ ap Err (cc)

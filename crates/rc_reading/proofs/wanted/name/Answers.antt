@@ -1,18 +1,13 @@
-use Rattle.std.proofs.Common.{◌≡◌, ◌<◌, ◌∷◌, arith}
-use Rattle.std.proofs.lemmas.Result.{IfOk-weaker, on_err_weaker}
-use Rattle.json.specs.Token.{Token}
+use Rattle.std.proofs.Common.{arith}
+use Rattle.std.proofs.lemmas.Result.{on_err_weaker}
 use Rattle.rc_reading.specs.Values.{name_in}
-use Rattle.rc_reading.proofs.Firsts.{listed_says, list_refused}
+use Rattle.rc_reading.proofs.Loops.{list_fails, list_says}
 use Rattle.rc_reading.proofs.wanted.name.Goals as goal
 
 pub returns-in-None-clause-ok : goal.returns-in-None-clause-ok
 returns-in-None-clause-ok c =
-    let begun : (c.args.reader.now ≡ Token.begin_array ∷ c.begin.new.reader) × (0 < c.args.depth) = grind arith in
-    IfOk-weaker c.name_items.result _ _
-    (λ id e. rw begun.0 (listed_says name_in c.args.depth c.begin.new.reader _ id begun.1 e))
-    c.name_items.ensures.ok
+    list_says c.args.depth c.args.reader.now c.begin.new.reader (grind arith) name_in _ c.name_items.result c.name_items.ensures.ok
 
 pub returns-in-None-clause-err : goal.returns-in-None-clause-err
 returns-in-None-clause-err c =
-    let begun : (c.args.reader.now ≡ Token.begin_array ∷ c.begin.new.reader) × (0 < c.args.depth) = grind arith in
-    on_err_weaker c.name_items.result (λ e. rw begun.0 (list_refused c.args.depth c.begin.new.reader begun.1 e)) c.name_items.ensures.err
+    on_err_weaker c.name_items.result (list_fails c.args.depth c.args.reader.now c.begin.new.reader (grind arith)) c.name_items.ensures.err

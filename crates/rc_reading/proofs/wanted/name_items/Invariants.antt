@@ -1,14 +1,12 @@
-use Rattle.std.proofs.Common.{◌≡◌, ◌≤◌, length, Some}
+use Rattle.std.proofs.Common.{length, Some}
 use Rattle.rc_reading.specs.declared.pairs.Pair.TheVariants.{Nothing}
-use Rattle.rc_reading.specs.All.{folds, name_item}
+use Rattle.rc_reading.specs.All.{name_item}
+use Rattle.rc_reading.proofs.Loops.{AreFolded}
 use Rattle.rc_reading.proofs.wanted.name_items.Given as goal
 
 -- what the items to come make of what there is
 abbrev pub invariant-items : goal.invariant-items
-invariant-items l =
-    (folds (λ pair d. Some (name_item pair d)) (Some l.so_far) l.depth l.reader ≡ folds
-    (λ pair d. Some (name_item pair d)) (Some Nothing) l.depth l.initial.reader)
-    × (length l.reader ≤ length l.initial.reader)
+invariant-items l = AreFolded (λ pair d. Some (name_item pair d)) (Some Nothing) (Some l.so_far) l.depth l.initial.reader l.reader
 
 abbrev pub decreases-items : goal.decreases-items
 decreases-items l = length l.reader

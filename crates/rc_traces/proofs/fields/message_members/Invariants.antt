@@ -1,15 +1,11 @@
-use Rattle.std.proofs.Common.{◌≡◌, ◌≤◌, length}
-use Rattle.serde_json.specs.Data.{Members, object, no_members}
-use Rattle.rc_reading.specs.Ahead.{members_at}
+use Rattle.std.proofs.Common.{length}
 use Rattle.rc_traces.specs.Fields.{fields_of}
+use Rattle.rc_reading.proofs.Loops.{SaySo}
 use Rattle.rc_traces.proofs.fields.message_members.Given as goal
 
 -- the fields are those of the members so far
 abbrev pub invariant-members : goal.invariant-members
-invariant-members l =
-    (found : Members) × (l.fields ≡ fields_of (object found)) ×
-    (members_at found l.depth l.reader ≡ members_at no_members l.depth l.initial.reader) ×
-    (length l.reader ≤ length l.initial.reader)
+invariant-members l = SaySo fields_of l.fields l.depth l.initial.reader l.reader
 
 abbrev pub decreases-members : goal.decreases-members
 decreases-members l = length l.reader

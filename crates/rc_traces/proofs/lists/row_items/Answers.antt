@@ -1,40 +1,27 @@
-use Rattle.std.proofs.Common.{◌≡◌, ◌<◌, length, Some, None, refl, ◌∙◌, sym, arith}
-use Rattle.json.specs.Json.{after_end_array}
-use Rattle.rc_reading.specs.Ahead.{says, items_at}
-use Rattle.rc_reading.proofs.Turns.{folds_more, folds_over, folded_told, item_refused}
-use Rattle.rc_reading.proofs.Folds.{folds_refused}
+use Rattle.std.proofs.Common.{Some, refl, arith}
 use Rattle.rc_reading.proofs.PairsFound.{found_by}
 use Rattle.rc_traces.specs.Trace.{row_in}
 use Rattle.rc_traces.specs.Parts.{row_part, no_row_parts, row_made}
 use Rattle.rc_traces.proofs.PartsFound.{takes_row_part, row_items_found}
+use Rattle.rc_reading.proofs.Loops.{item_fails, item_taken, items_tell}
 use Rattle.rc_traces.proofs.lists.row_items.Goals as goal
 
 pub items-preserved : goal.items-preserved
 items-preserved c =
     let l = c.items in
-    let going : (after_end_array l.reader ≡ None) × (c.take_end_array.new.self ≡ l.reader) = grind arith in
-    let read : says (row_part l.parts) c.args.depth l.reader ≡ Some (c.take.new.self, c.take.new.reader) =
-    rw (← going.1) c.in_ok-take.ensures.ok in
-    let less : length c.take.new.reader < length l.reader = rw (← going.1) c.in_ok-take.ensures.shorter in (
-      sym (folds_more takes_row_part (Some l.parts) (row_part l.parts) Some c.args.depth l.reader _ _ (λ d. refl) going.0 read)
-          ∙ l.invariant.0,
-      omega (arith, l.invariant.1, less),
-    )
+    item_taken takes_row_part (Some no_row_parts) (Some l.parts) c.args.depth _ l.reader l.invariant (row_part l.parts) Some _ _
+    c.take_end_array.new.self _
+    (grind arith) c.in_ok-take.ensures.ok c.in_ok-take.ensures.shorter (λ d. refl) refl
 
 pub returns-in_err-take-clause-err : goal.returns-in_err-take-clause-err
 returns-in_err-take-clause-err c =
     let l = c.items in
-    let going : (after_end_array l.reader ≡ None) × (c.take_end_array.new.self ≡ l.reader) = grind arith in
-    let none : items_at c.args.depth c.args.reader.now ≡ None =
-    folds_refused takes_row_part (Some l.parts) (Some no_row_parts) c.args.depth l.reader _ l.invariant.0
-    (item_refused c.args.depth l.reader going.0 (rw (← going.1) c.in_err-take.ensures.err)) in
+    let none = item_fails takes_row_part (Some no_row_parts) (Some l.parts) c.args.depth _ l.reader l.invariant c.take_end_array.new.self
+    (grind arith) c.in_err-take.ensures.err in
     grind (arith, none)
 
 pub returns-clause-ok : goal.returns-clause-ok
 returns-clause-ok c =
     let l = c.items in
-    let r = c.take_end_array.new.self in
-    let over = folds_over takes_row_part (Some l.parts) c.args.depth l.reader r c.items-test.ensures in
-    rw c.row.ensures
-    (folded_told takes_row_part (Some no_row_parts) (Some l.parts) row_in (found_by row_made) c.args.depth c.args.reader.now r
-    row_items_found (sym l.invariant.0 ∙ over))
+    rw c.row.ensures (items_tell takes_row_part (Some no_row_parts) (Some l.parts) c.args.depth _ l.reader l.invariant row_in
+    (found_by row_made) c.take_end_array.new.self row_items_found c.items-test.ensures)

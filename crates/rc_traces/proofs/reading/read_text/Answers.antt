@@ -1,31 +1,25 @@
-use Rattle.std.proofs.Common.{◌≡◌, [], Some, Ok, Err, sym, ap, ◌∙◌, arith}
-use Rattle.json.specs.Lex.{tokens}
-use Rattle.rc_reading.specs.Ahead.{says}
-use Rattle.rc_traces.specs.Trace.{trace_of}
-use Rattle.rc_traces.proofs.Texts.{text_says, text_and_more, text_refused}
+use Rattle.std.proofs.Common.{Ok, Err, sym, ap, ◌∙◌, arith}
+use Rattle.rc_traces.specs.Trace.{of_value, trace_of}
+use Rattle.rc_reading.proofs.Texts.{text_says, text_and_more, text_refused}
 use Rattle.rc_traces.proofs.reading.read_text.Goals as goal
 
 pub returns-in_err-messages-clause-bad : goal.returns-in_err-messages-clause-bad
 returns-in_err-messages-clause-bad c place is =
     let bad = c.in_err-messages.ensures.bad place (grind (arith, is)) in
-    text_refused c.args.text.now (rw (← c.in_ok-reader.ensures.ok) bad.1) ∙ ap Err (sym bad.0)
+    ap of_value (text_refused c.args.text.now _ c.in_ok-reader.ensures.ok bad.1) ∙ ap Err (sym bad.0)
 
 pub returns-in-Some-clause-bad : goal.returns-in-Some-clause-bad
 returns-in-Some-clause-bad c place is =
-    let said : says trace_of 127 (tokens c.args.text.now) ≡ Some (c.in_ok-messages.messages, c.trace.new.reader) =
-    rw (← c.in_ok-reader.ensures.ok) c.in_ok-messages.ensures.ok in
-    text_and_more c.args.text.now c.in_ok-messages.messages _ _ (rw c.in-Some.ensures.value at said) ∙ ap Err (cc)
+    ap of_value (text_and_more c.args.text.now _ c.in_ok-reader.ensures.ok trace_of _ _ _ _ c.in_ok-messages.ensures.ok
+    c.in-Some.ensures.value)
+    ∙ ap Err (cc)
 
 pub returns-in-Ok-clause-ok : goal.returns-in-Ok-clause-ok
 returns-in-Ok-clause-ok c =
-    let none : c.trace.new.reader ≡ [] = grind arith in
-    let said : says trace_of 127 (tokens c.args.text.now) ≡ Some (c.in_ok-messages.messages, c.trace.new.reader) =
-    rw (← c.in_ok-reader.ensures.ok) c.in_ok-messages.ensures.ok in
-    text_says c.args.text.now c.in_ok-messages.messages (rw none at said) ∙ c.in-Ok.is ∙ ap Ok (sym c.into_vec.ensures)
+    let d = text_says c.args.text.now _ c.in_ok-reader.ensures.ok trace_of _ c.trace.new.reader c.in_ok-messages.ensures.ok (grind arith) in
+    ap of_value d.1 ∙ d.2 ∙ c.in-Ok.is ∙ ap Ok (sym c.into_vec.ensures)
 
 pub returns-clause-bad : goal.returns-clause-bad
 returns-clause-bad c place is =
-    let none : c.trace.new.reader ≡ [] = grind arith in
-    let said : says trace_of 127 (tokens c.args.text.now) ≡ Some (c.in_ok-messages.messages, c.trace.new.reader) =
-    rw (← c.in_ok-reader.ensures.ok) c.in_ok-messages.ensures.ok in
-    text_says c.args.text.now c.in_ok-messages.messages (rw none at said) ∙ c.in-Err.is ∙ ap Err (cc)
+    let d = text_says c.args.text.now _ c.in_ok-reader.ensures.ok trace_of _ c.trace.new.reader c.in_ok-messages.ensures.ok (grind arith) in
+    ap of_value d.1 ∙ d.2 ∙ c.in-Err.is ∙ ap Err (cc)

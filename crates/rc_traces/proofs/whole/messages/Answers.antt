@@ -1,7 +1,8 @@
 use Rattle.std.proofs.Common.{◌≡◌, ◌<◌, ◌∷◌, arith}
 use Rattle.json.specs.Token.{Token}
 use Rattle.rc_traces.specs.Trace.{messages_of}
-use Rattle.rc_reading.proofs.Firsts.{list_refused, listed_some}
+use Rattle.rc_reading.proofs.Firsts.{listed_some}
+use Rattle.rc_reading.proofs.Loops.{list_fails}
 use Rattle.rc_traces.proofs.whole.messages.Goals as goal
 
 pub returns-in_ok-messages-in-None-clause-ok : goal.returns-in_ok-messages-in-None-clause-ok
@@ -11,6 +12,5 @@ returns-in_ok-messages-in-None-clause-ok c =
 
 pub returns-in_err-messages-in-None-clause-bad : goal.returns-in_err-messages-in-None-clause-bad
 returns-in_err-messages-in-None-clause-bad c place is =
-    let begun : (c.args.reader.now ≡ Token.begin_array ∷ c.begin.new.reader) × (0 < c.args.depth) = grind arith in
     let bad = c.in_err-messages-in-None.ensures.bad place (grind (arith, is)) in
-    (bad.0, rw begun.0 (list_refused c.args.depth c.begin.new.reader begun.1 bad.1))
+    (bad.0, list_fails c.args.depth c.args.reader.now c.begin.new.reader (grind arith) bad.1)
