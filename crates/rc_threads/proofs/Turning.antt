@@ -143,6 +143,12 @@ grows-takes setup old given new t = record {
   mine = record { rest = t.event ∷ []; same = t.mine };
 }
 
+-- a step that was tried has grown it, whether it was taken or not
+pub grows-tried : {E : Type 0} (setup : Setup) (old : SeatData) (given : Work) (new : SeatData) (r : Result (Unit {0}) E) →
+    OnOk r (Takes setup old given new) → OnErr r (Grows old new) → Grows old new
+grows-tried setup old given new (Ok x) takes grows = grows-takes setup old given new takes
+grows-tried setup old given new (Err e) takes grows = grows
+
 pub grows-through : (one two three : SeatData) → Grows one two → Grows two three → Grows one three
 grows-through one two three a b = record {
   name = b.name ∙ a.name;
