@@ -1,7 +1,7 @@
 //! What the outside asks for, and whom.
 
 use crate::dice::Dice;
-use rc_types::{Addr, Body, Message, Seq, ServerId};
+use rc_types::{Addr, Body, Message, ServerId, Shared};
 use std::alloc::{AllocError, Global};
 
 /// The table that is written to.
@@ -41,7 +41,8 @@ impl Client {
         let value = if dice.once_in(16) {
             None
         } else {
-            Some(Seq::from_vec(Vec::from_slice(alloc, &self.writes.to_le_bytes())?))
+            let number = Vec::from_slice(alloc, &self.writes.to_le_bytes())?;
+            Some(Shared::from_vec(alloc, number)?)
         };
         Ok(Body::Write {
             table: TABLE,

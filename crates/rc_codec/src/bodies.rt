@@ -9,7 +9,7 @@ ghost use Rattle.rc_codec.specs.Readers.{body_at};
 
 use crate::coded::{Put, Take, put_kind};
 use crate::faults::DecodeFault;
-use rc_types::{Body, Code, Entry, Part, PlanRow, Row, Seq, ServerId};
+use rc_types::{Body, Code, Entry, Part, PlanRow, Row, Seq, ServerId, Shared};
 use std::alloc::{AllocError, Global};
 
 impl Put for Body {
@@ -149,7 +149,7 @@ fn take_kind(alloc: Global, kind: u8, bytes: &[u8]) -> Result<(Body, &[u8]), Dec
 fn take_write(alloc: Global, bytes: &[u8]) -> Result<(Body, &[u8]), DecodeFault>
     ensures { Gives (λ x. (x.0, x.1.now)) result (write_at bytes.now) }
 {
-    let ((table, key, value), rest) = <(u32, u64, Option<Seq<u8>>)>::take(alloc, bytes)?;
+    let ((table, key, value), rest) = <(u32, u64, Option<Shared<u8>>)>::take(alloc, bytes)?;
     Ok((Body::Write { table, key, value }, rest))
 }
 
@@ -182,7 +182,7 @@ fn take_write_ok(alloc: Global, bytes: &[u8]) -> Result<(Body, &[u8]), DecodeFau
 fn take_read_ok(alloc: Global, bytes: &[u8]) -> Result<(Body, &[u8]), DecodeFault>
     ensures { Gives (λ x. (x.0, x.1.now)) result (read_ok_at bytes.now) }
 {
-    let ((table, key, version, value), rest) = <(u32, u64, u64, Option<Seq<u8>>)>::take(
+    let ((table, key, version, value), rest) = <(u32, u64, u64, Option<Shared<u8>>)>::take(
         alloc, bytes,
     )?;
     Ok((
@@ -278,7 +278,7 @@ fn take_commit_ok(alloc: Global, bytes: &[u8]) -> Result<(Body, &[u8]), DecodeFa
 fn take_list(alloc: Global, bytes: &[u8]) -> Result<(Body, &[u8]), DecodeFault>
     ensures { Gives (λ x. (x.0, x.1.now)) result (list_at bytes.now) }
 {
-    let ((version, rows), rest) = <(u32, Seq<(ServerId, bool)>)>::take(alloc, bytes)?;
+    let ((version, rows), rest) = <(u32, Shared<(ServerId, bool)>)>::take(alloc, bytes)?;
     Ok((Body::List { version, rows }, rest))
 }
 

@@ -7,11 +7,11 @@ ghost use Rattle.rc_codec.specs.Reading.{Gives, bytes_at, each_at};
 
 use crate::coded::{Put, Take};
 use crate::faults::DecodeFault;
-use rc_types::Seq;
+use rc_types::{Seq, Shared};
 use std::alloc::{AllocError, Global};
 
 /// 0 where there is none; else 1, the length in eight bytes, and the bytes.
-impl Put for Option<Seq<u8>> {
+impl Put for Option<Shared<u8>> {
     ghost use Rattle.rc_codec.specs.Spelling.{value_code};
 
     ghost code = { value_code };
@@ -48,12 +48,12 @@ fn put_all(value: &[u8], out: &mut Vec<u8>) -> Result<(), AllocError>
     Ok(())
 }
 
-impl Take for Option<Seq<u8>> {
+impl Take for Option<Shared<u8>> {
     ghost use Rattle.rc_codec.specs.Readers.{value_at};
 
     ghost read = { value_at };
 
-    fn take(alloc: Global, bytes: &[u8]) -> Result<(Option<Seq<u8>>, &[u8]), DecodeFault> {
+    fn take(alloc: Global, bytes: &[u8]) -> Result<(Option<Shared<u8>>, &[u8]), DecodeFault> {
         match bytes {
             [0, rest @ ..] => Ok((None, rest)),
             [1, rest @ ..] => {
@@ -67,7 +67,7 @@ impl Take for Option<Seq<u8>> {
 
 /// A length in eight bytes, and that many bytes. Memory is taken once the length is seen to fit.
 #[tactic(auto, unfolding(crate::specs::Reading::bytes_at))]
-fn take_bytes(alloc: Global, bytes: &[u8]) -> Result<(Seq<u8>, &[u8]), DecodeFault>
+fn take_bytes(alloc: Global, bytes: &[u8]) -> Result<(Shared<u8>, &[u8]), DecodeFault>
     ensures { Gives (λ x. (x.0, x.1.now)) result (bytes_at bytes.now) }
 {
     let (length, rest) = usize::take(alloc, bytes)?;
@@ -75,11 +75,24 @@ fn take_bytes(alloc: Global, bytes: &[u8]) -> Result<(Seq<u8>, &[u8]), DecodeFau
         return Err(DecodeFault::Malformed);
     }
     let (value, rest) = rest.split_at(length);
-    Ok((Seq::from_vec(Vec::from_slice(alloc, value)?), rest))
+    let value = Vec::from_slice(alloc, value)?;
+    Ok((Shared::from_vec(alloc, value)?, rest))
 }
 
 /// The number of elements in eight bytes, and each element.
 impl<T: Put> Put for Seq<T> {
+    ghost use Rattle.rc_codec.specs.Parts.{listed};
+
+    ghost code = { listed T.code };
+
+    #[tactic(auto, using(crate::proofs::Beginning::begins_same, crate::proofs::Beginning::begins_after))]
+    fn put(&self, out: &mut Vec<u8>) -> Result<(), AllocError> {
+        self.len().put(out)?;
+        put_each(self.as_slice(), out)
+    }
+}
+
+impl<T: Put> Put for Shared<T> {
     ghost use Rattle.rc_codec.specs.Parts.{listed};
 
     ghost code = { listed T.code };
@@ -111,7 +124,21 @@ impl<T: Take + Drop> Take for Seq<T> {
     #[tactic(auto, unfolding(crate::specs::Reading::listed_at))]
     fn take(alloc: Global, bytes: &[u8]) -> Result<(Seq<T>, &[u8]), DecodeFault> {
         let (count, rest) = usize::take(alloc, bytes)?;
-        take_each(alloc, count, rest)
+        let (items, rest) = take_each(alloc, count, rest)?;
+        Ok((Seq::from_vec(items), rest))
+    }
+}
+
+impl<T: Take + Drop> Take for Shared<T> {
+    ghost use Rattle.rc_codec.specs.Reading.{listed_at};
+
+    ghost read = { listed_at T.read };
+
+    #[tactic(auto, unfolding(crate::specs::Reading::listed_at))]
+    fn take(alloc: Global, bytes: &[u8]) -> Result<(Shared<T>, &[u8]), DecodeFault> {
+        let (count, rest) = usize::take(alloc, bytes)?;
+        let (items, rest) = take_each(alloc, count, rest)?;
+        Ok((Shared::from_vec(alloc, items)?, rest))
     }
 }
 
@@ -120,8 +147,8 @@ fn take_each<T: Take + Drop>(
     alloc: Global,
     count: usize,
     bytes: &[u8],
-) -> Result<(Seq<T>, &[u8]), DecodeFault>
-    ensures { Gives (λ x. (x.0, x.1.now)) result (each_at T.read count bytes.now) }
+) -> Result<(Vec<T>, &[u8]), DecodeFault>
+    ensures { Gives (λ x. (x.0.items, x.1.now)) result (each_at T.read count bytes.now) }
 {
     let mut items = Vec::new(alloc);
     let mut rest = bytes;
@@ -130,5 +157,5 @@ fn take_each<T: Take + Drop>(
         items.push(item)?;
         rest = after;
     }
-    Ok((Seq::from_vec(items), rest))
+    Ok((items, rest))
 }

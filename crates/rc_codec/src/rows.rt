@@ -3,7 +3,7 @@
 use crate::coded::{Put, Take};
 use crate::faults::DecodeFault;
 use rc_types::{
-    Addr, Code, Entry, Grant, KeyRange, Pair, Part, PlanRow, Row, Seq, ServerId, Tablet,
+    Addr, Code, Entry, Grant, KeyRange, Pair, Part, PlanRow, Row, Seq, ServerId, Shared, Tablet,
 };
 use std::alloc::{AllocError, Global};
 
@@ -131,7 +131,7 @@ impl Take for Entry {
             u32,
             u64,
             u64,
-            Option<Seq<u8>>,
+            Option<Shared<u8>>,
         )>::take(alloc, bytes)?;
         let read = Entry {
             term,

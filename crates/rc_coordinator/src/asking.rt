@@ -26,7 +26,7 @@ impl<A: Allocator + Clone> State<A> {
     {
         self.recoveries.pass_over_quiet();
         let ids = self.servers.up(self.alloc)?;
-        let mut messages = notices::list_to_each(self.alloc, &self.servers, &ids)?;
+        let mut messages = notices::list_to_each(self.alloc, &mut self.servers, &ids)?;
         self.ask_all_again(&ids, &mut messages)?;
         sent.append(&mut messages)?;
         Ok(())

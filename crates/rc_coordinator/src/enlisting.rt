@@ -26,7 +26,7 @@ impl<A: Allocator + Clone> State<A> {
         ensures no_memory { IfErr result (λ fault. fault ≡ OutOfMemory) }
     {
         if self.servers.is_up(id) {
-            sent.push(notices::list_to(self.alloc, &self.servers, id)?)?;
+            sent.push(notices::list_to(self.alloc, &mut self.servers, id)?)?;
             return Ok(());
         }
         if !self.servers.is_newest(id) {
@@ -61,7 +61,8 @@ impl<A: Allocator + Clone> State<A> {
         ensures unsent { OnErr result (sent.new.items ≡ sent.old.items) }
         ensures no_memory { IfErr result (λ fault. fault ≡ OutOfMemory) }
     {
-        let mut messages = notices::spread_list(self.alloc, &servers)?;
+        let mut servers = servers;
+        let mut messages = notices::spread_list(self.alloc, &mut servers)?;
         sent.append(&mut messages)?;
         self.servers = servers;
         Ok(())
@@ -87,7 +88,8 @@ impl<A: Allocator + Clone> State<A> {
         ensures no_memory { IfErr result (λ fault. fault ≡ OutOfMemory) }
     {
         let begins = self.begins(&servers, gone)?;
-        let mut messages = notices::spread_list(self.alloc, &servers)?;
+        let mut servers = servers;
+        let mut messages = notices::spread_list(self.alloc, &mut servers)?;
         if !begins {
             sent.append(&mut messages)?;
             self.servers = servers;

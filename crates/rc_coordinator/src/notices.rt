@@ -11,7 +11,7 @@ ghost use Rattle.rc_model.specs.Deciding.{own_body};
 
 use rc_attempts::Attempt;
 use rc_serverlist::ServerList;
-use rc_types::{Addr, Body, Fault, Grant, Message, Pair, Seq, ServerId};
+use rc_types::{Addr, Body, Fault, Grant, Message, Pair, ServerId, Shared};
 use std::alloc::Global;
 
 /// A message from the coordinator to a server.
@@ -80,36 +80,59 @@ pub(crate) fn own_to(id: ServerId, grant: Grant) -> Message
 }
 
 /// The list, to one server. Only memory can be refused (F1).
-pub(crate) fn list_to(alloc: Global, servers: &ServerList, id: ServerId) -> Result<Message, Fault>
-    ensures ok { IfOk result (λ message. message ≡ from_coordinator id (Listed servers.now.version servers.now.rows)) }
+pub(crate) fn list_to(
+    alloc: Global,
+    servers: &mut ServerList,
+    id: ServerId,
+) -> Result<Message, Fault>
+    ensures same { servers.new ≡ servers.old }
+    ensures ok { IfOk result (λ message. message ≡ from_coordinator id (Listed servers.old.version servers.old.rows)) }
     ensures no_memory { IfErr result (λ fault. fault ≡ OutOfMemory) }
 {
-    let rows = Seq::from_vec(servers.rows(alloc)?);
+    let rows = servers.shared_rows(alloc)?;
     let version = servers.version();
     Ok(to_server(id, Body::List { version, rows }))
 }
 
 /// The list, to every server that is up. Only memory can be refused (F1).
-pub(crate) fn spread_list(alloc: Global, servers: &ServerList) -> Result<Vec<Message>, Fault>
-    ensures ok { IfOk result (λ messages. messages.items ≡ spreads_list servers.now) }
+pub(crate) fn spread_list(alloc: Global, servers: &mut ServerList) -> Result<Vec<Message>, Fault>
+    ensures same { servers.new ≡ servers.old }
+    ensures ok { IfOk result (λ messages. messages.items ≡ spreads_list servers.old) }
     ensures no_memory { IfErr result (λ fault. fault ≡ OutOfMemory) }
 {
-    list_to_each(alloc, servers, &servers.up(alloc)?)
+    let ids = servers.up(alloc)?;
+    list_to_each(alloc, servers, &ids)
 }
 
 /// The list, to each of these servers, which are those that are up. Only memory can be refused (F1).
 pub(crate) fn list_to_each(
     alloc: Global,
-    servers: &ServerList,
+    servers: &mut ServerList,
     ids: &[ServerId],
 ) -> Result<Vec<Message>, Fault>
-    requires { ids.now ≡ up servers.now }
-    ensures ok { IfOk result (λ messages. messages.items ≡ spreads_list servers.now) }
+    requires { ids.now ≡ up servers.old }
+    ensures same { servers.new ≡ servers.old }
+    ensures ok { IfOk result (λ messages. messages.items ≡ spreads_list servers.old) }
+    ensures no_memory { IfErr result (λ fault. fault ≡ OutOfMemory) }
+{
+    let rows = servers.shared_rows(alloc)?;
+    rows_to_each(alloc, servers.version(), &rows, ids)
+}
+
+/// A list of this version and these rows, to each of these. Only memory can be refused (F1).
+fn rows_to_each(
+    alloc: Global,
+    version: u32,
+    rows: &Shared<(ServerId, bool)>,
+    ids: &[ServerId],
+) -> Result<Vec<Message>, Fault>
+    ensures ok { IfOk result (λ messages. messages.items ≡ to_each ids.now (Listed version rows.now)) }
     ensures no_memory { IfErr result (λ fault. fault ≡ OutOfMemory) }
 {
     let mut messages = Vec::with_capacity(alloc, ids.len())?;
     for id in ids {
-        messages.push(list_to(alloc, servers, *id)?)?;
+        let rows = rows.share()?;
+        messages.push(to_server(*id, Body::List { version, rows }))?;
     }
     Ok(messages)
 }

@@ -7,7 +7,7 @@ ghost use Rattle.rc_draw.specs.Draw.{choice_of, delivery_of, write_of, start_of,
 ghost use Rattle.rc_draw.specs.Draw.{newest_server};
 
 use crate::words::Words;
-use rc_types::{Addr, Body, Event, Fault, Seq, ServerId};
+use rc_types::{Addr, Body, Event, Fault, Seq, ServerId, Shared};
 use rc_world::World;
 use std::alloc::Global;
 
@@ -111,7 +111,7 @@ fn write_of(alloc: Global, to: ServerId, word: u32, number: usize) -> Result<Eve
     let body = Body::Write {
         table: 1,
         key: u64::from(word % KEYS),
-        value: Some(Seq::from_vec(text.into_bytes())),
+        value: Some(Shared::from_vec(alloc, text.into_bytes())?),
     };
     Ok(Event::Ask { to, body })
 }

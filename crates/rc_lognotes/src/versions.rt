@@ -5,7 +5,7 @@ ghost use Rattle.rc_types.specs.declared.faults.Fault.TheVariants.{OutOfMemory};
 ghost use Rattle.rc_model.specs.Versions.{next_version};
 
 use rc_ownership::Ownership;
-use rc_types::{Entry, Fault, Seq, TryClone};
+use rc_types::{Entry, Fault, Shared, TryClone};
 use std::alloc::Global;
 
 /// The entry of a client's write: its version is one above the greatest of its key under its term that was noted.
@@ -15,7 +15,7 @@ pub fn new_entry(
     term: u32,
     table: u32,
     key: u64,
-    value: &Option<Seq<u8>>,
+    value: &Option<Shared<u8>>,
 ) -> Result<Entry, Fault>
     requires { next_version term table key ownership.now.noted < 2 ^ 64 }
     ensures ok { IfOk result (λ entry. entry ≡ record {

@@ -14,10 +14,10 @@ use crate::state::State;
 use rc_lognotes::new_entry;
 use rc_notices::{read_ok, refusal};
 use rc_types::limits::MAX_VALUE;
-use rc_types::{Fault, Message, Seq};
+use rc_types::{Fault, Message, Shared};
 
 /// Whether the value is longer than a value may be.
-fn is_too_long(value: &Option<Seq<u8>>) -> bool
+fn is_too_long(value: &Option<Shared<u8>>) -> bool
     ensures { result ≡ is_too_long value.now }
 {
     match value {
@@ -34,7 +34,7 @@ impl State {
         &mut self,
         table: u32,
         key: u64,
-        value: &Option<Seq<u8>>,
+        value: &Option<Shared<u8>>,
         sent: &mut Vec<Message>,
     ) -> Result<(), Fault>
         requires noted { IsNoted self.old }
@@ -61,7 +61,7 @@ impl State {
         term: u32,
         table: u32,
         key: u64,
-        value: &Option<Seq<u8>>,
+        value: &Option<Shared<u8>>,
         sent: &mut Vec<Message>,
     ) -> Result<(), Fault>
         requires noted { IsNoted self.old }

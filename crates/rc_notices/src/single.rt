@@ -11,7 +11,7 @@ ghost use Rattle.rc_notices.specs.Tasks.{AreTasksOf};
 use crate::tasks::{Task, attempt_of};
 use rc_headroll::{LogHead, Segment};
 use rc_ownership::Ownership;
-use rc_types::{Addr, Body, Fault, Message, Seq, ServerId};
+use rc_types::{Addr, Body, Fault, Message, ServerId, Shared};
 
 /// From a server to a server.
 pub(crate) fn to_server(own: ServerId, id: ServerId, body: Body) -> Message
@@ -54,7 +54,7 @@ pub fn refusal(own: ServerId, fault: Fault) -> Message
 }
 
 /// The answer to a read, with the version and the value that were found.
-pub fn read_ok(own: ServerId, table: u32, key: u64, found: (u64, Option<Seq<u8>>)) -> Message
+pub fn read_ok(own: ServerId, table: u32, key: u64, found: (u64, Option<Shared<u8>>)) -> Message
     ensures { result ≡ to_outside own (ReadOk table key found.0 found.1) }
 {
     let (version, value) = found;

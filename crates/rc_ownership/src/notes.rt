@@ -9,7 +9,7 @@ ghost use Rattle.rc_types.specs.declared.faults.Fault.TheVariants.{OutOfMemory};
 use crate::highs::{self, Slot};
 use crate::{counts, tops};
 use indexmap::IndexMap;
-use rc_types::{Entry, Fault, Seq, TryClone};
+use rc_types::{Entry, Fault, Shared, TryClone};
 use std::alloc::Global;
 use std::marker::Model;
 
@@ -210,7 +210,7 @@ impl Notes {
         term: u32,
         table: u32,
         key: u64,
-    ) -> Result<(u64, Option<Seq<u8>>), Fault>
+    ) -> Result<(u64, Option<Shared<u8>>), Fault>
         ensures ok { IfOk result (λ found. read_of term table key (take self.now.durable self.now.noted) ≡ record
             { version = found.0; value = found.1 }) }
         ensures no_memory { IfErr result (λ fault. fault ≡ OutOfMemory) }

@@ -20,7 +20,7 @@ use crate::looks::PartProgress;
 use crate::notes::Notes;
 use crate::parts::Parts;
 use indexmap::IndexMap;
-use rc_types::{Entry, Fault, KeyRange, Part, Seq, ServerId};
+use rc_types::{Entry, Fault, KeyRange, Part, ServerId, Shared};
 use std::alloc::Global;
 use std::marker::Model;
 
@@ -210,7 +210,7 @@ impl Ownership {
         term: u32,
         table: u32,
         key: u64,
-    ) -> Result<(u64, Option<Seq<u8>>), Fault>
+    ) -> Result<(u64, Option<Shared<u8>>), Fault>
         ensures ok { IfOk result (λ found. versions.read_of term table key
             (durable_of self.now) ≡ record { version = found.0; value = found.1 }) }
         ensures no_memory { IfErr result (λ fault. fault ≡ OutOfMemory) }

@@ -10,7 +10,7 @@ ghost use Rattle.rc_ownership.specs.declared.part.Before.TheVariants.{Awaited};
 
 use crate::notes::Notes;
 use crate::rows::{self, FetchedRow};
-use crate::shared::SharedEntries;
+use crate::shared::shared_copies;
 use rc_types::{Entry, Fault, Part, ServerId};
 use std::alloc::{AllocError, Global};
 use std::collections::VecDeque;
@@ -106,7 +106,7 @@ impl FetchedPart {
         let Some(place) = rows::awaited_place(&self.rows, seg, from) else {
             unreachable!();
         };
-        let came = SharedEntries::copy_of(alloc, entries)?;
+        let came = shared_copies(alloc, entries)?;
         let Some(count) = self.count.checked_add(entries.len()) else {
             return Err(Fault::OutOfMemory);
         };

@@ -10,8 +10,7 @@ ghost use Rattle.rc_ownership.specs.Replay.{Waiting, all_waiting, NoneIsEmpty};
 
 use crate::part::{Before, FetchedPart};
 use crate::rows::FetchedRow;
-use crate::shared::SharedEntries;
-use rc_types::{Entry, Fault, ServerId, TryClone};
+use rc_types::{Entry, Fault, ServerId, Shared, TryClone};
 use std::alloc::{AllocError, Global};
 use std::collections::VecDeque;
 use std::marker::Model;
@@ -20,7 +19,7 @@ use std::marker::Model;
 #[derive(Drop)]
 pub(crate) struct JoinedRow {
     term: u32,
-    entries: SharedEntries,
+    entries: Shared<Entry>,
 }
 
 impl Model for JoinedRow {

@@ -5,8 +5,7 @@ ghost use Rattle.std.specs.List.{position_or_len};
 ghost use Rattle.rc_model.specs.Ownership.{PartRow, awaited_row, is_awaited, insert_row, rows_in_order};
 ghost use Rattle.rc_ownership.specs.Rows.{AreInOrder};
 
-use crate::shared::SharedEntries;
-use rc_types::ServerId;
+use rc_types::{Entry, ServerId, Shared};
 use std::alloc::{AllocError, Global};
 use std::collections::VecDeque;
 use std::marker::Model;
@@ -16,7 +15,7 @@ use std::marker::Model;
 pub(crate) struct FetchedRow {
     seg: u16,
     holder: ServerId,
-    came: Option<SharedEntries>,
+    came: Option<Shared<Entry>>,
 }
 
 impl Model for FetchedRow {
@@ -54,14 +53,14 @@ impl FetchedRow {
     }
 
     /// Its entries have come.
-    pub(crate) fn fill(&mut self, came: SharedEntries)
+    pub(crate) fn fill(&mut self, came: Shared<Entry>)
         ensures { self.new ≡ record self.old { came = Some came } }
     {
         self.came = Some(came);
     }
 
     /// What came of it, shared.
-    pub(crate) fn share_came(&self) -> Result<Option<SharedEntries>, AllocError>
+    pub(crate) fn share_came(&self) -> Result<Option<Shared<Entry>>, AllocError>
         ensures { IfOk result (λ came. came ≡ self.now.came) }
     {
         match &self.came {
@@ -71,7 +70,7 @@ impl FetchedRow {
     }
 
     /// It has not come; the answer is what came of it, if it had.
-    pub(crate) fn empty(&mut self) -> Option<SharedEntries>
+    pub(crate) fn empty(&mut self) -> Option<Shared<Entry>>
         ensures row { self.new ≡ record self.old { came = None } }
         ensures came { result ≡ self.old.came }
     {

@@ -22,7 +22,7 @@ use crate::tokens::{opens_object, pass, simple};
 use crate::wanted::{addr, event, host, id, number};
 use json::{Invalid, Reader};
 use rc_types::limits::LAST_KEY;
-use rc_types::{Addr, Body, Event, Seq, ServerId};
+use rc_types::{Addr, Body, Event, Seq, ServerId, Shared};
 use std::alloc::Global;
 
 /// A member that some event has.
@@ -169,7 +169,7 @@ pub(crate) struct Fields {
     to: Option<ServerId>,
     table: Option<u32>,
     key: Option<u64>,
-    value: Option<Option<Seq<u8>>>,
+    value: Option<Option<Shared<u8>>>,
     number: Option<u32>,
     kinds: Option<Kinds>,
     hosts: Option<Hosts>,
@@ -202,7 +202,7 @@ fn value(
     alloc: Global,
     reader: &mut Reader<'_>,
     depth: usize,
-) -> Result<Option<Option<Seq<u8>>>, ReadFault>
+) -> Result<Option<Option<Shared<u8>>>, ReadFault>
     ensures ok { IfOk result (λ value. says written depth reader.old ≡ Some (value, reader.new)) }
     ensures shorter { OnOk result (length reader.new < length reader.old) }
     ensures bad { (place : ℕ) → result ≡ Err (BadScenario place) → (place ≡ 0) × (data_at depth reader.old ≡ None) }
@@ -211,7 +211,7 @@ fn value(
         Simple::Null => Ok(Some(None)),
         Simple::Text(text) => {
             let bytes = text.as_bytes().to_vec(alloc)?;
-            Ok(Some(Some(Seq::from_vec(bytes))))
+            Ok(Some(Some(Shared::from_vec(alloc, bytes)?)))
         }
         _ => Ok(None),
     }
@@ -334,7 +334,7 @@ fn write_event(
     to: Option<ServerId>,
     table: Option<u32>,
     key: Option<u64>,
-    value: Option<Option<Seq<u8>>>,
+    value: Option<Option<Shared<u8>>>,
 ) -> Option<Event>
     ensures { result ≡ given4 asks_write to table key value }
 {

@@ -5,7 +5,7 @@ ghost use Rattle.rc_types.specs.Counts.{within_64_bits};
 ghost use Rattle.rc_replica.specs.Sizes.{value_len, value_bytes};
 
 use crate::kept::Replica;
-use rc_types::{Entry, Seq};
+use rc_types::{Entry, Shared};
 
 impl Replica {
     /// How many bytes the values of its entries have, or the greatest number where they have more. It goes over
@@ -29,7 +29,7 @@ fn bytes_in(entries: &[Entry]) -> usize
 }
 
 /// How many bytes the value has.
-fn value_len(value: &Option<Seq<u8>>) -> usize
+fn value_len(value: &Option<Shared<u8>>) -> usize
     ensures { result ≡ value_len value.now }
 {
     match value {

@@ -8,7 +8,7 @@ ghost use Rattle.rc_model.specs.Ids.{same_id};
 
 use crate::marks;
 use indexmap::IndexMap;
-use rc_types::{Fault, ServerId};
+use rc_types::{Fault, ServerId, Shared};
 use std::alloc::Global;
 use std::fmt;
 use std::marker::Model;
@@ -18,6 +18,8 @@ use std::marker::Model;
 pub struct ServerList {
     version: u32,
     rows: IndexMap<ServerId, bool>,
+    /// The rows as messages tell them, once they were asked for since the last change.
+    told: Option<Shared<(ServerId, bool)>>,
 }
 
 impl Drop for ServerList {
@@ -25,6 +27,7 @@ impl Drop for ServerList {
         let ServerList {
             version: _,
             rows: _,
+            told: _,
         } = self;
     }
 }
@@ -37,11 +40,14 @@ impl fmt::Debug for ServerList {
 }
 
 impl Model for ServerList {
+    ghost use Rattle.std.specs.Prelude.{◌≡◌, IfSome};
     ghost use Rattle.rc_model.specs.ServerList.{ServerList as Servers};
 
     ghost Value = { Servers };
 
     ghost view = { λ s. record { version = s.version; rows = s.rows.entries } };
+
+    ghost invariant = { λ s. IfSome s.told (λ rows. rows ≡ s.rows.entries) };
 }
 
 impl ServerList {
@@ -55,6 +61,7 @@ impl ServerList {
         ServerList {
             version: 0,
             rows: IndexMap::new(alloc),
+            told: None,
         }
     }
 
@@ -75,6 +82,7 @@ impl ServerList {
         Ok(ServerList {
             version,
             rows: first,
+            told: None,
         })
     }
 
@@ -87,6 +95,7 @@ impl ServerList {
         Ok(ServerList {
             version: self.version,
             rows: copy,
+            told: None,
         })
     }
 
@@ -171,6 +180,21 @@ impl ServerList {
         Ok(rows)
     }
 
+    /// The same rows, for any number of messages. They are made once after each change of the list: who asks again
+    /// gets one more owner of them. Only memory can be refused (F1).
+    pub fn shared_rows(&mut self, alloc: Global) -> Result<Shared<(ServerId, bool)>, Fault>
+        ensures same { self.new ≡ self.old }
+        ensures ok { IfOk result (λ rows. rows ≡ self.old.rows) }
+        ensures no_memory { IfErr result (λ fault. fault ≡ OutOfMemory) }
+    {
+        if let Some(rows) = &self.told {
+            return Ok(rows.share()?);
+        }
+        let rows = Shared::from_vec(alloc, self.rows(alloc)?)?;
+        self.told = Some(rows.share()?);
+        Ok(rows)
+    }
+
     /// Takes a new id in as up, and marks all older generations of its index crashed. The version
     /// rises by one. F21 exactly where the generation is not above all known of its index; else
     /// only memory can be refused (F1). After either the list is as it was.
@@ -186,6 +210,7 @@ impl ServerList {
         }
         let count = self.rows.len();
         self.rows.insert(id, true)?;
+        self.told = None;
         marks::mark_index_crashed(&mut self.rows, id.index, count);
         self.version += 1;
         Ok(())
@@ -198,6 +223,7 @@ impl ServerList {
         ensures was_up { result ≡ is_up self.old id }
         ensures crashed { self.new ≡ crashed id self.old }
     {
+        self.told = None;
         let was_up = marks::mark_crashed(&mut self.rows, id);
         if was_up {
             self.version += 1;

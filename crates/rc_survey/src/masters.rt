@@ -3,7 +3,7 @@
 use crate::answers::{acknowledged, places, refusal_in, version_read};
 use crate::rules::Rule;
 use crate::surveying::Survey;
-use rc_types::{Body, Code, Message, Seq, ServerId};
+use rc_types::{Body, Code, Message, ServerId, Shared};
 
 impl Survey {
     /// A write or a read has come to a master that runs, or another message but a list.
@@ -71,7 +71,7 @@ impl Survey {
         &mut self,
         master: ServerId,
         version: u32,
-        rows: &Seq<(ServerId, bool)>,
+        rows: &Shared<(ServerId, bool)>,
         answer: &[Message],
     ) {
         let Some(server) = self.servers.get_mut(master) else {

@@ -2,7 +2,7 @@
 
 use crate::kinds::{body_name, code_name, event_name};
 use rc_pen::{Pen, Piece};
-use rc_types::{Body, Code, Entry, Event, Message, Part, PlanRow, Row, Seq, ServerId};
+use rc_types::{Body, Code, Entry, Event, Message, Part, PlanRow, Row, Seq, ServerId, Shared};
 
 /// How many entries of a message are told one by one.
 const MOST_ENTRIES: usize = 4;
@@ -285,7 +285,7 @@ pub(crate) fn tell_code(pen: &mut Pen, code: Code) {
 }
 
 /// Who is on the server list, and who of them is up.
-fn tell_list(pen: &mut Pen, version: u32, rows: &Seq<(ServerId, bool)>) {
+fn tell_list(pen: &mut Pen, version: u32, rows: &Shared<(ServerId, bool)>) {
     pen.number("version ", u64::from(version));
     for (id, up) in rows.as_slice() {
         pen.say_all(" %% up| down|", &[Piece::Id(*id), Piece::Flag(*up)]);
@@ -416,7 +416,7 @@ fn tell_count(pen: &mut Pen, count: usize, one: &str, many: &str) {
 }
 
 /// A value: as text, where it is short and of plain letters, else as hexadecimal digits; or a deletion.
-fn tell_value(pen: &mut Pen, value: Option<&Seq<u8>>) {
+fn tell_value(pen: &mut Pen, value: Option<&Shared<u8>>) {
     match value {
         None => pen.say(" no value"),
         Some(value) => {

@@ -6,7 +6,7 @@ ghost use Rattle.rc_threads.specs.Workload.{push, write_of, workload};
 
 use crate::steps::Step;
 use rc_journal::SeatName;
-use rc_types::{Body, Seq, ServerId};
+use rc_types::{Body, Seq, ServerId, Shared};
 use rc_wire::Work;
 use std::alloc::{AllocError, Global};
 
@@ -55,7 +55,7 @@ pub(crate) fn steps(alloc: Global, hosts: u8, writes: u32) -> Result<Vec<Step>, 
 fn write_of(alloc: Global, key: u64) -> Result<Work, AllocError>
     ensures { IfOk result (λ work. work ≡ write_of key) }
 {
-    let value = Seq::from_vec(vec![in alloc; b'w']?);
+    let value = Shared::from_vec(alloc, vec![in alloc; b'w']?)?;
     Ok(Work::Ask {
         to: OWNER,
         body: Body::Write {

@@ -14,7 +14,7 @@ use crate::values::{entry_value, key, number, seg, table};
 use json::{Invalid, Reader};
 use rc_reading::tokens::{begin, pass};
 use rc_reading::wanted::id;
-use rc_types::{Entry, PlanRow, Seq, ServerId};
+use rc_types::{Entry, PlanRow, Seq, ServerId, Shared};
 use std::alloc::{AllocError, Global};
 
 /// What the items of an entry say so far.
@@ -26,7 +26,7 @@ pub(crate) struct EntryParts {
     table: Option<u32>,
     key: Option<u64>,
     version: Option<u64>,
-    value: Option<Option<Seq<u8>>>,
+    value: Option<Option<Shared<u8>>>,
 }
 
 impl EntryParts {

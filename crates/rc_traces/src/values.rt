@@ -16,7 +16,7 @@ use json::{Invalid, Reader};
 use rc_reading::simple::Simple;
 use rc_reading::tokens::simple;
 use rc_reading::wanted;
-use rc_types::Seq;
+use rc_types::Shared;
 use rc_types::limits::{LAST_KEY, LAST_SEGMENT};
 use std::alloc::Global;
 
@@ -68,7 +68,7 @@ fn has_upper(text: &[u8]) -> bool
 }
 
 /// The bytes that a text in lower-case hexadecimal says.
-fn bytes(alloc: Global, text: &str) -> Result<Option<Seq<u8>>, TraceFault>
+fn bytes(alloc: Global, text: &str) -> Result<Option<Shared<u8>>, TraceFault>
     ensures ok { IfOk result (λ bytes. bytes ≡ bytes_of text.now) }
     ensures err { IfErr result (λ e. e ≡ OutOfMemory) }
 {
@@ -76,14 +76,14 @@ fn bytes(alloc: Global, text: &str) -> Result<Option<Seq<u8>>, TraceFault>
         return Ok(None);
     }
     match hex::decode(alloc, text) {
-        Ok(bytes) => Ok(Some(Seq::from_vec(bytes))),
+        Ok(bytes) => Ok(Some(Shared::from_vec(alloc, bytes)?)),
         Err(FromHexError::OutOfMemory) => Err(TraceFault::OutOfMemory),
         Err(_) => Ok(None),
     }
 }
 
 /// What is said of an entry's value: its bytes, or nothing for a deletion.
-fn value_in(alloc: Global, said: Simple<'_>) -> Result<Option<Option<Seq<u8>>>, TraceFault>
+fn value_in(alloc: Global, said: Simple<'_>) -> Result<Option<Option<Shared<u8>>>, TraceFault>
     ensures ok { IfOk result (λ value. value ≡ value_in (shown said.entry)) }
     ensures err { IfErr result (λ e. e ≡ OutOfMemory) }
 {
@@ -102,7 +102,7 @@ pub(crate) fn entry_value(
     alloc: Global,
     reader: &mut Reader<'_>,
     depth: usize,
-) -> Result<Option<Option<Seq<u8>>>, TraceFault>
+) -> Result<Option<Option<Shared<u8>>>, TraceFault>
     ensures ok { IfOk result (λ value. says value_of depth reader.old ≡ Some (value, reader.new)) }
     ensures shorter { OnOk result (length reader.new < length reader.old) }
     ensures bad { (place : ℕ) → result ≡ Err (BadTrace place) → (place ≡ 0) × (data_at depth reader.old ≡ None) }

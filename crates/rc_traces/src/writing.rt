@@ -7,7 +7,7 @@ ghost use Rattle.rc_traces.specs.Written.{trace_data, trace_text};
 ghost use Rattle.serde_json.specs.Data.{array};
 ghost use Rattle.serde_json.specs.View.{view, items_of};
 
-use rc_types::{Addr, Body, Entry, Message, PlanRow, Seq, ServerId};
+use rc_types::{Addr, Body, Entry, Message, PlanRow, Seq, ServerId, Shared};
 use serde_json::{Value, json};
 use std::alloc::{AllocError, Global};
 
@@ -205,7 +205,7 @@ fn entry(alloc: Global, entry: &Entry) -> Result<Value, AllocError>
 }
 
 /// A value's bytes in lower-case hexadecimal, or null.
-fn bytes(alloc: Global, value: &Option<Seq<u8>>) -> Result<Value, AllocError>
+fn bytes(alloc: Global, value: &Option<Shared<u8>>) -> Result<Value, AllocError>
     ensures { IfOk result (λ text. view text ≡ value_data value.now) }
 {
     match value {

@@ -1,7 +1,8 @@
 //! What a log is made of.
 
 use crate::faults::Fault;
-use crate::sequence::{Seq, TryClone};
+use crate::sequence::TryClone;
+use crate::shared::Shared;
 use std::alloc::Global;
 
 /// One entry of a master's log: one write of one key.
@@ -16,7 +17,7 @@ pub struct Entry {
     /// The version, from 1; under one term a key's versions rise with the place in the log.
     pub version: u64,
     /// The value's bytes, at most 1,024 where a client wrote it; `None` is a deletion.
-    pub value: Option<Seq<u8>>,
+    pub value: Option<Shared<u8>>,
 }
 
 impl TryClone for Entry {

@@ -12,6 +12,7 @@ pub mod limits;
 mod messages;
 mod rows;
 mod sequence;
+mod shared;
 mod verdicts;
 
 pub use entries::Entry;
@@ -22,4 +23,5 @@ pub use kept::{Grant, GrantedRange, Member, Phase, Told};
 pub use messages::{Body, Message};
 pub use rows::{KeyRange, Part, Plan, PlanRow, Row, Tablet};
 pub use sequence::{Seq, TryClone};
+pub use shared::Shared;
 pub use verdicts::Breach;

@@ -5,6 +5,7 @@ use crate::faults::{Code, Fault};
 use crate::ids::{Addr, ServerId};
 use crate::rows::{Part, PlanRow, Row};
 use crate::sequence::{Seq, TryClone};
+use crate::shared::Shared;
 use std::alloc::Global;
 
 /// A message, from one address to another.
@@ -40,7 +41,7 @@ pub enum Body {
         /// The key in it.
         key: u64,
         /// What to write; `None` deletes.
-        value: Option<Seq<u8>>,
+        value: Option<Shared<u8>>,
     },
     /// O to S: read this key.
     Read {
@@ -73,7 +74,7 @@ pub enum Body {
         /// The greatest durable version; 0 where there is none.
         version: u64,
         /// Its value; `None` where it was deleted, or there is none.
-        value: Option<Seq<u8>>,
+        value: Option<Shared<u8>>,
     },
     /// S to O, C to S, C to O: refused, and why.
     Refused {
@@ -143,7 +144,7 @@ pub enum Body {
         /// The version of the list; a greater one is newer.
         version: u32,
         /// Each id that ever was on the list, and whether it is up.
-        rows: Seq<(ServerId, bool)>,
+        rows: Shared<(ServerId, bool)>,
     },
     /// C to S: fence this crashed master, and tell what you hold of its log.
     Gather {

@@ -6,7 +6,7 @@ use crate::exploring::options::Options;
 use crate::exploring::roster::{KEYS, Roster};
 use rand_pcg::Pcg32;
 use rc_survey::{Counts, Survey};
-use rc_types::{Addr, Body, Event, Fault, Seq, ServerId};
+use rc_types::{Addr, Body, Event, Fault, Seq, ServerId, Shared};
 use rc_world::World;
 use std::alloc::Global;
 
@@ -233,7 +233,10 @@ impl Exploration {
     ) -> Result<Option<Event>, Fault> {
         let key = words.target as usize % KEYS;
         let value = match value {
-            Some(number) => Some(Seq::from_vec(format!(in alloc; "{number}")?.into_bytes())),
+            Some(number) => Some(Shared::from_vec(
+                alloc,
+                format!(in alloc; "{number}")?.into_bytes(),
+            )?),
             None => None,
         };
         Ok(Some(Event::Ask {

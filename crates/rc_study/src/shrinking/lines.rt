@@ -2,7 +2,7 @@
 
 use rc_pen::Pen;
 use rc_reading::{Hosts, Kind, Kinds};
-use rc_types::{Seq, ServerId, Setup};
+use rc_types::{Seq, ServerId, Setup, Shared};
 
 /// How many hosts there can be.
 const HOSTS: u8 = 64;
@@ -99,7 +99,7 @@ pub(crate) fn put_write(
     to: ServerId,
     table: u32,
     key: u64,
-    value: Option<&Seq<u8>>,
+    value: Option<&Shared<u8>>,
 ) {
     put_request(pen, "{\"e\":\"write\",\"to\":", to, table, key);
     match value {

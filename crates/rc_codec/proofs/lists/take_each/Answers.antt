@@ -18,6 +18,6 @@ loop-preserved g c =
     (each_at g.T.Take.read c.args.count c.args.bytes.now) c.loop-test.true c.in_ok-item.ensures c.loop.invariant)
 
 pub returns : goal.returns
-returns g c = rw c.from_vec.ensures
+returns g c =
     (is_done g.T.Take.read c.loop.items.items c.args.count c.loop.counter c.loop.rest.now
     (each_at g.T.Take.read c.args.count c.args.bytes.now) c.loop-test.false c.loop.invariant)
