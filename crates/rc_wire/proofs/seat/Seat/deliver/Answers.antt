@@ -1,5 +1,4 @@
-use Rattle.std.proofs.Common.{◌≡◌, ℕ, Bool, ◌||◌, nat_eq, List, Option, Some, None, refl, sym, ap, ◌∙◌, subst}
-use Rattle.std.specs.List.{list_any}
+use Rattle.std.proofs.Common.{◌≡◌, ℕ, Bool, ◌||◌, nat_eq, Option, Some, None, refl, sym, ap, ◌∙◌, subst}
 use Rattle.std.specs.Option.{IfSome}
 use Rattle.rc_model.specs.Model.{Message, NodeName}
 use Rattle.rc_world.specs.NodeView.{node_seen}
