@@ -2,6 +2,7 @@
 use denote.RattleType.{RattleType}
 use denote.Param.Send.{IsSend, IsSync, sendable}
 use Rattle.std.proofs.Crossing.{crosses}
+use Rattle.std.proofs.MapsCrossing as maps
 use Rattle.std.specs.contracts.alloc.Global as Heap
 use Rattle.std.specs.contracts.impls.GlobalAllocator.TheImpl.{ghosts}
 use Rattle.rc_types.proofs.messages.Message.TheSendSync as message
@@ -28,4 +29,4 @@ node-send = search (coordinator-send, host.the_send, sendable, crosses) depth 10
 
 pub seat_send : (N : RattleType) (names : naming.Ghosts N.Denot) → IsSend N → IsSend (Seat.the_row N names)
 seat_send N names s =
-    search (node-send, message.the_send, offer.the_send, token.the_send, sendable, crosses) depth 100 fits 100000
+    search (node-send, message.the_send, offer.the_send, token.the_send, maps.crosses, sendable, crosses) depth 100 fits 100000

@@ -3,3 +3,4 @@ pub mod Turning
 pub mod Seating
 pub mod Crossing
 pub mod Fetching
+pub mod Listing

@@ -2,8 +2,8 @@
 use Rattle.std.proofs.Common.{◌≡◌, ℕ, zero, suc, ◌+◌, ◌<◌, ◌≤◌, nat_lt, nat_eq, Bool, true, false, cond, ◌&&◌, ◌||◌, not}
 use Rattle.std.proofs.Common.{List, [], ◌∷◌, ◌++◌, take, length, Option, Some, None, slice_get, slice_index_or}
 use Rattle.std.proofs.Common.{refl, sym, ap, ◌∙◌, subst, append_assoc, arith}
-use Rattle.std.specs.Prelude.{Result, Ok, Err, OnOk}
-use Rattle.std.specs.Option.{IfSome}
+use Rattle.std.specs.Prelude.{Result, Ok, Err, OnOk, OnErr}
+use Rattle.std.specs.Option.{IfSome, IfNone}
 use Rattle.std.proofs.lemmas.Bool.{and_parts, eq-eqb}
 use Rattle.std.proofs.lemmas.List.{append-nil}
 use Rattle.std.proofs.lemmas.List.Folds.{list_any-append}
@@ -19,8 +19,8 @@ use Rattle.rc_journal.specs.Numbers.{least_to}
 use Rattle.rc_wire.specs.declared.work.Work.{Work}
 use Rattle.rc_wire.specs.declared.work.Work.TheVariants as work
 use Rattle.rc_wire.specs.SeatView.{SeatData, Offered, offered_events, node_name, world_at, node_at}
-use Rattle.rc_wire.specs.Calls.{Later, Finds, Misses, Fetches}
-use Rattle.rc_wire.specs.Works.{event_for, is_delivery_of, was_delivered}
+use Rattle.rc_wire.specs.Calls.{Later, Finds, Misses, Fetches, Commits}
+use Rattle.rc_wire.specs.Works.{event_for, Prepares, is_delivery_of, was_delivered}
 use Rattle.rc_threads.specs.declared.steps.Step.{Step}
 use Rattle.rc_threads.specs.declared.steps.Step.TheVariants.{Do, Settle}
 use Rattle.rc_threads.specs.Runs.{own_work, listed, works_for, is_fetched, none_fetched, work_in, works_in, is_new, all_new}
@@ -33,8 +33,19 @@ pub on-ok : {A E : Type 0} {P Q : Type 0} (r : Result A E) → (P → Q) → OnO
 on-ok (Ok x) f h = f h
 on-ok (Err e) f h = tt
 
+pub ok-always : {A E : Type 0} {P : Type 0} (r : Result A E) → P → OnOk r P
+ok-always (Ok x) h = h
+ok-always (Err e) h = tt
+
+pub err-always : {A E : Type 0} {P : Type 0} (r : Result A E) → P → OnErr r P
+err-always (Ok x) h = tt
+err-always (Err e) h = h
+
 pub if-some : {A : Type 0} (P : A → Type 0) (o : Option A) (x : A) → o ≡ Some x → IfSome o P → P x
 if-some P o x is h = subst (λ q. IfSome q P) is h
+
+pub if-none : {A : Type 0} (P : Type 0) (o : Option A) → o ≡ None → IfNone o P → P
+if-none P o is h = subst (λ q. IfNone q P) is h
 
 -- Lists
 
@@ -132,6 +143,12 @@ grows-takes setup old given new t = record {
   mine = record { rest = t.event ∷ []; same = t.mine };
 }
 
+-- a step that was tried has grown it, whether it was taken or not
+pub grows-tried : {E : Type 0} (setup : Setup) (old : SeatData) (given : Work) (new : SeatData) (r : Result (Unit {0}) E) →
+    OnOk r (Takes setup old given new) → OnErr r (Grows old new) → Grows old new
+grows-tried setup old given new (Ok x) takes grows = grows-takes setup old given new takes
+grows-tried setup old given new (Err e) takes grows = grows
+
 pub grows-through : (one two three : SeatData) → Grows one two → Grows two three → Grows one three
 grows-through one two three a b = record {
   name = b.name ∙ a.name;
@@ -141,6 +158,12 @@ grows-through one two three a b = record {
 
 pub grows-same : (seat : SeatData) → Grows seat seat
 grows-same seat = record { name = refl; seen = starts-same seat.seen; mine = starts-same seat.mine }
+
+pub grows-equal : (old new : SeatData) → new ≡ old → Grows old new
+grows-equal old new is = subst (λ (s : SeatData). Grows old s) (sym is) (grows-same old)
+
+starts-equal : {A : Type 0} (xs ys : List A) → xs ≡ ys → StartsWith xs ys
+starts-equal xs ys is = record { rest = []; same = is ∙ sym (append-nil ys) }
 
 -- a run of turns has grown its seat
 pub grows-does : (old new : SeatData) (works : List Work) → Does old works new → Grows old new
@@ -414,18 +437,20 @@ progress-later setup start steps at from old new p l =
     progress-looked setup start steps at from old new p (grows-later old new l) (ap (λ (s : SeatData). s.mine) l.same)
     (ap (λ (s : SeatData). s.pending) l.same ∙ p.idle)
 
+pub grows-finds : (setup : Setup) (old : SeatData) (number : ℕ) (new : SeatData) → Finds setup old number new → Grows old new
+grows-finds setup old number new f = record {
+  name = ap (λ (s : SeatData). s.name) f.after;
+  seen = f.seen;
+  mine = starts-equal new.mine old.mine (ap (λ (s : SeatData). s.mine) f.after);
+}
+
 -- the message is fetched, and delivered
 pub progress-fetched : (setup : Setup) (start : SeatData) (steps : List Step) (at from number : ℕ) (old found new : SeatData) →
     Progress setup start steps at from old → least_to (node_name old) from (world_at setup old).sent ≡ Some number →
     was_delivered old.mine number ≡ false → Finds setup old number found → Takes setup found work.Fetched new →
     Progress setup start steps at (number + 1) new
 progress-fetched setup start steps at from number old found new p least not-had f t =
-    let g : Grows old found = record {
-      name = ap (λ (s : SeatData). s.name) f.after;
-      seen = f.seen;
-      mine = subst (λ (m : List Event). StartsWith m old.mine) (sym (ap (λ (s : SeatData). s.mine) f.after)) (starts-same old.mine);
-    } in
-    progress-delivered setup start steps at from number old found new f.message p least not-had g
+    progress-delivered setup start steps at from number old found new f.message p least not-had (grows-finds setup old number found f)
     (ap (λ (s : SeatData). s.mine) f.after) (ap (λ (s : SeatData). s.pending) f.after ∙ p.idle)
     (ap (λ (s : SeatData). s.held) f.after) t
 
@@ -445,3 +470,35 @@ finds-of setup old number found new is f = subst (λ (b : Bool). Fetches setup o
 pub misses-of : (setup : Setup) (old : SeatData) (number : ℕ) (found : Bool) (new : SeatData) → found ≡ false →
     Fetches setup old number found new → Misses setup old number new
 misses-of setup old number found new is f = subst (λ (b : Bool). Fetches setup old number b new) is f
+
+-- A step
+
+-- it is pending, and nothing was committed
+pub grows-prepared : (setup : Setup) (old : SeatData) (given : Work) (ready : SeatData) → Prepares setup old given ready → Grows old ready
+grows-prepared setup old given ready p = record {
+  name = ap (λ (s : SeatData). s.name) p.after;
+  seen = starts-equal ready.seen old.seen (ap (λ (s : SeatData). s.seen) p.after);
+  mine = starts-equal ready.mine old.mine (ap (λ (s : SeatData). s.mine) p.after);
+}
+
+-- it was pending, and is committed
+pub takes-committed : (setup : Setup) (old : SeatData) (given : Work) (ready : SeatData) (n : ℕ) (new : SeatData) →
+    Prepares setup old given ready → Commits setup ready n new → Takes setup old given new
+takes-committed setup old given ready n new p c =
+    let same : c.offered ≡ p.offered =
+    some-same c.offered p.offered (sym c.pending ∙ ap (λ (s : SeatData). s.pending) p.after) in
+    record {
+      event = p.offered.event;
+      is = p.event;
+      name = ap (λ (s : SeatData). s.name) c.after ∙ ap (λ (s : SeatData). s.name) p.after;
+      seen = starts-through new.seen c.earlier old.seen
+          (record { rest = c.offered.event ∷ []; same = ap (λ (s : SeatData). s.seen) c.after })
+          (subst (λ (l : List Event). StartsWith c.earlier l) (ap (λ (s : SeatData). s.seen) p.after) c.seen);
+      mine = ap (λ (s : SeatData). s.mine) c.after
+          ∙ (ap (λ (s : SeatData). s.mine ++ c.offered.event ∷ []) p.after
+          ∙ ap (λ (o : Offered). old.mine ++ o.event ∷ []) same);
+      idle = ap (λ (s : SeatData). s.pending) c.after;
+    }
+  where
+    some-same : (a b : Offered) → Some a ≡ Some b → a ≡ b
+    some-same a b is = cc

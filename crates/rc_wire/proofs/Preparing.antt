@@ -152,6 +152,20 @@ sound-delivered setup seat number node after numbers noted k offer s idle o d al
     (held-step setup seat number node after numbers k offer s idle o d) tt
     (message-noted numbers noted seat.mine offer.event k d.event all (idle-noted setup seat number node numbers s idle))
 
+-- the numbers may stand in another order
+pub sound-reordered : (setup : Setup) (seat : SeatData) (number : ℕ) (node after : Node) (numbers others : List ℕ) →
+    SeatSound setup seat number node numbers → after ≡ node →
+    ((n : ℕ) → list_any (nat_eq n) others ≡ list_any (nat_eq n) numbers) → SeatSound setup seat number after others
+sound-reordered setup seat number node after numbers others s stays same = record {
+  sits = s.sits;
+  few = s.few;
+  mine = s.mine;
+  state = subst (λ (n : Node). HasTaken (world_at setup seat).sent (node_name seat) (node_at setup seat) seat.pending n)
+      (sym stays) s.state;
+  held = s.held;
+  delivered = λ n. same n ∙ s.delivered n;
+}
+
 -- What the clauses say
 
 -- an offer that was put where there was none

@@ -3,7 +3,7 @@
 ghost use Rattle.std.specs.Prelude.{◌≡◌, ◌⊎◌, ◌↔◌, ◌++◌, ◌<◌, ◌||◌, ℕ, nat_eq, true, false, None, Some};
 ghost use Rattle.std.specs.Prelude.{is_some, option_map, IfErr, OnOk, OnErr};
 ghost use Rattle.std.specs.List.{list_any};
-ghost use Rattle.indexmap.specs.IndexSet.{spare};
+ghost use Rattle.std.specs.HashSet.{spare};
 ghost use Rattle.rc_types.specs.declared.faults.Fault.TheVariants.{OutOfMemory, BadEvent, Pending};
 ghost use Rattle.rc_journal.specs.Views.{new_place};
 ghost use Rattle.rc_world.specs.HostView.{IsWithinLimits};
@@ -20,11 +20,11 @@ ghost use Rattle.rc_wire.specs.declared.work.Work.TheVariants.{Fetched};
 use crate::offer::{Offer, let_go, put};
 use crate::steps::{give, given_by, new_state, own_number, take};
 use crate::work::Work;
-use indexmap::IndexSet;
 use rc_journal::{Naming, SeatName, Token};
 use rc_types::{Fault, Message, NodeWork, Setup};
 use rc_world::NodeState;
 use std::alloc::Global;
+use std::collections::HashSet;
 use std::marker::Model;
 
 /// The seat of one node at the wire of this name. As a value it is its name, the history as far as it
@@ -38,7 +38,7 @@ pub struct Seat<N: Naming> {
     state: NodeState<Global>,
     pub(crate) held: Option<(usize, Message)>,
     pub(crate) pending: Option<Offer>,
-    delivered: IndexSet<usize>,
+    delivered: HashSet<usize>,
 }
 
 impl<N: Naming> Drop for Seat<N> {
@@ -83,7 +83,7 @@ impl<N: Naming> Seat<N> {
             state: new_state(alloc, name, setup),
             held: None,
             pending: None,
-            delivered: IndexSet::new(alloc),
+            delivered: HashSet::new(alloc),
         }
     }
 
@@ -203,7 +203,7 @@ impl<N: Naming> Seat<N> {
 }
 
 /// Notes the number of a message that is delivered, where there is room for it.
-fn note(delivered: &mut IndexSet<usize>, number: usize)
+fn note(delivered: &mut HashSet<usize>, number: usize)
     requires { 0 < spare delivered.old }
     ensures { (n : ℕ) → list_any (nat_eq n) delivered.new.keys ≡
         (nat_eq n number || list_any (nat_eq n) delivered.old.keys) }

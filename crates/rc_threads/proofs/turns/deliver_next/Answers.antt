@@ -1,7 +1,9 @@
 use Rattle.std.proofs.Common.{◌≡◌, true, false, sym, ◌∙◌, ◌+◌}
 use Rattle.rc_wire.specs.Works.{was_delivered}
+use Rattle.rc_wire.specs.declared.work.Work.TheVariants.{Fetched}
 use Rattle.rc_threads.proofs.Turning.{progress-later, progress-lower, progress-had, progress-fetched, progress-all}
-use Rattle.rc_threads.proofs.Turning.{had-idle, idle-later, finds-of, misses-of}
+use Rattle.rc_threads.proofs.Turning.{had-idle, idle-later, finds-of, misses-of, grows-later, grows-equal, grows-finds, grows-takes}
+use Rattle.rc_threads.proofs.Turning.{grows-through}
 use Rattle.rc_threads.proofs.turns.deliver_next.Goals as goal
 
 pub returns-in_default-clause-none : goal.returns-in_default-clause-none
@@ -47,3 +49,61 @@ returns-clause-some g c = λ start steps at p.
     let misses = misses-of setup now c.in-Some.number c.in_ok-found.found c.fetch.new.seat c.if-found.false c.in_ok-found.ensures.ok in
     progress-later setup start steps at c.args.from now c.fetch.new.seat
     (progress-later setup start steps at c.args.from c.args.seat.now now p c.next.ensures.later) misses.later
+
+-- what was looked for only
+
+pub returns-in_default-clause-idle : goal.returns-in_default-clause-idle
+returns-in_default-clause-idle g c = idle-later c.args.seat.now c.next.new.seat c.next.ensures.later c.requires.idle
+
+pub returns-in_default-clause-grows : goal.returns-in_default-clause-grows
+returns-in_default-clause-grows g c = grows-later c.args.seat.now c.next.new.seat c.next.ensures.later
+
+pub returns-then-has_delivered-clause-idle : goal.returns-then-has_delivered-clause-idle
+returns-then-has_delivered-clause-idle g c = idle-later c.args.seat.now c.next.new.seat c.next.ensures.later c.requires.idle
+
+pub returns-then-has_delivered-clause-grows : goal.returns-then-has_delivered-clause-grows
+returns-then-has_delivered-clause-grows g c = grows-later c.args.seat.now c.next.new.seat c.next.ensures.later
+
+pub returns-in_err-found-clause-grows : goal.returns-in_err-found-clause-grows
+returns-in_err-found-clause-grows g c =
+    grows-through c.args.seat.now c.next.new.seat c.fetch.new.seat (grows-later c.args.seat.now c.next.new.seat c.next.ensures.later)
+    (grows-equal c.next.new.seat c.fetch.new.seat c.in_err-found.ensures.err)
+
+pub returns-clause-idle : goal.returns-clause-idle
+returns-clause-idle g c =
+    let now = c.next.new.seat in
+    let misses = misses-of g.N.Naming.wire.setup now c.in-Some.number c.in_ok-found.found c.fetch.new.seat c.if-found.false
+    c.in_ok-found.ensures.ok in
+    idle-later now c.fetch.new.seat misses.later (idle-later c.args.seat.now now c.next.ensures.later c.requires.idle)
+
+pub returns-clause-grows : goal.returns-clause-grows
+returns-clause-grows g c =
+    let now = c.next.new.seat in
+    let misses = misses-of g.N.Naming.wire.setup now c.in-Some.number c.in_ok-found.found c.fetch.new.seat c.if-found.false
+    c.in_ok-found.ensures.ok in
+    grows-through c.args.seat.now now c.fetch.new.seat (grows-later c.args.seat.now now c.next.ensures.later)
+    (grows-later now c.fetch.new.seat misses.later)
+
+-- what was fetched too
+
+pub returns-in_err-take_step-clause-grows : goal.returns-in_err-take_step-clause-grows
+returns-in_err-take_step-clause-grows g c =
+    let now = c.next.new.seat in
+    let finds = finds-of g.N.Naming.wire.setup now c.in-Some.number c.in_ok-found.found c.fetch.new.seat c.if-found.true
+    c.in_ok-found.ensures.ok in
+    grows-through c.args.seat.now now c.take_step.new.seat (grows-later c.args.seat.now now c.next.ensures.later)
+    (grows-through now c.fetch.new.seat c.take_step.new.seat
+    (grows-finds g.N.Naming.wire.setup now c.in-Some.number c.fetch.new.seat finds) c.in_err-take_step.ensures.err)
+
+pub returns-then-found-clause-idle : goal.returns-then-found-clause-idle
+returns-then-found-clause-idle g c = c.in_ok-take_step.ensures.ok.idle
+
+pub returns-then-found-clause-grows : goal.returns-then-found-clause-grows
+returns-then-found-clause-grows g c =
+    let setup = g.N.Naming.wire.setup in
+    let now = c.next.new.seat in
+    let finds = finds-of setup now c.in-Some.number c.in_ok-found.found c.fetch.new.seat c.if-found.true c.in_ok-found.ensures.ok in
+    grows-through c.args.seat.now now c.take_step.new.seat (grows-later c.args.seat.now now c.next.ensures.later)
+    (grows-through now c.fetch.new.seat c.take_step.new.seat
+    (grows-finds setup now c.in-Some.number c.fetch.new.seat finds)
+    (grows-takes setup c.fetch.new.seat Fetched c.take_step.new.seat c.in_ok-take_step.ensures.ok))

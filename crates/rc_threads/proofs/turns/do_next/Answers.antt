@@ -1,7 +1,7 @@
 use Rattle.std.proofs.Common.{◌≡◌, Some, None, sym, ap, ◌∙◌}
 use Rattle.rc_journal.specs.declared.names.SeatName.{SeatName}
 use Rattle.rc_threads.specs.Runs.{own_work}
-use Rattle.rc_threads.proofs.Turning.{on-ok, get-index, progress-done, progress-skipped}
+use Rattle.rc_threads.proofs.Turning.{on-ok, get-index, progress-done, progress-skipped, grows-same, grows-tried}
 use Rattle.rc_threads.proofs.turns.do_next.Goals as goal
 
 pub returns-in-Some-clause-ok : goal.returns-in-Some-clause-ok
@@ -21,3 +21,17 @@ returns-in-None-clause-ok g c =
     ap (λ (n : SeatName). own_work n step) (sym c.name.ensures.name) ∙ (sym c.in_ok-work.ensures.copy ∙ c.in-None.is) in
     λ start from p. progress-skipped g.N.Naming.wire.setup start c.args.steps.now c.args.at from c.args.seat.now step p
     (get-index c.args.steps.now c.args.at step c.requires.within c.index-steps-at.is) other
+
+pub returns-in_err-work-clause-grows : goal.returns-in_err-work-clause-grows
+returns-in_err-work-clause-grows g c = grows-same c.args.seat.now
+
+pub returns-in-None-clause-grows : goal.returns-in-None-clause-grows
+returns-in-None-clause-grows g c = grows-same c.args.seat.now
+
+pub returns-in-Some-clause-idle : goal.returns-in-Some-clause-idle
+returns-in-Some-clause-idle g c = on-ok c.take_step.result (λ takes. takes.idle) c.take_step.ensures.ok
+
+pub returns-in-Some-clause-grows : goal.returns-in-Some-clause-grows
+returns-in-Some-clause-grows g c =
+    grows-tried g.N.Naming.wire.setup c.args.seat.now c.in-Some.work c.take_step.new.seat c.take_step.result c.take_step.ensures.ok
+    c.take_step.ensures.err

@@ -1,7 +1,14 @@
 use Rattle.std.proofs.Common.{◌≡◌, subst, arith}
 use Rattle.rc_threads.specs.Runs.{Progress}
-use Rattle.rc_threads.proofs.Turning.{grows-through}
+use Rattle.rc_threads.proofs.Turning.{grows-same, grows-through}
 use Rattle.rc_threads.proofs.turns.do_until.Goals as goal
+
+pub loop-next-init : goal.loop-next-init
+loop-next-init g c = record {
+  kept = λ start from p. p;
+  idle = c.requires.idle;
+  grows = grows-same c.args.seat.now;
+}
 
 pub loop-next-preserved : goal.loop-next-preserved
 loop-next-preserved g c = record {
@@ -15,3 +22,10 @@ returns-clause-ok g c = λ start from p.
     let all : c.loop-next.next ≡ c.args.end =
     omega (arith, c.loop-next.auto.next-end, c.loop-next-test.false, c.requires.order) in
     subst (λ n. Progress g.N.Naming.wire.setup start c.args.steps.now n from c.loop-next.seat) all (c.loop-next.invariant.kept start from p)
+
+pub returns-in_err-do_next-clause-grows : goal.returns-in_err-do_next-clause-grows
+returns-in_err-do_next-clause-grows g c =
+    grows-through c.args.seat.now c.loop-next.seat c.do_next.new.seat c.loop-next.invariant.grows c.do_next.ensures.grows
+
+pub returns-clause-grows : goal.returns-clause-grows
+returns-clause-grows g c = c.loop-next.invariant.grows

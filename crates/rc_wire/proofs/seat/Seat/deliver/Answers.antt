@@ -1,5 +1,4 @@
-use Rattle.std.proofs.Common.{◌≡◌, ℕ, ◌||◌, nat_eq, List, Option, Some, None, sym, ap, ◌∙◌, subst}
-use Rattle.std.specs.List.{list_any}
+use Rattle.std.proofs.Common.{◌≡◌, ℕ, Bool, ◌||◌, nat_eq, Option, Some, None, refl, sym, ap, ◌∙◌, subst}
 use Rattle.std.specs.Option.{IfSome}
 use Rattle.rc_model.specs.Model.{Message, NodeName}
 use Rattle.rc_world.specs.NodeView.{node_seen}
@@ -10,7 +9,7 @@ use Rattle.rc_wire.specs.SeatHolds.{SeatSound, seat_data}
 use Rattle.rc_wire.specs.Given.{own_number, Does}
 use Rattle.rc_wire.specs.Works.{Offers, event_for}
 use Rattle.rc_wire.specs.declared.work.Work.TheVariants.{Fetched}
-use Rattle.rc_wire.proofs.Preparing.{idle-room, IsOwn, own-held, held-step, sound-delivered, offers-put}
+use Rattle.rc_wire.proofs.Preparing.{idle-room, IsOwn, own-held, held-step, sound-delivered, sound-reordered, offers-put}
 use Rattle.rc_wire.proofs.seat.Seat.deliver.Goals as goal
 
 pub take-requires-clause-room : goal.take-requires-clause-room
@@ -19,6 +18,19 @@ take-requires-clause-room g c =
     idle-room g.N.Naming.wire.setup (seat_data f.name f.token f.held f.pending) f.token.node (node_seen f.state) f.delivered.keys
     c.self.invariant
     (ap (λ (s : SeatData). s.pending) c.self.view_is ∙ c.requires)
+
+pub invariant_of-self : goal.invariant_of-self
+invariant_of-self g c =
+    let f = c.self.inside in
+    sound-reordered g.N.Naming.wire.setup (seat_data f.name f.token f.held f.pending) f.token.node (node_seen f.state) (node_seen f.state)
+    f.delivered.keys c.reserve.new.self.keys c.self.invariant refl c.reserve.ensures.keys.2
+
+pub invariant_of-self-in_err-offer : goal.invariant_of-self-in_err-offer
+invariant_of-self-in_err-offer g c =
+    let f = c.self.inside in
+    sound-reordered g.N.Naming.wire.setup (seat_data f.name f.token f.held f.pending) f.token.node (node_seen f.state)
+    (node_seen c.take.new.state) f.delivered.keys c.reserve.new.self.keys c.self.invariant c.in_err-offer.ensures.err
+    c.reserve.ensures.keys.2
 
 pub invariant_of-self-2 : goal.invariant_of-self-2
 invariant_of-self-2 g c =
@@ -31,8 +43,7 @@ invariant_of-self-2 g c =
     let does : Does (node_seen f.state) c.in-Some.number (work.Deliver o.message) offer (node_seen c.take.new.state) =
     subst (λ (h : Option (ℕ × Message)). IfSome h (λ x. Does (node_seen f.state) x.0 (work.Deliver x.1) offer (node_seen c.take.new.state)))
     o.is c.in_ok-offer.ensures.does in
-    let noted = λ (n : ℕ). c.note.ensures n ∙ ap (λ (keys : List ℕ). nat_eq n c.in-Some.number || list_any (nat_eq n) keys)
-    c.reserve.ensures.keys in
+    let noted = λ (n : ℕ). c.note.ensures n ∙ ap (λ (b : Bool). nat_eq n c.in-Some.number || b) (c.reserve.ensures.keys.2 n) in
     let sound : SeatSound setup (seat_data f.name f.token None (Some offer)) f.token.node (node_seen c.take.new.state)
     c.note.new.delivered.keys =
     sound-delivered setup d f.token.node (node_seen f.state) (node_seen c.take.new.state) f.delivered.keys c.note.new.delivered.keys
