@@ -1,20 +1,13 @@
 -- Versions rise over owners: write by write.
-use Rattle.std.proofs.Common.{◌≡◌, ℕ, ◌+◌, ◌<◌, Bool, true, false, not, ◌&&◌, List, [], ◌∷◌, ◌++◌, Option, Some, None}
-use Rattle.std.proofs.Common.{nat_eq, nat_lt, length, drop, get_or, refl, sym, ap, ◌∙◌, inl, inr, subst, arith}
+use Rattle.std.proofs.Common.{◌≡◌, ℕ, Bool, true, false, not, ◌&&◌, List, [], ◌∷◌, Option, Some, None}
+use Rattle.std.proofs.Common.{nat_eq, nat_lt, refl, ◌∙◌, inl, inr, subst, arith}
 use Rattle.std.specs.BTreeMap.{BTreeMap, get}
 use Rattle.std.proofs.lemmas.Bool.{cond-false, and_parts, eqb-true, false_from_ne_true}
 use Rattle.std.proofs.lemmas.Bool.Decides.{nat_tests}
-use Rattle.rc_model.specs.Model.{Message, Body, Version, Ack, ack_in, all_acknowledged, is_earlier, falls, first_fall, falls_of, or_else}
-use Rattle.rc_model.specs.Model.{In}
+use Rattle.rc_model.specs.Model.{Message, Version, Ack, all_acknowledged, is_earlier, falls, first_fall, In}
 use Rattle.rc_evidence.specs.declared.highs.TermKey.{TermKey}
 use Rattle.rc_evidence.specs.Highs.{key_order, ack_key, is_level}
 use Rattle.rc_evidence.specs.Bars.{IsBar, AreBars}
-use Rattle.rc_evidence.proofs.SenderLemmas.{drop_step}
-
--- what is acknowledged from a message on
-pub acks_from : (sent : List Message) (i : ℕ) (message : Message) → i < length sent → message ≡ get_or sent i message →
-    all_acknowledged (drop i sent) ≡ ack_in message.body ++ all_acknowledged (drop (i + 1) sent)
-acks_from sent i message within is = ap all_acknowledged (drop_step sent i message within is)
 
 -- a write above its bar falls from none
 fall_none : (sent : List Message) (later : Ack) (acks : List Ack) →
@@ -51,14 +44,6 @@ above_bar sent later bar is above = fall_none sent later (all_acknowledged sent)
         less bar earlier.version later.version
         (is.each earlier at (eqb-true earlier.table later.table one.0) (eqb-true earlier.key later.key two.0) three.1)
         above (not_true (nat_lt earlier.version later.version) three.0)
-
--- and a write that falls from none
-pub all_not : (sent : List Message) (body : Body) (later : Ack) (whole here rest : List Ack) →
-    here ≡ ack_in body ++ rest → later ∷ [] ≡ ack_in body →
-    first_fall sent later (all_acknowledged sent) ≡ None → falls_of sent whole ≡ falls_of sent here →
-    falls_of sent whole ≡ falls_of sent rest
-all_not sent body later whole here rest next is none before =
-    before ∙ ap (falls_of sent) (next ∙ ap (λ acks. acks ++ rest) (sym is)) ∙ ap (λ found. or_else found (falls_of sent rest)) none
 
 -- above a bar that a table has
 pub above_found : (bars : BTreeMap TermKey (Option ℕ)) (sent : List Message) (later : Ack) (key : TermKey) (bar : Option ℕ) →
