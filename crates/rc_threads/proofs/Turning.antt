@@ -54,11 +54,6 @@ get-index [] n x lt is = absurd (omega (arith, lt))
 get-index (y ∷ xs) zero x lt is = ap Some (sym is)
 get-index (y ∷ xs) (suc n) x lt is = get-index xs n x (omega (arith, lt)) is
 
-pub get-within : {A : Type 0} (xs : List A) (n : ℕ) (x : A) → slice_get xs n ≡ Some x → n < length xs
-get-within [] n x found = cc
-get-within (y ∷ xs) zero x found = omega arith
-get-within (y ∷ xs) (suc n) x found = omega (arith, get-within xs n x found)
-
 get-front : {A : Type 0} (xs ys : List A) (n : ℕ) (x : A) → n < length xs → slice_get (xs ++ ys) n ≡ Some x → slice_get xs n ≡ Some x
 get-front [] ys n x lt found = absurd (omega (arith, lt))
 get-front (y ∷ xs) ys zero x lt found = found
