@@ -5,43 +5,12 @@ use Rattle.rc_model.specs.Model.{master_takes, master_ticks, replay, Ack, In, Ha
 use Rattle.rc_model.proofs.Members.{In-left}
 use Rattle.rc_log_laws.specs.WordClaims.{sent_after}
 use Rattle.rc_write_laws.specs.AckClaims.{WasToldToWrite}
-use Rattle.rc_write_laws.proofs.Asking.{asks-takes, asks-ticks}
+use Rattle.rc_write_laws.proofs.Asking.{asks-takes, asks-ticks, ClientsAsked, clients-kept}
 use Rattle.rc_log_laws.proofs.EachMaster.{IsKeptByAll, kept-replay}
 use Rattle.rc_owner_laws.proofs.Rising.{IsAcked, acked}
 use Rattle.rc_owner_laws.proofs.VersionReplays.{all-world}
 use Rattle.rc_promises.specs.Service.{HasAsked}
 use Rattle.rc_promises.proofs.News.{clients-are-heard}
-
-abbrev EntryAsked : List Message → ServerId → Entry → Type 0
-EntryAsked sent m entry = WasToldToWrite sent m entry.table entry.key entry.value
-
-abbrev pub ClientsAsked : List Message → ServerId → Master → Type 0
-ClientsAsked sent m master = (place : LogPlace) → In place (places_of master.log) → place.client ≡ true → EntryAsked sent m place.entry
-
-asked-more : (sent messages : List Message) (m : ServerId) (table key : ℕ) (value : Option (List ℕ)) →
-    WasToldToWrite sent m table key value → WasToldToWrite (sent ++ messages) m table key value
-asked-more sent messages m table key value p = record
-    { message = p.message; among = In-left p.message sent messages p.among; to = p.to; says = p.says }
-
-clients-more : (sent messages : List Message) (m : ServerId) (master : Master) → ClientsAsked sent m master →
-    ClientsAsked (sent ++ messages) m master
-clients-more sent messages m master p place at client =
-    asked-more sent messages m place.entry.table place.entry.key place.entry.value (p place at client)
-
-clients-kept : (setup : Setup) → IsKeptByAll setup ClientsAsked
-clients-kept setup = record {
-  opened = λ m place at. absurd at;
-  led = record {
-    same = λ sent m master p. p;
-    others = λ sent messages m master p others. clients-more sent messages m master p;
-    takes = λ sent m master from body good p at. asks-takes (EntryAsked (sent ++ (master_takes master from body).1) m) master from body
-        (λ table key value under e. asked-more sent (master_takes master from body).1 m table key value
-        (record { message = record { from = from; to = Server m; body = body }; among = at; to = refl; says = e }))
-        (clients-more sent (master_takes master from body).1 m master p);
-    ticks = λ sent m master good p. asks-ticks (EntryAsked (sent ++ (master_ticks master).1) m) master
-        (clients-more sent (master_ticks master).1 m master p);
-  };
-}
 
 pub clients-asked : (setup : Setup) (events : List Event) (m : ServerId) →
     ClientsAsked (replay setup events).sent m ((replay setup events).masters m)

@@ -20,6 +20,7 @@ use Rattle.rc_write_laws.proofs.Handing.{acknowledged-is-handed-on}
 use Rattle.rc_promises.proofs.Asked.{client-asked, versions-begin-at-one}
 use Rattle.rc_promises.specs.Service.{WasGranted, IsOfKey, OneVersionIsOneWrite, AcknowledgedIsWritten}
 use Rattle.rc_model.proofs.Tests.{true_false}
+use Rattle.rc_step_laws.proofs.Copies.{split}
 
 -- three ways
 pub three : (a b : ℕ) → (a < b) ⊎ ((a ≡ b) ⊎ (b < a))
@@ -60,12 +61,9 @@ module _ (sent : List Message) (masters : ServerId → Master) (hosts : ℕ → 
 
     one-term : (ack other : Ack) → WasAcknowledged sent ack → WasAcknowledged sent other → IsOfKey ack.table ack.key other →
         other.version ≡ ack.version → other.term ≡ ack.term
-    one-term ack other p q keys versions = by (nat_eq other.term ack.term) refl
-      where
-        by : (b : Bool) → nat_eq other.term ack.term ≡ b → other.term ≡ ack.term
-        by true e = eqb-true other.term ack.term e
-        by false e = absurd (no-version-twice sent masters hosts c all other ack q p keys.table_is keys.key_is
-            (λ same. true_false (sym (eq-eqb other.term ack.term same) ∙ e)) versions)
+    one-term ack other p q keys versions = split (nat_eq other.term ack.term) (λ e. eqb-true other.term ack.term e)
+        (λ e. absurd (no-version-twice sent masters hosts c all other ack q p keys.table_is keys.key_is
+        (λ same. true_false (sym (eq-eqb other.term ack.term same) ∙ e)) versions))
 
     -- of one master's writes under one term, the one at the earlier place has the lower version
     pub earlier-is-less : (m : ServerId) (ack other : Ack) → HasAcknowledged sent m ack → HasAcknowledged sent m other →

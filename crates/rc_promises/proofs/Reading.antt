@@ -40,29 +40,12 @@ use Rattle.rc_promises.proofs.Asked.{versions-begin-at-one}
 use Rattle.rc_promises.proofs.Once.{granted-to}
 use Rattle.rc_promises.proofs.Time.{still-granted}
 use Rattle.rc_promises.proofs.News.{WasRead, clients-are-heard}
+use Rattle.rc_write_laws.proofs.Asking.{oks-of}
 use Rattle.rc_promises.proofs.Found.{IsFound, read-above, read-is}
 use Rattle.rc_promises.proofs.Standing.{one-a-version, goes-from, above-safe}
 use Rattle.rc_model.proofs.Ids.{same_id-refl}
 
 -- Acknowledgements, by the places that were counted then
-
-record IsOkOf (own : ServerId) (places : List LogPlace) (message : Message) : Type 0 where
-  place : LogPlace
-  among : In place places
-  is : message ≡ ok_of own place
-
-oks-of : (own : ServerId) (places : List LogPlace) (message : Message) → In message (write_oks own places) → IsOkOf own places message
-oks-of own [] message at = absurd at
-oks-of own (first ∷ places) message at = by first.client (oks-of own places message) at
-  where
-    further : IsOkOf own places message → IsOkOf own (first ∷ places) message
-    further p = record { place = p.place; among = inr p.among; is = p.is }
-
-    by : (b : Bool) → (In message (write_oks own places) → IsOkOf own places message) →
-        In message (cond b (ok_of own first ∷ write_oks own places) (write_oks own places)) → IsOkOf own (first ∷ places) message
-    by true rec (inl same) = record { place = first; among = inl refl; is = same }
-    by true rec (inr rest) = further (rec rest)
-    by false rec rest = further (rec rest)
 
 In-take_map : {X Y : Type 0} (f : X → Y) (n : ℕ) (xs : List X) (x : X) → In x (take n xs) → In (f x) (take n (map f xs))
 In-take_map f zero xs x at = absurd at
@@ -90,11 +73,12 @@ among-durable setup events m ack p = by (oks-of m (counted_places ((replay setup
     (subst (In p.message) (counted-is-acknowledged setup events m)
     (filter-in (is_ack_of m) (replay setup events).sent p.message p.among (is-ack m ack p.message p.from p.says))))
   where
-    by : IsOkOf m (counted_places ((replay setup events).masters m).log) p.message → IsAmongDurable ((replay setup events).masters m) ack
-    by ok = record {
-      entry = ok.place.entry;
-      among = In-take_map (λ (place : LogPlace). place.entry) ((replay setup events).masters m).log.durable
-          (places_of ((replay setup events).masters m).log) ok.place ok.among;
+    by : (place : LogPlace) × In place (counted_places ((replay setup events).masters m).log) × (place.client ≡ true) ×
+        (p.message ≡ ok_of m place) → IsAmongDurable ((replay setup events).masters m) ack
+    by (place, among, client, is) = record {
+      entry = place.entry;
+      among = In-take_map (λ (one : LogPlace). one.entry) ((replay setup events).masters m).log.durable
+          (places_of ((replay setup events).masters m).log) place among;
       term_is = sym says.0;
       table_is = sym says.1;
       key_is = sym says.2;
@@ -104,11 +88,11 @@ among-durable setup events m ack p = by (oks-of m (counted_places ((replay setup
         same-ok : (a b c d f g h i j k l n : ℕ) → WriteOk a b c d f g ≡ WriteOk h i j k l n → (c ≡ j) × (d ≡ k) × (f ≡ l) × (g ≡ n)
         same-ok a b c d f g h i j k l n e = (cc, cc, cc, cc)
 
-        says : (ack.term ≡ ok.place.entry.term) × (ack.table ≡ ok.place.entry.table) × (ack.key ≡ ok.place.entry.key)
-            × (ack.version ≡ ok.place.entry.version)
-        says = same-ok ack.seg ack.offset ack.term ack.table ack.key ack.version ok.place.seg ok.place.offset ok.place.entry.term
-            ok.place.entry.table ok.place.entry.key ok.place.entry.version
-            (sym p.says ∙ ap (λ (message : Message). message.body) ok.is)
+        says : (ack.term ≡ place.entry.term) × (ack.table ≡ place.entry.table) × (ack.key ≡ place.entry.key)
+            × (ack.version ≡ place.entry.version)
+        says = same-ok ack.seg ack.offset ack.term ack.table ack.key ack.version place.seg place.offset place.entry.term
+            place.entry.table place.entry.key place.entry.version
+            (sym p.says ∙ ap (λ (message : Message). message.body) is)
 
 -- what a master counts stands at a place of its log
 record IsPlaced (log : Log) (entry : Entry) : Type 0 where
@@ -404,9 +388,6 @@ module _ (setup : Setup) (past rest : List Event) where
       module _ (above : version ≡ 0 → ⊥) where
         is_found : IsFound term table key (durable_entries (old.masters m)) (read_of term table key (durable_entries (old.masters m)))
         is_found = read-is term table key (durable_entries (old.masters m)) (λ e. above (sym (ap (λ (one : Found). one.version) found) ∙ e))
-
-        abbrev shown_entry : Entry
-        shown_entry = is_found.entry
 
         version_is : is_found.entry.version ≡ version
         version_is = sym is_found.version_is ∙ ap (λ (one : Found). one.version) found

@@ -72,9 +72,6 @@ acks-say (first ∷ sent) m ack at =
     by later (inr there) = let p : HasAcknowledged sent m ack = later there in
         record { message = p.message; among = inr p.among; from = p.from; says = p.says }
 
-abbrev asking : ServerId → ℕ → ℕ → Option (List ℕ) → Message
-asking m table key value = record { from = Outside; to = Server m; body = Write table key value }
-
 one-if : {X : Type 0} (x : X) (b : Bool) → b ≡ true → In x (cond b (x ∷ []) [])
 one-if x true e = inl refl
 one-if x false e = cc

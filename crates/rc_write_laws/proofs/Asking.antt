@@ -92,7 +92,7 @@ asked-more : (sent messages : List Message) (m : ServerId) (table key : ℕ) (va
 asked-more sent messages m table key value p =
     record { message = p.message; among = In-left p.message sent messages p.among; to = p.to; says = p.says }
 
-abbrev ClientsAsked : List Message → ServerId → Master → Type 0
+abbrev pub ClientsAsked : List Message → ServerId → Master → Type 0
 ClientsAsked sent m master = AllAsked (EntryAsked sent m) (places_of master.log)
 
 clients-more : (sent messages : List Message) (m : ServerId) (master : Master) → ClientsAsked sent m master →
@@ -100,7 +100,7 @@ clients-more : (sent messages : List Message) (m : ServerId) (master : Master) �
 clients-more sent messages m master p place at client =
     asked-more sent messages m place.entry.table place.entry.key place.entry.value (p place at client)
 
-clients-kept : (setup : Setup) → IsKeptByAll setup ClientsAsked
+pub clients-kept : (setup : Setup) → IsKeptByAll setup ClientsAsked
 clients-kept setup = record {
   opened = λ m place at. absurd at;
   led = record {
@@ -118,7 +118,7 @@ clients-kept setup = record {
 -- Acknowledgements
 
 -- each is of a client's place
-oks-of : (own : ServerId) (places : List LogPlace) (message : Message) → In message (write_oks own places) →
+pub oks-of : (own : ServerId) (places : List LogPlace) (message : Message) → In message (write_oks own places) →
     (place : LogPlace) × In place places × (place.client ≡ true) × (message ≡ ok_of own place)
 oks-of own [] message at = absurd at
 oks-of own (first ∷ places) message at = by first.client refl (oks-of own places message) at

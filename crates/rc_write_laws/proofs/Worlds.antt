@@ -20,6 +20,8 @@ use Rattle.rc_log_laws.proofs.Replays.{GoodWorld, led-step, good-world}
 use Rattle.rc_write_laws.specs.AckClaims.{is_write_ok, is_ack_of, counted_places}
 use Rattle.rc_log_laws.proofs.EachMaster.{IsLed, led-by}
 use Rattle.rc_write_laws.proofs.Counting.{counted-is-acknowledged}
+use Rattle.rc_write_laws.proofs.Settling.{ok_of}
+use Rattle.rc_write_laws.proofs.Asking.{oks-of}
 use Rattle.rc_write_laws.proofs.Moments.{Counts, counts-on}
 use Rattle.rc_write_laws.specs.DurableClaims.{StoredIsDurable, CountedIsDurable, AcknowledgedIsDurable}
 use Rattle.rc_write_laws.proofs.Told.{Told, IsWholeTold}
@@ -362,29 +364,6 @@ pub counted-is-durable : CountedIsDurable
 counted-is-durable setup events m k place some less at =
     once-durable setup events m place.seg place.offset some ((all-world setup events m some).counted k place less at)
 
--- a WriteOk of these places names one of them
-record IsOkOf (own : ServerId) (places : List LogPlace) (message : Message) : Type 0 where
-  place : LogPlace
-  among : In place places
-  says : message.body ≡ WriteOk place.seg place.offset place.entry.term place.entry.table place.entry.key place.entry.version
-
-ok-of : (own : ServerId) (places : List LogPlace) (message : Message) → In message (write_oks own places) → IsOkOf own places message
-ok-of own [] message at = absurd at
-ok-of own (place ∷ places) message at =
-    either (λ (messages : List Message). In message messages → IsOkOf own (place ∷ places) message) place.client
-    (to_outside own (WriteOk place.seg place.offset place.entry.term place.entry.table place.entry.key
-    place.entry.version) ∷ write_oks own places) (write_oks own places)
-    (λ _ there. by (ok-of own places message) there) (λ _ there. further (ok-of own places message there)) at
-  where
-    further : IsOkOf own places message → IsOkOf own (place ∷ places) message
-    further is = record { place = is.place; among = inr is.among; says = is.says }
-
-    by : (In message (write_oks own places) → IsOkOf own places message) →
-        (message ≡ to_outside own (WriteOk place.seg place.offset place.entry.term place.entry.table place.entry.key
-        place.entry.version)) ⊎ In message (write_oks own places) → IsOkOf own (place ∷ places) message
-    by rec (inl same) = record { place = place; among = inl refl; says = ap (λ (one : Message). one.body) same }
-    by rec (inr rest) = further (rec rest)
-
 seg_of : Body → ℕ
 seg_of (WriteOk s o term table key version) = s
 seg_of _ = 0
@@ -396,25 +375,29 @@ offset_of _ = 0
 pub acknowledged-is-durable : AcknowledgedIsDurable
 unfolding seg_of offset_of
 acknowledged-is-durable setup events m ack some acked =
-    subst (λ s. IsDurable setup events m s ack.offset) seg (subst (λ o. IsDurable setup events m found.place.seg o) offset
-    (counted-is-durable setup events m counted.0 found.place some counted.1 counted.2))
+    subst (λ s. IsDurable setup events m s ack.offset) seg (subst (λ o. IsDurable setup events m found.0.seg o) offset
+    (counted-is-durable setup events m counted.0 found.0 some counted.1 counted.2))
   where
     is_ok : is_ack_of m acked.message ≡ true
     is_ok = ap (λ (from : Addr). is_server m from && is_write_ok acked.message.body) acked.from
         ∙ (ap (λ (says : Body). is_server m (Server m) && is_write_ok says) acked.says ∙ ap (λ b. b && true) (same_id-refl m))
 
-    found : IsOkOf m (counted_places ((replay setup events).masters m).log) acked.message
-    found = ok-of m (counted_places ((replay setup events).masters m).log) acked.message
+    found : (place : LogPlace) × In place (counted_places ((replay setup events).masters m).log) × (place.client ≡ true) ×
+        (acked.message ≡ ok_of m place)
+    found = oks-of m (counted_places ((replay setup events).masters m).log) acked.message
         (subst (λ (messages : List Message). In acked.message messages) (counted-is-acknowledged setup events m)
         (filter-In (is_ack_of m) acked.message (replay setup events).sent acked.among is_ok))
 
     counted : (k : ℕ) × (k < ((replay setup events).masters m).log.durable) ×
-        (slice_get (places_of ((replay setup events).masters m).log) k ≡ Some found.place)
+        (slice_get (places_of ((replay setup events).masters m).log) k ≡ Some found.0)
     counted = In-take ((replay setup events).masters m).log.durable (places_of ((replay setup events).masters m).log)
-        found.place found.among
+        found.0 found.1
 
-    seg : found.place.seg ≡ ack.seg
-    seg = ap seg_of (sym found.says ∙ acked.says)
+    says : acked.message.body ≡ (ok_of m found.0).body
+    says = ap (λ (one : Message). one.body) found.3
 
-    offset : found.place.offset ≡ ack.offset
-    offset = ap offset_of (sym found.says ∙ acked.says)
+    seg : found.0.seg ≡ ack.seg
+    seg = ap seg_of (sym says ∙ acked.says)
+
+    offset : found.0.offset ≡ ack.offset
+    offset = ap offset_of (sym says ∙ acked.says)
