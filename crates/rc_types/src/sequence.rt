@@ -116,12 +116,6 @@ impl TryClone for u16 {
     }
 }
 
-impl TryClone for (ServerId, bool) {
-    fn try_clone(&self, _alloc: Global) -> Result<(ServerId, bool), Fault> {
-        Ok(*self)
-    }
-}
-
 impl TryClone for (ServerId, u16) {
     fn try_clone(&self, _alloc: Global) -> Result<(ServerId, u16), Fault> {
         Ok(*self)
