@@ -1,7 +1,7 @@
 use Rattle.std.proofs.Common.{◌≡◌, List, sym, ap, ◌∙◌, subst}
 use Rattle.rc_model.specs.Model.{Entry, after_answer}
 use Rattle.rc_ownership.specs.Owner.{Owner, durable_of}
-use Rattle.rc_master.specs.View.{state_view, IsNoted}
+use Rattle.rc_master.specs.View.{state_view}
 use Rattle.rc_master.proofs.Quiet.{on_ok-then}
 use Rattle.rc_master.proofs.Outer.{durable-noted}
 use Rattle.rc_master.proofs.Answering.{answered-state}
