@@ -71,7 +71,7 @@ up_code p = id_code p.0 ++ flag p.1
 abbrev pub kept_code : ServerId × ℕ → List ℕ
 kept_code p = id_code p.0 ++ two_bytes p.1
 
--- the kind in one byte, and the fields in their order
+-- the kind in one byte, and the fields in their order; but a Plan's head comes after its master
 abbrev pub body_code : Body → List ℕ
 body_code (body.Write table key value) = 0 ∷ four_bytes table ++ eight_bytes key ++ value_code value
 body_code (body.Read table key) = 1 ∷ four_bytes table ++ eight_bytes key

@@ -2,10 +2,11 @@
 //!
 //! What is written as a whole begins with one byte, the version of the format, which is 1. A message or
 //! an event follows: its kind in one byte where it has kinds, and its fields in the order in which
-//! `rc_types` declares them. A number has as many bytes as its type, the least first, and a `usize` has
-//! eight; a flag is 0 or 1; a list is its length in eight bytes and its elements; what may be absent is
-//! 0, or 1 and what there is. So every value has bytes, and one list of bytes only; and no two values
-//! have the same, nor does one begin with another (`laws`).
+//! `rc_types` declares them; but a Plan has attempt, master, head, rows and parts. A number has as many
+//! bytes as its type, the least first, and a `usize` has eight; a flag is 0 or 1; a list is its length
+//! in eight bytes and its elements; what may be absent is 0, or 1 and what there is. So every value has
+//! bytes, and one list of bytes only; and no two values have the same, nor does one begin with another
+//! (`laws`).
 //!
 //! Decoding answers any bytes. It reads from left to right and stops where the bytes end, and no memory
 //! is taken by a length that was only read: a value's bytes are copied once they are seen to be there,

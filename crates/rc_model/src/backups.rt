@@ -13,8 +13,8 @@ pub fn replicas_are_kept()
     ensures whole { ClosesAtTheStatedLength }
 {}
 
-/// A fenced master's replicas stay as they are, whatever comes, and nothing of it is answered; and a
-/// Gather fences.
+/// A fenced master's replicas stay as they are, whatever comes; its Places, Appends, Closes and Frees
+/// change nothing and are not answered; and a Gather fences.
 pub fn fences_hold()
     ensures nothing { FencedStoresNothing }
     ensures stay { FencedReplicasStay }

@@ -7,15 +7,18 @@ ghost use Rattle.rc_model.specs.HeadClaims.{WritesAppendTheAsked, ChangesTakeAFr
 ghost use Rattle.rc_model.specs.HeadClaims.{OtherEpochsAreNotNoted};
 ghost use Rattle.rc_model.specs.MasterClaims.{FollowUpsLower, NoneAppliesAfterwards, ShutIsMarked};
 
-/// Each follow-up that a master makes lowers its measure.
+/// Where segments have replicas at all, each follow-up lowers the measure of its master, and after a step
+/// of a master that is not deposed none applies. What is shut is then marked.
 pub fn follow_ups_end()
     ensures lower { FollowUpsLower }
     ensures none { NoneAppliesAfterwards }
     ensures marked { ShutIsMarked }
 {}
 
-/// The old head is closed only once the new one is placed on all its members, and the new one takes
-/// data only once the old one is shut and its own members hold it under a committed epoch.
+/// The phase becomes Closing only where the new head is placed on all its members, by a rule as by a
+/// whole step. A rule makes it Writing only where the head is placed on all its members under a committed
+/// epoch, and the old one, if there is one, is shut. Where nothing is freed, the next digest is the old
+/// one with the new segment.
 pub fn heads_follow_one_another()
     ensures closing { ClosesOnlyWherePlaced }
     ensures steps { StepsCloseOnlyWherePlaced }

@@ -1,5 +1,5 @@
-//! Entries that have come and wait to be replayed, with several owners: going back to an earlier
-//! moment then takes no copy of them.
+//! Copies of entries that have come, in lists that the row of a part and the replay both own: so a part
+//! joins the replay, and goes back to an earlier moment, without a further copy.
 
 ghost use Rattle.std.specs.Prelude.{◌≡◌, IfOk, IfErr};
 ghost use Rattle.rc_types.specs.declared.faults.Fault.TheVariants.{OutOfMemory};

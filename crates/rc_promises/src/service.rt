@@ -25,9 +25,9 @@ pub fn writes_follow_time()
 /// been granted to it by then, has at least the version of each write of the key that was acknowledged under an earlier
 /// term, then or since, of each that it had itself acknowledged by then under this term, and of each that anyone had
 /// acknowledged by then, but under a later term: those a master that was replaced, and does not know it, may miss.
-/// Where a write of its version was acknowledged, the value is that write's. Where segments have replicas, a version
-/// above 0 stands with its value at a durable place. Versions begin at 1, so 0 is shown only where nothing was
-/// acknowledged that it must not miss.
+/// Where a write of its version was acknowledged, and was sent, the value is that write's. Where segments have
+/// replicas, each acknowledged write was sent, and a version above 0 stands with its value at a durable place. Versions
+/// begin at 1, so 0 is shown only where nothing was acknowledged that it must not miss.
 pub fn reads_see_acknowledged_writes()
     ensures { ReadsSeeAcknowledgedWrites }
 {}

@@ -18,7 +18,8 @@ pub enum Output {
 /// What came of a scenario, of a trace, of drawn events, of nodes on threads, or of a command line.
 #[derive(Clone, Copy)]
 pub enum Verdict {
-    /// Every event happened, and the audit found no breach; or the trace of what was sent was written.
+    /// Every event happened, and the audit found no breach; or what was asked for was written: a trace, a story, a
+    /// scenario, or a text.
     Clean,
     /// Every event happened, and the audit found a breach.
     Breach,

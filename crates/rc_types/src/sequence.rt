@@ -96,7 +96,8 @@ impl<T: PartialEq> PartialEq for Seq<T> {
     }
 }
 
-/// A copy of plain data. It equals its source, and fails only where memory was refused (F1).
+/// A copy of plain data. It equals its source, and fails only where memory was refused, or where what is
+/// shared can have no more owners (F1).
 pub trait TryClone {
     /// The copy, made with this allocator.
     fn try_clone(&self, alloc: Global) -> Result<Self, Fault>

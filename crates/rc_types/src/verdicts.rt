@@ -6,7 +6,8 @@ use std::fmt;
 /// A breach of the headline in a list of messages.
 #[derive(Clone, Copy)]
 pub enum Breach {
-    /// A write that the plan's master has acknowledged is not in the recovered log at its place.
+    /// A write that the plan's master has acknowledged is not in the recovered log, neither at its place
+    /// nor by a greater version of its key under its term; or another entry was sent for its place.
     Missing {
         /// The attempt of the plan.
         attempt: u32,

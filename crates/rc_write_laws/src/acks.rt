@@ -5,8 +5,9 @@ ghost use Rattle.rc_write_laws.specs.AckClaims.{CountedIsAcknowledged, StoredIsA
 ghost use Rattle.rc_write_laws.specs.AckClaims.{AcknowledgedWasAsked};
 
 /// A master has acknowledged exactly the clients' writes at the places that it counts as durable, in the
-/// order of places, each once. A place is counted in the very event in which it becomes stored on all
-/// members of its segment with each earlier segment shut, unless the master is deposed.
+/// order of places, each once. Where segments have replicas at all, and unless the master is deposed, a
+/// place is counted in the very event in which it becomes stored on all members of its segment with each
+/// earlier segment shut.
 pub fn writes_are_acknowledged_once()
     ensures counted { CountedIsAcknowledged }
     ensures stored { StoredIsAcknowledged }
