@@ -1,8 +1,7 @@
 -- Each client's place of a log was asked, and its version is above 0.
-use Rattle.std.proofs.Common.{◌≡◌, ℕ, ◌<◌, true, List, ◌++◌, Option, refl, subst, arith}
+use Rattle.std.proofs.Common.{◌≡◌, ℕ, ◌<◌, true, List, Option, subst, arith}
 use Rattle.rc_model.specs.Model.{ServerId, Server, Outside, Entry, Setup, Event, Message, Write, LogPlace, places_of, Master}
-use Rattle.rc_model.specs.Model.{master_takes, master_ticks, replay, Ack, In, HasAcknowledged}
-use Rattle.rc_model.proofs.Members.{In-left}
+use Rattle.rc_model.specs.Model.{replay, Ack, In, HasAcknowledged}
 use Rattle.rc_log_laws.specs.WordClaims.{sent_after}
 use Rattle.rc_write_laws.specs.AckClaims.{WasToldToWrite}
 use Rattle.rc_write_laws.proofs.Asking.{asks-takes, asks-ticks, ClientsAsked, clients-kept}

@@ -1,7 +1,7 @@
 -- A master answers a read by a ReadOk, and sends none besides.
 use Rattle.std.proofs.Common.{◌≡◌, Bool, true, false, List, [], ◌∷◌, refl, subst}
 use Rattle.rc_model.specs.Model.{ServerId, Addr, Message, Body, Read, ReadOk, left_out, Master, to_ids, then_does, goes_on, new_durable}
-use Rattle.rc_model.specs.Model.{reminds, master_takes_first, deposed_takes, master_ticks}
+use Rattle.rc_model.specs.Model.{master_takes_first, deposed_takes, master_ticks}
 use Rattle.rc_model.proofs.Tests.{true_false}
 use Rattle.rc_model.proofs.Walk.{Joined, Listed, Taken, Ticked, Followed, kept-then, kept-takes_first, kept-deposed}
 use Rattle.rc_model.proofs.Walk.{kept-goes_on, kept-ticks}

@@ -6,5 +6,6 @@ pub mod News
 pub mod Found
 pub mod Standing
 pub mod Reading
+pub mod ServiceApart
 pub mod Tested
 pub mod Refuted

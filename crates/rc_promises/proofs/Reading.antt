@@ -1,11 +1,11 @@
 -- A read misses no write that was acknowledged under an earlier term, or before it under its own.
-use Rattle.std.proofs.Common.{◌≡◌, ◌⊎◌, ◌≢◌, ℕ, zero, suc, ◌<◌, ◌≤◌, Bool, true, false, cond, ◌&&◌, IsTrue, List, [], ◌∷◌, ◌++◌, length}
+use Rattle.std.proofs.Common.{◌≡◌, ◌⊎◌, ◌≢◌, ℕ, zero, suc, ◌<◌, ◌≤◌, true, ◌&&◌, IsTrue, List, [], ◌∷◌, ◌++◌, length}
 use Rattle.std.proofs.Common.{map, filter, take, Option, Some, slice_get, refl, sym, ap, ◌∙◌, subst, inl, inr, arith}
 use Rattle.std.proofs.lemmas.List.{take-append-le, length-append}
 use Rattle.rc_model.specs.Model.{ServerId, Addr, Server, Entry, PlanRow, Setup, Event, Grant, Message, Body, WriteOk, made, Ack, Accepted}
 use Rattle.rc_model.specs.Model.{Granted, granted, covers, grants_of, IsBefore, previous, onward, IsEarlier, one_of, made_below}
 use Rattle.rc_model.specs.Model.{recovered_entries, base, is_carried, is_stored_on_all, IsDurable, Log, LogPlace, places_of, entries_of}
-use Rattle.rc_model.specs.Model.{Found, read_of, in_range, term_of, under_term, Master, durable_entries, write_oks, factor_of, World}
+use Rattle.rc_model.specs.Model.{Found, read_of, in_range, term_of, under_term, Master, durable_entries, factor_of, World}
 use Rattle.rc_model.specs.Model.{replay, master_of, In, HasMade, HasAcknowledged, WasAccepted, IsHeld}
 use Rattle.rc_model.proofs.Members.{In-left, In-get, place_of, filter-In}
 use Rattle.rc_step_laws.specs.All.{Begins, log_in, IsSafe, IsWriteOk}

@@ -16,3 +16,8 @@ Strong = (setup : Setup) (events : List Event) → setup.free ≡ false → Noth
 -- the messages that nodes sent which run apart hold no breach
 abbrev pub NoBreachApart : Type 0
 NoBreachApart = (setup : Setup) (steps : List Step) → TakenApart setup steps → breach (sent_by steps) ≡ None
+
+-- and where their masters free nothing, each acknowledged write is in each of its master's recoveries at its own place
+abbrev pub StrongApart : Type 0
+StrongApart = (setup : Setup) (steps : List Step) → TakenApart setup steps → setup.free ≡ false →
+    NothingIsDropped (sent_by steps)

@@ -1,3 +1,4 @@
 pub mod HeadlineClaims
 pub mod Service
+pub mod ServiceApart
 pub mod Runs

@@ -1,6 +1,6 @@
 //! The headline.
 
-ghost use Rattle.rc_promises.specs.HeadlineClaims.{NoBreach, Strong, NoBreachApart};
+ghost use Rattle.rc_promises.specs.HeadlineClaims.{NoBreach, Strong, NoBreachApart, StrongApart};
 
 /// For every setup and every list of events: each write that a master has acknowledged, before or
 /// after a recovery of it was accepted, is in that recovery's log, or a greater version of its key
@@ -12,9 +12,10 @@ pub fn headline()
     ensures strong { Strong }
 {}
 
-/// Of nodes that run apart: whatever steps they took, in whatever order in which each message is sent before it is
-/// delivered, in the messages that they sent there is no breach. That an acknowledged write itself is there where
-/// masters free nothing (`strong`) is not said of them.
+/// The same of nodes that run apart: whatever steps they took, in whatever order in which each message is sent before
+/// it is delivered, in the messages that they sent there is no breach; and where masters free no segments, each
+/// acknowledged write itself is in each recovery of its master, at its own place.
 pub fn headline_of_nodes_apart()
-    ensures { NoBreachApart }
+    ensures no_breach { NoBreachApart }
+    ensures strong { StrongApart }
 {}

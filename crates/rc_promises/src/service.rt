@@ -2,6 +2,7 @@
 
 ghost use Rattle.rc_promises.specs.Service.{OneVersionIsOneWrite, AcknowledgedIsWritten, WritesFollowTime};
 ghost use Rattle.rc_promises.specs.Service.{ReadsSeeAcknowledgedWrites};
+ghost use Rattle.rc_promises.specs.ServiceApart.{OneWriteApart, WrittenApart, TimeApart, ReadsApart};
 
 /// After every list of events: a version of a key that was acknowledged is one write. Its term was granted to its
 /// master for its point, and it is above 0; whoever acknowledges this version of the key is this master, at this place
@@ -30,4 +31,13 @@ pub fn writes_follow_time()
 /// begin at 1, so 0 is shown only where nothing was acknowledged that it must not miss.
 pub fn reads_see_acknowledged_writes()
     ensures { ReadsSeeAcknowledgedWrites }
+{}
+
+/// All of that of nodes that run apart: whatever steps they took, in whatever order in which each message is sent
+/// before it is delivered, it holds of the messages that these steps sent.
+pub fn service_of_nodes_apart()
+    ensures once { OneWriteApart }
+    ensures written { WrittenApart }
+    ensures time { TimeApart }
+    ensures reads { ReadsApart }
 {}
