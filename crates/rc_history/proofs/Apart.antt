@@ -6,7 +6,7 @@ use Rattle.std.proofs.lemmas.List.{append-nil, map-append}
 use Rattle.std.proofs.lemmas.List.Elements.{filter-append}
 use Rattle.std.proofs.lemmas.Grind.{flat_map-append}
 use Rattle.rc_model.specs.Model.{Event, Setup, World, NodeName, Job, opening, same_node, work_of, is_possible, is_possible_job}
-use Rattle.rc_model.specs.Model.{replay_from, replay}
+use Rattle.rc_model.specs.Model.{replay}
 use Rattle.rc_model.specs.World as world
 use Rattle.rc_model.proofs.Tests.{true_false}
 use Rattle.rc_model.proofs.Ids.{same_node-true}

@@ -1,7 +1,7 @@
 -- An event in a world is a step of the node that it is for.
 use Rattle.std.proofs.Common.{◌≡◌, true, false, ◌&&◌, cond, ◌++◌, Option, Some, None, refl, sym, ap, ◌∙◌}
 use Rattle.rc_model.specs.Model.{Event, Work, host_step, World, NodeName, TheOutside, TheCoordinator, TheHost, Job, same_node, node_done}
-use Rattle.rc_model.specs.Model.{job_done, work_of, is_possible, is_possible_job, step, replay_from}
+use Rattle.rc_model.specs.Model.{job_done, work_of, is_possible, is_possible_job, step}
 use Rattle.rc_model.specs.World as world
 use Rattle.rc_model.proofs.Tests.{either}
 use Rattle.rc_model.proofs.Tables.{put-same, put-other}

@@ -1,6 +1,6 @@
 -- Membership in lists, over plain variables.
 use Rattle.std.proofs.Common.{◌≡◌, ◌⊎◌, ℕ, zero, suc, ◌<◌, Bool, true, false, cond, max, List, [], ◌∷◌, ◌++◌, map, filter, nat_eq}
-use Rattle.std.proofs.Common.{nat_lt, Option, Some, None, slice_get, refl, sym, ap, ◌∙◌, subst, inl, inr, arith}
+use Rattle.std.proofs.Common.{Option, Some, None, slice_get, refl, sym, ap, ◌∙◌, subst, inl, inr, arith}
 use Rattle.std.specs.Option.{option_to_list}
 use Rattle.std.proofs.lemmas.Bool.{eqb-true, eq-eqb, ltb-true, lt-ltb}
 use Rattle.rc_model.specs.Model.{PlanRow, reach, is_recovered, segments_of, In, IsHeld}

@@ -1,5 +1,5 @@
 -- What the rules of a log do to the versions of its entries.
-use Rattle.std.proofs.Common.{ℕ, zero, suc, ◌≡◌, ◌+◌, ◌-◌, ◌≤◌, Bool, true, false, List, [], ◌∷◌, map}
+use Rattle.std.proofs.Common.{ℕ, zero, suc, ◌≡◌, ◌+◌, ◌≤◌, Bool, true, false, List, [], ◌∷◌, map}
 use Rattle.std.proofs.Common.{Result, Ok, Err, refl, sym, ap, subst}
 use Rattle.std.proofs.lemmas.List.Elements.{All-nil, All-append}
 use Rattle.rc_model.specs.Model.{ServerId, Entry, Fault, ServerList, Config, noted, committed_at, lose, refill, Segment, new_segment}

@@ -1,6 +1,6 @@
 -- Sets by bits.
-use Rattle.std.proofs.Common.{◌≡◌, ℕ, ◌%◌, ◌^◌, ◌<◌, max, Bool, true, false, ◌&&◌, ◌||◌, nat_eq, nat_lt, Option, Some}
-use Rattle.std.proofs.Common.{List, slice_get, refl, sym, ap, ◌∙◌, arith}
+use Rattle.std.proofs.Common.{◌≡◌, ℕ, ◌%◌, ◌^◌, ◌<◌, max, Bool, true, ◌&&◌, ◌||◌, nat_eq, nat_lt, Some}
+use Rattle.std.proofs.Common.{slice_get, refl, sym, ap, ◌∙◌, arith}
 use Rattle.std.specs.Int.{bit_at}
 use Rattle.std.proofs.lemmas.Nat.Bits.{bit_at_or, bit_at-pow_same, bit_at-pow_other}
 use Rattle.rc_types.specs.declared.limits.TheConstants.{MAX_HOSTS}

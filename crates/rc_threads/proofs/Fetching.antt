@@ -1,5 +1,5 @@
 -- No work of the workload is a delivery, and each new seat is idle.
-use Rattle.std.proofs.Common.{◌≡◌, ℕ, zero, suc, ◌+◌, ◌<◌, Bool, true, false, ◌&&◌, List, [], ◌∷◌, ◌++◌, length, map, All}
+use Rattle.std.proofs.Common.{◌≡◌, ℕ, zero, suc, Bool, true, false, ◌&&◌, List, [], ◌∷◌, map, All}
 use Rattle.std.proofs.Common.{refl, sym, ap, ◌∙◌, subst, arith}
 use Rattle.std.specs.List.{range_with_len}
 use Rattle.rc_journal.specs.declared.names.SeatName.TheVariants.{Outside, Coordinator, Host}
@@ -7,7 +7,7 @@ use Rattle.rc_wire.specs.declared.work.Work.TheVariants as work
 use Rattle.rc_wire.specs.SeatView.{SeatData, new_seat}
 use Rattle.rc_threads.specs.declared.steps.Step.{Step}
 use Rattle.rc_threads.specs.declared.steps.Step.TheVariants.{Do, Settle}
-use Rattle.rc_threads.specs.Runs.{is_fetched, none_fetched}
+use Rattle.rc_threads.specs.Runs.{none_fetched}
 use Rattle.rc_threads.specs.Ends.{IsIdle}
 use Rattle.rc_wire.specs.Seats.{seat_named, new_seats}
 use Rattle.rc_threads.specs.Workload.{push, owner, starts, created, write_of, asks, workload}

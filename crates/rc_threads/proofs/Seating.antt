@@ -1,10 +1,9 @@
 -- Lists of seats, from the last on.
-use Rattle.std.proofs.Common.{◌≡◌, ◌⊎◌, ℕ, zero, suc, ◌+◌, ◌<◌, List, [], ◌∷◌, ◌++◌, length, take, Option, Some, All}
+use Rattle.std.proofs.Common.{◌≡◌, ℕ, zero, suc, ◌<◌, List, [], ◌∷◌, ◌++◌, length, take, Option, Some, All}
 use Rattle.std.proofs.Common.{refl, sym, ap, ◌∙◌, subst, arith}
-use Rattle.std.specs.Prelude.{Result, Ok, Err, OnOk, IfErr, option_to_list, slice_index_or}
+use Rattle.std.specs.Prelude.{Result, Ok, Err, OnOk, option_to_list, slice_index_or}
 use Rattle.std.specs.Result.{result_and}
 use Rattle.rc_model.specs.Model.{Setup, Fault}
-use Rattle.rc_types.specs.declared.faults.Fault.TheVariants.{OutOfMemory, BadEvent}
 use Rattle.rc_wire.specs.declared.work.Work.{Work}
 use Rattle.rc_wire.specs.SeatView.{SeatData}
 use Rattle.rc_threads.specs.declared.steps.Step.{Step}

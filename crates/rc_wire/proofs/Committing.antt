@@ -22,7 +22,7 @@ use Rattle.rc_wire.specs.SeatView.{SeatData, Offered, offered_by, offered_events
 use Rattle.rc_wire.specs.Steps.{IsStep, HasTaken}
 use Rattle.rc_wire.specs.SeatHolds.{SeatSound, seat_data}
 use Rattle.rc_wire.specs.Works.{IsOffer, was_delivered}
-use Rattle.rc_wire.specs.Calls.{Covers, having_seen}
+use Rattle.rc_wire.specs.Calls.{Covers}
 use Rattle.rc_wire.proofs.Staying.{sound-seen, held-stays}
 use Rattle.rc_wire.proofs.Offering.{seen_of, step-offered}
 

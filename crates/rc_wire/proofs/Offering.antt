@@ -1,8 +1,8 @@
 -- A step that a node has taken is an event of the world that its seat has seen.
 use Rattle.std.proofs.Common.{◌≡◌, ℕ, Bool, true, ◌&&◌, List, ◌++◌, Some, refl, sym, ap, ◌∙◌}
-use Rattle.rc_model.specs.Model.{Message, World, NodeName, Job, work_of, is_possible, step}
+use Rattle.rc_model.specs.Model.{Message, World, NodeName, Job, work_of, is_possible}
 use Rattle.rc_history.specs.Nodes.{Node, name_of, node_in}
-use Rattle.rc_history.specs.Events.{is_for, takes}
+use Rattle.rc_history.specs.Events.{is_for}
 use Rattle.rc_history.specs.Claims.{NodeTakes}
 use Rattle.rc_history.proofs.Steps.{node_takes}
 use Rattle.rc_journal.proofs.Named.{same_node-same}

@@ -5,7 +5,6 @@ use Rattle.std.specs.List.{list_any}
 use Rattle.std.specs.Option.{IfSome}
 use Rattle.rc_model.specs.Model.{Fault, Setup, Event, Message, NodeName, same_node, node_of}
 use Rattle.rc_types.specs.declared.faults.Fault.TheVariants.{BadEvent}
-use Rattle.rc_types.specs.declared.events.Event.TheVariants as event
 use Rattle.rc_model.proofs.Ids.{same_node-true}
 use Rattle.rc_history.specs.Nodes.{Node, TheOutside, TheCoordinator, TheHost, name_of}
 use Rattle.rc_history.specs.Events.{takes}

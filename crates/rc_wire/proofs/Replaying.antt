@@ -1,13 +1,13 @@
 -- The events of a legal history can all happen, one after another.
-use Rattle.std.proofs.Common.{◌≡◌, ℕ, zero, suc, ◌<◌, ◌≤◌, nat_lt, Bool, true, false, ◌&&◌, List, [], ◌∷◌, length, take, Some, slice_get}
+use Rattle.std.proofs.Common.{◌≡◌, ℕ, zero, suc, ◌<◌, nat_lt, Bool, true, false, ◌&&◌, List, [], ◌∷◌, length, take, Some, slice_get}
 use Rattle.std.proofs.Common.{refl, sym, ap, ◌∙◌, subst, arith}
 use Rattle.std.specs.Option.{IfSome}
 use Rattle.std.proofs.lemmas.Bool.{and_parts}
 use Rattle.std.proofs.lemmas.List.{length-take-le}
 use Rattle.std.proofs.lemmas.Option.{slice_get_within}
-use Rattle.rc_model.specs.Model.{Event, Setup, MAX_EVENTS, World, opening, replay_from, replay, is_possible, step}
+use Rattle.rc_model.specs.Model.{Event, MAX_EVENTS, World, opening, replay_from, replay, is_possible, step}
 use Rattle.rc_model.proofs.Tests.{true_false}
-use Rattle.rc_history.specs.Events.{is_legal_from, is_legal}
+use Rattle.rc_history.specs.Events.{is_legal_from}
 use Rattle.rc_world.specs.Happened.{Happened, opened, with_events, can_happen}
 use Rattle.rc_journal.specs.Names.{WireName}
 use Rattle.rc_journal.specs.Sound.{IsHistory}

@@ -1,11 +1,11 @@
 -- The seats of a new wire, one by one.
-use Rattle.std.proofs.Common.{◌≡◌, ℕ, zero, suc, ◌+◌, ◌-◌, ◌<◌, List, [], ◌∷◌, ◌++◌, map, refl, ap, ◌∙◌, arith}
+use Rattle.std.proofs.Common.{◌≡◌, ℕ, zero, suc, ◌+◌, ◌-◌, ◌<◌, List, [], ◌∷◌, ◌++◌, map, refl, ap, arith}
 use Rattle.std.specs.List.{range_with_len}
 use Rattle.rc_journal.specs.declared.view.Place.{Place}
 use Rattle.rc_journal.specs.Views.{new_place}
 use Rattle.rc_journal.specs.Names.{number_of}
 use Rattle.rc_journal.proofs.Steps.{numbered-push}
-use Rattle.rc_wire.specs.SeatView.{SeatData, new_seat}
+use Rattle.rc_wire.specs.SeatView.{new_seat}
 use Rattle.rc_wire.specs.Seats.{seat_named, new_seats}
 
 pub seat_named-number : (number : ℕ) → number_of (seat_named number) ≡ number

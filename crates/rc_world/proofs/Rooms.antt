@@ -1,6 +1,6 @@
 -- The numbers of a world's nodes suffice for one more step.
 use Rattle.std.proofs.Common.{ℕ, ◌≤◌, List, length, sym, subst}
-use Rattle.rc_model.specs.Model.{MAX_EVENTS, Setup, Event, HostNode, World, NodeName, TheOutside, TheCoordinator, TheHost, replay}
+use Rattle.rc_model.specs.Model.{MAX_EVENTS, Setup, Event, HostNode, World, TheOutside, TheCoordinator, TheHost, replay}
 use Rattle.rc_model.specs.Coordinator.{Coordinator}
 use Rattle.rc_numbers.specs.Claims.{HasRoom}
 use Rattle.rc_numbers.proofs.Rooms.{coordinator-has-room, generations-have-room, versions-have-room}

@@ -1,14 +1,13 @@
 -- What a client may rely on holds of every world.
-use Rattle.std.proofs.Common.{◌≡◌, ◌≢◌, refl, ℕ, ◌++◌, List, Option, None, Some, subst, arith}
+use Rattle.std.proofs.Common.{◌≡◌, ◌≢◌, refl, ℕ, List, Option, None, Some, subst, arith}
 use Rattle.std.specs.List.{slice_get}
-use Rattle.rc_model.specs.Model.{Setup, Event, Message, replay, factor_of, or_number}
+use Rattle.rc_model.specs.Model.{Setup, Event, replay, factor_of, or_number}
 use Rattle.rc_log_laws.specs.WordClaims.{sent_after}
 use Rattle.rc_promises.specs.Service.{IsWritten}
 use Rattle.rc_promises.proofs.Once.{one-version-is-one-write, acknowledged-is-written}
 use Rattle.rc_promises.proofs.Time.{writes-follow-time}
 use Rattle.rc_promises.proofs.Reading.{reads-see-acknowledged-writes}
 use Rattle.rc_numbers.proofs.Entries.{All-get}
-use Rattle.rc_world.specs.Happened.{Happened}
 use Rattle.rc_world.specs.HostView.{IsFactor, IsWithinLimits}
 use Rattle.rc_world.specs.Served.{IsServed}
 

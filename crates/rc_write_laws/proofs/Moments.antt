@@ -5,8 +5,8 @@ use Rattle.std.proofs.lemmas.Bool.{ltb-true}
 use Rattle.std.proofs.lemmas.List.{append_assoc, append-nil, map-append, length_push}
 use Rattle.rc_model.specs.Model.{ServerId, Event, Addr, Entry, Message, Body, Segment, new_segment, with_entry, durable_in}
 use Rattle.rc_model.specs.Model.{with_closes_sent, Log, head_of, old_head_of, with_segment, numbers_to, durable_among, durable_now}
-use Rattle.rc_model.specs.Model.{opens_head, appends, shuts, left_out, with_freed, starts, closes_old, writes_on, Master, then_does}
-use Rattle.rc_model.specs.Model.{commits, goes_on, ticks, master_takes_first, deposed_takes, master_takes, master_ticks, World, opening}
+use Rattle.rc_model.specs.Model.{opens_head, appends, left_out, with_freed, starts, closes_old, writes_on, Master, then_does}
+use Rattle.rc_model.specs.Model.{goes_on, ticks, master_takes_first, deposed_takes, master_takes, master_ticks, World, opening}
 use Rattle.rc_model.specs.Model.{step, replay, In}
 use Rattle.rc_model.proofs.Replays.{replay_from-push}
 use Rattle.rc_model.proofs.Walk.{OfLog, LogJoined, LogFollowed, of_log-joined, of_log-followed, kept-goes_on, same-deposed}

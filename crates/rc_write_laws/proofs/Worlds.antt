@@ -6,9 +6,9 @@ use Rattle.std.proofs.lemmas.Bool.{and_parts, cases_order}
 use Rattle.std.proofs.lemmas.Bool.Decides.{nat_tests}
 use Rattle.std.proofs.lemmas.List.{length-map, length-append, append-nil, append_assoc, take_all, take-take, take-append-le}
 use Rattle.rc_model.specs.Model.{ServerId, Addr, Server, Entry, Setup, Event, Member, Message, Body, WriteOk, is_server, between}
-use Rattle.rc_model.specs.Model.{to_outside, all_closed, is_closed, told_closed, told_len, any_lost, least_told, durable_len, Segment}
+use Rattle.rc_model.specs.Model.{all_closed, is_closed, told_closed, told_len, any_lost, least_told, durable_len, Segment}
 use Rattle.rc_model.specs.Model.{is_all_closed, durable_in, Log, LogPlace, has_segment, places_of, durable_now, all_shut_to}
-use Rattle.rc_model.specs.Model.{is_stored_on_all, WasStored, EarlierWereStored, IsDurable, Master, master_takes, master_ticks, write_oks}
+use Rattle.rc_model.specs.Model.{is_stored_on_all, WasStored, EarlierWereStored, IsDurable, Master, master_takes, master_ticks}
 use Rattle.rc_model.specs.Model.{factor_of, World, opening, step, replay, In}
 use Rattle.rc_types.specs.declared.messages.Body.TheVariants as body
 use Rattle.rc_model.proofs.Replays.{replay_from-push}

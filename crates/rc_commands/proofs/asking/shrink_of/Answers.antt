@@ -1,8 +1,7 @@
-use Rattle.std.proofs.Common.{◌≡◌, ◌∙◌, rules, Some, None, ap, codes, sym, subst, IfOk}
+use Rattle.std.proofs.Common.{◌≡◌, ◌∙◌, Some, None, ap, codes, sym}
 use Rattle.std.proofs.lemmas.Result.{IfOk-weaker}
 use Rattle.clap.specs.Words.{found_of}
 use Rattle.rc_commands.specs.declared.asking.Asked.TheVariants as asked
-use Rattle.rc_commands.specs.Asking.{as_command}
 use Rattle.rc_commands.proofs.Decimals.{as_mapped}
 use Rattle.rc_commands.proofs.asking.shrink_of.Goals as goal
 

@@ -1,4 +1,4 @@
-use Rattle.std.proofs.Common.{◌≡◌, length, take, subst, arith}
+use Rattle.std.proofs.Common.{length, subst, arith}
 use Rattle.rc_threads.specs.Runs.{Runs, works_for}
 use Rattle.rc_threads.proofs.Turning.{grows-through, grows-same, progress-begins}
 use Rattle.rc_threads.proofs.Seating.{take-all}

@@ -1,4 +1,4 @@
-use Rattle.std.proofs.Common.{◌≡◌, ◌≤◌, length}
+use Rattle.std.proofs.Common.{◌≤◌, length}
 use Rattle.rc_threads.specs.Runs.{Progress, Grows}
 use Rattle.rc_threads.proofs.seats.turns.Given as goal
 

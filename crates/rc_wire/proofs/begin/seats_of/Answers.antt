@@ -1,11 +1,11 @@
-use Rattle.std.proofs.Common.{◌≡◌, ℕ, suc, ◌+◌, ◌-◌, ◌<◌, ◌≤◌, ◌∷◌, ◌++◌, [], List, length, map, slice_index_or, remove, sym, ap, ◌∙◌}
+use Rattle.std.proofs.Common.{◌≡◌, suc, ◌+◌, ◌-◌, ◌∷◌, ◌++◌, [], length, map, slice_index_or, remove, sym, ap, ◌∙◌}
 use Rattle.std.proofs.Common.{arith}
 use Rattle.std.specs.List.{range_with_len}
 use Rattle.std.proofs.lemmas.List.FromFn.{length-map-range_with_len}
 use Rattle.rc_journal.specs.Views.{new_place}
 use Rattle.rc_journal.specs.Names.{number_of}
 use Rattle.rc_wire.specs.SeatView.{new_seat}
-use Rattle.rc_wire.specs.Seats.{seat_named, new_seats}
+use Rattle.rc_wire.specs.Seats.{new_seats}
 use Rattle.rc_wire.proofs.Seating.{seat_named-number, places_from, places-first, seats-push}
 use Rattle.rc_wire.proofs.begin.seats_of.Goals as goal
 

@@ -1,4 +1,4 @@
-use Rattle.std.proofs.Common.{◌≡◌, All, List, sym, ◌∙◌, subst}
+use Rattle.std.proofs.Common.{All, List, sym, ◌∙◌, subst}
 use Rattle.std.proofs.lemmas.List.Elements.{All-push}
 use Rattle.rc_types.specs.declared.events.Event.{Event}
 use Rattle.rc_wire.specs.Calls.{Covers}

@@ -1,4 +1,4 @@
-use Rattle.std.proofs.Common.{◌≡◌, ◌↔◌, true, subst, sym, ap, ◌∙◌, arith}
+use Rattle.std.proofs.Common.{◌≡◌, ◌↔◌, true, subst, arith}
 use Rattle.rc_world.specs.HostView.{HostData, HostHasRoom, host_of}
 use Rattle.rc_world.specs.contracts.host.Host.{the_view}
 use Rattle.rc_world.proofs.HostSteps.{room-of-running}
