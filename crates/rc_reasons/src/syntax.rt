@@ -11,6 +11,14 @@ use std::alloc::{AllocError, Global};
 /// How many lists and objects may stand open at once in a JSON text.
 const MAX_DEPTH: usize = 127;
 
+/// What is said of a control character in a text.
+const CONTROL: &str =
+    "here stands a line feed, a tab or another control character; in a text it is written \\n, \\t or \
+                       \\u and four hexadecimal digits";
+
+/// What is said of a backslash in a text and what follows.
+const ESCAPE: &str = "JSON has no such escape; a backslash itself is written \\\\";
+
 /// Why the bytes are no JSON text.
 pub(crate) fn tell_text_fault(alloc: Global, dialect: Dialect, text: &[u8], pen: &mut Pen) {
     if text.len() > MOST_BYTES {
@@ -65,10 +73,31 @@ fn tell_guess(text: &[u8], line: usize, column: usize, pen: &mut Pen) {
             pen.say("lists and objects may stand 127 deep in one another; this would be the 128th");
         }
         _ => {
-            tell_place(pen, text, at);
-            pen.say(guess_at(text, at));
+            let (place, why) = fault_in_text(text, at).unwrap_or((at, guess_at(text, at)));
+            tell_place(pen, text, place);
+            pen.say(why);
         }
     }
+}
+
+/// Where the text, in quotes, that begins at this byte has what no text of JSON has, and what that is.
+fn fault_in_text(text: &[u8], start: usize) -> Option<(usize, &'static str)> {
+    if text.get(start) != Some(&b'"') {
+        return None;
+    }
+    let mut escaped = false;
+    for (at, byte) in text.iter().enumerate() {
+        if at <= start {
+            continue;
+        }
+        match byte {
+            0..=31 => return Some((at, CONTROL)),
+            _ if escaped && !b"\"\\/bfnrtu".contains(byte) => return Some((at, ESCAPE)),
+            b'"' if !escaped => return None,
+            _ => escaped = !escaped && *byte == b'\\',
+        }
+    }
+    None
 }
 
 /// The first bracket, outside of quotes, with which more than 127 lists and objects stand open.
@@ -113,6 +142,9 @@ fn guess_at(text: &[u8], at: usize) -> &'static str {
     let last = before.of(text).last().copied().unwrap_or(0);
     let byte = text.get(at).copied().unwrap_or(0);
     match byte {
+        0xef if text.starts_with(b"\xef\xbb\xbf") => {
+            "a byte order mark stands here; JSON begins without one"
+        }
         b']' | b'}' if last == b',' => "a comma stands before this bracket; JSON has none there",
         b'\'' => "JSON has texts and names in double quotes",
         b'"' | b'{' | b'[' if !matches!(last, b',' | b':' | b'[' | b'{') => {

@@ -156,9 +156,9 @@ pub static TOPICS: [Topic; 21] = [
         when: "The program prints `error F17 at P` and nothing else: P is 0 where the bytes are no JSON text or \
             too many, 1 where what stands round the list is wrong, and 2 + i where event i of a scenario, or \
             message i of a trace, counted from 0, is wrong. The status is 2.",
-        remedy: "For a scenario, standard error has the line, the column, and what was expected. Sections 2 and 10 \
-            of docs/FORMATS.md have the members of a scenario, section 7 those of a trace; with the schemas \
-            of docs/schemas an editor finds mistakes while one writes.",
+        remedy: "Standard error has the line, the column, and what was expected. Sections 2 and 10 of docs/FORMATS.md \
+            have the members of a scenario, section 7 those of a trace; with the schemas of docs/schemas an \
+            editor finds mistakes while one writes.",
     },
     Topic {
         number: 18,

@@ -135,7 +135,10 @@ impl Want {
             Want::Addr => "an id [host, generation], as [0,1], or \"c\", the coordinator",
             Want::Replica => "[id, segment], as [[0,1],1], segment 1 to 65535",
             Want::Row => "[segment, id, length], as [1,[2,1],1]",
-            Want::Entry => "[term, table, key, version, value], as [1,7,5,1,\"61\"]",
+            Want::Entry => {
+                "[term, table, key, version, value], as [1,7,5,1,\"61\"], the value as pairs of 0 to 9 and a to f, \
+                 or null"
+            }
             Want::Names => "a list of names of messages, as [\"Ready\"]",
             Want::Hosts => "a list of hosts, as [0,2]",
             Want::Factors => "a list of at most 64 numbers from 1 to 5",

@@ -17,6 +17,7 @@ use rc_audit::audit;
 use rc_reading::{ReadFault, Scenario, read_scenario};
 use rc_report::{Finding, add_stopped, error_text, report_of};
 use rc_runs::Run;
+use rc_telling::Factors;
 use rc_traces::write_trace;
 use rc_types::{Code, Message};
 use rc_world::World;
@@ -63,12 +64,12 @@ fn played<A: Allocator + Clone>(
     ensures fault { IfErr result (λ fault. fault ≡ Memory) }
 {
     let Scenario { setup, events } = scenario;
-    let factor = setup.factor;
+    let factors = Factors::of(&setup);
     let mut run = Run::new(alloc, setup, tablets);
     match run.play_all(alloc, events.as_slice()) {
         Ok(()) => {
             let world = run.world();
-            kept.hint(alloc, factor, world);
+            kept.hint(alloc, factors, world);
             ended(alloc, world, output)
         }
         Err((place, fault)) => stopped(alloc, run.world(), output, place, fault.code()),

@@ -18,7 +18,7 @@ use crate::simulating::write_answer;
 use crate::verdicts::{SimFault, Verdict};
 use rc_reading::{ReadFault, Scenario, read_scenario};
 use rc_study::Played;
-use rc_telling::{Story, log, log_json, mermaid, page};
+use rc_telling::{Factors, Story, log, log_json, mermaid, page};
 use rc_types::Code;
 use std::alloc::Global;
 use std::io::{Read, Write};
@@ -112,7 +112,8 @@ fn told(
     match Played::of(alloc, &scenario.setup, scenario.events.as_slice()) {
         Ok(played) => {
             let story = played.story();
-            kept.hint_at(alloc, scenario.setup.factor, story.events, story.messages);
+            let factors = Factors::of(&scenario.setup);
+            kept.hint_at(alloc, factors, story.events, story.messages);
             answer_of(alloc, &played, telling)
         }
         Err(_) => Err(SimFault::Memory),

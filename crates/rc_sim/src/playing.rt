@@ -13,7 +13,7 @@ use crate::counted::Counted;
 use crate::outlets::read_all;
 use crate::simulating::write_answer;
 use crate::verdicts::{Output, SimFault, Verdict};
-use rc_telling::hints;
+use rc_telling::{Factors, hints};
 use rc_types::{Event, Message};
 use rc_world::World;
 use std::alloc::{Allocator, Global};
@@ -44,21 +44,21 @@ impl Kept {
     pub(crate) fn hint<A: Allocator + Clone>(
         &mut self,
         alloc: Global,
-        factor: u8,
+        factors: Factors,
         world: &World<A>,
     ) {
-        self.hint_at(alloc, factor, world.events(), world.sent());
+        self.hint_at(alloc, factors, world.events(), world.sent());
     }
 
     /// Keeps what may not have been meant in these events, which sent these messages.
     pub(crate) fn hint_at(
         &mut self,
         alloc: Global,
-        factor: u8,
+        factors: Factors,
         events: &[Event],
         messages: &[Message],
     ) {
-        if let Ok(hints) = hints(alloc, factor, events, messages) {
+        if let Ok(hints) = hints(alloc, factors, events, messages) {
             self.hints = hints;
         }
     }

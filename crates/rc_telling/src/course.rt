@@ -11,10 +11,12 @@ pub(crate) struct Course {
     pub(crate) delivered: Vec<bool>,
     /// How often each host was started.
     generations: [u32; MAX_HOSTS as usize],
-    /// The generation of each host that was suspected last.
+    /// The newest generation of each host that was suspected.
     suspected: [u32; MAX_HOSTS as usize],
     /// Whether each host runs.
     running: [bool; MAX_HOSTS as usize],
+    /// The first server that was suspected and had never been started.
+    pub(crate) unstarted: Option<ServerId>,
     /// The first server that was asked while it did not run.
     pub(crate) unheard: Option<ServerId>,
     /// How many such requests there were.
@@ -29,6 +31,7 @@ impl Course {
             generations: [0; MAX_HOSTS as usize],
             suspected: [0; MAX_HOSTS as usize],
             running: [false; MAX_HOSTS as usize],
+            unstarted: None,
             unheard: None,
             requests: 0,
         }
@@ -86,19 +89,53 @@ impl Course {
 
     /// A server was suspected.
     fn suspect(&mut self, id: ServerId) {
-        if let Some(generation) = self.suspected.get_mut(usize::from(id.index)) {
-            *generation = id.generation;
+        if self.generation(id.index) < id.generation {
+            self.unstarted = self.unstarted.or(Some(id));
+            return;
         }
+        if let Some(generation) = self.suspected.get_mut(usize::from(id.index)) {
+            if *generation < id.generation {
+                *generation = id.generation;
+            }
+        }
+    }
+
+    /// How often a host was started.
+    fn generation(&self, host: u8) -> u32 {
+        self.generations
+            .get(usize::from(host))
+            .copied()
+            .unwrap_or(0)
+    }
+
+    /// Whether a host runs.
+    fn is_running(&self, host: u8) -> bool {
+        self.running
+            .get(usize::from(host))
+            .copied()
+            .unwrap_or(false)
+    }
+
+    /// Whether the newest server of a host was suspected.
+    fn is_suspected(&self, host: u8) -> bool {
+        self.suspected.get(usize::from(host)).copied().unwrap_or(0) == self.generation(host)
+    }
+
+    /// Whether a host runs, and its server was not suspected.
+    pub(crate) fn is_up(&self, host: u8) -> bool {
+        self.is_running(host) && !self.is_suspected(host)
+    }
+
+    /// How many hosts run whose servers were not suspected.
+    pub(crate) fn count_up(&self) -> usize {
+        (0..MAX_HOSTS).filter(|host| self.is_up(*host)).count()
     }
 
     /// The first host's newest server that has stopped and was not suspected.
     pub(crate) fn unsuspected(&self) -> Option<ServerId> {
         for index in 0..MAX_HOSTS {
-            let host = usize::from(index);
-            let generation = self.generations.get(host).copied().unwrap_or(0);
-            let runs = self.running.get(host).copied().unwrap_or(false);
-            let suspected = self.suspected.get(host).copied().unwrap_or(0);
-            if generation > 0 && !runs && suspected != generation {
+            let generation = self.generation(index);
+            if generation > 0 && !self.is_running(index) && !self.is_suspected(index) {
                 return Some(ServerId { index, generation });
             }
         }
@@ -107,9 +144,7 @@ impl Course {
 
     /// Whether a server runs.
     pub(crate) fn runs(&self, id: ServerId) -> bool {
-        let host = usize::from(id.index);
-        let runs = self.running.get(host).copied().unwrap_or(false);
-        runs && self.generations.get(host).copied().unwrap_or(0) == id.generation
+        self.is_running(id.index) && self.generation(id.index) == id.generation
     }
 
     /// A server was asked that does not run.

@@ -4,6 +4,7 @@ use crate::fields::{tell_event, tell_fields_if_any};
 use crate::kinds::body_name;
 use crate::silences::tell_silence;
 use crate::story::{Step, Story, Turn};
+use crate::tables::Table;
 use rc_pen::{Pen, Piece, Spelling};
 use rc_types::{Addr, Event, Message, ServerId};
 use std::alloc::{AllocError, Global};
@@ -17,19 +18,33 @@ use std::alloc::{AllocError, Global};
 pub fn mermaid(alloc: Global, story: &Story<'_>) -> Result<String, AllocError> {
     let mut pen = Pen::new(alloc, Spelling::Mermaid);
     pen.put("sequenceDiagram\n    participant out as Outside\n    participant c as Coordinator\n");
-    for server in story.notes.servers().as_slice() {
-        put_server(&mut pen, server.id);
-    }
+    put_servers(&mut pen, alloc, story);
     for (number, (event, turn)) in story.events.iter().zip(story.notes.turns()).enumerate() {
         put_turn(&mut pen, story, number, event, turn);
     }
     if let Some((place, code)) = story.stopped {
         pen.put_all(
-            "    Note over out,c: stopped % at event %\n",
+            "    Note over out,c: stopped % at event % of the scenario\n",
             &[Piece::Code(code), Piece::Size(place)],
         );
     }
     pen.end()
+}
+
+/// Each server that was started, and then those that were only named.
+fn put_servers(pen: &mut Pen, alloc: Global, story: &Story<'_>) {
+    let mut named = Table::new(alloc);
+    for server in story.notes.servers().as_slice() {
+        pen.take(named.put_first(server.id, ()));
+    }
+    for message in story.messages {
+        if let Addr::Server(id) = message.to {
+            pen.take(named.put_first(id, ()));
+        }
+    }
+    for (id, _) in &named.entries {
+        put_server(pen, *id);
+    }
 }
 
 /// A server.

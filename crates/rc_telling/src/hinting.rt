@@ -1,42 +1,75 @@
 //! What may not have been meant in a run that went through: messages that wait at its end, requests to servers that do
-//! not run, too few hosts, and recoveries that are not at their end.
+//! not run, suspected servers that never ran, too few hosts, and recoveries that are not at their end.
 
 use crate::course::Course;
 use crate::ending::{Group, count, total_of};
 use crate::recoveries::{Recoveries, tell_recoveries};
 use crate::tables::Table;
 use rc_pen::{Pen, Piece, Spelling};
-use rc_types::{Addr, Event, Message};
+use rc_types::limits::MAX_HOSTS;
+use rc_types::{Addr, Event, Message, Setup};
 use std::alloc::{AllocError, Global};
 
 /// How many kinds of waiting messages are told one by one.
 const MOST_GROUPS: usize = 4;
 
+/// How many replicas each segment has, by host of its master.
+#[derive(Clone, Copy)]
+pub struct Factors {
+    /// At the place of a host's index.
+    of_hosts: [u8; MAX_HOSTS as usize],
+}
+
+impl Factors {
+    /// Those of a setup.
+    pub fn of(setup: &Setup) -> Factors {
+        let mut of_hosts = [setup.factor; MAX_HOSTS as usize];
+        for (host, factor) in setup.factors.as_slice().iter().enumerate() {
+            if let Some(place) = of_hosts.get_mut(host) {
+                *place = *factor;
+            }
+        }
+        Factors { of_hosts }
+    }
+
+    /// That of a host.
+    fn at(&self, host: u8) -> u8 {
+        self.of_hosts.get(usize::from(host)).copied().unwrap_or(0)
+    }
+}
+
 /// Hints for whoever wrote the scenario, each a line that begins with `hint: `; none, where there is nothing to be
-/// said. The factor is that of the setup.
+/// said. The factors are those of the setup.
 ///
 /// # Errors
 ///
 /// Memory was refused.
 pub fn hints(
     alloc: Global,
-    factor: u8,
+    factors: Factors,
     events: &[Event],
     messages: &[Message],
 ) -> Result<String, AllocError> {
     let mut pen = Pen::new(alloc, Spelling::Plain);
-    tell_hints(alloc, factor, events, messages, &mut pen);
+    tell_hints(alloc, factors, events, messages, &mut pen);
     pen.end()
 }
 
 /// All hints.
-fn tell_hints(alloc: Global, factor: u8, events: &[Event], messages: &[Message], pen: &mut Pen) {
+fn tell_hints(
+    alloc: Global,
+    factors: Factors,
+    events: &[Event],
+    messages: &[Message],
+    pen: &mut Pen,
+) {
     let mut course = Course::new(alloc);
     pen.take(course.begin(messages.len()));
     course.take_all(events);
     tell_waiting(&course, alloc, pen, messages);
     tell_unheard(&course, pen);
-    tell_few(&course, pen, factor);
+    tell_unstarted(&course, pen);
+    tell_few(&course, pen, factors);
     tell_unrecovered(&course, alloc, pen, messages);
 }
 
@@ -86,19 +119,38 @@ fn tell_unheard(course: &Course, pen: &mut Pen) {
     pen.say("\n");
 }
 
-/// Too few hosts for the factor.
-fn tell_few(course: &Course, pen: &mut Pen, factor: u8) {
-    let running = course.running();
-    if running == 0 || running > usize::from(factor) {
-        return;
+/// A server that was suspected and had never run.
+fn tell_unstarted(course: &Course, pen: &mut Pen) {
+    if let Some(id) = course.unstarted {
+        pen.say_all(
+            "hint: % was suspected, but had never been started: nothing comes of that\n",
+            &[Piece::Id(id)],
+        );
     }
+}
+
+/// Too few hosts for the factor of the first master that has too few.
+fn tell_few(course: &Course, pen: &mut Pen, factors: Factors) {
+    let up = course.count_up();
+    for host in 0..MAX_HOSTS {
+        if course.is_up(host) && up <= usize::from(factors.at(host)) {
+            tell_fewer(pen, up, course.running(), host, factors.at(host));
+            return;
+        }
+    }
+}
+
+/// So many hosts run and were not suspected, too few for a master of this host, whose factor this is.
+fn tell_fewer(pen: &mut Pen, up: usize, running: usize, host: u8, factor: u8) {
     pen.say_all(
-        "hint: hosts that run at the end: %; with factor % it takes % for a master to open a segment or to replace a \
-         backup\n",
+        "hint: hosts that run at the end% and were not suspected||: %; with factor % it takes % for the master of host \
+         % to open a segment or to replace a backup\n",
         &[
-            Piece::Size(running),
+            Piece::Flag(up != running),
+            Piece::Size(up),
             Piece::U8(factor),
             Piece::U64(u64::from(factor).saturating_add(1)),
+            Piece::U8(host),
         ],
     );
 }

@@ -37,7 +37,7 @@ mod writes;
 
 pub use changes::Changes;
 pub use diagrams::mermaid;
-pub use hinting::hints;
+pub use hinting::{Factors, hints};
 pub use json::log_json;
 pub use logs::log;
 pub use pages::page;

@@ -124,7 +124,7 @@ fn tell_ending(pen: &mut Pen, story: &Story<'_>, ending: &Ending, writes: &Write
     tell_writes(pen, story, writes);
     if let Some((place, code)) = story.stopped {
         pen.say_all(
-            "\nstopped % at event %",
+            "\nstopped % at event % of the scenario",
             &[Piece::Code(code), Piece::Size(place)],
         );
     }
