@@ -14,7 +14,7 @@ ghost use Rattle.rc_sim.specs.Verdicts.{Played, Narrated, Judged, Shrunk, Told};
 ghost use Rattle.rc_sim.specs.Written.{IsWritten, IsBegun};
 
 use crate::counted::Counted;
-use crate::drawing::{fuzz, stops};
+use crate::drawing::{cut_powers, fuzz};
 use crate::exploring::explore;
 use crate::narrating::{Telling, narrate};
 use crate::outlets::write_all;
@@ -99,7 +99,7 @@ fn done<H: thread::Threads + Wait + Sync, R: Read, W: Write, E: Write>(
         Asked::Fuzz { seed, steps, free } => {
             fuzz(alloc, seed, steps as usize, free, writer, errors)
         }
-        Asked::Stops { seed, steps } => stops(alloc, seed, steps as usize, writer),
+        Asked::Stops { seed, steps } => cut_powers(alloc, seed, steps as usize, writer),
         Asked::Threads { hosts, writes } => threads(rt, alloc, hosts, writes, writer),
         Asked::Explore {
             seed,

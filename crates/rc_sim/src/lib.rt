@@ -19,9 +19,10 @@ mod verdicts;
 
 pub use commanding::command;
 pub use counted::Counted;
-pub use drawing::{fuzz, stops};
+pub use drawing::{cut_powers, fuzz};
 pub use exploring::explore;
 pub use narrating::Telling;
+pub use rc_draw::{draw, stops};
 pub use simulating::{judge, simulate, trace};
 pub use surveying::survey;
 pub use threading::threads;

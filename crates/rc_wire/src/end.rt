@@ -8,9 +8,8 @@ ghost use Rattle.rc_wire.specs.Calls.{Covers};
 
 use crate::seat::Seat;
 use rc_journal::{Journal, Naming};
-use rc_replay::run;
 use rc_types::{Fault, TryClone};
-use rc_world::World;
+use rc_world::{World, run};
 use std::alloc::Global;
 
 /// The world of the journal's events.

@@ -9,10 +9,14 @@ mod lending;
 mod node;
 mod nodes;
 mod outside;
+mod running;
 mod work;
 mod world;
 
 pub use head::HostHead;
 pub use node::NodeState;
+pub use rc_audit::audit;
+pub use rc_types::Breach;
+pub use running::run;
 pub use work::StepFault;
 pub use world::World;

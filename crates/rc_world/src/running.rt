@@ -6,8 +6,8 @@ ghost use Rattle.std.specs.Option.{IfSome};
 ghost use Rattle.rc_types.specs.declared.faults.Fault.TheVariants.{OutOfMemory, BadEvent};
 ghost use Rattle.rc_world.specs.Happened.{with_events, can_happen, AllHappen};
 
+use crate::world::World;
 use rc_types::{Event, Fault};
-use rc_world::World;
 use std::alloc::{Allocator, Global};
 
 /// Takes these events, one after another.

@@ -1,6 +1,6 @@
 use Rattle.std.proofs.Common.{◌≡◌, take}
 use Rattle.rc_world.specs.Happened.{with_events, AllHappen}
-use Rattle.rc_replay.proofs.running.run.Given as goal
+use Rattle.rc_world.proofs.running.run.Given as goal
 
 -- the events so far have happened
 abbrev pub invariant-loop-index : goal.invariant-loop-index

@@ -1,4 +1,4 @@
--- Events of a list that happen one after another.
+-- What a run over a list of events comes to: each event of it in turn.
 use Rattle.std.proofs.Common.{◌≡◌, ◌↔◌, ℕ, zero, suc, ◌+◌, ◌<◌, true, false}
 use Rattle.std.proofs.Common.{List, [], ◌∷◌, ◌++◌, Option, Some, length, take, get_or, slice_get, sym, ap, subst, ◌∙◌, arith}
 use Rattle.std.specs.Option.{IfSome}

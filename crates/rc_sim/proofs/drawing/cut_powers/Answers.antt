@@ -1,6 +1,6 @@
 use Rattle.std.proofs.Common.{string_bytes}
 use Rattle.rc_sim.proofs.NoBreaches.{no_breach_of, clean_is_none}
-use Rattle.rc_sim.proofs.drawing.stops.Goals as goal
+use Rattle.rc_sim.proofs.drawing.cut_powers.Goals as goal
 
 pub returns-clause-cut_short : goal.returns-clause-cut_short
 returns-clause-cut_short g c count same =
