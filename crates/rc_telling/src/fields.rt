@@ -7,6 +7,13 @@ use rc_types::{Body, Code, Entry, Event, Message, Part, PlanRow, Row, Seq, Serve
 /// How many entries of a message are told one by one.
 const MOST_ENTRIES: usize = 4;
 
+/// How many rows of a list, of an answer and of a plan, how many parts and how many kept names are told one by one. A
+/// list with a row for each host is told whole.
+const MOST_ROWS: usize = 64;
+
+/// How many segments of a digest are told one by one.
+const MOST_SEGMENTS: usize = 16;
+
 /// How many bytes of a value are told.
 const MOST_BYTES: usize = 32;
 
@@ -65,9 +72,10 @@ fn tell_start(pen: &mut Pen, host: u8, kept: &Seq<(ServerId, u16)>, started: Opt
     if !kept.is_empty() {
         pen.say(" kept");
     }
-    for (id, seg) in kept.as_slice() {
+    for (id, seg) in kept.as_slice().iter().take(MOST_ROWS) {
         pen.say_all(" %:%", &[Piece::Id(*id), Piece::U16(*seg)]);
     }
+    tell_more(pen, kept.len(), MOST_ROWS);
 }
 
 /// What a message says.
@@ -287,16 +295,25 @@ pub(crate) fn tell_code(pen: &mut Pen, code: Code) {
 /// Who is on the server list, and who of them is up.
 fn tell_list(pen: &mut Pen, version: u32, rows: &Shared<(ServerId, bool)>) {
     pen.number("version ", u64::from(version));
-    for (id, up) in rows.as_slice() {
+    for (id, up) in rows.as_slice().iter().take(MOST_ROWS) {
         pen.say_all(" %% up| down|", &[Piece::Id(*id), Piece::Flag(*up)]);
     }
+    tell_more(pen, rows.len(), MOST_ROWS);
 }
 
 /// The segments of a digest.
 fn tell_digest(pen: &mut Pen, digest: &Seq<u16>) {
     pen.say(" digest");
-    for seg in digest.as_slice() {
+    for seg in digest.as_slice().iter().take(MOST_SEGMENTS) {
         pen.number(" ", u64::from(*seg));
+    }
+    tell_more(pen, digest.len(), MOST_SEGMENTS);
+}
+
+/// How many more there are than were told.
+fn tell_more(pen: &mut Pen, count: usize, told: usize) {
+    if count > told {
+        pen.say_all(" and % more", &[Piece::Size(count - told)]);
     }
 }
 
@@ -310,9 +327,10 @@ fn tell_replicas(pen: &mut Pen, attempt: u32, rows: &Seq<Row>) {
             Piece::Flag(rows.len() == 1),
         ],
     );
-    for (place, row) in rows.as_slice().iter().enumerate() {
+    for (place, row) in rows.as_slice().iter().take(MOST_ROWS).enumerate() {
         tell_row(pen, place, row);
     }
+    tell_more(pen, rows.len(), MOST_ROWS);
 }
 
 /// One of them.
@@ -325,9 +343,10 @@ fn tell_row(pen: &mut Pen, place: usize, row: &Row) {
 /// The head and the rows of a plan.
 fn tell_plan(pen: &mut Pen, head: u16, rows: &Seq<PlanRow>) {
     pen.say_all(" head % rows", &[Piece::U16(head)]);
-    for row in rows.as_slice() {
+    for row in rows.as_slice().iter().take(MOST_ROWS) {
         tell_plan_row(pen, row);
     }
+    tell_more(pen, rows.len(), MOST_ROWS);
 }
 
 /// A row of a plan: segment, holder and length.
@@ -346,10 +365,11 @@ fn tell_plan_row(pen: &mut Pen, row: &PlanRow) {
 fn tell_parts(pen: &mut Pen, parts: &Seq<Part>) {
     pen.say(", ");
     tell_count(pen, parts.len(), " part", " parts");
-    for (place, part) in parts.as_slice().iter().enumerate() {
+    for (place, part) in parts.as_slice().iter().take(MOST_ROWS).enumerate() {
         pen.either(place == 0, ": ", "; ");
         tell_part(pen, part);
     }
+    tell_more(pen, parts.len(), MOST_ROWS);
 }
 
 /// One part.
