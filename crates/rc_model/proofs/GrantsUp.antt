@@ -1,6 +1,6 @@
 -- The coordinator grants commits and ranges only to ids that are up.
 use Rattle.std.proofs.Common.{◌≡◌, ℕ, ◌+◌, Bool, true, false, cond, not, ◌&&◌, List, [], ◌∷◌, ◌++◌, filter}
-use Rattle.std.proofs.Common.{Option, Some, None, Result, Ok, Err, refl, sym, ap, ◌∙◌, subst, inl, inr}
+use Rattle.std.proofs.Common.{Option, Some, None, Result, Ok, Err, refl, sym, ◌∙◌, subst}
 use Rattle.rc_model.specs.Model.{ServerId, Pair, Addr, Server, Part, Grant, Fault, Deposed, StaleGeneration, StaleAttempt, NotReady}
 use Rattle.rc_model.specs.Model.{NoTable, TableExists, TooManyTablets, Message, Body, Enlist, Ready, Commit, CommitOk, Replicas}
 use Rattle.rc_model.specs.Model.{Recovered, Gather, SplitOk, put_id, from_coordinator, to_each, coordinator_refuses, coordinator_tells}
@@ -11,14 +11,14 @@ use Rattle.rc_model.specs.Model.{spreads_then_begins, attempt_at, up_of_host, fo
 use Rattle.rc_model.specs.Model.{suspects, commits_pair, is_current, ready_ids, decides_with, decides_attempt, decides, own_body}
 use Rattle.rc_model.specs.Model.{range_of, grant_of, grant_to, part_of_sender, grants_if_given, grants_or_repeats, takes_recovered}
 use Rattle.rc_model.specs.Model.{first_grant, creates_table, is_too_many, creates, split_fault, splits_unless, splits, has_open_part}
-use Rattle.rc_model.specs.Model.{asks_again, asks_again_of, coordinator_ticks, coordinator_takes, In}
+use Rattle.rc_model.specs.Model.{asks_again, asks_again_of, coordinator_ticks, coordinator_takes}
 use Rattle.rc_types.specs.declared.rows.Plan.{Plan}
 use Rattle.rc_types.specs.declared.messages.Body.TheVariants.{Plan as PlanBody}
 use Rattle.rc_model.specs.Coordinator.{Coordinator}
 use Rattle.rc_model.proofs.Tests.{true_false, either}
 use Rattle.rc_model.proofs.Ids.{server-same}
 use Rattle.std.proofs.lemmas.Bool.{and_parts}
-use Rattle.rc_model.specs.Nodes.{Ask, Tick, Stop, Start, Suspect, Decide}
+use Rattle.rc_model.specs.Nodes.{Tick, Suspect, Decide}
 use Rattle.rc_model.proofs.Sending.{Each, each-none, each-one, each-both}
 use Rattle.rc_model.specs.Nodes.{Work, Take, Create, Split, coordinator_step}
 use Rattle.rc_model.specs.CoordinatorClaims.{is_granting, GrantsGoOnlyToTheUp}

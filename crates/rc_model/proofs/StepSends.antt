@@ -2,11 +2,11 @@
 use Rattle.std.proofs.Common.{◌≡◌, ◌⊎◌, inl, inr, ℕ, zero, suc, ◌+◌, ◌-◌, ◌<◌, ◌≤◌, Bool, true, false, cond, not, nat_eq, nat_lt, ◌&&◌, List}
 use Rattle.std.proofs.Common.{[], ◌∷◌, ◌++◌, map, filter, drop, length, find, is_some, Option, Some, None, refl, sym, ap, ◌∙◌, subst, arith}
 use Rattle.std.proofs.lemmas.Bool.{and_parts, eqb-true, ltb-true, not-false}
-use Rattle.rc_model.specs.Model.{ServerId, Addr, Body, Message, Append, Close, Commit, Enlist, Told, Member, Config, all_placed, Segment}
-use Rattle.rc_model.specs.Model.{between, to_coordinator, Log, head_of, old_head_of, has_old_head, has_segment, numbers_to, is_closing}
-use Rattle.rc_model.specs.Model.{with_segment, left_out, opens_head, Master, with_log, to_ids, ids_of, not_lost, place_of, places_head}
-use Rattle.rc_model.specs.Model.{appends_entry, refused, is_unclosed, frees_segments, first_open, wants_commit, commits, close_is_due}
-use Rattle.rc_model.specs.Model.{write_oks, new_durable, goes_on, then_does, to_remind, is_closing_old, lacking, reminds_member}
+use Rattle.rc_model.specs.Model.{Addr, Body, Message, Append, Close, Commit, Enlist, Told, Member, Config, all_placed, Segment}
+use Rattle.rc_model.specs.Model.{between, to_coordinator, Log, old_head_of, has_old_head, numbers_to, is_closing}
+use Rattle.rc_model.specs.Model.{left_out, Master, with_log, to_ids, ids_of, place_of}
+use Rattle.rc_model.specs.Model.{is_unclosed, first_open, wants_commit, commits, close_is_due}
+use Rattle.rc_model.specs.Model.{new_durable, goes_on, then_does, to_remind, is_closing_old, lacking, reminds_member}
 use Rattle.rc_model.specs.Model.{reminds_members, reminds_open, reminds_shut, reminds, fetch_of, obeys_list, ticks, master_takes_first}
 use Rattle.rc_model.specs.Model.{deposed_takes, master_takes, master_ticks, is_up, In}
 use Rattle.rc_model.specs.Model.{close_marked, has_unclosed, next_digest, dead_segments, task_of, reminds_shut_members, commits_again}
@@ -16,12 +16,11 @@ use Rattle.rc_model.specs.SendClaims.{OfEachMessage, EarlierAreShut, IsPlacedOnA
 use Rattle.rc_model.specs.SendClaims.{ClosesAreDue, DeposedAnswer, DeposedOnlyRefuse, DeposedDoNotTick}
 use Rattle.rc_model.proofs.Tests.{either, true_false}
 use Rattle.rc_model.proofs.Members.{In-append, In-left, In-right, In-filter}
-use Rattle.rc_model.proofs.Rules.{AllDone}
-use Rattle.rc_model.proofs.Walk.{Joined, Listed, Taken, Ticked, Followed, kept-goes_on, kept-obeys, kept-takes_first, same-deposed}
-use Rattle.rc_model.proofs.Sending.{Each, each-none, each-one, each-more, each-both, each-map, each-if, each-to_ids, each-frees}
-use Rattle.rc_model.proofs.Sending.{each-write_oks, each-reminds, each-commits, each-fetches_again, each-recovered, each-ready}
-use Rattle.rc_model.proofs.Sending.{Copied, Asked, each-copies}
-use Rattle.rc_model.proofs.LogSteps.{InputLeads, FollowLeads, StepLeads, takes_first-leads, obeys-leads, ticks_first-leads, goes-leads}
+use Rattle.rc_model.proofs.Walk.{Joined, Listed, Taken, Followed, kept-goes_on, kept-obeys, kept-takes_first, same-deposed}
+use Rattle.rc_model.proofs.Sending.{Each, each-none, each-one, each-both, each-map, each-if, each-to_ids, each-frees}
+use Rattle.rc_model.proofs.Sending.{each-write_oks, each-fetches_again, each-recovered, each-ready}
+use Rattle.rc_model.proofs.Sending.{Asked}
+use Rattle.rc_model.proofs.LogSteps.{InputLeads, FollowLeads, StepLeads, takes_first-leads, obeys-leads, ticks_first-leads}
 use Rattle.rc_model.proofs.LogSteps.{closing-was, upto_or, follow-joined, followed, follow-written, step-leads, step-same}
 
 -- Numbers and searches

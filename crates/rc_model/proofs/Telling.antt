@@ -1,26 +1,67 @@
 -- A backup tells what it keeps of a master only once it has fenced it.
-use Rattle.std.proofs.Common.{◌≡◌, ℕ, Bool, true, false, nat_eq, ◌&&◌, List, [], ◌∷◌, Option, Some, None, refl, sym, ap, ◌∙◌, inl, inr}
+use Rattle.std.proofs.Common.{◌≡◌, ℕ, Bool, true, false, nat_eq, nat_le, ◌&&◌, List, [], ◌∷◌, take, filter, length, Option, Some, None, refl, sym, ap, ◌∙◌, inl}
 use Rattle.std.proofs.lemmas.Bool.{eq-eqb}
 use Rattle.rc_model.specs.Model.{ServerId, Addr, Server, Part, Message, Body, Place, Append, Close, Free, Gather, Fetch, Data, Replicas}
-use Rattle.rc_model.specs.Model.{between, to_coordinator, Replica, Backup, Held, put_id, is_refused, replica_of, replica_after, keeps}
+use Rattle.rc_model.specs.Model.{Row, Entry, Stored}
+use Rattle.rc_model.specs.Model.{between, to_coordinator, Replica, Backup, Held, is_refused, replica_of, replica_after, keeps}
 use Rattle.rc_model.specs.Model.{stores, stored_of, rows_of_replicas, data_of, answers_fetch, fences, backup_takes, is_in_part, In}
 use Rattle.rc_model.specs.BackupClaims.{is_telling, asked_of, is_answer, IsToldOfFenced, TellsOnlyOfFenced}
 use Rattle.rc_model.proofs.Tests.{either, true_false}
 use Rattle.rc_model.proofs.Tables.{put_id-same}
 use Rattle.rc_model.proofs.Sending.{Each, each-none, each-one, each-if}
 
+-- what holds of each kind of message that a backup sends holds of all that it sends
+module _ (P : Message → Type 0) (backup : Backup)
+    (stored : (x : ServerId) (s e len : ℕ) (closed : Bool) → P (between backup.own x (Stored s e len closed)))
+    (gathered : (attempt : ℕ) (rows : List Row) → P (to_coordinator backup.own (Replicas attempt rows)))
+    (fetched : (x : ServerId) (attempt seg term : ℕ) (entries : List Entry) →
+    P (between backup.own x (Data attempt seg term entries))) where
+  each-keeps : (master : ServerId) (seg : ℕ) (found : Option Replica) → Each P (keeps backup master seg found).1
+  each-keeps master seg None = each-none P
+  each-keeps master seg (Some replica) = each-one P (between backup.own master (stored_of seg replica)) (stored master seg _ _ _)
+
+  each-stores : (master : ServerId) (seg : ℕ) (body : Body) → Each P (stores backup master seg body).1
+  each-stores master seg body =
+      either (λ (after : Backup × List Message). Each P after.1) (is_refused seg (backup.held master)) (backup, [])
+      (keeps backup master seg (replica_after (replica_of seg (backup.held master).replicas) body)) (λ _. each-none P)
+      (λ _. each-keeps master seg (replica_after (replica_of seg (backup.held master).replicas) body))
+
+  each-data : (asker : ServerId) (attempt seg len : ℕ) (part : Part) (found : Option Replica) →
+      Each (λ body. P (between backup.own asker body)) (data_of attempt seg len part found)
+  each-data asker attempt seg len part None = each-none _
+  each-data asker attempt seg len part (Some replica) =
+      each-if _ (nat_le len (length replica.entries)) (Data attempt seg part.term (filter (is_in_part part) (take len replica.entries)) ∷ [])
+      (λ _. each-one _ (Data attempt seg part.term _) (fetched asker attempt seg part.term _))
+
+  each-answers : (asker master : ServerId) (bodies : List Body) → Each (λ body. P (between backup.own asker body)) bodies →
+      Each P (answers_fetch backup asker master bodies)
+  each-answers asker master [] all = each-none P
+  each-answers asker master (body ∷ bodies) all =
+      each-if P (backup.held master).fenced (between backup.own asker body ∷ []) (λ _. each-one P _ (all body (inl refl)))
+
+  pub each-told : (from : Addr) (body : Body) → Each P (backup_takes backup from body).1
+  each-told (Server master) (Place seg epoch digest entries closed) = each-stores master seg (Place seg epoch digest entries closed)
+  each-told (Server master) (Append seg offset entries) = each-stores master seg (Append seg offset entries)
+  each-told (Server master) (Close seg len) = each-stores master seg (Close seg len)
+  each-told (Server master) (Free seg) = each-none P
+  each-told (Server asker) (Fetch attempt master seg len part) =
+      each-answers asker master (data_of attempt seg len part (replica_of seg (backup.held master).replicas))
+      (each-data asker attempt seg len part (replica_of seg (backup.held master).replicas))
+  each-told from (Gather attempt master) = each-one P _ (gathered attempt (rows_of_replicas (backup.held master).replicas))
+  each-told from body = each-none P
+
 abbrev Soft : Message → Type 0
 Soft message = is_telling message.body ≡ false
-
-soft-keeps : (backup : Backup) (master : ServerId) (seg : ℕ) (found : Option Replica) → Each Soft (keeps backup master seg found).1
-soft-keeps backup master seg None = each-none Soft
-soft-keeps backup master seg (Some replica) = each-one Soft (between backup.own master (stored_of seg replica)) refl
 
 soft-stores : (backup : Backup) (master : ServerId) (seg : ℕ) (body : Body) → Each Soft (stores backup master seg body).1
 soft-stores backup master seg body =
     either (λ (after : Backup × List Message). Each Soft after.1) (is_refused seg (backup.held master)) (backup, [])
     (keeps backup master seg (replica_after (replica_of seg (backup.held master).replicas) body)) (λ _. each-none Soft)
-    (λ _. soft-keeps backup master seg (replica_after (replica_of seg (backup.held master).replicas) body))
+    (λ _. soft-keeps (replica_after (replica_of seg (backup.held master).replicas) body))
+  where
+    soft-keeps : (found : Option Replica) → Each Soft (keeps backup master seg found).1
+    soft-keeps None = each-none Soft
+    soft-keeps (Some replica) = each-one Soft (between backup.own master (stored_of seg replica)) refl
 
 same-number : (n : ℕ) → nat_eq n n ≡ true
 same-number n = eq-eqb n n refl

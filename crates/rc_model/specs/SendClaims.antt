@@ -1,6 +1,5 @@
 -- In which view of itself a master sends what: commits, closes, and what it says once it is deposed.
 use Rattle.std.specs.Prelude.{◌≡◌, ◌⊎◌, ℕ, ◌+◌, ◌<◌, true, List, [], ◌∷◌, if◌then◌else◌, length}
-use Rattle.rc_types.specs.declared.ids.ServerId.{ServerId}
 use Rattle.rc_types.specs.declared.ids.Addr.{Addr}
 use Rattle.rc_types.specs.declared.faults.Fault.TheVariants.{Deposed}
 use Rattle.rc_types.specs.declared.messages.Message.{Message}
