@@ -23,3 +23,5 @@ pub mod Silent
 pub mod Stays
 pub mod Walk
 mod FreeWorlds
+pub mod Senders
+pub mod InEvents

@@ -5,3 +5,4 @@ pub mod KeptClaims
 pub mod CommitClaims
 pub mod Freed
 pub mod FreedClaims
+pub mod SendClaims

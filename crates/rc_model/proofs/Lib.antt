@@ -26,3 +26,7 @@ pub mod Changes
 pub mod Granting
 pub mod Digests
 pub mod Closing
+pub mod LogSteps
+pub mod StepSends
+pub mod Telling
+pub mod GrantsUp

@@ -1,14 +1,17 @@
 -- What a backup should obey.
-use Rattle.std.specs.Prelude.{◌≡◌, ℕ, Bool, true, false, ◌||◌, List, [], ◌++◌, length, Option, Some, None}
+use Rattle.std.specs.Prelude.{◌≡◌, ℕ, Bool, true, false, ◌||◌, ◌&&◌, nat_eq, List, [], ◌++◌, length}
+use Rattle.std.specs.Prelude.{Option, Some, None}
 use Rattle.rc_types.specs.declared.ids.ServerId.{ServerId}
 use Rattle.rc_types.specs.declared.ids.Addr.{Addr}
 use Rattle.rc_types.specs.declared.ids.Addr.TheVariants.{Server}
 use Rattle.rc_types.specs.declared.entries.Entry.{Entry}
 use Rattle.rc_types.specs.declared.messages.Body.{Body}
-use Rattle.rc_types.specs.declared.messages.Body.TheVariants.{Place, Append, Close, Free, Gather}
+use Rattle.rc_types.specs.declared.messages.Message.{Message}
+use Rattle.rc_types.specs.declared.messages.Body.TheVariants.{Place, Append, Close, Free, Gather, Fetch, Replicas, Data}
 use Rattle.rc_model.specs.Replica.{Replica}
 use Rattle.rc_model.specs.Backup.{Backup, replica_of, replica_after, is_freed, stores, frees, backup_takes, is_kept}
 use Rattle.rc_model.specs.Backup.{restart}
+use Rattle.rc_model.specs.Headline.{In}
 
 -- One replica
 
@@ -66,6 +69,37 @@ FencedReplicasStay = (backup : Backup) (from : Addr) (body : Body) (master : Ser
 abbrev pub GatherFences : Type 0
 GatherFences = (backup : Backup) (from : Addr) (attempt : ℕ) (master : ServerId) →
     ((backup_takes backup from (Gather attempt master)).0.held master).fenced ≡ true
+
+-- The message tells what is kept of a master: which replicas, or a part of one's entries
+abbrev pub is_telling : Body → Bool
+is_telling (Replicas attempt rows) = true
+is_telling (Data attempt seg term entries) = true
+is_telling _ = false
+
+-- whose replicas a message asks for
+abbrev pub asked_of : Body → Option ServerId
+asked_of (Gather attempt master) = Some master
+asked_of (Fetch attempt master seg len part) = Some master
+asked_of _ = None
+
+-- the second message answers the first: in its attempt, and for its segment and part
+abbrev pub is_answer : Body → Body → Bool
+is_answer (Gather attempt master) (Replicas number rows) = nat_eq attempt number
+is_answer (Fetch attempt master seg len part) (Data number s term entries) =
+    nat_eq attempt number && (nat_eq seg s && nat_eq part.term term)
+is_answer _ _ = false
+
+-- such a message answers who asked for a master's replicas, and only once that master is fenced
+pub record IsToldOfFenced (after : Backup) (asked told : Body) : Type 0 where
+  pub master : ServerId
+  pub about : asked_of asked ≡ Some master
+  pub answer : is_answer asked told ≡ true
+  pub fenced : (after.held master).fenced ≡ true
+
+abbrev pub TellsOnlyOfFenced : Type 0
+TellsOnlyOfFenced = (backup : Backup) (from : Addr) (body : Body) (message : Message) →
+    In message (backup_takes backup from body).1 → is_telling message.body ≡ true →
+    IsToldOfFenced (backup_takes backup from body).0 body message.body
 
 -- Freed segments
 

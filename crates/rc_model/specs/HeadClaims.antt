@@ -1,5 +1,5 @@
 -- What a master's heads, writes and members should obey.
-use Rattle.std.specs.Prelude.{◌≡◌, ℕ, ◌+◌, ◌<◌, Bool, true, false, ◌||◌, nat_eq, List, [], ◌∷◌, ◌++◌, length, map}
+use Rattle.std.specs.Prelude.{◌≡◌, ◌⊎◌, ℕ, ◌+◌, ◌-◌, ◌<◌, ◌≤◌, Bool, true, false, ◌||◌, nat_eq, List, [], ◌∷◌, ◌++◌, length, map}
 use Rattle.std.specs.Prelude.{Option, Some, None, Ok, slice_get}
 use Rattle.std.specs.List.{list_any}
 use Rattle.rc_types.specs.declared.ids.ServerId.{ServerId}
@@ -43,6 +43,37 @@ WritesOnlyWhereShut = (master next : Master) (messages : List Message) → follo
     is_writing master.log.phase ≡ false → is_writing next.log.phase ≡ true →
     (all_placed (head_of master.log).config ≡ true) × ((head_of master.log).config.committed ≡ true)
     × (nat_eq master.log.head 1 || (old_head_of master.log).shut ≡ true)
+
+-- the segment may take data: it is the first or the one before it is shut, and it is placed on all its members under a
+-- committed epoch
+pub record MayTakeData (log : Log) (s : ℕ) : Type 0 where
+  pub before : (s ≡ 1) ⊎ ((log.segments (s - 1)).shut ≡ true)
+  pub placed : all_placed (log.segments s).config ≡ true
+  pub committed : (log.segments s).config.committed ≡ true
+
+-- the phase is Writing, and this is the head
+abbrev pub IsWritingIn : Log → ℕ → Type 0
+IsWritingIn log s = (is_writing log.phase ≡ true) × (s ≡ log.head)
+
+-- it holds from the log before each whole step to the log after it
+abbrev pub OfEachStep : (Log → Log → Type 0) → Type 0
+OfEachStep Leads =
+    ((master : Master) (from : Addr) (body : Body) → Leads master.log (master_takes master from body).0.log)
+    × ((master : Master) → Leads master.log (master_ticks master).0.log)
+
+-- a head is written in after a step where it was before, or where it may take data
+abbrev pub WritesWhereItMay : Log → Log → Type 0
+WritesWhereItMay old new = (s : ℕ) → IsWritingIn new s → IsWritingIn old s ⊎ MayTakeData new s
+
+-- a segment that was there has its entries still, and a new one has none
+pub record HasItsEntries (old new : Log) (s : ℕ) : Type 0 where
+  pub still : s ≤ old.head → (new.segments s).entries ≡ (old.segments s).entries
+  pub none : old.head < s → (new.segments s).entries ≡ []
+
+-- and that is so in each step, but of the head that was written in before it, or that may take data
+abbrev pub AppendsWhereItWrites : Log → Log → Type 0
+AppendsWhereItWrites old new = (s : ℕ) → s ≤ new.head →
+    HasItsEntries old new s ⊎ (IsWritingIn old s ⊎ MayTakeData new s)
 
 -- a master that frees nothing opens each head with the whole digest of the one before
 abbrev pub RollsKeepTheDigest : Type 0

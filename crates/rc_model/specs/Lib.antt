@@ -41,5 +41,6 @@ pub mod WorldClaims
 pub mod BackupClaims
 pub mod MasterClaims
 pub mod HeadClaims
+pub mod SendClaims
 pub mod CoordinatorClaims
 pub mod Model

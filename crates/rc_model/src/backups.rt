@@ -3,7 +3,7 @@
 ghost use Rattle.rc_model.specs.BackupClaims.{ReplicasOnlyGrow, ClosedStaysTheSame, ClosesAtTheStatedLength};
 ghost use Rattle.rc_model.specs.BackupClaims.{FencedStoresNothing, FencedReplicasStay, GatherFences, FreedIsMarked};
 ghost use Rattle.rc_model.specs.BackupClaims.{FreedStoresNothing, RestartKeeps, RestartKeepsNoOther};
-ghost use Rattle.rc_model.specs.BackupClaims.{RestartFencesNobody};
+ghost use Rattle.rc_model.specs.BackupClaims.{RestartFencesNobody, TellsOnlyOfFenced};
 
 /// A replica's entries only grow; a closed one stays closed with the same entries; and one closes
 /// only where it has exactly the stated length.
@@ -19,6 +19,11 @@ pub fn fences_hold()
     ensures nothing { FencedStoresNothing }
     ensures stay { FencedReplicasStay }
     ensures gather { GatherFences }
+{}
+
+/// Replicas and Data go out only in answer to a Gather or a Fetch of a master's log, and only once that master is fenced.
+pub fn answers_are_of_the_fenced()
+    ensures { TellsOnlyOfFenced }
 {}
 
 /// A restart keeps the closed replicas and those that are named, and no others, and fences nobody.

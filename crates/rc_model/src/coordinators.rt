@@ -2,6 +2,7 @@
 
 ghost use Rattle.rc_model.specs.CoordinatorClaims.{LeastPairsNeverFall, CommitsAreCovered, CrashedCommitNothing};
 ghost use Rattle.rc_model.specs.CoordinatorClaims.{CrashedAreGrantedNothing, StaleAttemptsGrantNothing};
+ghost use Rattle.rc_model.specs.CoordinatorClaims.{GrantsGoOnlyToTheUp};
 
 /// A least pair never falls, and covers each commit that is answered; who isn't up commits nothing.
 pub fn commits_rise()
@@ -14,4 +15,9 @@ pub fn commits_rise()
 pub fn grants_are_current()
     ensures crashed { CrashedAreGrantedNothing }
     ensures stale { StaleAttemptsGrantNothing }
+{}
+
+/// A CommitOk, and an Own, that of a Create too, goes only to an id that is up.
+pub fn grants_go_to_who_is_up()
+    ensures { GrantsGoOnlyToTheUp }
 {}

@@ -7,4 +7,5 @@ pub mod choices;
 pub mod coordinators;
 pub mod laws;
 pub mod masters;
+pub mod sends;
 pub mod worlds;

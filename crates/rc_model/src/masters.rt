@@ -4,7 +4,7 @@ ghost use Rattle.rc_model.specs.HeadClaims.{ClosesOnlyWherePlaced, StepsCloseOnl
 ghost use Rattle.rc_model.specs.HeadClaims.{TicksCloseOnlyWherePlaced, WritesOnlyWhereShut, RollsKeepTheDigest};
 ghost use Rattle.rc_model.specs.HeadClaims.{RollsLeaveOutOnlyDead, DeadIsOutdated, WritesAreNumberedAbove};
 ghost use Rattle.rc_model.specs.HeadClaims.{WritesAppendTheAsked, ChangesTakeAFreshEpoch, NothingIsToldUnderIt};
-ghost use Rattle.rc_model.specs.HeadClaims.{OtherEpochsAreNotNoted};
+ghost use Rattle.rc_model.specs.HeadClaims.{OtherEpochsAreNotNoted, OfEachStep, WritesWhereItMay, AppendsWhereItWrites};
 ghost use Rattle.rc_model.specs.MasterClaims.{FollowUpsLower, NoneAppliesAfterwards, ShutIsMarked};
 
 /// Where segments have replicas at all, each follow-up lowers the measure of its master, and after a step
@@ -25,6 +25,13 @@ pub fn heads_follow_one_another()
     ensures ticks { TicksCloseOnlyWherePlaced }
     ensures writing { WritesOnlyWhereShut }
     ensures digest { RollsKeepTheDigest }
+{}
+
+/// In each step a head is written in where it was before; or where the one before it is shut, and it is placed on all
+/// its members under a committed epoch. Only to such a head an entry is appended.
+pub fn entries_are_appended_in_writing()
+    ensures begins { OfEachStep WritesWhereItMay }
+    ensures appends { OfEachStep AppendsWhereItWrites }
 {}
 
 /// A write is numbered above all of its term and key in the log; what is appended is what was asked,

@@ -3,6 +3,7 @@ pub mod Lent
 pub mod Deliveries
 pub mod Runs
 pub mod Serving
+pub mod Keeping
 pub mod Steps
 pub mod Rooms
 pub mod NodeRooms

@@ -9,3 +9,4 @@ pub mod Happened
 pub mod Lending
 pub mod WorldHolds
 pub mod Served
+pub mod Kept

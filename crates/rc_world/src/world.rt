@@ -12,6 +12,7 @@ ghost use Rattle.rc_model.specs.Headline.{NothingIsDropped};
 ghost use Rattle.rc_backup.specs.BackupView.{backup_of};
 ghost use Rattle.rc_master.specs.Data.{master_of};
 ghost use Rattle.rc_world.specs.HostView.{IsWithinLimits, backup_once_started};
+ghost use Rattle.rc_world.specs.Kept.{KeepsLogs, KeepsOwners, KeepsWrites};
 ghost use Rattle.rc_world.specs.Served.{IsServed};
 ghost use Rattle.rc_world.specs.Happened.{opened, replayed, with_events, sent_in, can_happen, AllHappen};
 
@@ -99,6 +100,21 @@ impl<A: Allocator + Clone> World<A> {
         ensures strong { self.now.setup.free ≡ false → NothingIsDropped result.now }
     {
         self.sent.as_slice()
+    }
+
+    /// What else is kept in every world; the call itself does nothing.
+    ///
+    /// A place has one entry; each replica has a beginning of what its master made, and a closed one all of it; and so
+    /// has a recovered log. The data that a recovery master gets are its plan's log, cut to the part; a range that is
+    /// granted in a recovery starts from its base, durably; of two terms granted for a point one is the earlier, and
+    /// less; under a term a key's versions rise with the place, and no two owners acknowledge one version of a key.
+    /// What was acknowledged, and what is durable, each later owner of its point has made too, at a durable place, or,
+    /// where segments are freed, a greater version of its key.
+    pub fn kept(&self)
+        ensures logs { KeepsLogs self.now }
+        ensures owners { KeepsOwners self.now }
+        ensures writes { KeepsWrites self.now }
+    {
     }
 
     /// All events that have happened, in order.

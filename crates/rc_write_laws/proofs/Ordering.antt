@@ -1,6 +1,6 @@
 -- Commits are asked in the order of segments.
 use Rattle.std.proofs.Common.{◌≡◌, ◌⊎◌, ℕ, zero, suc, ◌<◌, ◌≤◌, Bool, true, false, cond, not, List, [], ◌∷◌, ◌++◌}
-use Rattle.std.proofs.Common.{length, filter, find, Some, refl, sym, ap, ◌∙◌, subst, inl, inr, arith}
+use Rattle.std.proofs.Common.{length, filter, find, drop, Some, refl, sym, ap, ◌∙◌, subst, inl, inr, arith}
 use Rattle.std.specs.List.{All}
 use Rattle.std.proofs.lemmas.Bool.{and_parts, not-false}
 use Rattle.std.proofs.lemmas.List.Elements.{All-nil, All-cons}
@@ -11,7 +11,9 @@ use Rattle.rc_model.proofs.Members.{In-append, In-map, In-filter}
 use Rattle.rc_step_laws.specs.Facts.{GoodMaster}
 use Rattle.rc_step_laws.proofs.Tests.{find-one}
 use Rattle.rc_step_laws.proofs.Places.{In-numbers}
-use Rattle.rc_write_laws.specs.CommitClaims.{CommitsAreAskedInOrder}
+use Rattle.rc_write_laws.specs.CommitClaims.{CommitsAreAskedInOrder, CommitsAreOfPlaced}
+use Rattle.rc_log_laws.specs.WordClaims.{sent_after}
+use Rattle.rc_log_laws.proofs.InEvents.{commits-are-due-each}
 use Rattle.rc_write_laws.proofs.Quiet.{is_loud, AllSoft, soft-ids, QuietLog, All-In}
 use Rattle.rc_write_laws.proofs.Walk.{IsKept, takes-kept, tick-kept}
 use Rattle.rc_log_laws.proofs.EachMaster.{OthersSay, IsKeptByAll, kept-replay}
@@ -288,3 +290,16 @@ order-kept setup = record {
 pub commits-are-asked-in-order : CommitsAreAskedInOrder
 commits-are-asked-in-order setup events m s e t at above less =
     ((kept-replay setup InOrder (order-kept setup) events m).said s e at).shut t above less
+
+-- and of segments that are placed
+in-drop : {X : Type 0} (x : X) (n : ℕ) (xs : List X) → In x (drop n xs) → In x xs
+in-drop x zero xs at = at
+in-drop x (suc n) [] at = absurd at
+in-drop x (suc n) (y ∷ xs) at = inr (in-drop x n xs at)
+
+pub commits-are-of-placed : CommitsAreOfPlaced
+commits-are-of-placed setup events one m s e at = (
+  (commits-are-due-each setup events one m (to_coordinator m (Commit s e)) at refl s e refl).placed,
+  λ t above less. commits-are-asked-in-order setup (events ++ one ∷ []) m s e t
+      (in-drop (to_coordinator m (Commit s e)) (length (sent_after setup events)) (sent_after setup (events ++ one ∷ [])) at) above less,
+)

@@ -1,6 +1,7 @@
 //! Commits.
 
 ghost use Rattle.rc_write_laws.specs.CommitClaims.{CommitsAreAskedInOrder, CommitsAreInOrder, LeastPairsAreInOrder};
+ghost use Rattle.rc_write_laws.specs.CommitClaims.{CommitsAreOfPlaced};
 
 /// A commit of a segment is asked, and granted, only where each earlier segment is shut. So each segment
 /// below a master's least pair is shut.
@@ -8,4 +9,10 @@ pub fn commits_are_in_order()
     ensures asked { CommitsAreAskedInOrder }
     ensures order { CommitsAreInOrder }
     ensures least { LeastPairsAreInOrder }
+{}
+
+/// A master asks for a commit of a segment only where that segment is placed on all members of its current epoch, each
+/// of which has told something under it and is not known lost, and where no earlier segment is open.
+pub fn commits_are_of_placed_segments()
+    ensures { CommitsAreOfPlaced }
 {}

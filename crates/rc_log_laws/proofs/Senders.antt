@@ -1,0 +1,186 @@
+-- Who sends a message in an event: the outside, the coordinator, or a host's backup, its master, or as it starts.
+use Rattle.std.proofs.Common.{◌≡◌, ℕ, true, List, [], ◌∷◌, ◌++◌, length, drop, Option, Some, None, refl, sym, ap, ◌∙◌}
+use Rattle.std.proofs.Common.{subst, inl, inr}
+use Rattle.std.proofs.Math.Seq.{drop-append_seam, drop-length}
+use Rattle.rc_model.specs.Model.{ServerId, Addr, Server, Outside, Event, Message, Body, Enlist, is_server, put_id}
+use Rattle.rc_model.specs.Model.{to_coordinator, Backup, backup_takes, Master, master_takes, master_ticks, Work, Take, Create}
+use Rattle.rc_model.specs.Model.{Split, HostNode, outside_sends, coordinator_step, server_of, host_step, is_for_backup, with_backup}
+use Rattle.rc_model.specs.Model.{with_master, server_takes, takes_if_running, ticks_if_running, next_server, starts_host, World, NodeName}
+use Rattle.rc_model.specs.Model.{TheOutside, TheCoordinator, TheHost, Job, work_of, is_possible, host_done, node_done}
+use Rattle.rc_model.specs.Model.{job_done, step, In, is_for_clients, outside_can, node_can, is_possible_job}
+use Rattle.std.proofs.lemmas.Bool.{and_parts}
+use Rattle.rc_model.specs.Nodes.{Ask, Tick, Stop, Start, Suspect, Decide}
+use Rattle.rc_model.proofs.Tests.{either}
+use Rattle.rc_model.proofs.Tables.{put-same, put_id-same}
+use Rattle.rc_step_laws.proofs.MasterSteps.{master_takes_keeps, master_ticks_keeps}
+use Rattle.rc_log_laws.proofs.Replays.{GoodWorld, IsGiven, is-good, is-fine, hears, is_server-true, work_of-given}
+
+-- what holds of each message by who sends it, in the world after the event
+pub record EachSender (world : World) (P : World → Message → Type 0) : Type 0 where
+  pub outside : (after : World) (to : ServerId) (asked : Body) → is_for_clients asked ≡ true →
+      P after (record { from = Outside; to = Server to; body = asked })
+  pub coordinator : (after : World) (work : Work) (message : Message) → IsGiven world.sent TheCoordinator work →
+      In message (coordinator_step world.coordinator work).1 → P after message
+  pub backup : (after : World) (i : ℕ) (given message : Message) → In given world.sent →
+      given.to ≡ Server (server_of (world.hosts i)) →
+      (after.hosts i).backup ≡ (backup_takes (world.hosts i).backup given.from given.body).0 →
+      In message (backup_takes (world.hosts i).backup given.from given.body).1 → P after message
+  pub starts : (after : World) (i : ℕ) → P after (to_coordinator (next_server (world.hosts i)) Enlist)
+  pub takes : (after : World) (i : ℕ) (master : Master) (given message : Message) → (world.hosts i).master ≡ Some master →
+      In given world.sent → given.to ≡ Server (server_of (world.hosts i)) →
+      after.masters (server_of (world.hosts i)) ≡ (master_takes master given.from given.body).0 →
+      In message (master_takes master given.from given.body).1 → P after message
+  pub ticks : (after : World) (i : ℕ) (master : Master) (message : Message) → (world.hosts i).master ≡ Some master →
+      after.masters (server_of (world.hosts i)) ≡ (master_ticks master).0 →
+      In message (master_ticks master).1 → P after message
+
+module _ (world : World) (one : Event) (good : GoodWorld world) (P : World → Message → Type 0) (each : EachSender world P) where
+  -- of all that was sent since
+  abbrev Since : World → Type 0
+  Since after = (message : Message) → In message (drop (length world.sent) after.sent) → P after message
+
+  new : (xs messages : List Message) (message : Message) → In message (drop (length xs) (xs ++ messages)) → In message messages
+  new xs messages message at = subst (In message) (drop-append_seam xs messages) at
+
+  none : (after : World) → after.sent ≡ world.sent → Since after
+  none after same message at =
+      absurd (subst (In message) (ap (drop (length world.sent)) same ∙ drop-length world.sent) at)
+
+  nothing : (after : World) → after.sent ≡ world.sent ++ [] → Since after
+  nothing after same message at =
+      absurd (new world.sent [] message (subst (λ (sent : List Message). In message (drop (length world.sent) sent)) same at))
+
+  of_asked : (to : ServerId) (asked : Body) → is_for_clients asked ≡ true → Since (node_done world one TheOutside (Ask to asked))
+  of_asked to asked clients message at = by (new world.sent (outside_sends (Ask to asked)) message at)
+    where
+      by : In message (outside_sends (Ask to asked)) → P (node_done world one TheOutside (Ask to asked)) message
+      by (inl same) = subst (P (node_done world one TheOutside (Ask to asked))) (sym same)
+          (each.outside (node_done world one TheOutside (Ask to asked)) to asked clients)
+      by (inr never) = absurd never
+
+  of_outside : (work : Work) → outside_can work ≡ true → Since (node_done world one TheOutside work)
+  of_outside (Ask to asked) can = of_asked to asked (and_parts (is_for_clients asked) _ can).0
+  of_outside (Take message) can = nothing (node_done world one TheOutside (Take message)) refl
+  of_outside (Tick addr) can = nothing (node_done world one TheOutside (Tick addr)) refl
+  of_outside (Stop id) can = nothing (node_done world one TheOutside (Stop id)) refl
+  of_outside (Start kept) can = nothing (node_done world one TheOutside (Start kept)) refl
+  of_outside (Suspect id) can = nothing (node_done world one TheOutside (Suspect id)) refl
+  of_outside (Decide id) can = nothing (node_done world one TheOutside (Decide id)) refl
+  of_outside (Create table owner) can = nothing (node_done world one TheOutside (Create table owner)) refl
+  of_outside (Split table key) can = nothing (node_done world one TheOutside (Split table key)) refl
+
+  of_coordinator : (work : Work) → IsGiven world.sent TheCoordinator work → Since (node_done world one TheCoordinator work)
+  of_coordinator work given message at =
+      each.coordinator (node_done world one TheCoordinator work) work message given
+      (new world.sent (coordinator_step world.coordinator work).1 message at)
+
+  module _ (i : ℕ) where
+    host : HostNode
+    host = world.hosts i
+
+    abbrev Done : HostNode × List Message → Type 0
+    Done after = Since (host_done world one i after)
+
+    quiet : (after : HostNode) → Done (after, [])
+    quiet after = nothing (host_done world one i (after, [])) refl
+
+    of_backup : (given : Message) → In given world.sent → given.to ≡ Server (server_of (world.hosts i)) →
+        Done (with_backup (world.hosts i) (backup_takes (world.hosts i).backup given.from given.body))
+    of_backup given at to = by (backup_takes (world.hosts i).backup given.from given.body) refl
+      where
+        by : (after : Backup × List Message) → backup_takes (world.hosts i).backup given.from given.body ≡ after →
+            Done (with_backup (world.hosts i) after)
+        by (backup, messages) e message is =
+            each.backup (host_done world one i (record (world.hosts i) { backup = backup }, messages)) i given message at to
+            (ap (λ (now : HostNode). now.backup) (put-same world.hosts i (record (world.hosts i) { backup = backup })) ∙
+            ap (λ (after : Backup × List Message). after.0) (sym e))
+            (subst (λ (after : Backup × List Message). In message after.1) (sym e) (new world.sent messages message is))
+
+    -- the view of the master that moved
+    moved-view : (after : Master) → after.log.own ≡ server_of (world.hosts i) →
+        put_id world.masters after.log.own after (server_of (world.hosts i)) ≡ after
+    moved-view after own =
+        ap (λ (key : ServerId). put_id world.masters key after (server_of (world.hosts i))) own ∙
+        put_id-same world.masters (server_of (world.hosts i)) after
+
+    of_takes : (master : Master) → (world.hosts i).master ≡ Some master → (given : Message) → In given world.sent →
+        given.to ≡ Server (server_of (world.hosts i)) → Done (with_master (world.hosts i) (master_takes master given.from given.body))
+    of_takes master e given at to =
+        by (master_takes master given.from given.body) refl
+        (master_takes_keeps world.sent (server_of (world.hosts i)) master given.from given.body
+        (is-good world one i good master e) (is-fine world one i good master e)
+        (hears world one i good given.from given.body
+        (subst (λ (to : Addr). In (record { from = given.from; to = to; body = given.body }) world.sent) to at))).good.own
+      where
+        by : (after : Master × List Message) → master_takes master given.from given.body ≡ after →
+            (master_takes master given.from given.body).0.log.own ≡ server_of (world.hosts i) → Done (with_master (world.hosts i) after)
+        by (now, messages) is own message there =
+            each.takes (host_done world one i (with_master (world.hosts i) (now, messages))) i master given message e at to
+            (moved-view now (sym (ap (λ (after : Master × List Message). after.0.log.own) is) ∙ own) ∙
+            ap (λ (after : Master × List Message). after.0) (sym is))
+            (subst (λ (after : Master × List Message). In message after.1) (sym is) (new world.sent messages message there))
+
+    of_server : (master : Master) → (world.hosts i).master ≡ Some master → (given : Message) → In given world.sent →
+        given.to ≡ Server (server_of (world.hosts i)) → Done (server_takes (world.hosts i) master given)
+    of_server master e given at to =
+        either Done (is_for_backup given.body)
+        (with_backup (world.hosts i) (backup_takes (world.hosts i).backup given.from given.body))
+        (with_master (world.hosts i) (master_takes master given.from given.body))
+        (λ _. of_backup given at to) (λ _. of_takes master e given at to)
+
+    of_delivery : (found : Option Master) → (world.hosts i).master ≡ found → (given : Message) → In given world.sent →
+        Done (takes_if_running (world.hosts i) found given)
+    of_delivery None e given at = quiet (world.hosts i)
+    of_delivery (Some master) e given at =
+        either Done (is_server (server_of (world.hosts i)) given.to) (server_takes (world.hosts i) master given) (world.hosts i, [])
+        (λ is. of_server master e given at (is_server-true world one i good (server_of (world.hosts i)) given.to is))
+        (λ _. quiet (world.hosts i))
+
+    of_ticks : (found : Option Master) → (world.hosts i).master ≡ found → Done (ticks_if_running (world.hosts i) found)
+    of_ticks None e = quiet (world.hosts i)
+    of_ticks (Some master) e =
+        by (master_ticks master) refl
+        (master_ticks_keeps world.sent (server_of (world.hosts i)) master (is-good world one i good master e)
+        (is-fine world one i good master e)).good.own
+      where
+        by : (after : Master × List Message) → master_ticks master ≡ after →
+            (master_ticks master).0.log.own ≡ server_of (world.hosts i) → Done (with_master (world.hosts i) after)
+        by (now, messages) is own message there =
+            each.ticks (host_done world one i (with_master (world.hosts i) (now, messages))) i master message e
+            (moved-view now (sym (ap (λ (after : Master × List Message). after.0.log.own) is) ∙ own) ∙
+            ap (λ (after : Master × List Message). after.0) (sym is))
+            (subst (λ (after : Master × List Message). In message after.1) (sym is) (new world.sent messages message there))
+
+    of_starts : (kept : List (ServerId × ℕ)) → Done (starts_host (world.hosts i) (next_server (world.hosts i)) kept)
+    of_starts kept message at = by (new world.sent (to_coordinator (next_server (world.hosts i)) Enlist ∷ []) message at)
+      where
+        by : In message (to_coordinator (next_server (world.hosts i)) Enlist ∷ []) →
+            P (host_done world one i (starts_host (world.hosts i) (next_server (world.hosts i)) kept)) message
+        by (inl same) =
+            subst (P (host_done world one i (starts_host (world.hosts i) (next_server (world.hosts i)) kept))) (sym same)
+            (each.starts (host_done world one i (starts_host (world.hosts i) (next_server (world.hosts i)) kept)) i)
+        by (inr never) = absurd never
+
+    of_host : (work : Work) → IsGiven world.sent (TheHost i) work → Done (host_step (world.hosts i) work)
+    of_host (Take message) given = of_delivery (world.hosts i).master refl message given.0
+    of_host (Tick addr) given = of_ticks (world.hosts i).master refl
+    of_host (Stop id) given = quiet (record (world.hosts i) { master = None })
+    of_host (Start kept) given = of_starts kept
+    of_host _ given = quiet (world.hosts i)
+
+  of_node : (node : NodeName) (work : Work) → IsGiven world.sent node work → node_can world node work ≡ true →
+      Since (node_done world one node work)
+  of_node TheOutside work given can = of_outside work can
+  of_node TheCoordinator work given can = of_coordinator work given
+  of_node (TheHost i) work given can = of_host i work given
+
+  of_job : (found : Option Job) → work_of world.sent one ≡ found → is_possible_job world found ≡ true →
+      Since (job_done world one found)
+  of_job None is can = none world refl
+  of_job (Some job) is can = of_node job.node job.work (work_of-given world.sent one job is) can
+
+  -- each message of an event
+  pub each-sent : (message : Message) → In message (drop (length world.sent) (step world one).sent) → P (step world one) message
+  each-sent =
+      either Since (is_possible world one) (job_done world one (work_of world.sent one)) world
+      (λ can. of_job (work_of world.sent one) refl can) (λ _. none world refl)

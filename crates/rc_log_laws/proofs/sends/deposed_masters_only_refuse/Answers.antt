@@ -1,0 +1,8 @@
+use Rattle.rc_log_laws.proofs.InEvents.{deposed-refuse-clients, deposed-stay}
+use Rattle.rc_log_laws.proofs.sends.deposed_masters_only_refuse.Goals as goal
+
+pub returns-clause-refuse : goal.returns-clause-refuse
+returns-clause-refuse c = deposed-refuse-clients
+
+pub returns-clause-stay : goal.returns-clause-stay
+returns-clause-stay c = deposed-stay
