@@ -14,9 +14,9 @@ use Rattle.rc_model.proofs.Tests.{either, true_false}
 use Rattle.rc_model.proofs.Ids.{same_id-refl}
 use Rattle.rc_history.specs.Nodes.{Node, node_can, node_step, new_node}
 use Rattle.rc_history.specs.Nodes as node
-use Rattle.rc_history.specs.Remade.{stopped, SameButMaster, host_keeps}
+use Rattle.rc_history.specs.Remade.{stopped, SameButMaster, host_keeps, coordinator_keeps}
 use Rattle.rc_history.proofs.Remade.{hosts-remade, coordinator-remade}
-use Rattle.rc_lives.specs.Lives.{Life, new_life, life_next, life_after, node_after, stops, replayed}
+use Rattle.rc_lives.specs.Lives.{keeps, SameNode, Life, new_life, life_next, life_after, node_after, stops, replayed}
 use Rattle.rc_lives.specs.Processes.{Deed, stop_deeds}
 use Rattle.rc_lives.proofs.Own.{IsLived, works_of, life_of, life_node, life_journal}
 use Rattle.rc_lives.proofs.Cutting.{node_runs}
@@ -207,3 +207,34 @@ stop-works-node name life (node.TheHost host) = stop-works-host name life host h
 pub stop-works : (name : NodeName) (life : Life) → life_of name life (stop_deeds name life (stops life.node))
     ≡ life_after name life (stops life.node)
 stop-works name life = ap (life_after name life) (stop-works-node name life life.node)
+
+-- A node that is given only what it keeps
+
+made-at : (n m one other : Node) → n ≡ one → m ≡ other → SameNode one other → SameNode n m
+made-at n m one other e f same =
+    subst (λ (x : Node). SameNode x m) (sym e) (subst (λ (x : Node). SameNode one x) (sym f) same)
+
+pub same-made : (setup : Setup) (name : NodeName) (works : List Work) →
+    SameNode (node_after (new_node setup name) (filter (keeps name) works)) (node_after (new_node setup name) works)
+same-made setup TheOutside works =
+    made-at _ _ node.TheOutside node.TheOutside (node_after-outside (filter (keeps TheOutside) works)) (node_after-outside works) tt
+same-made setup TheCoordinator works =
+    let kept : List Work = filter coordinator_keeps works in
+    made-at _ _ (node.TheCoordinator (coordinator_after new_coordinator kept))
+    (node.TheCoordinator (coordinator_after new_coordinator works))
+    (node_after-coordinator new_coordinator kept) (node_after-coordinator new_coordinator works)
+    (coordinator-remade new_coordinator works)
+same-made setup (TheHost index) works =
+    let kept : List Work = filter host_keeps works in
+    let fresh : HostNode = new_host index (master_setup setup index) in
+    made-at _ _ (node.TheHost (host_after fresh kept)) (node.TheHost (host_after fresh works))
+    (node_after-host fresh kept) (node_after-host fresh works) (hosts-remade fresh works)
+
+pub journal-makes : (setup : Setup) (name : NodeName) (deeds : List Deed) →
+    SameNode (node_after (new_node setup name) (life_of name (new_life setup name) deeds).journal)
+    (life_of name (new_life setup name) deeds).node
+journal-makes setup name deeds =
+    subst (λ l. SameNode (node_after (new_node setup name) l) (life_of name (new_life setup name) deeds).node)
+    (sym (life_journal name (new_life setup name) (works_of deeds)))
+    (subst (λ (n : Node). SameNode (node_after (new_node setup name) (filter (keeps name) (works_of deeds))) n)
+    (sym (life_node name (new_life setup name) (works_of deeds))) (same-made setup name (works_of deeds)))

@@ -19,10 +19,11 @@ use Rattle.rc_history.specs.Nodes.{Node, node_can, node_step, new_node, name_of}
 use Rattle.rc_history.specs.Nodes as node
 use Rattle.rc_history.specs.Apart.{Step, sent_by, left_at, TakenApart}
 use Rattle.rc_history.proofs.Apart.{sent_by-push, left_at-push, taken_apart-push, taken_apart-none}
-use Rattle.rc_lives.specs.Lives.{Life, new_life, life_next}
+use Rattle.rc_lives.specs.Lives.{SameNode, node_after, Life, new_life, life_next}
 use Rattle.rc_lives.specs.Processes.{Takes, after, deed_of, Deed, Processes, new_processes, Happening, IsAddressed, MayLeave, safe_at}
 use Rattle.rc_lives.specs.Processes.{MayAll, after_all}
-use Rattle.rc_lives.specs.Claims.{HasHistory, StepsComeLast}
+use Rattle.rc_lives.specs.Claims.{HasHistory, StepsComeLast, JournalsMakeNodes}
+use Rattle.rc_lives.proofs.Remaking.{journal-makes}
 use Rattle.rc_lives.proofs.Own.{Lives, IsLived, works_of, life_of, life_of-append}
 use Rattle.rc_lives.proofs.Global.{own, own-push, own-others, IsSupported, Brought, AllBrought, Goes, goes-all, goes-after, goes-new}
 use Rattle.rc_lives.proofs.Global.{name-life}
@@ -279,3 +280,15 @@ steps-come-last setup happenings may name work taken =
           let leaves : MayLeave (safe_at all) all.done message = goes.left message at in
           in-said message leaves.deed all.done leaves.done_before leaves.its;
     }
+
+-- a node is the one that its journal makes
+pub journals-make : (setup : Setup) (all : Processes) → Goes setup all → (name : NodeName) →
+    SameNode (node_after (new_node setup name) (all.at name).life.journal) (all.at name).life.node
+journals-make setup all goes name =
+    subst (λ (l : Life). SameNode (node_after (new_node setup name) l.journal) l.node) (sym (goes.well name).life)
+    (journal-makes setup name (own name all.done))
+
+pub journals-make-nodes : JournalsMakeNodes
+journals-make-nodes setup happenings may =
+    journals-make setup (after_all setup (new_processes setup) happenings)
+    (goes-all setup (new_processes setup) happenings (goes-new setup) may)

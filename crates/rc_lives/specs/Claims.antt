@@ -7,6 +7,7 @@ use Rattle.rc_model.specs.Nodes.{Work}
 use Rattle.rc_model.specs.World.{NodeName}
 use Rattle.rc_history.specs.Nodes.{new_node}
 use Rattle.rc_history.specs.Apart.{Step, sent_by, left_at, TakenApart}
+use Rattle.rc_lives.specs.Lives.{node_after, SameNode}
 use Rattle.rc_lives.specs.Processes.{Deed, Processes, Happening, new_processes, MayTake, MayAll, after_all, deed_of}
 
 -- steps that nodes take apart have sent all that has ever left, and each node is where its own steps led
@@ -20,6 +21,12 @@ pub record HasHistory (setup : Setup) (all : Processes) : Type 0 where
 abbrev pub LivesAreAHistory : Type 0
 LivesAreAHistory = (setup : Setup) (happenings : List Happening) → MayAll setup (new_processes setup) happenings →
     HasHistory setup (after_all setup (new_processes setup) happenings)
+
+-- a node is the one that its journal makes, a host but for its master
+abbrev pub JournalsMakeNodes : Type 0
+JournalsMakeNodes = (setup : Setup) (happenings : List Happening) → MayAll setup (new_processes setup) happenings →
+    let all = after_all setup (new_processes setup) happenings in
+    (name : NodeName) → SameNode (node_after (new_node setup name) (all.at name).life.journal) (all.at name).life.node
 
 -- Histories go on
 

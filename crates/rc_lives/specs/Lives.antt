@@ -1,12 +1,12 @@
 -- The life of one node: where its works have led it, which of them were written down, and what each of its steps rests
 -- on.
-use Rattle.std.specs.Prelude.{ℕ, ◌+◌, Bool, false, not, ◌&&◌, if◌then◌else◌, List, [], ◌∷◌, ◌++◌, length}
+use Rattle.std.specs.Prelude.{◌≡◌, ℕ, ◌+◌, Bool, false, not, ◌&&◌, if◌then◌else◌, List, [], ◌∷◌, ◌++◌, length}
 use Rattle.rc_types.specs.declared.events.Setup.{Setup}
 use Rattle.rc_model.specs.Nodes.{Work, Take, Tick, Stop, Start, runs, is_running_at, is_for_backup, server_of}
 use Rattle.rc_model.specs.World.{NodeName, TheOutside, TheCoordinator, TheHost}
 use Rattle.rc_history.specs.Nodes.{Node, node_step, new_node}
 use Rattle.rc_history.specs.Nodes as node
-use Rattle.rc_history.specs.Remade.{host_keeps, coordinator_keeps}
+use Rattle.rc_history.specs.Remade.{host_keeps, coordinator_keeps, SameButMaster}
 
 -- what a node writes down: as much of its works as it can be made anew from
 abbrev pub keeps : NodeName → Work → Bool
@@ -75,3 +75,10 @@ replayed setup name kept = record { node = node_after (new_node setup name) kept
 
 abbrev pub remade : Setup → NodeName → List Work → Life
 remade setup name kept = life_after name (replayed setup name kept) (stops (replayed setup name kept).node)
+
+-- the nodes are the same, hosts but for their masters
+abbrev pub SameNode : Node → Node → Type 0
+SameNode node.TheOutside node.TheOutside = Unit {0}
+SameNode (node.TheCoordinator one) (node.TheCoordinator other) = one ≡ other
+SameNode (node.TheHost one) (node.TheHost other) = SameButMaster one other
+SameNode _ _ = ⊥

@@ -1,4 +1,4 @@
-use Rattle.rc_lives.proofs.Telling.{has-history, steps-come-last}
+use Rattle.rc_lives.proofs.Telling.{has-history, steps-come-last, journals-make-nodes}
 use Rattle.rc_lives.proofs.Since.{stays-left}
 use Rattle.rc_lives.proofs.laws.lives_are_a_history.Goals as goal
 
@@ -10,3 +10,6 @@ returns-clause-stays c = stays-left
 
 pub returns-clause-last : goal.returns-clause-last
 returns-clause-last c = steps-come-last
+
+pub returns-clause-journals : goal.returns-clause-journals
+returns-clause-journals c = journals-make-nodes
