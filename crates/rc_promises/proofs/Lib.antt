@@ -9,3 +9,4 @@ pub mod Reading
 pub mod ServiceApart
 pub mod Tested
 pub mod Refuted
+pub mod OfProcesses

@@ -1,6 +1,8 @@
 //! The headline.
 
+ghost use Rattle.rc_lives.specs.Claims.{LivesAreAHistory};
 ghost use Rattle.rc_promises.specs.HeadlineClaims.{NoBreach, Strong, NoBreachApart, StrongApart};
+ghost use Rattle.rc_promises.specs.OfProcesses.{NoBreachOfProcesses, NothingIsMissingOfProcesses, StrongOfProcesses};
 
 /// For every setup and every list of events: each write that a master has acknowledged, before or
 /// after a recovery of it was accepted, is in that recovery's log, or a greater version of its key
@@ -18,4 +20,15 @@ pub fn headline()
 pub fn headline_of_nodes_apart()
     ensures no_breach { NoBreachApart }
     ensures strong { StrongApart }
+{}
+
+/// The same of processes that end at any moment, by the rules of `rc_lives`: whatever happens to them, all that has
+/// ever left them was sent in a history, and in what this sent there is no breach. So each write of which an
+/// acknowledgement has left is in each recovery of its master of which a plan has left, at its place, or a greater
+/// version of its key under its term is; where masters free no segments, it is there itself.
+pub fn headline_of_processes()
+    ensures history { LivesAreAHistory }
+    ensures no_breach { NoBreachOfProcesses }
+    ensures there { NothingIsMissingOfProcesses }
+    ensures strong { StrongOfProcesses }
 {}

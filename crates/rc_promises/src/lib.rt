@@ -3,7 +3,8 @@
 //! bodies, and their contracts are theorems on the definitions.
 //!
 //! To be read in this order: `specs/Service.antt`, which speaks of messages, keys, terms and moments only; `service`;
-//! `specs/HeadlineClaims.antt` and `headline`.
+//! `specs/HeadlineClaims.antt` and `headline`; `specs/ServiceApart.antt`, the same of nodes that run apart, and
+//! `specs/OfProcesses.antt`, of processes that end at any moment.
 #![tactic(auto)]
 
 pub mod headline;

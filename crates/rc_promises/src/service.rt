@@ -3,6 +3,9 @@
 ghost use Rattle.rc_promises.specs.Service.{OneVersionIsOneWrite, AcknowledgedIsWritten, WritesFollowTime};
 ghost use Rattle.rc_promises.specs.Service.{ReadsSeeAcknowledgedWrites};
 ghost use Rattle.rc_promises.specs.ServiceApart.{OneWriteApart, WrittenApart, TimeApart, ReadsApart};
+ghost use Rattle.rc_lives.specs.Claims.{LivesAreAHistory, WhatHasLeftStays};
+ghost use Rattle.rc_promises.specs.OfProcesses.{OneWriteOfProcesses, WrittenOfProcesses, TimeOfProcesses};
+ghost use Rattle.rc_promises.specs.OfProcesses.{ReadsOfProcesses, ReadsWhenMade};
 
 /// After every list of events: a version of a key that was acknowledged is one write. Its term was granted to its
 /// master for its point, and it is above 0; whoever acknowledges this version of the key is this master, at this place
@@ -40,4 +43,20 @@ pub fn service_of_nodes_apart()
     ensures written { WrittenApart }
     ensures time { TimeApart }
     ensures reads { ReadsApart }
+{}
+
+/// All of that of processes that end at any moment, by the rules of `rc_lives`: whatever happens to them, all that has
+/// ever left them was sent in a history, which later ones go on from, and of each such history it holds. A version of
+/// a key of which an acknowledgement has left is one write, which was sent where segments have replicas. Where an
+/// acknowledgement had left by some moment, a write of its key that was asked for only afterwards has a greater
+/// version. An answer to a read that has left misses only what was acknowledged under a later term; and each answer,
+/// when it is made, only that of all of which an acknowledgement had left by then.
+pub fn service_of_processes()
+    ensures history { LivesAreAHistory }
+    ensures stays { WhatHasLeftStays }
+    ensures once { OneWriteOfProcesses }
+    ensures written { WrittenOfProcesses }
+    ensures time { TimeOfProcesses }
+    ensures reads { ReadsOfProcesses }
+    ensures made { ReadsWhenMade }
 {}
