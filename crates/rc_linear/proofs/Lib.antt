@@ -1,2 +1,5 @@
 pub mod Behind
 pub mod NoneLater
+pub mod Stood
+pub mod Above
+pub mod Shown

@@ -47,7 +47,7 @@ use Rattle.rc_model.proofs.Ids.{same_id-refl}
 
 -- Acknowledgements, by the places that were counted then
 
-In-take_map : {X Y : Type 0} (f : X → Y) (n : ℕ) (xs : List X) (x : X) → In x (take n xs) → In (f x) (take n (map f xs))
+pub In-take_map : {X Y : Type 0} (f : X → Y) (n : ℕ) (xs : List X) (x : X) → In x (take n xs) → In (f x) (take n (map f xs))
 In-take_map f zero xs x at = absurd at
 In-take_map f (suc n) [] x at = absurd at
 In-take_map f (suc n) (y ∷ xs) x (inl e) = inl (ap f e)
@@ -100,6 +100,7 @@ pub record IsPlaced (log : Log) (entry : Entry) : Type 0 where
   pub place : LogPlace
   pub below : index < log.durable
   pub at : slice_get (places_of log) index ≡ Some place
+  pub entry_is : place.entry ≡ entry
   pub holds : slice_get (log_in log place.seg) place.offset ≡ Some entry
 
 pub placed : (master : Master) (entry : Entry) → In entry (durable_entries master) → IsPlaced master.log entry
@@ -107,7 +108,7 @@ placed master entry at =
     let found = In-take master.log.durable (entries_of master.log) entry at in
     let place = get-map (λ (one : LogPlace). one.entry) (places_of master.log) found.0 entry found.2 in
     let is : IsOf master.log.segments master.log.head place.0 = places_to-are master.log.segments master.log.head found.0 place.0 place.1 in
-    record { index = found.0; place = place.0; below = found.1; at = place.1; holds = place-logged master.log place.0 is ∙ ap Some place.2 }
+    record { index = found.0; place = place.0; below = found.1; at = place.1; entry_is = place.2; holds = place-logged master.log place.0 is ∙ ap Some place.2 }
 
 -- durable for good
 durable-later : (setup : Setup) (past rest : List Event) (m : ServerId) (s o : ℕ) → IsDurable setup past m s o →
