@@ -3,3 +3,4 @@ pub mod NoneLater
 pub mod Stood
 pub mod Above
 pub mod Shown
+pub mod Senders
