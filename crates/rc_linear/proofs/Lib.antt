@@ -4,3 +4,4 @@ pub mod Stood
 pub mod Above
 pub mod Shown
 pub mod Senders
+pub mod Fresh
