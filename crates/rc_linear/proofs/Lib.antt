@@ -5,3 +5,4 @@ pub mod Above
 pub mod Shown
 pub mod Senders
 pub mod Fresh
+pub mod Origin
