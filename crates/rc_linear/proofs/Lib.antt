@@ -6,3 +6,4 @@ pub mod Shown
 pub mod Senders
 pub mod Fresh
 pub mod Origin
+pub mod Pending
