@@ -372,25 +372,13 @@ module _ (sent : List Message) (masters : ServerId → Master) (hosts : ℕ → 
           turned true b d turn e = and_from b d (turn refl) e
           turned false b d turn e = true_false (sym e)
 
-  -- the entry of a place that no client wrote: what its log has under the term up to it is the beginning of a base
-  replayed-rises : (m : ServerId) (before after : List LogPlace) (place : LogPlace)
+  -- what a log has under the term up to a place that no client wrote is the beginning of a base
+  pub replayed-begins : (m : ServerId) (before after : List LogPlace) (place : LogPlace)
       (whole : places_of (masters m).log ≡ before ++ place ∷ after)
       (r : IsReplayed (part_view (masters m)) before place.entry) →
-      (task : Task) → In task (masters m).tasks → task.part ≡ r.state.part →
-      (p : HasJoined sent m (part_view (masters m)) task r.state) →
-      (task.part.previous < r.state.part.term → LogRises task.master task.part.previous) →
-      (other : Entry) → In other (logged before) → IsSameKey place.entry.term other place.entry → other.version < place.entry.version
-  replayed-rises m before after place whole r task at part_is p rises other there same =
-      rises-middle T (under T (logged before)) place.entry begins.0
-      (subst (RisesUnder T) (sym begins.1 ∙ append_assoc (under T (logged before)) (place.entry ∷ []) begins.0)
-      risen) other
-      (In-under T other (logged before) there (same.term_one ∙ sym r.term_is))
-      (record {
-        term_one = same.term_one ∙ sym r.term_is;
-        term_other = same.term_other ∙ sym r.term_is;
-        table = same.table;
-        key = same.key;
-      })
+      (task : Task) (p : HasJoined sent m (part_view (masters m)) task r.state) →
+      Begins (under r.state.part.term (logged before) ++ place.entry ∷ []) (map (under_term r.state.part.term) p.entries)
+  replayed-begins m before after place whole r task p = begins
     where
       T : ℕ
       T = r.state.part.term
@@ -430,6 +418,41 @@ module _ (sent : List Message) (masters : ServerId → Master) (hosts : ℕ → 
             sym (append_assoc upto (under T (logged after)) (under T (masters m).ownership.replay)) ∙
                 ap (λ l. l ++ under T (masters m).ownership.replay) (sym parted) ∙ p.fresh e,
           )
+
+  -- so versions rise up to it
+  replayed-rises : (m : ServerId) (before after : List LogPlace) (place : LogPlace)
+      (whole : places_of (masters m).log ≡ before ++ place ∷ after)
+      (r : IsReplayed (part_view (masters m)) before place.entry) →
+      (task : Task) → In task (masters m).tasks → task.part ≡ r.state.part →
+      (p : HasJoined sent m (part_view (masters m)) task r.state) →
+      (task.part.previous < r.state.part.term → LogRises task.master task.part.previous) →
+      (other : Entry) → In other (logged before) → IsSameKey place.entry.term other place.entry → other.version < place.entry.version
+  replayed-rises m before after place whole r task at part_is p rises other there same =
+      rises-middle T (under T (logged before)) place.entry begins.0
+      (subst (RisesUnder T) (sym begins.1 ∙ append_assoc (under T (logged before)) (place.entry ∷ []) begins.0)
+      risen) other
+      (In-under T other (logged before) there (same.term_one ∙ sym r.term_is))
+      (record {
+        term_one = same.term_one ∙ sym r.term_is;
+        term_other = same.term_other ∙ sym r.term_is;
+        table = same.table;
+        key = same.key;
+      })
+    where
+      T : ℕ
+      T = r.state.part.term
+
+      base : List Entry
+      base = map (under_term r.state.part.term) p.entries
+
+      upto : List Entry
+      upto = under T (logged before) ++ place.entry ∷ []
+
+      begins : Begins upto base
+      begins = replayed-begins m before after place whole r task p
+
+      long : length upto ≤ length base
+      long = Rattle.rc_step_laws.proofs.Lists.begins-length upto base begins
 
       first : (xs : List Entry) → length upto ≤ length xs → (x : Entry) × In x xs
       first [] less = absurd (let a : length upto ≡ length (under T (logged before)) + length

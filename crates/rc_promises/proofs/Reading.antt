@@ -47,7 +47,7 @@ use Rattle.rc_model.proofs.Ids.{same_id-refl}
 
 -- Acknowledgements, by the places that were counted then
 
-In-take_map : {X Y : Type 0} (f : X → Y) (n : ℕ) (xs : List X) (x : X) → In x (take n xs) → In (f x) (take n (map f xs))
+pub In-take_map : {X Y : Type 0} (f : X → Y) (n : ℕ) (xs : List X) (x : X) → In x (take n xs) → In (f x) (take n (map f xs))
 In-take_map f zero xs x at = absurd at
 In-take_map f (suc n) [] x at = absurd at
 In-take_map f (suc n) (y ∷ xs) x (inl e) = inl (ap f e)
@@ -95,19 +95,20 @@ among-durable setup events m ack p = by (oks-of m (counted_places ((replay setup
             (sym p.says ∙ ap (λ (message : Message). message.body) is)
 
 -- what a master counts stands at a place of its log
-record IsPlaced (log : Log) (entry : Entry) : Type 0 where
-  index : ℕ
-  place : LogPlace
-  below : index < log.durable
-  at : slice_get (places_of log) index ≡ Some place
-  holds : slice_get (log_in log place.seg) place.offset ≡ Some entry
+pub record IsPlaced (log : Log) (entry : Entry) : Type 0 where
+  pub index : ℕ
+  pub place : LogPlace
+  pub below : index < log.durable
+  pub at : slice_get (places_of log) index ≡ Some place
+  pub entry_is : place.entry ≡ entry
+  pub holds : slice_get (log_in log place.seg) place.offset ≡ Some entry
 
-placed : (master : Master) (entry : Entry) → In entry (durable_entries master) → IsPlaced master.log entry
+pub placed : (master : Master) (entry : Entry) → In entry (durable_entries master) → IsPlaced master.log entry
 placed master entry at =
     let found = In-take master.log.durable (entries_of master.log) entry at in
     let place = get-map (λ (one : LogPlace). one.entry) (places_of master.log) found.0 entry found.2 in
     let is : IsOf master.log.segments master.log.head place.0 = places_to-are master.log.segments master.log.head found.0 place.0 place.1 in
-    record { index = found.0; place = place.0; below = found.1; at = place.1; holds = place-logged master.log place.0 is ∙ ap Some place.2 }
+    record { index = found.0; place = place.0; below = found.1; at = place.1; entry_is = place.2; holds = place-logged master.log place.0 is ∙ ap Some place.2 }
 
 -- durable for good
 durable-later : (setup : Setup) (past rest : List Event) (m : ServerId) (s o : ℕ) → IsDurable setup past m s o →
@@ -143,10 +144,10 @@ module _ (setup : Setup) (past rest : List Event) where
   abbrev new : World
   new = replay setup (past ++ rest)
 
-  all_old : AllHold old.sent old.masters old.hosts old.coordinator
+  pub all_old : AllHold old.sent old.masters old.hosts old.coordinator
   all_old = all-world setup past
 
-  all_new : AllHold new.sent new.masters new.hosts new.coordinator
+  pub all_new : AllHold new.sent new.masters new.hosts new.coordinator
   all_new = all-world setup (past ++ rest)
 
   later-of : (m : ServerId) → Since m old new
@@ -255,7 +256,7 @@ module _ (setup : Setup) (past rest : List Event) where
       (In-get (granted new.sent) was.0 (granted_of p.0) was.1) p.3 in
       place_of (grants_of new.sent table key) one (subst (λ (g : Granted). In g (grants_of new.sent table key)) (sym p.2) at)
 
-  earlier-still : (table key earlier last : ℕ) → IsBefore (grants_of old.sent table key) earlier last →
+  pub earlier-still : (table key earlier last : ℕ) → IsBefore (grants_of old.sent table key) earlier last →
       IsBefore (grants_of new.sent table key) earlier last
   earlier-still table key earlier last (previous k one e) = let found = still-sent table key k one e in previous found.0 one found.1
   earlier-still table key earlier last (onward from k one e way) =
@@ -268,7 +269,7 @@ module _ (setup : Setup) (past rest : List Event) where
       (owns : term_of (old.masters m).ownership table key ≡ Some term)
       (found : ◌≡◌ {A = Found} (read_of term table key (durable_entries (old.masters m))) (record { version = version; value = value }))
     where
-      own : IsOwned old.sent old.masters old.hosts old.coordinator all_old m term table key
+      pub own : IsOwned old.sent old.masters old.hosts old.coordinator all_old m term table key
       own = let point : OwnsPoint (old.masters m).ownership term table key = owns-point (old.masters m).ownership table key term owns in
           subst (λ n. IsOwned old.sent old.masters old.hosts old.coordinator all_old m n table key) point.term_is
           (owned old.sent old.masters old.hosts old.coordinator all_old m point.grant table key point.among point.holds)
@@ -289,13 +290,13 @@ module _ (setup : Setup) (past rest : List Event) where
           (not-above d.entry d.among (d.term_is ∙ same) (d.table_is ∙ of.table_is) (d.key_is ∙ of.key_is))
 
       -- and what stands at a safe place under an earlier term, its master had counted
-      record IsKeptThen (was : Entry) : Type 0 where
-        entry : Entry
-        among : In entry (durable_entries (old.masters m))
-        term_is : entry.term ≡ term
-        keeps : IsKeptBy MayFree was entry
+      pub record IsKeptThen (was : Entry) : Type 0 where
+        pub entry : Entry
+        pub among : In entry (durable_entries (old.masters m))
+        pub term_is : entry.term ≡ term
+        pub keeps : IsKeptBy MayFree was entry
 
-      kept-then : (x : ServerId) (s o : ℕ) (was : Entry) → IsSafe new.sent x (new.masters x).log s o →
+      pub kept-then : (x : ServerId) (s o : ℕ) (was : Entry) → IsSafe new.sent x (new.masters x).log s o →
           slice_get (log_in (new.masters x).log s) o ≡ Some was →
           was.table ≡ table → was.key ≡ key → IsEarlier new.sent table key was.term term → IsKeptThen was
       kept-then x s o was safe holds tables keys way = record {

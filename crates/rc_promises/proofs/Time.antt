@@ -143,12 +143,12 @@ module _ (setup : Setup) (events more : List Event) where
           }
 
   -- the owner of a term was left by an accepted recovery, within the first events
-  record IsLeft (term table key : ℕ) : Type 0 where
-    owner : ServerId
-    granted : IsGrantedTo old.coordinator.grants owner term table key
-    plan : Accepted
-    accepted : WasAccepted old.sent plan
-    of_owner : plan.master ≡ owner
+  pub record IsLeft (term table key : ℕ) : Type 0 where
+    pub owner : ServerId
+    pub granted : IsGrantedTo old.coordinator.grants owner term table key
+    pub plan : Accepted
+    pub accepted : WasAccepted old.sent plan
+    pub of_owner : plan.master ≡ owner
 
   -- so the one before a grant that was sent within them
   left-before : (grant : Grant) (table key : ℕ) → In grant old.coordinator.grants → in_range grant.range table key ≡ true →
@@ -180,7 +180,7 @@ module _ (setup : Setup) (events more : List Event) where
       let it : grant ≡ p.0 = all_new.terms.grant_once grant p.0 (still-granted grant among) p.1 (same ∙ ap (λ (g : Granted). g.term) p.2) in
       ap (λ (g : Grant). g.previous) it ∙ sym (ap (λ (g : Granted). g.previous) p.2)
 
-  left : (table key earlier last : ℕ) → IsBefore (grants_of new.sent table key) earlier last → 0 < earlier → (grant : Grant) →
+  pub left : (table key earlier last : ℕ) → IsBefore (grants_of new.sent table key) earlier last → 0 < earlier → (grant : Grant) →
       In grant old.coordinator.grants → grant.term ≡ last →
       in_range grant.range table key ≡ true → IsLeft earlier table key
   left table key earlier last (previous k one e) above grant among same holds =

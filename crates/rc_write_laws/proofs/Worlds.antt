@@ -77,10 +77,10 @@ steps-on world one good m = led-by (IsBefore world good) (IsAfter world good) (s
 
 -- Stored at some moment
 
-record WasStoredOnce (setup : Setup) (events : List Event) (m : ServerId) (s o : ℕ) : Type 0 where
-  moment : ℕ
-  happened : moment ≤ length events
-  stored : WasStored setup events m moment s o
+pub record WasStoredOnce (setup : Setup) (events : List Event) (m : ServerId) (s o : ℕ) : Type 0 where
+  pub moment : ℕ
+  pub happened : moment ≤ length events
+  pub stored : WasStored setup events m moment s o
 
 once-later : (setup : Setup) (events more : List Event) (m : ServerId) (s o : ℕ) → WasStoredOnce setup events m s o →
     WasStoredOnce setup (events ++ more) m s o
@@ -173,11 +173,11 @@ closed-len log s told above upto closed =
 
 -- After every list of events
 
-record AllWereStored (setup : Setup) (events : List Event) (m : ServerId) : Type 0 where
-  told : Told ((replay setup events).masters m).log
-  shut : (t o : ℕ) → (((replay setup events).masters m).log.segments t).shut ≡ true →
+pub record AllWereStored (setup : Setup) (events : List Event) (m : ServerId) : Type 0 where
+  pub told : Told ((replay setup events).masters m).log
+  pub shut : (t o : ℕ) → (((replay setup events).masters m).log.segments t).shut ≡ true →
       o < length (((replay setup events).masters m).log.segments t).entries → WasStoredOnce setup events m t o
-  counted : (k : ℕ) (place : LogPlace) → k < ((replay setup events).masters m).log.durable →
+  pub counted : (k : ℕ) (place : LogPlace) → k < ((replay setup events).masters m).log.durable →
       slice_get (places_of ((replay setup events).masters m).log) k ≡ Some place →
       WasStoredOnce setup events m place.seg place.offset
 
@@ -317,12 +317,12 @@ all-from setup past (one ∷ events) m p =
     subst (λ (all : List Event). AllWereStored setup all m) (append_assoc past (one ∷ []) events)
     (all-from setup (past ++ one ∷ []) events m (all-now setup past one m p))
 
-all-world : (setup : Setup) (events : List Event) (m : ServerId) → factor_of setup m.index ≢ 0 → AllWereStored setup events m
+pub all-world : (setup : Setup) (events : List Event) (m : ServerId) → factor_of setup m.index ≢ 0 → AllWereStored setup events m
 all-world setup events m some = all-from setup [] events m (all-opening setup m some)
 
 -- Durable
 
-once-durable : (setup : Setup) (events : List Event) (m : ServerId) (s o : ℕ) → factor_of setup m.index ≢ 0 →
+pub once-durable : (setup : Setup) (events : List Event) (m : ServerId) (s o : ℕ) → factor_of setup m.index ≢ 0 →
     WasStoredOnce setup events m s o → IsDurable setup events m s o
 once-durable setup events m s o some was = record { moment = was.moment; happened = was.happened; stored = was.stored; earlier = earlier }
   where

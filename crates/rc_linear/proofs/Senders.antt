@@ -1,0 +1,184 @@
+-- What a client sends is sent alone: when it was sent, an event had just ended.
+use Rattle.std.proofs.Common.{◌≡◌, ◌⊎◌, ℕ, zero, suc, ◌-◌, ◌+◌, ◌<◌, ◌≤◌, true, false, List, [], ◌∷◌, ◌++◌, length, take, Option, Some, None, slice_get}
+use Rattle.std.proofs.Common.{refl, sym, ap, ◌∙◌, subst, inl, inr, arith}
+use Rattle.std.proofs.lemmas.List.{append-nil, append_assoc, take-append-le, take_all}
+use Rattle.rc_model.specs.Model.{ServerId, Addr, Server, Outside, Setup, Event, Message, Body, Enlist, is_server, put, to_coordinator}
+use Rattle.rc_model.specs.Model.{Backup, backup_takes, Master, master_takes, master_ticks, Work, Take, Create, Split, HostNode, outside_sends}
+use Rattle.rc_model.specs.Model.{coordinator_step, server_of, host_step, is_for_backup, with_backup, with_master, server_takes}
+use Rattle.rc_model.specs.Model.{takes_if_running, ticks_if_running, starts_host, next_server, World, opening, NodeName, TheOutside}
+use Rattle.rc_model.specs.Model.{TheCoordinator, TheHost, Job, work_of, is_possible, node_done, job_done, step, replay, In}
+use Rattle.rc_types.specs.declared.ids.Addr.TheVariants.{Coordinator as AtCoordinator}
+use Rattle.rc_model.specs.Nodes.{Ask, Tick, Stop, Start, Suspect, Decide}
+use Rattle.rc_model.proofs.Members.{In-get}
+use Rattle.rc_model.proofs.Replays.{replay_from-push}
+use Rattle.rc_model.proofs.Tables.{put-same}
+use Rattle.rc_model.proofs.Tests.{either}
+use Rattle.rc_step_laws.specs.Moves.{MasterMoved, BackupMoved}
+use Rattle.rc_step_laws.proofs.MasterSteps.{master_takes_keeps, master_ticks_keeps}
+use Rattle.rc_step_laws.proofs.Backups.{moved-backup}
+use Rattle.rc_step_laws.proofs.Lists.{get-within, get-append}
+use Rattle.rc_log_laws.proofs.EachMaster.{coordinator-from}
+use Rattle.rc_log_laws.proofs.Replays.{GoodWorld, IsGiven, is-good, is-fine, hears, is_server-true, work_of-given, good-world}
+
+-- the list has one message, or none of the outside
+abbrev IsAlone : List Message → Type 0
+IsAlone messages = ((one : Message) × (messages ≡ one ∷ []))
+    ⊎ ((message : Message) → In message messages → message.from ≡ Outside → ⊥)
+
+none-alone : IsAlone []
+none-alone = inr (λ message at. absurd at)
+
+from-server : (m : ServerId) (from : Addr) → from ≡ Server m → from ≡ Outside → ⊥
+from-server m from a b = (let e : ◌≡◌ {A = Addr} (Server m) Outside = sym a ∙ b in cc)
+
+from-coordinator : (from : Addr) → from ≡ AtCoordinator → from ≡ Outside → ⊥
+from-coordinator from a b = (let e : ◌≡◌ {A = Addr} AtCoordinator Outside = sym a ∙ b in cc)
+
+outside-alone : (work : Work) → IsAlone (outside_sends work)
+outside-alone (Ask to body) = inl (record { from = Outside; to = Server to; body = body }, refl)
+outside-alone _ = none-alone
+
+-- A host's step
+
+module _ (world : World) (one : Event) (i : ℕ) (good : GoodWorld world) where
+  abbrev Alone : HostNode × List Message → Type 0
+  Alone after = IsAlone after.1
+
+  by-backup : (after : Backup × List Message) →
+      BackupMoved world.sent world.masters (put world.hosts i (record (world.hosts i) { backup = after.0 })) world.coordinator
+      (world.hosts i) after → IsAlone after.1
+  by-backup after moved = inr (λ message at. from-server (server_of (world.hosts i)) message.from (moved.from message at))
+
+  by-master : (master : Master) (after : Master × List Message) → MasterMoved world.sent (server_of (world.hosts i)) master after →
+      IsAlone after.1
+  by-master master after moved = inr (λ message at. from-server (server_of (world.hosts i)) message.from (moved.says message at).from)
+
+  alone-server : (master : Master) → (world.hosts i).master ≡ Some master → (message : Message) →
+      In (record { from = message.from; to = Server (server_of (world.hosts i)); body = message.body }) world.sent →
+      Alone (server_takes (world.hosts i) master message)
+  alone-server master e message at =
+      either Alone (is_for_backup message.body) (with_backup (world.hosts i) (backup_takes (world.hosts i).backup message.from message.body))
+      (with_master (world.hosts i) (master_takes master message.from message.body))
+      (λ _. by-backup (backup_takes (world.hosts i).backup message.from message.body)
+      (moved-backup world.sent world.masters world.hosts
+      (put world.hosts i (record (world.hosts i) { backup = (backup_takes (world.hosts i).backup message.from message.body).0 }))
+      world.coordinator i message.from message.body good at
+      (ap (put world.hosts i (record (world.hosts i) { backup = (backup_takes (world.hosts i).backup message.from message.body).0 }))
+      (good.hosts_are i).index
+      ∙ put-same world.hosts i
+      (record (world.hosts i) { backup = (backup_takes (world.hosts i).backup message.from message.body).0 }))))
+      (λ _. by-master master (master_takes master message.from message.body)
+      (master_takes_keeps world.sent (server_of (world.hosts i)) master message.from message.body (is-good world one i good master e)
+      (is-fine world one i good master e) (hears world one i good message.from message.body at)))
+
+  alone-takes : (found : Option Master) → (world.hosts i).master ≡ found → (message : Message) → In message world.sent →
+      Alone (takes_if_running (world.hosts i) found message)
+  alone-takes None e message at = none-alone
+  alone-takes (Some master) e message at =
+      either Alone (is_server (server_of (world.hosts i)) message.to) (server_takes (world.hosts i) master message) (world.hosts i, [])
+      (λ is. alone-server master e message
+      (subst (λ (to : Addr). In (record { from = message.from; to = to; body = message.body }) world.sent)
+      (is_server-true world one i good (server_of (world.hosts i)) message.to is) at))
+      (λ _. none-alone)
+
+  alone-ticks : (found : Option Master) → (world.hosts i).master ≡ found → Alone (ticks_if_running (world.hosts i) found)
+  alone-ticks None e = none-alone
+  alone-ticks (Some master) e = by-master master (master_ticks master)
+      (master_ticks_keeps world.sent (server_of (world.hosts i)) master (is-good world one i good master e)
+      (is-fine world one i good master e))
+
+  alone-host : (work : Work) → IsGiven world.sent (TheHost i) work → Alone (host_step (world.hosts i) work)
+  alone-host (Take message) given = alone-takes (world.hosts i).master refl message given.0
+  alone-host (Tick addr) given = alone-ticks (world.hosts i).master refl
+  alone-host (Start kept) given = inl (to_coordinator (next_server (world.hosts i)) Enlist, refl)
+  alone-host _ given = none-alone
+
+-- Events
+
+record Adds (world after : World) : Type 0 where
+  messages : List Message
+  grows : after.sent ≡ world.sent ++ messages
+  alone : IsAlone messages
+
+adds-node : (world : World) (one : Event) (node : NodeName) (work : Work) → GoodWorld world → IsGiven world.sent node work →
+    Adds world (node_done world one node work)
+adds-node world one TheOutside work good given = record { messages = outside_sends work; grows = refl; alone = outside-alone work }
+adds-node world one TheCoordinator work good given = record {
+  messages = (coordinator_step world.coordinator work).1;
+  grows = refl;
+  alone = inr (λ message at. from-coordinator message.from (coordinator-from world work good given message at));
+}
+adds-node world one (TheHost i) work good given = record
+    { messages = (host_step (world.hosts i) work).1; grows = refl; alone = alone-host world one i good work given }
+
+adds-none : (world : World) → Adds world world
+adds-none world = record { messages = []; grows = sym (append-nil world.sent); alone = none-alone }
+
+adds-job : (world : World) (one : Event) (found : Option Job) → work_of world.sent one ≡ found → GoodWorld world →
+    Adds world (job_done world one found)
+adds-job world one None is good = adds-none world
+adds-job world one (Some job) is good = adds-node world one job.node job.work good (work_of-given world.sent one job is)
+
+adds-step : (world : World) (one : Event) → GoodWorld world → Adds world (step world one)
+adds-step world one good =
+    either (Adds world) (is_possible world one) (job_done world one (work_of world.sent one)) world
+    (λ _. adds-job world one (work_of world.sent one) refl good) (λ _. adds-none world)
+
+-- Every list of events
+
+-- all that was sent before the message of this number was sent in these first events
+pub record IsEnd (setup : Setup) (events : List Event) (n : ℕ) : Type 0 where
+  pub early : List Event
+  pub since : List Event
+  pub whole : early ++ since ≡ events
+  pub sent_is : (replay setup early).sent ≡ take n (replay setup events).sent
+
+abbrev AllEnd : Setup → List Event → Type 0
+AllEnd setup events = (n : ℕ) (message : Message) → slice_get (replay setup events).sent n ≡ Some message → message.from ≡ Outside →
+    IsEnd setup events n
+
+end-one : (setup : Setup) (past : List Event) (one : Event) → AllEnd setup past → AllEnd setup (past ++ one ∷ [])
+end-one setup past one p n message e from = by (get-append (replay setup past).sent new.messages n message (ap (λ l. slice_get l n) (sym grows) ∙ e))
+  where
+    new : Adds (replay setup past) (step (replay setup past) one)
+    new = adds-step (replay setup past) one (good-world setup past)
+
+    grows : (replay setup (past ++ one ∷ [])).sent ≡ (replay setup past).sent ++ new.messages
+    grows = ap (λ (world : World). world.sent) (replay_from-push (opening setup) past one) ∙ new.grows
+
+    single : (k : ℕ) → slice_get new.messages k ≡ Some message → IsAlone new.messages → k ≡ 0
+    single k at (inl (only, is)) = (let less : k < length new.messages = get-within new.messages k message at in
+        let long : length new.messages ≡ 1 = ap length is in omega (arith, less, long))
+    single k at (inr none) = absurd (none message (In-get new.messages k message at) from)
+
+    by : (slice_get (replay setup past).sent n ≡ Some message)
+        ⊎ ((k : ℕ) × (n ≡ length (replay setup past).sent + k) × (slice_get new.messages k ≡ Some message)) →
+        IsEnd setup (past ++ one ∷ []) n
+    by (inl is) =
+        let less : n < length (replay setup past).sent = get-within (replay setup past).sent n message is in
+        let was : IsEnd setup past n = p n message is from in
+        record {
+          early = was.early;
+          since = was.since ++ one ∷ [];
+          whole = sym (append_assoc was.early was.since (one ∷ [])) ∙ ap (λ l. l ++ one ∷ []) was.whole;
+          sent_is = was.sent_is ∙ sym (take-append-le n (replay setup past).sent new.messages (omega (arith, less)))
+              ∙ ap (take n) (sym grows);
+        }
+    by (inr (k, same, is)) =
+        let last : n ≡ length (replay setup past).sent = (let none : k ≡ 0 = single k is new.alone in omega (arith, same, none)) in
+        record {
+          early = past;
+          since = one ∷ [];
+          whole = refl;
+          sent_is = sym (take_all n (replay setup past).sent (omega (arith, last)))
+              ∙ sym (take-append-le n (replay setup past).sent new.messages (omega (arith, last))) ∙ ap (take n) (sym grows);
+        }
+
+end-more : (setup : Setup) (past events : List Event) → AllEnd setup past → AllEnd setup (past ++ events)
+end-more setup past [] p = subst (AllEnd setup) (sym (append-nil past)) p
+end-more setup past (one ∷ events) p =
+    subst (AllEnd setup) (append_assoc past (one ∷ []) events) (end-more setup (past ++ one ∷ []) events (end-one setup past one p))
+
+pub requests-end : (setup : Setup) (events : List Event) (n : ℕ) (message : Message) →
+    slice_get (replay setup events).sent n ≡ Some message → message.from ≡ Outside → IsEnd setup events n
+requests-end setup events = end-more setup [] events (λ n message e from. (let never : slice_get [] n ≡ Some message = e in cc))
