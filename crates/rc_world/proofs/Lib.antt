@@ -10,4 +10,4 @@ pub mod NodeRooms
 pub mod NodeCalls
 pub mod Holding
 pub mod HostSteps
-pub mod Running
+pub mod RunOver

@@ -1,7 +1,7 @@
 use Rattle.std.proofs.Common.{◌<◌, ◌≤◌, Err, length, arith, ap, subst, ◌∙◌}
 use Rattle.std.proofs.lemmas.List.{take_all}
 use Rattle.rc_world.specs.Happened.{with_events, AllHappen}
-use Rattle.rc_world.proofs.Running.{run_more, run_stopped}
+use Rattle.rc_world.proofs.RunOver.{run_more, run_stopped}
 use Rattle.rc_world.proofs.running.run.Goals as goal
 
 pub loop-index-preserved : goal.loop-index-preserved
