@@ -70,10 +70,10 @@ module _ (setup : Setup) (past rest : List Event) where
   abbrev pub new : World
   new = replay setup (past ++ rest)
 
-  pub all_old : AllHold old.sent old.masters old.hosts old.coordinator
+  abbrev pub all_old : AllHold old.sent old.masters old.hosts old.coordinator
   all_old = all-world setup past
 
-  pub all_new : AllHold new.sent new.masters new.hosts new.coordinator
+  abbrev pub all_new : AllHold new.sent new.masters new.hosts new.coordinator
   all_new = all-world setup (past ++ rest)
 
   pub later-of : (m : ServerId) → Since m old new

@@ -108,7 +108,7 @@ AllAskedFor setup events = (m : ServerId) (place : LogPlace) → In place (place
     place.client ≡ true → IsAskedFor (replay setup events).sent m place
 
 -- of those that were sent first
-In-taken-from : {X : Type 0} (n : ℕ) (xs : List X) (x : X) → In x (take n xs) → In x xs
+pub In-taken-from : {X : Type 0} (n : ℕ) (xs : List X) (x : X) → In x (take n xs) → In x xs
 In-taken-from zero xs x at = absurd at
 In-taken-from (suc n) [] x at = absurd at
 In-taken-from (suc n) (y ∷ xs) x (inl e) = inl e

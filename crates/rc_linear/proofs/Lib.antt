@@ -7,3 +7,5 @@ pub mod Senders
 pub mod Fresh
 pub mod Origin
 pub mod Pending
+pub mod Standing
+pub mod Linear

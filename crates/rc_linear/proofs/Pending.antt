@@ -14,6 +14,7 @@ use Rattle.rc_owner_laws.proofs.Bases.{IsTaskOf, task-of, IsStarted, started}
 use Rattle.rc_owner_laws.proofs.VersionCuts.{one-plan}
 use Rattle.rc_owner_laws.proofs.Kept.{was-granted, term-above, previous-earlier}
 use Rattle.rc_owner_laws.proofs.Rising.{granted_of, covers-anyhow, at-point, IsOwned}
+use Rattle.rc_owner_laws.proofs.VersionReplays.{all-world}
 use Rattle.rc_promises.proofs.Time.{IsLeft, left, still-granted}
 use Rattle.rc_linear.specs.Confirmed.{HasSentFor}
 use Rattle.rc_linear.proofs.Behind.{all_old, all_new, later-of, held-sent_to}
@@ -216,3 +217,23 @@ module _ (setup : Setup) (early gap rest : List Event) (m x : ServerId) (some_x 
             IsEarlier new.sent one.table one.key o.place.entry.term one.term → ⊥
         not (inl home) = not-home home
         not (inr on) = not-handed on
+
+-- The same, where the end of the gap has a name of its own
+
+module _ (setup : Setup) (early gap rest : List Event) (m x : ServerId) (some : (host : ℕ) → factor_of setup host ≢ 0) (one : Entry)
+    (s : Stood setup early gap m one) (term version : ℕ) (value : Option (List ℕ)) (ack : Ack) (seg offset : ℕ) (entry : Entry) where
+  abbrev Claim : List Event → Type 0
+  Claim past = term_of ((replay setup past).masters x).ownership one.table one.key ≡ Some term →
+      ◌≡◌ {A = Found} (read_of term one.table one.key (durable_entries ((replay setup past).masters x)))
+      (record { version = version; value = value }) →
+      HasAcknowledged (replay setup (past ++ rest)).sent x ack →
+      (HasSentFor (replay setup past).sent x ack.seg ack.offset → ⊥) →
+      entry.term ≡ term → entry.table ≡ one.table → entry.key ≡ one.key →
+      (o : Origin (replay setup past).sent (replay setup past).masters (replay setup past).hosts (replay setup past).coordinator
+      (all-world setup past) x seg offset entry) →
+      (HasSentFor (replay setup early).sent o.x o.place.seg o.place.offset → ⊥) → one.version < entry.version
+
+  pub below-at : (past : List Event) → early ++ gap ≡ past → Claim past
+  below-at past whole = subst Claim whole
+      (λ owns found p unsent_ack term_is tables keys o unsent. below-shown setup early gap rest m x (some x.index) one s term version value
+      owns found ack p unsent_ack seg offset entry term_is tables keys o unsent (some o.x.index))

@@ -26,7 +26,7 @@ pub record Finds (setup : Setup) (past : List Event) (m : ServerId) (table key v
   pub found : ◌≡◌ {A = Found} (read_of term table key (durable_entries ((replay setup past).masters m)))
       (record { version = version; value = value })
 
-zero-or-more : (n : ℕ) → (n ≡ 0) ⊎ (n ≡ 0 → ⊥)
+pub zero-or-more : (n : ℕ) → (n ≡ 0) ⊎ (n ≡ 0 → ⊥)
 zero-or-more zero = inl refl
 zero-or-more (suc n) = inr (λ e. omega (arith, e))
 

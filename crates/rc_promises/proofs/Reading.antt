@@ -62,7 +62,7 @@ record IsAmongDurable (master : Master) (ack : Ack) : Type 0 where
   key_is : entry.key ≡ ack.key
   version_is : entry.version ≡ ack.version
 
-is-ack : (m : ServerId) (ack : Ack) (message : Message) → message.from ≡ Server m →
+pub is-ack : (m : ServerId) (ack : Ack) (message : Message) → message.from ≡ Server m →
     message.body ≡ WriteOk ack.seg ack.offset ack.term ack.table ack.key ack.version → is_ack_of m message ≡ true
 is-ack m ack message from says = ap (λ (a : Addr). is_ack_of m (record { from = a; to = message.to; body = message.body })) from
     ∙ (ap (λ (b : Body). is_ack_of m (record { from = Server m; to = message.to; body = b })) says ∙ ap (λ b. b && true) (same_id-refl m))
