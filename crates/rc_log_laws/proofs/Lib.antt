@@ -22,4 +22,4 @@ mod LeastPairs
 pub mod Silent
 pub mod Stays
 pub mod Walk
-mod FreeWorlds
+pub mod FreeWorlds
