@@ -25,3 +25,4 @@ pub mod Walk
 mod FreeWorlds
 pub mod Senders
 pub mod InEvents
+pub mod FreeWorlds

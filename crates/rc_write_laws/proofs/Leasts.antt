@@ -27,7 +27,7 @@ use Rattle.rc_model.proofs.Tests.{either}
 
 -- The least pairs after a step of the coordinator: as before, or a pair whose commit was asked
 
-abbrev Asked : List Message → Coordinator → ServerId → Pair → Type 0
+abbrev pub Asked : List Message → Coordinator → ServerId → Pair → Type 0
 Asked sent c m pair = (pair ≡ c.least m) ⊎ In (to_coordinator m (Commit pair.seg pair.epoch)) sent
 
 abbrev AllAsked : List Message → Coordinator → Coordinator × List Message → Type 0
@@ -184,7 +184,7 @@ asked-job : (world : World) (one : Event) (found : Option Job) → work_of world
 asked-job world one None is m = inl refl
 asked-job world one (Some job) is m = asked-node world one job.node job.work (work_of-given world.sent one job is) m
 
-asked-event : (world : World) (one : Event) (m : ServerId) → Asked world.sent world.coordinator m ((step world one).coordinator.least m)
+pub asked-event : (world : World) (one : Event) (m : ServerId) → Asked world.sent world.coordinator m ((step world one).coordinator.least m)
 asked-event world one m =
     either (λ (after : World). Asked world.sent world.coordinator m (after.coordinator.least m)) (is_possible world one)
     (job_done world one (work_of world.sent one)) world

@@ -1,0 +1,262 @@
+-- What an event does to a host: it starts anew, or its generation stays; and what is newly told stands there.
+use Rattle.std.proofs.Common.{◌≡◌, ◌⊎◌, ℕ, Bool, true, nat_eq, List, [], ◌∷◌, ◌++◌, Option, Some, None, slice_get}
+use Rattle.std.proofs.Common.{refl, sym, ap, ◌∙◌, subst, inl, inr}
+use Rattle.std.proofs.lemmas.Bool.{eqb-true}
+use Rattle.rc_model.specs.Model.{ServerId, Addr, Server, Outside, Event, Message, Stored, Enlist, between, to_coordinator, put}
+use Rattle.rc_model.specs.Model.{is_server, Backup, backup_takes, restart, Master, master_takes, master_ticks, Work, Take, Create, Split}
+use Rattle.rc_model.specs.Model.{HostNode, server_of, host_step, next_server, starts_host, is_for_backup, with_backup, with_master, server_takes}
+use Rattle.rc_model.specs.Model.{takes_if_running, ticks_if_running, outside_sends, coordinator_step, World, NodeName, TheOutside, TheCoordinator}
+use Rattle.rc_model.specs.Model.{TheHost, Job, work_of, delivery, is_possible, node_done, job_done, step, In}
+use Rattle.rc_types.specs.declared.ids.Addr.TheVariants.{Coordinator as AtCoordinator}
+use Rattle.rc_types.specs.declared.events.Event.TheVariants as event
+use Rattle.rc_model.specs.Nodes.{Ask, Tick, Stop, Start, Suspect, Decide}
+use Rattle.rc_model.proofs.Tests.{either}
+use Rattle.rc_model.proofs.Tables.{put-same, put-other}
+use Rattle.rc_model.proofs.Ids.{server-same}
+use Rattle.rc_step_laws.specs.All.{held_at, StillStands, MasterMoved, BackupMoved}
+use Rattle.rc_step_laws.proofs.MasterSteps.{master_takes_keeps, master_ticks_keeps}
+use Rattle.rc_step_laws.proofs.Backups.{moved-backup}
+use Rattle.rc_step_laws.proofs.Copies.{In-either, split}
+use Rattle.rc_log_laws.proofs.Replays.{GoodWorld, IsGiven, is-good, is-fine, hears, is_server-true, work_of-given}
+use Rattle.rc_log_laws.proofs.EachMaster.{coordinator-from}
+
+-- A start
+
+-- the event starts the host anew, and nothing but its Enlist is sent
+pub record IsStart (world : World) (one : Event) (i : ℕ) (after : World) : Type 0 where
+  pub kept : List (ServerId × ℕ)
+  pub is : one ≡ event.Start i kept
+  pub possible : is_possible world one ≡ true
+  pub backup : (after.hosts i).backup ≡ restart (next_server (world.hosts i)) kept (world.hosts i).backup
+  pub says : after.sent ≡ world.sent ++ to_coordinator (next_server (world.hosts i)) Enlist ∷ []
+
+-- two jobs that are one have one node and one work
+same-job : (a b : Job) → Some a ≡ Some b → a ≡ b
+same-job a b e = cc
+
+same-work : (a b : Job) → Some a ≡ Some b → a.work ≡ b.work
+same-work a b e = ap (λ (job : Job). job.work) (same-job a b e)
+
+same-node : (a b : Job) → Some a ≡ Some b → a.node ≡ b.node
+same-node a b e = ap (λ (job : Job). job.node) (same-job a b e)
+
+abbrev starting : ℕ → List (ServerId × ℕ) → Job
+starting i kept = record { node = TheHost i; work = Start kept }
+
+same-start : (index i : ℕ) (list kept : List (ServerId × ℕ)) → TheHost index ≡ TheHost i → Start list ≡ Start kept →
+    event.Start index list ≡ event.Start i kept
+same-start index i list kept nodes works = (let a : index ≡ i = cc in let b : list ≡ kept = cc in both a b)
+  where
+    both : index ≡ i → list ≡ kept → event.Start index list ≡ event.Start i kept
+    both p q j = event.Start (p j) (q j)
+
+-- only a Start gives a host the work to start
+start-work : (sent : List Message) (one : Event) (i : ℕ) (kept : List (ServerId × ℕ)) →
+    work_of sent one ≡ Some (starting i kept) → one ≡ event.Start i kept
+start-work sent (event.Deliver number) i kept e = by (slice_get sent number) e
+  where
+    by : (found : Option Message) → delivery found ≡ Some (starting i kept) → event.Deliver number ≡ event.Start i kept
+    by None e = cc
+    by (Some message) e = let never : ◌≡◌ {A = Work} (Take message) (Start kept) = same-work _ (starting i kept) e in cc
+start-work sent (event.Start index list) i kept e =
+    same-start index i list kept (same-node _ (starting i kept) e) (same-work _ (starting i kept) e)
+start-work sent (event.Ask to says) i kept e = let never : ◌≡◌ {A = Work} (Ask to says) (Start kept) = same-work _ (starting i kept) e in cc
+start-work sent (event.Tick addr) i kept e = let never : ◌≡◌ {A = Work} (Tick addr) (Start kept) = same-work _ (starting i kept) e in cc
+start-work sent (event.Stop id) i kept e = let never : ◌≡◌ {A = Work} (Stop id) (Start kept) = same-work _ (starting i kept) e in cc
+start-work sent (event.Suspect id) i kept e = let never : ◌≡◌ {A = Work} (Suspect id) (Start kept) = same-work _ (starting i kept) e in cc
+start-work sent (event.Decide id) i kept e = let never : ◌≡◌ {A = Work} (Decide id) (Start kept) = same-work _ (starting i kept) e in cc
+start-work sent (event.Create table owner) i kept e =
+    let never : ◌≡◌ {A = Work} (Create table owner) (Start kept) = same-work _ (starting i kept) e in cc
+start-work sent (event.Split table key) i kept e =
+    let never : ◌≡◌ {A = Work} (Split table key) (Start kept) = same-work _ (starting i kept) e in cc
+
+takes-same : (host : HostNode) (found : Option Master) (message : Message) → (takes_if_running host found message).0.generation ≡ host.generation
+takes-same host None message = refl
+takes-same host (Some master) message =
+    either (λ (after : HostNode × List Message). after.0.generation ≡ host.generation) (is_server (server_of host) message.to)
+    (server_takes host master message) (host, [])
+    (λ _. either (λ (after : HostNode × List Message). after.0.generation ≡ host.generation) (is_for_backup message.body)
+    (with_backup host (backup_takes host.backup message.from message.body))
+    (with_master host (master_takes master message.from message.body)) (λ _. refl) (λ _. refl)) (λ _. refl)
+
+ticks-same : (host : HostNode) (found : Option Master) → (ticks_if_running host found).0.generation ≡ host.generation
+ticks-same host None = refl
+ticks-same host (Some master) = refl
+
+-- a host's generation stays, but by a start
+host-work : (host : HostNode) (work : Work) →
+    ((host_step host work).0.generation ≡ host.generation) ⊎ ((kept : List (ServerId × ℕ)) × (work ≡ Start kept))
+host-work host (Take message) = inl (takes-same host host.master message)
+host-work host (Tick addr) = inl (ticks-same host host.master)
+host-work host (Start kept) = inr (kept, refl)
+host-work host _ = inl refl
+
+module _ (world : World) (one : Event) (i : ℕ) where
+  -- the host is the same one, or starts
+  abbrev pub Same : World → Type 0
+  Same after = ((after.hosts i).generation ≡ (world.hosts i).generation) ⊎ IsStart world one i after
+
+  started : (index : ℕ) (kept : List (ServerId × ℕ)) → index ≡ i → work_of world.sent one ≡ Some (starting index kept) →
+      is_possible world one ≡ true → IsStart world one i (node_done world one (TheHost index) (Start kept))
+  started index kept same is possible = record {
+    kept = kept;
+    is = start-work world.sent one i kept (is ∙ ap (λ k. Some (starting k kept)) same);
+    possible = possible;
+    backup = ap (λ (host : HostNode). host.backup) (ap (put world.hosts index new) (sym same) ∙ put-same world.hosts index new) ∙
+        ap (λ k. restart (next_server (world.hosts k)) kept (world.hosts k).backup) same;
+    says = ap (λ k. world.sent ++ to_coordinator (next_server (world.hosts k)) Enlist ∷ []) same;
+  }
+    where
+      new : HostNode
+      new = (starts_host (world.hosts index) (next_server (world.hosts index)) kept).0
+
+  same-host : (index : ℕ) (work : Work) → work_of world.sent one ≡ Some (record { node = TheHost index; work = work }) →
+      is_possible world one ≡ true → Same (node_done world one (TheHost index) work)
+  same-host index work is possible =
+      split (nat_eq index i) (λ e. here (eqb-true index i e) (host-work (world.hosts index) work))
+      (λ e. inl (ap (λ (host : HostNode). host.generation) (put-other world.hosts index (host_step (world.hosts index) work).0 i e)))
+    where
+      new : HostNode
+      new = (host_step (world.hosts index) work).0
+
+      here : index ≡ i → (new.generation ≡ (world.hosts index).generation) ⊎ ((kept : List (ServerId × ℕ)) × (work ≡ Start kept)) →
+          Same (node_done world one (TheHost index) work)
+      here same (inl stays) =
+          inl (ap (λ (host : HostNode). host.generation) (ap (put world.hosts index new) (sym same) ∙ put-same world.hosts index new)
+          ∙ (stays ∙ ap (λ k. (world.hosts k).generation) same))
+      here same (inr (kept, starts)) =
+          inr (subst (λ (w : Work). IsStart world one i (node_done world one (TheHost index) w)) (sym starts)
+          (started index kept same (is ∙ ap (λ (w : Work). Some (record { node = TheHost index; work = w })) starts) possible))
+
+  same-node_done : (node : NodeName) (work : Work) → work_of world.sent one ≡ Some (record { node = node; work = work }) →
+      is_possible world one ≡ true → Same (node_done world one node work)
+  same-node_done TheOutside work is possible = inl refl
+  same-node_done TheCoordinator work is possible = inl refl
+  same-node_done (TheHost index) work is possible = same-host index work is possible
+
+  same-job_done : (found : Option Job) → work_of world.sent one ≡ found → is_possible world one ≡ true → Same (job_done world one found)
+  same-job_done None is possible = inl refl
+  same-job_done (Some job) is possible = same-node_done job.node job.work is possible
+
+  pub same-or-start : Same (step world one)
+  same-or-start =
+      either Same (is_possible world one) (job_done world one (work_of world.sent one)) world
+      (λ possible. same-job_done (work_of world.sent one) refl possible) (λ _. inl refl)
+
+-- What is newly told
+
+-- it stands where it was told
+pub record NewlyStands (hosts : ℕ → HostNode) (x m : ServerId) (s e len : ℕ) (closed : Bool) : Type 0 where
+  pub stands : StillStands (held_at hosts x.index m) s e len closed
+
+module _ (world : World) (one : Event) (good : GoodWorld world) (x m : ServerId) (s e len : ℕ) (closed : Bool) where
+  abbrev told : Message
+  told = between x m (Stored s e len closed)
+
+  abbrev pub Stands : World → Type 0
+  Stands after = In told after.sent → In told world.sent ⊎ NewlyStands after.hosts x m s e len closed
+
+  none-new : (after : World) (messages : List Message) → after.sent ≡ world.sent ++ messages → (In told messages → ⊥) → Stands after
+  none-new after messages is none at =
+      In-either told world.sent messages (subst (In told) is at) (λ there. inl there) (λ new. absurd (none new))
+
+  -- who tells is the host's server
+  module _ (i : ℕ) where
+    abbrev HostStands : HostNode × List Message → Type 0
+    HostStands after = In told after.1 → (x ≡ server_of (world.hosts i)) × StillStands (after.0.backup.held m) s e len closed
+
+    by-backup : (message : Message) →
+        In (record { from = message.from; to = Server (server_of (world.hosts i)); body = message.body }) world.sent →
+        HostStands (with_backup (world.hosts i) (backup_takes (world.hosts i).backup message.from message.body))
+    by-backup message given = by (backup_takes (world.hosts i).backup message.from message.body) refl
+      where
+        by : (after : _) → backup_takes (world.hosts i).backup message.from message.body ≡ after → HostStands (with_backup (world.hosts i) after)
+        by (backup, messages) is at =
+            let now : ℕ → HostNode = put world.hosts i (record (world.hosts i) { backup = (backup_takes (world.hosts i).backup message.from message.body).0 }) in
+            let moved : BackupMoved world.sent world.masters now world.coordinator (world.hosts i)
+            (backup_takes (world.hosts i).backup message.from message.body) =
+            moved-backup world.sent world.masters world.hosts now world.coordinator i message.from message.body good given
+            (ap now (good.hosts_are i).index ∙ put-same world.hosts i _) in
+            let there : In told (backup_takes (world.hosts i).backup message.from message.body).1 =
+            subst (λ (one : Backup × List Message). In told one.1) (sym is) at in (
+              server-same x (server_of (world.hosts i)) (moved.from told there),
+              subst (λ (one : Backup × List Message). StillStands (one.0.held m) s e len closed) is (moved.says told there).1.0,
+            )
+
+    by-master : (master : Master) (after : Master × List Message) → MasterMoved world.sent (server_of (world.hosts i)) master after →
+        HostStands (with_master (world.hosts i) after)
+    by-master master (now, messages) moved at = absurd (moved.says told at).says
+
+    by-server : (master : Master) → (world.hosts i).master ≡ Some master → (message : Message) →
+        In (record { from = message.from; to = Server (server_of (world.hosts i)); body = message.body }) world.sent →
+        HostStands (server_takes (world.hosts i) master message)
+    by-server master is message given =
+        either HostStands (is_for_backup message.body)
+        (with_backup (world.hosts i) (backup_takes (world.hosts i).backup message.from message.body))
+        (with_master (world.hosts i) (master_takes master message.from message.body))
+        (λ _. by-backup message given)
+        (λ _. by-master master (master_takes master message.from message.body)
+        (master_takes_keeps world.sent (server_of (world.hosts i)) master message.from message.body (is-good world one i good master is)
+        (is-fine world one i good master is) (hears world one i good message.from message.body given)))
+
+    by-takes : (found : Option Master) → (world.hosts i).master ≡ found → (message : Message) → In message world.sent →
+        HostStands (takes_if_running (world.hosts i) found message)
+    by-takes None is message given = λ at. absurd at
+    by-takes (Some master) is message given =
+        either HostStands (is_server (server_of (world.hosts i)) message.to) (server_takes (world.hosts i) master message) (world.hosts i, [])
+        (λ to. by-server master is message
+        (subst (λ (addr : Addr). In (record { from = message.from; to = addr; body = message.body }) world.sent)
+        (is_server-true world one i good (server_of (world.hosts i)) message.to to) given)) (λ _ at. absurd at)
+
+    by-ticks : (found : Option Master) → (world.hosts i).master ≡ found → HostStands (ticks_if_running (world.hosts i) found)
+    by-ticks None is = λ at. absurd at
+    by-ticks (Some master) is = by-master master (master_ticks master)
+        (master_ticks_keeps world.sent (server_of (world.hosts i)) master (is-good world one i good master is) (is-fine world one i good master is))
+
+    no-enlist : In told (to_coordinator (next_server (world.hosts i)) Enlist ∷ []) → ⊥
+    no-enlist (inl same) = (let never : ◌≡◌ {A = Addr} (Server m) AtCoordinator = ap (λ (message : Message). message.to) same in cc)
+    no-enlist (inr never) = never
+
+    by-host : (work : Work) → IsGiven world.sent (TheHost i) work → HostStands (host_step (world.hosts i) work)
+    by-host (Take message) given = by-takes (world.hosts i).master refl message given.0
+    by-host (Tick addr) given = by-ticks (world.hosts i).master refl
+    by-host (Start kept) given = λ at. absurd (no-enlist at)
+    by-host _ given = λ at. absurd at
+
+    host-stands : (work : Work) → IsGiven world.sent (TheHost i) work → Stands (node_done world one (TheHost i) work)
+    host-stands work given at =
+        In-either told world.sent (host_step (world.hosts i) work).1 at (λ there. inl there)
+        (λ new. (let p = by-host work given new in inr (there p.0 p.1)))
+      where
+        there : x ≡ server_of (world.hosts i) → StillStands ((host_step (world.hosts i) work).0.backup.held m) s e len closed →
+            NewlyStands (put world.hosts i (host_step (world.hosts i) work).0) x m s e len closed
+        there same stands = record {
+          stands = subst (λ (host : HostNode). StillStands (host.backup.held m) s e len closed)
+              (sym (ap (put world.hosts i (host_step (world.hosts i) work).0) (ap (λ (id : ServerId). id.index) same ∙ (good.hosts_are i).index) ∙
+              put-same world.hosts i (host_step (world.hosts i) work).0)) stands;
+        }
+
+  no-outside : (work : Work) → In told (outside_sends work) → ⊥
+  no-outside (Ask to says) (inl same) = (let never : ◌≡◌ {A = Addr} (Server x) Outside = ap (λ (message : Message). message.from) same in cc)
+  no-outside (Ask to says) (inr never) = never
+  no-outside _ at = at
+
+  from-coordinator : Server x ≡ AtCoordinator → ⊥
+  from-coordinator same = cc
+
+  stands-node : (node : NodeName) (work : Work) → IsGiven world.sent node work → Stands (node_done world one node work)
+  stands-node TheOutside work given = none-new (node_done world one TheOutside work) (outside_sends work) refl (no-outside work)
+  stands-node TheCoordinator work given =
+      none-new (node_done world one TheCoordinator work) (coordinator_step world.coordinator work).1 refl
+      (λ at. from-coordinator (coordinator-from world work good given told at))
+  stands-node (TheHost i) work given = host-stands i work given
+
+  stands-job : (found : Option Job) → work_of world.sent one ≡ found → Stands (job_done world one found)
+  stands-job None is = λ at. inl at
+  stands-job (Some job) is = stands-node job.node job.work (work_of-given world.sent one job is)
+
+  -- what was told before, or stands
+  pub told-stands : Stands (step world one)
+  told-stands =
+      either Stands (is_possible world one) (job_done world one (work_of world.sent one)) world
+      (λ _. stands-job (work_of world.sent one) refl) (λ _ at. inl at)

@@ -1,0 +1,15 @@
+pub mod Placings
+pub mod Members
+pub mod Rules
+pub mod Says
+pub mod Steps
+pub mod Follows
+pub mod Kept
+pub mod Hosts
+pub mod KeptWorlds
+pub mod Masters
+pub mod Worlds
+pub mod Leasts
+pub mod Answers
+pub mod Refusals
+pub mod Few

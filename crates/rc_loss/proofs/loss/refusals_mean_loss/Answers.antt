@@ -1,0 +1,9 @@
+use Rattle.rc_loss.proofs.Refusals.{refusals-mean-loss}
+use Rattle.rc_loss.proofs.Few.{few-drops-are-no-loss}
+use Rattle.rc_loss.proofs.loss.refusals_mean_loss.Goals as goal
+
+pub returns-clause-all : goal.returns-clause-all
+returns-clause-all c = refusals-mean-loss
+
+pub returns-clause-few : goal.returns-clause-few
+returns-clause-few c = few-drops-are-no-loss
