@@ -3,7 +3,7 @@
 ghost use Rattle.std.specs.Prelude.{◌≡◌, ◌++◌, is_some, IfOk, OnOk, IfErr};
 ghost use Rattle.rc_types.specs.declared.faults.Fault.TheVariants.{OutOfMemory};
 ghost use Rattle.rc_model.specs.Ownership.{to_answer, after_answer};
-ghost use Rattle.rc_ownership.specs.Owner.{durable_of};
+ghost use Rattle.rc_ownership.specs.Owner.{replayed_of};
 ghost use Rattle.rc_notices.specs.Tasks.{AreTasksOf};
 ghost use Rattle.rc_lognotes.specs.Telling.{told_of};
 
@@ -19,11 +19,11 @@ pub fn tell_part(
     sent: &mut Vec<Message>,
 ) -> Result<bool, Fault>
     requires { AreTasksOf ownership.old.own.parts tasks.now }
-    ensures told { IfOk result (λ told. told ≡ is_some (to_answer (durable_of ownership.old) ownership.old.own)) }
+    ensures told { IfOk result (λ told. told ≡ is_some (to_answer (replayed_of ownership.old) ownership.old.own)) }
     ensures owner { OnOk result (ownership.new ≡
-        record ownership.old { own = after_answer (durable_of ownership.old) ownership.old.own }) }
+        record ownership.old { own = after_answer (replayed_of ownership.old) ownership.old.own }) }
     ensures sends { OnOk result (sent.new.items ≡ sent.old.items ++
-        told_of own tasks.now (to_answer (durable_of ownership.old) ownership.old.own)) }
+        told_of own tasks.now (to_answer (replayed_of ownership.old) ownership.old.own)) }
     ensures before { ownership.new.before ≡ ownership.old.before }
     ensures no_memory { IfErr result (λ fault. fault ≡ OutOfMemory) }
 {

@@ -1,7 +1,7 @@
 -- Where no part is to be answered, none is.
 use Rattle.std.proofs.Common.{◌≡◌, ℕ, Bool, true, false, cond, List, [], ◌∷◌, find, Option, Some, None, option_map, refl, sym, ap}
 use Rattle.rc_model.specs.Model.{Entry, Ownership, PartState, is_to_answer, to_answer, answered_in, after_answer, Master}
-use Rattle.rc_model.specs.Model.{durable_entries, answers_part, follows_replay}
+use Rattle.rc_model.specs.Model.{durable_replayed, answers_part, follows_replay}
 use Rattle.rc_master.specs.Rules.{or_still}
 
 answered-none : (durable : List Entry) (states : List PartState) → find (is_to_answer durable) states ≡ None →
@@ -26,13 +26,13 @@ answer-none durable own e =
 
 -- whether or not a part is told of, the ownership is the one after the answer
 pub answered-state : (master : Master) → (or_still master (follows_replay master)).0 ≡
-    record master { ownership = after_answer (durable_entries master) master.ownership }
-answered-state master = by (to_answer (durable_entries master) master.ownership) refl
+    record master { ownership = after_answer (durable_replayed master) master.ownership }
+answered-state master = by (to_answer (durable_replayed master) master.ownership) refl
   where
-    by : (term : Option ℕ) → to_answer (durable_entries master) master.ownership ≡ term →
+    by : (term : Option ℕ) → to_answer (durable_replayed master) master.ownership ≡ term →
         (or_still master (answers_part master term)).0 ≡
-        record master { ownership = after_answer (durable_entries master) master.ownership }
+        record master { ownership = after_answer (durable_replayed master) master.ownership }
     by None is =
         ap (λ (own : Ownership). record master { ownership = own })
-        (sym (answer-none (durable_entries master) master.ownership (sym is)))
+        (sym (answer-none (durable_replayed master) master.ownership (sym is)))
     by (Some term) is = refl

@@ -25,10 +25,14 @@ pub record SamePlaces (old new : Log) : Type 0 where
   pub opened : (is_writing old.phase ≡ true → 0 < old.head) → is_writing new.phase ≡ true → 0 < new.head
   pub factor : new.factor ≡ old.factor
 
-pub notes-same : {parts : List PartState} {tasks : List Task} (old new : Log) (notes : List Entry) (durable : ℕ) →
-    SamePlaces old new → AreNotes old notes durable parts tasks → AreNotes new notes durable parts tasks
+pub notes-same : {replayed : List Bool} {handed : Option ℕ} {parts : List PartState} {tasks : List Task} (old new : Log)
+    (notes : List Entry) (durable : ℕ) →
+    SamePlaces old new → AreNotes old notes replayed handed durable parts tasks →
+    AreNotes new notes replayed handed durable parts tasks
 notes-same old new notes durable same are = record {
   entries = are.entries ∙ ap (map (λ (place : LogPlace). place.entry)) (sym same.places);
+  replays = are.replays ∙ ap (map (λ (place : LogPlace). not place.client)) (sym same.places);
+  none_handed = are.none_handed;
   durable_are = are.durable_are ∙ sym same.durable;
   opened = same.opened are.opened;
   replicas = subst (λ n. 0 < n) (sym same.factor) are.replicas;
@@ -181,11 +185,24 @@ entries-appended log entry client some =
     ap (map (λ (p : LogPlace). p.entry)) (places-push log.segments log.head entry client some)
     ∙ map-append (λ (p : LogPlace). p.entry) (places_of log) (place ∷ [])
 
-pub notes-appended : {parts : List PartState} {tasks : List Task} (log : Log) (notes : List Entry) (durable : ℕ) (entry : Entry)
-    (client : Bool) → 0 < log.head → AreNotes log notes durable parts tasks →
-    AreNotes (appends entry client log) (notes ++ entry ∷ []) durable parts tasks
-notes-appended log notes durable entry client some are = record {
+marks-appended : (log : Log) (entry : Entry) (client : Bool) → 0 < log.head →
+    map (λ place. not place.client) (places_of (appends entry client log))
+    ≡ map (λ place. not place.client) (places_of log) ++ not client ∷ []
+marks-appended log entry client some =
+    let place : LogPlace = record { seg = log.head; offset = length (log.segments log.head).entries; entry = entry; client = client } in
+    ap (map (λ (p : LogPlace). not p.client)) (places-push log.segments log.head entry client some)
+    ∙ map-append (λ (p : LogPlace). not p.client) (places_of log) (place ∷ [])
+
+-- an entry is appended and noted: marked where no client wrote it
+pub notes-appended : {parts : List PartState} {tasks : List Task} (log : Log) (notes : List Entry) (replayed : List Bool)
+    (durable : ℕ) (entry : Entry) (client mark : Bool) → 0 < log.head → mark ≡ not client →
+    AreNotes log notes replayed None durable parts tasks →
+    AreNotes (appends entry client log) (notes ++ entry ∷ []) (replayed ++ mark ∷ []) None durable parts tasks
+notes-appended log notes replayed durable entry client mark some marked are = record {
   entries = ap (λ (es : List Entry). es ++ entry ∷ []) are.entries ∙ sym (entries-appended log entry client some);
+  replays = ap (λ (b : Bool). replayed ++ b ∷ []) marked ∙ ap (λ (bs : List Bool). bs ++ not client ∷ []) are.replays
+      ∙ sym (marks-appended log entry client some);
+  none_handed = refl;
   durable_are = are.durable_are;
   opened = are.opened;
   replicas = are.replicas;
@@ -193,8 +210,9 @@ notes-appended log notes durable entry client some are = record {
 }
 
 -- no more is durable than was noted
-pub durable-fits : {parts : List PartState} {tasks : List Task} (log : Log) (notes : List Entry) (durable : ℕ) →
-    AreNotes log notes durable parts tasks → durable_now log ≤ length notes
+pub durable-fits : {replayed : List Bool} {handed : Option ℕ} {parts : List PartState} {tasks : List Task} (log : Log)
+    (notes : List Entry) (durable : ℕ) →
+    AreNotes log notes replayed handed durable parts tasks → durable_now log ≤ length notes
 durable-fits log notes durable are =
     let most : durable_now log ≤ total (map log.segments (numbers_to log.head)) = durable-within (map log.segments (numbers_to log.head)) in
     let all : total (map log.segments (numbers_to log.head)) ≡ length (places_of log) = total-places log.segments log.head in
@@ -212,8 +230,38 @@ possible-writes log e = by (is_writing log.phase) refl
         (cond (not (is_full log)) None (cond (nat_lt log.head LAST_SEGMENT) (Some Rolling) (Some LogFull)))) is in cc
 
 -- the durable entries, by the notes
-pub durable-same : {parts : List PartState} {tasks : List Task} (log : Log) (notes : List Entry) (durable : ℕ) →
-    AreNotes log notes durable parts tasks →
+pub durable-same : {replayed : List Bool} {handed : Option ℕ} {parts : List PartState} {tasks : List Task} (log : Log)
+    (notes : List Entry) (durable : ℕ) →
+    AreNotes log notes replayed handed durable parts tasks →
     take durable notes ≡ take log.durable (entries_of log)
 durable-same log notes durable are =
     ap (λ (n : ℕ). take n notes) are.durable_are ∙ ap (take log.durable) are.entries
+
+-- what was replayed, by the marks of its places
+marked-places : (count : ℕ) (places : List LogPlace) →
+    marked (take count (map (λ place. not place.client) places)) (take count (map (λ place. place.entry) places))
+    ≡ replayed_at (take count places)
+marked-places zero places = refl
+marked-places (suc count) [] = refl
+marked-places (suc count) (place ∷ places) = by place.client (marked-places count places)
+  where
+    by : (client : Bool) →
+        marked (take count (map (λ one. not one.client) places)) (take count (map (λ one. one.entry) places))
+        ≡ replayed_at (take count places) →
+        cond (not client) (place.entry ∷ marked (take count (map (λ one. not one.client) places))
+        (take count (map (λ one. one.entry) places)))
+        (marked (take count (map (λ one. not one.client) places)) (take count (map (λ one. one.entry) places)))
+        ≡ map (λ one. one.entry) (cond (not client) (place ∷ filter (λ one. not one.client) (take count places))
+        (filter (λ one. not one.client) (take count places)))
+    by true rest = rest
+    by false rest = ap (λ (es : List Entry). place.entry ∷ es) rest
+
+-- the durable entries that were replayed, by the notes
+pub replayed-same : {handed : Option ℕ} {parts : List PartState} {tasks : List Task} (log : Log) (notes : List Entry)
+    (replayed : List Bool) (durable : ℕ) → AreNotes log notes replayed handed durable parts tasks →
+    marked (take durable replayed) (take durable notes) ≡ replayed_at (take log.durable (places_of log))
+replayed-same log notes replayed durable are =
+    ap (λ (n : ℕ). marked (take n replayed) (take n notes)) are.durable_are
+    ∙ ap (λ (es : List Entry). marked (take log.durable replayed) (take log.durable es)) are.entries
+    ∙ ap (λ (bs : List Bool). marked (take log.durable bs) (take log.durable (entries_of log))) are.replays
+    ∙ marked-places log.durable (places_of log)

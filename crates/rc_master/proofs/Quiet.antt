@@ -3,7 +3,7 @@ use Rattle.std.proofs.Common.{◌≡◌, ◌≢◌, ℕ, zero, suc, ◌<◌, Boo
 use Rattle.std.proofs.Common.{None, Result, Ok, Err, OnOk, OnErr, refl, sym, ap, ◌∙◌, subst, arith}
 use Rattle.rc_model.specs.Model.{Entry, Fault, GrantedRange, Message, Log, is_writing, is_full, begin_roll, may_start, may_close}
 use Rattle.rc_model.specs.Model.{may_write, Ownership, grant, owns_term, to_answer, after_replay, Master, MasterSetup, new_master}
-use Rattle.rc_model.specs.Model.{durable_entries, dead_segments, appends_entry, when, or_rule, follow_up, follows_start, follows_placed}
+use Rattle.rc_model.specs.Model.{durable_replayed, dead_segments, appends_entry, when, or_rule, follow_up, follows_start, follows_placed}
 use Rattle.rc_model.specs.Model.{follows_closing, follows_shut, follows_change, follows_stored, follows_data, follows_replay, first_open}
 use Rattle.rc_model.specs.Model.{wants_commit, commits, commits_open, close_is_due, rolls_for_replay, replays, answers_part, marks_shut}
 use Rattle.rc_model.specs.Model.{further, followed, measure, goes_on, ServerId, Addr, Body, then_does, master_takes_first, deposed_takes}
@@ -109,7 +109,7 @@ granted-did master grants =
     (did-or (follows_change granted) _ (follows_change master) _ (did-commits granted master refl (first_open master.log))
     (did-or (follows_stored granted) _ (follows_stored master) _ (did-when _ _ _)
     (did-or (follows_data granted) (follows_replay granted) (follows_data master) (follows_replay master) (did-data master grants)
-    (did-answers granted master (to_answer (durable_entries master) master.ownership))))))))
+    (did-answers granted master (to_answer (durable_replayed master) master.ownership))))))))
 
 none-did : (rule : Option (Master × List Message)) → did rule ≡ false → rule ≡ None
 none-did None e = refl

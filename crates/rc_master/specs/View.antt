@@ -1,5 +1,5 @@
 -- How contracts and the definitions see the master's fields.
-use Rattle.std.specs.Prelude.{◌≡◌, ◌≤◌, ℕ, List, length, take, Option, Some, None}
+use Rattle.std.specs.Prelude.{◌≡◌, ◌≤◌, ℕ, Bool, List, length, take, Option, Some, None}
 use Rattle.rc_types.specs.declared.entries.Entry.{Entry}
 use Rattle.rc_model.specs.ServerList.{ServerList}
 use Rattle.rc_model.specs.Master.{Master as Node}
@@ -32,16 +32,31 @@ data_of s = record {
 -- the notes are those of the log, and the tasks those of the parts
 abbrev pub IsNoted : State → Type 0
 IsNoted s =
-    AreNotes (log_of s.log) s.ownership.noted s.ownership.durable s.ownership.own.parts s.tasks.items
+    AreNotes (log_of s.log) s.ownership.noted s.ownership.replayed s.ownership.handed s.ownership.durable
+    s.ownership.own.parts s.tasks.items
+
+-- so they are, but for what the replay has handed out
+abbrev pub WereNoted : State → Type 0
+WereNoted s =
+    AreNotes (log_of s.log) s.ownership.noted s.ownership.replayed None s.ownership.durable s.ownership.own.parts
+    s.tasks.items
 
 -- a master with its notes, at one moment
 pub record Moment : Type 0 where
   pub master : Node
+  pub handed : Option ℕ
   pub noted : List Entry
+  pub replayed : List Bool
   pub durable : ℕ
 
 abbrev pub now_of : State → Moment
-now_of s = record { master = state_view s; noted = s.ownership.noted; durable = s.ownership.durable }
+now_of s = record {
+  master = state_view s;
+  handed = s.ownership.handed;
+  noted = s.ownership.noted;
+  replayed = s.ownership.replayed;
+  durable = s.ownership.durable;
+}
 
 -- the list that was replaced, or this one where none was
 abbrev pub or_list : Option ServerList → ServerList → ServerList
@@ -59,7 +74,9 @@ before_step s = record {
     tasks = take s.kept s.tasks.items;
     deposed = s.deposed;
   };
+  handed = s.ownership.before.handed;
   noted = s.ownership.before.noted;
+  replayed = s.ownership.before.replayed;
   durable = s.ownership.before.durable;
 }
 

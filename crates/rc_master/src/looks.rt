@@ -3,7 +3,7 @@
 ghost use Rattle.std.specs.Prelude.{◌≡◌, true, Some, length, slice_get, option_map};
 ghost use Rattle.rc_model.specs.Log.{has_segment};
 ghost use Rattle.rc_model.specs.FollowUps.{first_open};
-ghost use Rattle.rc_model.specs.Master.{durable_entries, not_lost};
+ghost use Rattle.rc_model.specs.Master.{durable_replayed, not_lost};
 ghost use Rattle.rc_headroll.specs.LogData.{log_of};
 ghost use Rattle.rc_ownership.specs.Grants.{grants_in};
 ghost use Rattle.rc_types.specs.Counts.{within_64_bits};
@@ -36,7 +36,7 @@ impl Master {
     /// How far the part of this number has come; parts are numbered from 0 in the order in which they were given.
     /// Its cost does not grow with the part.
     pub fn part(&self, number: usize) -> Option<PartProgress>
-        ensures { result ≡ option_map (progress_of (durable_entries (master_of self.now)))
+        ensures { result ≡ option_map (progress_of (durable_replayed (master_of self.now)))
             (slice_get (master_of self.now).ownership.parts number) }
     {
         self.state.ownership.part(number)

@@ -1,6 +1,6 @@
 //! The master's state, and what its rules have in common.
 
-ghost use Rattle.std.specs.Prelude.{◌≡◌, ◌++◌, ◌∷◌, [], ◌<◌, ◌≤◌, ◌⊎◌, true, None, Ok, Err, OnOk, IfErr};
+ghost use Rattle.std.specs.Prelude.{◌≡◌, ◌++◌, ◌∷◌, [], ◌<◌, ◌≤◌, ◌⊎◌, true, not, None, Ok, Err, OnOk, IfErr};
 ghost use Rattle.rc_types.specs.declared.faults.Fault.TheVariants.{OutOfMemory};
 ghost use Rattle.rc_types.specs.declared.limits.TheConstants.{MAX_FACTOR as FACTOR, MAX_SEGMENT as SEGMENT};
 ghost use Rattle.rc_model.specs.Messages.{refuses};
@@ -9,7 +9,8 @@ ghost use Rattle.rc_model.specs.Heads.{append_fault, begin_roll};
 ghost use Rattle.rc_model.specs.Master.{new_master, with_log, appends_entry, dead_segments, places_head};
 ghost use Rattle.rc_headroll.specs.LogData.{log_of};
 ghost use Rattle.rc_master.specs.Quiet.{IsQuiet};
-ghost use Rattle.rc_master.specs.View.{state_view, before_step, IsNoted};
+ghost use Rattle.rc_master.specs.View.{state_view, before_step, IsNoted, WereNoted};
+ghost use Rattle.rc_ownership.specs.Owner.{was_handed};
 
 use rc_headroll::LogHead;
 use rc_lognotes::roll;
@@ -73,7 +74,7 @@ impl State {
     }
 
     /// Appends an entry to the head, and sends it to the head's members. `client` says whether a client
-    /// wrote it.
+    /// wrote it; else the replay has just handed it out.
     pub(crate) fn append(
         &mut self,
         entry: Entry,
@@ -81,7 +82,8 @@ impl State {
         sent: &mut Vec<Message>,
     ) -> Result<(), Fault>
         requires possible { append_fault (log_of self.old.log) ≡ None }
-        requires noted { IsNoted self.old }
+        requires noted { WereNoted self.old }
+        requires handed { was_handed self.old.ownership.handed entry.term ≡ not client }
         ensures state { OnOk result (state_view self.new ≡ (appends_entry (state_view self.old) entry client).0) }
         ensures sends { OnOk result (sent.new.items ≡ sent.old.items ++
             (appends_entry (state_view self.old) entry client).1) }

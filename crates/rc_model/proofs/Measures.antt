@@ -15,7 +15,7 @@ use Rattle.rc_model.specs.Model.{Segment, new_segment, with_entry, is_ready, has
 use Rattle.rc_model.specs.Model.{old_head_of, has_old_head, places_to, places_in, places_of, numbers_to, durable_now, is_opening}
 use Rattle.rc_model.specs.Model.{is_closing, is_writing, opens_head, next_digest, rolled, begin_roll, is_full, appends, shuts, with_shut}
 use Rattle.rc_model.specs.Model.{may_start, may_close, may_write, left_out, starts, closes_old, writes_on, PartState, without_first}
-use Rattle.rc_model.specs.Model.{after_replay, is_to_answer, is_complete, answered_in, Master, ids_of, with_log, durable_entries}
+use Rattle.rc_model.specs.Model.{after_replay, is_to_answer, is_complete, answered_in, Master, ids_of, with_log, durable_replayed}
 use Rattle.rc_model.specs.Model.{dead_segments, appends_entry, when, follow_up, follows_start, follows_placed, close_is_due, close_marked}
 use Rattle.rc_model.specs.Model.{follows_closing, follows_shut, first_open, wants_commit, commits, commits_open, follows_change}
 use Rattle.rc_model.specs.Model.{follows_stored, rolls_for_replay, replays, follows_data, answers_part, follows_replay, or_rule}
@@ -444,12 +444,12 @@ answered-lower durable (one ∷ others) state e = by (is_to_answer durable one) 
         ∙ omega arith in
         omega arith
 
-lowers-answer : (master : Master) (found : Option PartState) → find (is_to_answer (durable_entries master)) master.ownership.parts ≡ found →
+lowers-answer : (master : Master) (found : Option PartState) → find (is_to_answer (durable_replayed master)) master.ownership.parts ≡ found →
     AllLower master (answers_part master (option_map (λ state. state.part.term) found))
 lowers-answer master None found = tt
 lowers-answer master (Some state) found =
-    let less : parts_unanswered (answered_in (durable_entries master) master.ownership.parts) < parts_unanswered master.ownership.parts =
-    answered-lower (durable_entries master) master.ownership.parts state found in
+    let less : parts_unanswered (answered_in (durable_replayed master) master.ownership.parts) < parts_unanswered master.ownership.parts =
+    answered-lower (durable_replayed master) master.ownership.parts state found in
     record { lower = omega arith; factor = refl }
 
 -- Every rule that applies lowers the measure.
@@ -471,7 +471,7 @@ lowers master factor =
     lower-when master (nat_lt master.log.durable (durable_now master.log)) (_, _) (lowers-stored master) in
     let data_ : AllLower master (follows_data master) = lowers-data master factor in
     let replay : AllLower master (follows_replay master) =
-    lowers-answer master (find (is_to_answer (durable_entries master)) master.ownership.parts) refl in
+    lowers-answer master (find (is_to_answer (durable_replayed master)) master.ownership.parts) refl in
     lower-or master _ _ start (lower-or master _ _ placed (lower-or master _ _ closing (lower-or master _ _ shut
     (lower-or master _ _ change (lower-or master _ _ stored (lower-or master _ _ data_ replay))))))
 

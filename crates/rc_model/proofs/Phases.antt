@@ -5,7 +5,7 @@ use Rattle.std.proofs.lemmas.Bool.{and_parts, or_right}
 use Rattle.rc_model.specs.Model.{ServerId, Entry, LogFull, Opening, Writing, Message, LAST_SEGMENT, all_placed, choose, is_ready, Log}
 use Rattle.rc_model.specs.Model.{head_of, old_head_of, has_old_head, is_opening, is_closing, is_writing, rolled, begin_roll, is_full}
 use Rattle.rc_model.specs.Model.{may_start, may_close, may_write, left_out, with_freed, writes_on, after_replay, to_answer, Master}
-use Rattle.rc_model.specs.Model.{durable_entries, dead_segments, appends_entry, follow_up, follows_start, follows_placed, close_is_due}
+use Rattle.rc_model.specs.Model.{durable_replayed, dead_segments, appends_entry, follow_up, follows_start, follows_placed, close_is_due}
 use Rattle.rc_model.specs.Model.{follows_closing, follows_shut, first_open, wants_commit, commits, commits_open, rolls_for_replay}
 use Rattle.rc_model.specs.Model.{replays, follows_data, answers_part}
 use Rattle.rc_model.proofs.Tests.{either, true_false}
@@ -66,7 +66,7 @@ by_rules P master keeps start placed closing shut =
     (done-or P _ _ (weaker _ (keeps-change master (first_open master.log)))
     (done-or P _ _ (done-when P _ (_, _) (λ _. keeps _ (record { phase = inl refl })))
     (done-or P _ _ (weaker _ (keeps-data master))
-    (weaker _ (keeps-answer master (to_answer (durable_entries master) master.ownership)))))))))
+    (weaker _ (keeps-answer master (to_answer (durable_replayed master) master.ownership)))))))))
   where
     weaker : (done : Option (Master × List Message)) → AllDone (KeepsPhaseDone master) done → AllDone P done
     weaker None p = tt

@@ -9,7 +9,7 @@ use Rattle.rc_model.specs.Model.{Log, with_segment, old_head_of, numbers_to, is_
 use Rattle.rc_model.specs.Model.{open_first, is_full, appends, next_digest, rolled, begin_roll, stored, commit_noted, loses, shuts}
 use Rattle.rc_model.specs.Model.{may_start, may_close, may_write, left_out, starts, closes_old, writes_on, knows_term, term_of}
 use Rattle.rc_model.specs.Model.{begin_part, put_data, grant, after_replay, to_answer, after_answer, Master, Task, with_log}
-use Rattle.rc_model.specs.Model.{durable_entries, to_ids, ids_of, place_of, places_head, appends_entry, dead_segments, refused}
+use Rattle.rc_model.specs.Model.{durable_replayed, to_ids, ids_of, place_of, places_head, appends_entry, dead_segments, refused}
 use Rattle.rc_model.specs.Model.{is_too_long, written, rolls_for_write, writes_under, writes_if_owned, writes, reads_if_owned, then_does}
 use Rattle.rc_model.specs.Model.{places_segment, replaces_lost, replaces_lost_of, opens_first, tries_first, obeys_list, takes_list}
 use Rattle.rc_model.specs.Model.{close_is_due, close_marked, frees_segments, first_open, wants_commit, commits, commits_open, write_oks}
@@ -117,8 +117,8 @@ pub record Followed (R : Master → Master × List Message → Type 0) : Type 0 
   pub replays : (master : Master) (entry : Entry) (entries : List Entry) → master.ownership.replay ≡ entry ∷ entries →
       is_writing master.log.phase ≡ true → is_full master.log ≡ false →
       R master (appends_entry (record master { ownership = after_replay master.ownership }) entry false)
-  pub answers : (master : Master) (term : ℕ) → to_answer (durable_entries master) master.ownership ≡ Some term → R master (
-    record master { ownership = after_answer (durable_entries master) master.ownership },
+  pub answers : (master : Master) (term : ℕ) → to_answer (durable_replayed master) master.ownership ≡ Some term → R master (
+    record master { ownership = after_answer (durable_replayed master) master.ownership },
     to_coordinator master.log.own (Recovered (attempt_of term master.tasks) term) ∷ [],
   )
 
@@ -165,7 +165,7 @@ module _ (R : Master → Master × List Message → Type 0) (f : Followed R) whe
       (λ ids room chosen. f.rolls master ids writing room chosen))
       (λ room. f.replays master entry entries e writing room)
 
-  kept-answers : (master : Master) (term : Option ℕ) → to_answer (durable_entries master) master.ownership ≡ term →
+  kept-answers : (master : Master) (term : Option ℕ) → to_answer (durable_replayed master) master.ownership ≡ term →
       AllDone (R master) (answers_part master term)
   kept-answers master None e = tt
   kept-answers master (Some term) e = f.answers master term e
@@ -181,7 +181,7 @@ module _ (R : Master → Master × List Message → Type 0) (f : Followed R) whe
       (done-or (R master) _ _
       (either (AllDone (R master)) (is_writing master.log.phase) (replays master master.ownership.replay) None
       (λ writing. kept-replays master master.ownership.replay refl writing) (λ _. tt))
-      (kept-answers master (to_answer (durable_entries master) master.ownership) refl)))))))
+      (kept-answers master (to_answer (durable_replayed master) master.ownership) refl)))))))
 
 module _ (R : Master → Master × List Message → Type 0) (joined : Joined R) where
   pub kept-then : (master : Master) (first : Master × List Message) (rule : Master → Master × List Message) →

@@ -17,7 +17,7 @@ use Rattle.rc_model.specs.Log.{numbers_to, is_closing, is_writing, durable_now}
 use Rattle.rc_model.specs.Heads.{is_full, begin_roll, with_shut, may_start, may_close, may_write, left_out, starts}
 use Rattle.rc_model.specs.Heads.{closes_old, writes_on}
 use Rattle.rc_model.specs.Ownership.{after_replay, to_answer, after_answer, PartState}
-use Rattle.rc_model.specs.Master.{Master, Task, with_log, durable_entries, to_ids, ids_of, to_unlost, places_head}
+use Rattle.rc_model.specs.Master.{Master, Task, with_log, durable_replayed, to_ids, ids_of, to_unlost, places_head}
 use Rattle.rc_model.specs.Master.{appends_entry, dead_segments}
 
 -- the rule applies, and does this
@@ -133,13 +133,13 @@ attempt_of term (task ∷ tasks) = if nat_eq task.part.term term then task.attem
 abbrev pub answers_part : Master → Option ℕ → Option (Master × List Message)
 answers_part master None = None
 answers_part master (Some term) = Some (
-  record master { ownership = after_answer (durable_entries master) master.ownership },
+  record master { ownership = after_answer (durable_replayed master) master.ownership },
   to_coordinator master.log.own (Recovered (attempt_of term master.tasks) term) ∷ [],
 )
 
 -- the first part that is complete is told of, once
 abbrev pub follows_replay : Master → Option (Master × List Message)
-follows_replay master = answers_part master (to_answer (durable_entries master) master.ownership)
+follows_replay master = answers_part master (to_answer (durable_replayed master) master.ownership)
 
 -- All of them
 

@@ -1,6 +1,6 @@
 -- A master's log: its segments, of which the newest is the head, its places, and how much of it is durable.
 use Rattle.std.specs.Prelude.{ℕ, ◌+◌, ◌-◌, Bool, true, false, nat_lt, nat_le, ◌&&◌, if◌then◌else◌, List, [], ◌∷◌}
-use Rattle.std.specs.Prelude.{◌++◌, length, map, zero, suc}
+use Rattle.std.specs.Prelude.{◌++◌, length, map, filter, not, zero, suc}
 use Rattle.rc_types.specs.declared.ids.ServerId.{ServerId}
 use Rattle.rc_types.specs.declared.entries.Entry.{Entry}
 use Rattle.rc_types.specs.declared.kept.Phase.{Phase}
@@ -86,6 +86,10 @@ places_of log = places_to log.segments log.head
 -- the entries of the log, in order
 abbrev pub entries_of : Log → List Entry
 entries_of log = map (λ place. place.entry) (places_of log)
+
+-- the entries at these places that no client wrote: those that were taken out of the replay
+abbrev pub replayed_at : List LogPlace → List Entry
+replayed_at places = map (λ place. place.entry) (filter (λ place. not place.client) places)
 
 -- How much of it is durable at this moment: each shut segment, up to the first that isn't, and of that what all
 -- members have.

@@ -10,7 +10,7 @@ use Rattle.rc_types.specs.declared.messages.Body.{Body}
 use Rattle.rc_types.specs.declared.messages.Body.TheVariants.{Place, Append}
 use Rattle.rc_model.specs.Messages.{between}
 use Rattle.rc_model.specs.ServerList.{ServerList, no_servers}
-use Rattle.rc_model.specs.Log.{Log, new_log, head_of, entries_of}
+use Rattle.rc_model.specs.Log.{Log, new_log, head_of, places_of, entries_of, replayed_at}
 use Rattle.rc_model.specs.Heads.{appends}
 use Rattle.rc_model.specs.Ownership.{Ownership, owns_nothing}
 use Rattle.rc_model.specs.Versions.{is_dead}
@@ -57,6 +57,10 @@ with_log master log = record master { log = log }
 -- the entries at durable places
 abbrev pub durable_entries : Master → List Entry
 durable_entries master = take master.log.durable (entries_of master.log)
+
+-- those of them that were taken out of the replay: the parts' own
+abbrev pub durable_replayed : Master → List Entry
+durable_replayed master = replayed_at (take master.log.durable (places_of master.log))
 
 -- Sending
 

@@ -15,7 +15,7 @@ use Rattle.rc_model.specs.Config.{all_placed}
 use Rattle.rc_model.specs.Segment.{Segment}
 use Rattle.rc_model.specs.Log.{Log, has_segment, numbers_to, is_closing, is_writing}
 use Rattle.rc_model.specs.Ownership.{Ownership, PartState, awaits_data, is_complete, owns_term}
-use Rattle.rc_model.specs.Master.{Master, Task, durable_entries, ids_of, place_of}
+use Rattle.rc_model.specs.Master.{Master, Task, durable_replayed, ids_of, place_of}
 use Rattle.rc_model.specs.ListRules.{obeys_list, then_does}
 use Rattle.rc_model.specs.FollowUps.{attempt_of}
 
@@ -101,7 +101,7 @@ fetches_again master (task ∷ tasks) =
 -- a complete part that isn't granted yet
 abbrev pub awaits_grant : Master → PartState → Bool
 awaits_grant master state =
-    is_complete (durable_entries master) state && not (owns_term master.ownership state.part.term)
+    is_complete (durable_replayed master) state && not (owns_term master.ownership state.part.term)
 
 abbrev pub recovered_again : Master → List Message
 recovered_again master =

@@ -107,10 +107,10 @@ pub use Rattle.rc_model.specs.ListRules.{obeys_list, opens_first, places_segment
 pub use Rattle.rc_model.specs.ListRules.{takes_list, then_does, tries_first}
 pub use Rattle.rc_model.specs.Log.{Log, LogPlace, durable_among, durable_now, entries_of, has_old_head, has_segment}
 pub use Rattle.rc_model.specs.Log.{head_of, is_closing, is_opening, is_writing, new_log, numbers_to, old_head_of}
-pub use Rattle.rc_model.specs.Log.{places_in, places_of, places_to, with_segment}
+pub use Rattle.rc_model.specs.Log.{places_in, places_of, places_to, replayed_at, with_segment}
 pub use Rattle.rc_model.specs.Made.{entry_at, made}
 pub use Rattle.rc_model.specs.Master.{Master, MasterSetup, Task, appends_entry, dead_segments, durable_entries}
-pub use Rattle.rc_model.specs.Master.{ids_of, is_dead_segment, new_master, not_lost, place_of, places_head, to_ids}
+pub use Rattle.rc_model.specs.Master.{durable_replayed, ids_of, is_dead_segment, new_master, not_lost, place_of, places_head, to_ids}
 pub use Rattle.rc_model.specs.Master.{to_unlost, with_log}
 pub use Rattle.rc_model.specs.MasterClaims.{FollowUpsLower, NoneAppliesAfterwards, ShutIsMarked}
 pub use Rattle.rc_model.specs.MasterStep.{begins_task, deposed_takes, master_takes, master_takes_first, master_ticks}
@@ -160,8 +160,8 @@ pub use Rattle.rc_model.specs.Tables.{put, put_id}
 pub use Rattle.rc_model.specs.Tablets.{assigned, count_to_mark, has_range, has_table, holds, insert_tablet, is_range}
 pub use Rattle.rc_model.specs.Tablets.{mark_if_owned, marked_crashed, split_at, tablet_of, tablets_of, whole_table}
 pub use Rattle.rc_model.specs.Tablets.{with_table}
-pub use Rattle.rc_model.specs.Versions.{Found, greatest_version, is_dead, is_of, is_outdated, next_version}
-pub use Rattle.rc_model.specs.Versions.{or_greater, read_from, read_of}
+pub use Rattle.rc_model.specs.Versions.{Found, found_in, greatest_from, greatest_version, is_above, is_dead, is_of}
+pub use Rattle.rc_model.specs.Versions.{is_outdated, next_version, or_greater, read_of}
 pub use Rattle.rc_model.specs.Works.{coordinator_after, host_after, work_if_for, work_in, works_of}
 pub use Rattle.rc_model.specs.World.{Job, NodeName, TheCoordinator, TheHost, TheOutside, World, coordinator_done}
 pub use Rattle.rc_model.specs.World.{delivery, host_done, is_possible, is_possible_job, job_done, master_of, node_can}

@@ -158,23 +158,24 @@ after_replay own = record own { replay = without_first own.replay }
 abbrev pub count_under : ℕ → List Entry → ℕ
 count_under term entries = length (filter (λ entry. nat_eq entry.term term) entries)
 
--- a part is complete: its rows have all come, and as many entries under its term are durable as they held
+-- a part is complete: its rows have all come, and as many of its own entries are durable as they held. Its own are
+-- those under its term that were taken out of the replay; these are the durable ones of all parts
 abbrev pub is_complete : List Entry → PartState → Bool
-is_complete durable state = nat_eq (length state.rows) 0 && nat_le state.size (count_under state.part.term durable)
+is_complete own state = nat_eq (length state.rows) 0 && nat_le state.size (count_under state.part.term own)
 
 -- a complete part whose end wasn't told yet
 abbrev pub is_to_answer : List Entry → PartState → Bool
-is_to_answer durable state = is_complete durable state && not state.answered
+is_to_answer replayed state = is_complete replayed state && not state.answered
 
 -- the term of the first one
 abbrev pub to_answer : List Entry → Ownership → Option ℕ
-to_answer durable own = option_map (λ state. state.part.term) (find (is_to_answer durable) own.parts)
+to_answer replayed own = option_map (λ state. state.part.term) (find (is_to_answer replayed) own.parts)
 
 -- its end is told
 abbrev pub answered_in : List Entry → List PartState → List PartState
-answered_in durable [] = []
-answered_in durable (state ∷ states) =
-    if is_to_answer durable state then record state { answered = true } ∷ states else state ∷ answered_in durable states
+answered_in replayed [] = []
+answered_in replayed (state ∷ states) =
+    if is_to_answer replayed state then record state { answered = true } ∷ states else state ∷ answered_in replayed states
 
 abbrev pub after_answer : List Entry → Ownership → Ownership
-after_answer durable own = record own { parts = answered_in durable own.parts }
+after_answer replayed own = record own { parts = answered_in replayed own.parts }

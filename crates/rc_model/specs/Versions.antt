@@ -1,5 +1,6 @@
 -- How an owner numbers versions, what it reads, and which entries are outdated: all by the entries of its log.
-use Rattle.std.specs.Prelude.{ℕ, ◌+◌, Bool, nat_eq, nat_lt, ◌&&◌, if◌then◌else◌, List, [], ◌∷◌, max, Option, None}
+use Rattle.std.specs.Prelude.{ℕ, ◌+◌, Bool, true, nat_eq, nat_lt, ◌&&◌, if◌then◌else◌, List, [], ◌∷◌, max, Option}
+use Rattle.std.specs.Prelude.{Some, None}
 use Rattle.std.specs.List.{list_any, list_all}
 use Rattle.rc_types.specs.declared.entries.Entry.{Entry}
 
@@ -18,27 +19,33 @@ greatest_version term table key (entry ∷ entries) =
 abbrev pub next_version : ℕ → ℕ → ℕ → List Entry → ℕ
 next_version term table key entries = greatest_version term table key entries + 1
 
+-- a version is above that of the entry that was found, and where none was found any is
+abbrev pub is_above : Option Entry → ℕ → Bool
+is_above None version = true
+is_above (Some found) version = nat_lt found.version version
+
+-- an entry of the key is found, unless one of as great a version was
+abbrev pub or_greater : ℕ → ℕ → ℕ → Option Entry → Entry → Option Entry
+or_greater term table key found entry =
+    if is_of term table key entry && is_above found entry.version then Some entry else found
+
+abbrev pub greatest_from : ℕ → ℕ → ℕ → Option Entry → List Entry → Option Entry
+greatest_from term table key found [] = found
+greatest_from term table key found (entry ∷ entries) =
+    greatest_from term table key (or_greater term table key found entry) entries
+
 -- what a read finds: a version, 0 where there is none, and the value
 pub record Found : Type 0 where
   pub version : ℕ
   pub value : Option (List ℕ)
 
--- the entry is found, unless what was found has as great a version
-abbrev pub or_greater : ℕ → ℕ → ℕ → Found → Entry → Found
-or_greater term table key found entry =
-    if is_of term table key entry && nat_lt found.version entry.version then record {
-      version = entry.version;
-      value = entry.value;
-    } else found
-
-abbrev pub read_from : ℕ → ℕ → ℕ → Found → List Entry → Found
-read_from term table key found [] = found
-read_from term table key found (entry ∷ entries) =
-    read_from term table key (or_greater term table key found entry) entries
+abbrev pub found_in : Option Entry → Found
+found_in None = record { version = 0; value = None }
+found_in (Some entry) = record { version = entry.version; value = entry.value }
 
 -- the greatest version of a key under a term with its value, of equal versions the first in place
 abbrev pub read_of : ℕ → ℕ → ℕ → List Entry → Found
-read_of term table key entries = read_from term table key (record { version = 0; value = None }) entries
+read_of term table key entries = found_in (greatest_from term table key None entries)
 
 -- among these entries is a greater version of this one's key under its term
 abbrev pub is_outdated : List Entry → Entry → Bool

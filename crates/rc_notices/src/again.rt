@@ -5,7 +5,7 @@ ghost use Rattle.std.specs.Option.{option_map_or};
 ghost use Rattle.rc_model.specs.Log.{has_segment, entries_of};
 ghost use Rattle.rc_model.specs.MasterTick.{commits_again, fetches_again, recovered_again, ready_again};
 ghost use Rattle.rc_headroll.specs.LogData.{log_of};
-ghost use Rattle.rc_ownership.specs.Owner.{durable_of};
+ghost use Rattle.rc_ownership.specs.Owner.{replayed_of};
 ghost use Rattle.rc_notices.specs.Beginnings.{IsBeginning};
 ghost use Rattle.rc_notices.specs.Reminders.{commit_again, recovered_of};
 ghost use Rattle.rc_notices.specs.Sender.{sender};
@@ -130,7 +130,8 @@ pub fn add_recovered_again(
     tasks: &[Task],
     sent: &mut Vec<Message>,
 ) -> Result<(), AllocError>
-    requires durable { durable_of ownership.now ≡ take (log_of log.now).durable (entries_of (log_of log.now)) }
+    requires durable { replayed_of ownership.now ≡ replayed_at (take (log_of log.now).durable
+        (places_of (log_of log.now))) }
     requires tasks { AreTasksOf ownership.now.own.parts tasks.now }
     ensures ok { OnOk result (sent.new.items ≡ sent.old.items ++
         recovered_again (sender (log_of log.now) ownership.now.own tasks.now)) }

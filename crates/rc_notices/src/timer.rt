@@ -4,7 +4,7 @@ ghost use Rattle.std.specs.Prelude.{◌≡◌, ◌++◌, take, OnOk, OnErr};
 ghost use Rattle.rc_model.specs.Log.{entries_of};
 ghost use Rattle.rc_model.specs.MasterTick.{reminds};
 ghost use Rattle.rc_headroll.specs.LogData.{log_of, before_of};
-ghost use Rattle.rc_ownership.specs.Owner.{durable_of};
+ghost use Rattle.rc_ownership.specs.Owner.{replayed_of};
 ghost use Rattle.rc_notices.specs.Beginnings.{IsBeginning};
 ghost use Rattle.rc_notices.specs.Sender.{sender};
 ghost use Rattle.rc_notices.specs.Tasks.{AreTasksOf};
@@ -24,7 +24,8 @@ pub fn add_reminders(
     tasks: &[Task],
     sent: &mut Vec<Message>,
 ) -> Result<(), AllocError>
-    requires durable { durable_of ownership.now ≡ take (log_of log.now).durable (entries_of (log_of log.now)) }
+    requires durable { replayed_of ownership.now ≡ replayed_at (take (log_of log.now).durable
+        (places_of (log_of log.now))) }
     requires tasks { AreTasksOf ownership.now.own.parts tasks.now }
     ensures ok { OnOk result (sent.new.items ≡ sent.old.items ++
         (reminds (before_of log.now) (sender (log_of log.now) ownership.now.own tasks.now)).1) }

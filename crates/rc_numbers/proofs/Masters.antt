@@ -3,7 +3,7 @@ use Rattle.std.proofs.Common.{ℕ, ◌+◌, ◌-◌, ◌≤◌, Bool, true, fals
 use Rattle.std.proofs.lemmas.List.Elements.{All-head}
 use Rattle.rc_model.specs.Model.{ServerId, Addr, Entry, Message, Body, Segment, with_closes_sent, Log, entries_of, old_head_of}
 use Rattle.rc_model.specs.Model.{with_segment, durable_now, opens_head, appends, next_digest, stored, commit_noted, loses, left_out}
-use Rattle.rc_model.specs.Model.{starts, closes_old, after_replay, Master, with_log, durable_entries, to_ids, appends_entry}
+use Rattle.rc_model.specs.Model.{starts, closes_old, after_replay, Master, with_log, durable_replayed, to_ids, appends_entry}
 use Rattle.rc_model.specs.Model.{dead_segments, places_head, written, new_durable, master_takes, master_ticks}
 use Rattle.rc_model.proofs.Walk.{Joined, Listed, Rolls, Taken, Ticked, Followed, kept-takes, kept-ticks}
 use Rattle.rc_model.proofs.Sending.{each-all, each-map, each-frees, each-write_oks, each-reminds}
@@ -152,7 +152,7 @@ module _ (n : ℕ) where
       log = h.log;
       ownership = record {
         replay = h.ownership.replay;
-        parts = answered-within n (durable_entries master) master.ownership.parts h.ownership.parts;
+        parts = answered-within n (durable_replayed master) master.ownership.parts h.ownership.parts;
       };
     }) tt;
   }

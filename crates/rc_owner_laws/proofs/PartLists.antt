@@ -1,9 +1,9 @@
 -- Entries under a term, and places at the end of a log.
 use Rattle.std.proofs.Common.{◌≡◌, ◌⊎◌, ℕ, zero, suc, ◌+◌, ◌≤◌, Bool, true, false, cond, List, [], ◌∷◌, ◌++◌, nat_eq}
-use Rattle.std.proofs.Common.{length, map, take, refl, sym, ap, ◌∙◌, subst, inl, inr, arith}
+use Rattle.std.proofs.Common.{length, map, filter, not, take, refl, sym, ap, ◌∙◌, subst, inl, inr, arith}
 use Rattle.std.proofs.lemmas.Bool.{eqb-true, eq-eqb, ne_eqb}
 use Rattle.std.proofs.lemmas.List.{append_assoc, length-append}
-use Rattle.rc_model.specs.Model.{Entry, LogPlace, under_term, count_under, In}
+use Rattle.rc_model.specs.Model.{Entry, LogPlace, replayed_at, under_term, count_under, In}
 use Rattle.rc_step_laws.specs.Words.{Begins}
 use Rattle.rc_owner_laws.specs.Parts.{logged, under}
 use Rattle.rc_model.proofs.Tests.{either}
@@ -82,6 +82,36 @@ count-grows term (suc d) e [] ys less = omega arith
 count-grows term (suc d) zero (x ∷ xs) ys less = absurd (omega arith)
 count-grows term (suc d) (suc e) (x ∷ xs) ys less =
     count-step term d x (take d xs) (take e (xs ++ ys)) (count-grows term d e xs ys (omega arith))
+
+-- one more entry counts where it is under the term
+pub count-first : (term : ℕ) (x : Entry) (xs : List Entry) (b : Bool) → nat_eq x.term term ≡ b →
+    count_under term (x ∷ xs) ≡ cond b (count_under term xs + 1) (count_under term xs)
+count-first term x xs b is = ap (λ v. length (cond v (x ∷ under term xs) (under term xs))) is ∙ by b
+  where
+    by : (b : Bool) → length (cond b (x ∷ under term xs) (under term xs)) ≡ cond b (count_under term xs + 1) (count_under term xs)
+    by true = omega arith
+    by false = refl
+
+count-more : (term : ℕ) (x : Entry) (xs : List Entry) → count_under term xs ≤ count_under term (x ∷ xs)
+count-more term x xs = by (nat_eq x.term term)
+  where
+    by : (b : Bool) → count_under term xs ≤ length (cond b (x ∷ under term xs) (under term xs))
+    by true = omega arith
+    by false = omega arith
+
+-- of the first places those that were replayed are no more than all
+pub count-replayed : (term d : ℕ) (places : List LogPlace) →
+    count_under term (replayed_at (take d places)) ≤ count_under term (take d (logged places))
+count-replayed term zero places = omega arith
+count-replayed term (suc d) [] = omega arith
+count-replayed term (suc d) (place ∷ places) = by place.client (count-replayed term d places)
+  where
+    by : (b : Bool) → count_under term (replayed_at (take d places)) ≤ count_under term (take d (logged places)) →
+        count_under term (logged (cond (not b) (place ∷ filter (λ one. not one.client) (take d places))
+        (filter (λ one. not one.client) (take d places))))
+        ≤ count_under term (place.entry ∷ take d (logged places))
+    by true less = (let more = count-more term place.entry (take d (logged places)) in omega arith)
+    by false less = count-step term d place.entry (replayed_at (take d places)) (take d (logged places)) less
 
 -- The entries of places
 

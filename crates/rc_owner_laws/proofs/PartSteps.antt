@@ -7,7 +7,7 @@ use Rattle.rc_model.specs.Model.{ServerId, Addr, Server, Outside, Entry, Part, P
 use Rattle.rc_model.specs.Model.{to_coordinator, refuses, from_rows, Log, LogPlace, places_of, head_of, is_writing, durable_now, stored}
 use Rattle.rc_model.specs.Model.{commit_noted, PartState, Ownership, term_of, owns_term, knows_term, put_data, grant, is_to_answer}
 use Rattle.rc_model.specs.Model.{is_complete, to_answer, after_answer, after_replay, without_first, Master, Task, with_log}
-use Rattle.rc_model.specs.Model.{durable_entries, ids_of, not_lost, appends_entry, refused, written, reads_if_owned}
+use Rattle.rc_model.specs.Model.{durable_replayed, ids_of, not_lost, appends_entry, refused, written, reads_if_owned}
 use Rattle.rc_model.specs.Model.{write_oks, new_durable, attempt_of, fetch_of, reminds, task_of, In, closes_old, left_out}
 use Rattle.rc_model.specs.Model.{starts, writes_on, old_head_of, with_segment, is_unclosed, with_closes_sent, close_marked}
 use Rattle.rc_model.specs.Model.{frees_segments}
@@ -182,30 +182,30 @@ module _ (sent : List Message) (m : ServerId) where
           SameState state now → StateLater (with_own (after_answer durable v.own) v) state
       stays state rows (now, at, same) = record { now = now; among = at; part_is = same.part; rows = same.rows ∙ rows; size = same.size }
 
-  parts-answers : (master : Master) (term : ℕ) → to_answer (durable_entries master) master.ownership ≡ Some term → Kept sent m master (
-    record master { ownership = after_answer (durable_entries master) master.ownership },
+  parts-answers : (master : Master) (term : ℕ) → to_answer (durable_replayed master) master.ownership ≡ Some term → Kept sent m master (
+    record master { ownership = after_answer (durable_replayed master) master.ownership },
     to_coordinator master.log.own (body.Recovered (attempt_of term master.tasks) term) ∷ [],
   )
-  parts-answers master term e head good = by (find (is_to_answer (durable_entries master)) master.ownership.parts) refl e
+  parts-answers master term e head good = by (find (is_to_answer (durable_replayed master)) master.ownership.parts) refl e
     where
       v_now : PartView
-      v_now = with_own (after_answer (durable_entries master) master.ownership) (part_view master)
+      v_now = with_own (after_answer (durable_replayed master) master.ownership) (part_view master)
 
       told : (state : PartState) → In state master.ownership.parts →
-          is_to_answer (durable_entries master) state ≡ true → state.part.term ≡ term →
+          is_to_answer (durable_replayed master) state ≡ true → state.part.term ≡ term →
           PartsMoved sent m master (
             record master {
-              ownership = after_answer (durable_entries master) master.ownership;
+              ownership = after_answer (durable_replayed master) master.ownership;
             },
             to_coordinator master.log.own (body.Recovered (attempt_of term master.tasks) term) ∷ [],
           )
       told state at is same =
           let complete : IsComplete (part_view master) state.part.term =
-          complete-is (part_view master) state at (and_parts (is_complete (durable_entries master) state) (not state.answered) is).0 in
-          let later : PartsLater (part_view master) v_now = later-answered (part_view master) (durable_entries master) in
+          complete-is (part_view master) state at (and_parts (is_complete (durable_replayed master) state) (not state.answered) is).0 in
+          let later : PartsLater (part_view master) v_now = later-answered (part_view master) (durable_replayed master) in
           record {
             head = head;
-            good = good-answered sent m (part_view master) (durable_entries master) good;
+            good = good-answered sent m (part_view master) (durable_replayed master) good;
             later = later;
             says = λ message one. one-says message one (record {
               complete = Rattle.rc_owner_laws.proofs.PartViews.complete-later (part_view master) v_now term later
@@ -220,16 +220,16 @@ module _ (sent : List Message) (m : ServerId) where
           one-says message (inl is_it) p = subst (λ (it : Message). part_said v_now it.to it.body) (sym is_it) p
           one-says message (inr never) p = absurd never
 
-      by : (some : Option PartState) → find (is_to_answer (durable_entries master)) master.ownership.parts ≡ some →
+      by : (some : Option PartState) → find (is_to_answer (durable_replayed master)) master.ownership.parts ≡ some →
           option_map (λ (state : PartState). state.part.term) some ≡ Some term →
           PartsMoved sent m master (
             record master {
-              ownership = after_answer (durable_entries master) master.ownership;
+              ownership = after_answer (durable_replayed master) master.ownership;
             },
             to_coordinator master.log.own (body.Recovered (attempt_of term master.tasks) term) ∷ [],
           )
       by None is none = cc
-      by (Some state) is found = let p = find-one (is_to_answer (durable_entries master)) master.ownership.parts state
+      by (Some state) is found = let p = find-one (is_to_answer (durable_replayed master)) master.ownership.parts state
           is in told state p.0 p.1 (some-same found)
         where
           some-same : Some state.part.term ≡ Some term → state.part.term ≡ term
@@ -350,7 +350,7 @@ module _ (sent : List Message) (m : ServerId) where
     }) (λ seg awaits. tt) (record {
       fetch = λ task row given among. asked (part_view master) task row given among;
       recovered = λ state among awaits. record {
-        complete = complete-is (part_view master) state among (and_parts (is_complete (durable_entries master) state)
+        complete = complete-is (part_view master) state among (and_parts (is_complete (durable_replayed master) state)
             (not (owns_term master.ownership state.part.term)) awaits).0;
         attempt_is = refl;
       };

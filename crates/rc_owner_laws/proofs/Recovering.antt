@@ -7,14 +7,14 @@ use Rattle.std.proofs.lemmas.List.{length-map}
 use Rattle.rc_model.specs.Model.{ServerId, Entry, Part, GrantedRange, Message, LogPlace, PartRow, PartState, Ownership, owns_term}
 use Rattle.rc_model.specs.Model.{has_part, knows_term, awaited_row, rows_in_order, insert_row, awaits, all_came, entries_that_came}
 use Rattle.rc_model.specs.Model.{under_term, joined, joining, part_with_row, with_row, data_in, replay_in, put_data, new_part}
-use Rattle.rc_model.specs.Model.{count_under, is_complete, answered_in, after_answer, Task, attempt_of, In}
+use Rattle.rc_model.specs.Model.{count_under, replayed_at, is_complete, answered_in, after_answer, Task, attempt_of, In}
 use Rattle.rc_model.proofs.Members.{In-append, In-left, In-right}
 use Rattle.rc_step_laws.specs.Words.{Begins}
 use Rattle.rc_step_laws.proofs.Lists.{begins-refl}
 use Rattle.rc_owner_laws.specs.Parts.{PartView, logged, under, durable_under, RangeWasGranted, WasPlanned, HasSent, rows_of_task}
 use Rattle.rc_owner_laws.specs.Parts.{SomeCame, AllCame, IsWaiting, HasJoined, IsPart, IsClients, IsReplayed, GoodParts}
 use Rattle.rc_owner_laws.specs.PartMoves.{IsComplete}
-use Rattle.rc_owner_laws.proofs.PartLists.{append-nil, under-append, under-all, under-none, count-take, nothing-more}
+use Rattle.rc_owner_laws.proofs.PartLists.{append-nil, under-append, under-all, under-none, count-replayed, count-take, nothing-more}
 use Rattle.rc_owner_laws.proofs.Appending.{knows-part, owns-granted}
 use Rattle.rc_owner_laws.proofs.States.{has_term, has_term-same, differ-same, one-term, differ-append, awaits-some, joined-part}
 use Rattle.rc_owner_laws.proofs.States.{awaits-term, same-data, replay-term, IsOther, IsTaker, data-cases, some-with_row, rows-some}
@@ -647,15 +647,18 @@ good-answered sent m v durable good = record {
 
 -- what the test of a complete part says
 pub complete-is : (v : PartView) (state : PartState) → In state v.own.parts →
-    is_complete (take v.durable (logged v.places)) state ≡ true → IsComplete v state.part.term
+    is_complete (replayed_at (take v.durable v.places)) state ≡ true → IsComplete v state.part.term
 complete-is v state at e =
-    let both = and_parts (nat_eq (length state.rows) 0) (nat_le state.size (durable_under state.part.term v)) e in
+    let own = count_under state.part.term (replayed_at (take v.durable v.places)) in
+    let both = and_parts (nat_eq (length state.rows) 0) (nat_le state.size own) e in
+    let less : state.size ≤ own = leb-true state.size own both.1 in
+    let all : own ≤ durable_under state.part.term v = count-replayed state.part.term v.durable v.places in
     record {
       state = state;
       among = at;
       term_is = refl;
       rows = empty state.rows (eqb-true (length state.rows) 0 both.0);
-      durable = leb-true state.size (durable_under state.part.term v) both.1;
+      durable = omega arith;
     }
   where
     empty : (rows : List PartRow) → length rows ≡ 0 → rows ≡ []

@@ -6,7 +6,7 @@ use Rattle.rc_types.specs.declared.events.Setup.{Setup}
 use Rattle.rc_types.specs.declared.events.Event.{Event}
 use Rattle.rc_types.specs.declared.messages.Message.{Message}
 use Rattle.rc_model.specs.Ownership.{PartState, owns_term, under_term, is_complete}
-use Rattle.rc_model.specs.Master.{Master, Task, durable_entries}
+use Rattle.rc_model.specs.Master.{Master, Task, durable_entries, durable_replayed}
 use Rattle.rc_model.specs.World.{replay}
 use Rattle.rc_model.specs.Headline.{In}
 use Rattle.rc_step_laws.specs.Words.{Begins}
@@ -27,7 +27,7 @@ pub record AreItsOwn (sent : List Message) (m : ServerId) (master : Master) (sta
 pub record CompletesWithItsOwn (sent : List Message) (m : ServerId) (master : Master) (state : PartState) : Type 0 where
   pub own : List Entry
   pub are : AreItsOwn sent m master state own
-  pub complete : (is_complete (durable_entries master) state ≡ true) ↔
+  pub complete : (is_complete (durable_replayed master) state ≡ true) ↔
       Begins own (under state.part.term (durable_entries master))
   pub alone : owns_term master.ownership state.part.term ≡ false →
       Begins (under state.part.term (durable_entries master)) own

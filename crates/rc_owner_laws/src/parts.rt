@@ -18,8 +18,8 @@ pub fn masters_keep_their_parts()
 
 /// After any list of events, a part of a master whose rows have all come is complete exactly where all of its own
 /// entries are durable: those that were sent for its rows, in their order, under its term. They are the first under
-/// its term that are durable, and until the term is owned nothing else under it is. So whoever counts the durable
-/// entries under the term, as the rule does, counts the part's own.
+/// its term that are durable, and until the term is owned nothing else under it is. The rule counts those durable
+/// entries under the term that were taken out of the replay: they are the part's own, before and after.
 pub fn parts_complete_with_their_own()
     ensures { PartsCompleteWithTheirOwn }
 {}

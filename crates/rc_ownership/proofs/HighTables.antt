@@ -14,22 +14,22 @@ same_parts one other p q r j = record { term = p j; table = q j; key = r j }
 pub same_slot-true : (one other : Slot) → same_slot one other ≡ true → one ≡ other
 same_slot-true one other h = same_parts one other (grind (arith, nat_tests)) (grind (arith, nat_tests)) (grind (arith, nat_tests))
 
-first_high : (place version : ℕ) → 0 < version → (place, version) ∷ [] ≡ with_high place version []
-first_high place version above = grind (arith, nat_tests)
+first_high : (place version : ℕ) → (place, version) ∷ [] ≡ with_high place version []
+first_high place version = grind (arith, nat_tests)
 
 -- a first high makes a list of its own
 pub added-new : {A : Type 0} (old same new : HighTable A) (slot : Slot) (list : Vec (ℕ × ℕ) A) (place version : ℕ) →
     same ≡ old → get same_slot old slot ≡ None → Updates same_slot same new slot (Some list) →
-    list.items ≡ (place, version) ∷ [] → 0 < version →
+    list.items ≡ (place, version) ∷ [] →
     (other : Slot) → highs_in new other ≡ cond (same_slot slot other) (with_high place version (highs_in old other)) (highs_in old other)
-added-new {A} old same new slot list place version e none updates is above other =
+added-new {A} old same new slot list place version e none updates is other =
     let items_or : Option (Vec (ℕ × ℕ) A) → List (ℕ × ℕ) = λ found. option_map_or (λ l. l.items) found [] in
     ap items_or (updates.0 other)
     ∙ ap (λ m. items_or (cond (same_slot slot other) (Some list) (get same_slot m other))) e
     ∙ by (same_slot slot other) refl
   where
     at_slot : list.items ≡ with_high place version (highs_in old slot)
-    at_slot = is ∙ first_high place version above ∙ ap (λ found. with_high place version (option_map_or (λ l. l.items) found [])) (sym none)
+    at_slot = is ∙ first_high place version ∙ ap (λ found. with_high place version (option_map_or (λ l. l.items) found [])) (sym none)
 
     by : (same : Bool) → same_slot slot other ≡ same →
         option_map_or (λ l. l.items) (cond same (Some list) (get same_slot old other)) [] ≡ cond same

@@ -1,6 +1,7 @@
 pub mod Granted
 pub mod GreatestVersions
 pub mod HighTables
+pub mod Marking
 pub mod NoteTables
 pub mod PartRows
 pub mod PartTables

@@ -1,10 +1,9 @@
 -- What a read finds is the last record high; what is outdated is below it.
-use Rattle.std.proofs.Common.{◌≡◌, ℕ, ◌+◌, ◌-◌, Bool, true, false, cond, ◌&&◌, ◌||◌, nat_lt, List, [], ◌∷◌, ◌++◌, length, slice_get}
+use Rattle.std.proofs.Common.{◌≡◌, ℕ, ◌+◌, ◌-◌, Bool, true, false, cond, ◌&&◌, ◌||◌, nat_le, nat_lt, List, [], ◌∷◌, ◌++◌, length, slice_get}
 use Rattle.std.proofs.Common.{Option, Some, None, max, sym, ap, ◌∙◌, refl, arith, length-append, append_assoc, zero, suc}
 use Rattle.std.proofs.lemmas.Bool.Decides.{nat_tests}
 use Rattle.std.specs.List.{list_any}
-use Rattle.std.specs.Option.{option_map_or}
-use Rattle.rc_model.specs.Model.{Entry, is_of, greatest_version, Found, read_from, read_of}
+use Rattle.rc_model.specs.Model.{Entry, is_of, is_above, greatest_version, found_in, greatest_from, read_of}
 use Rattle.rc_ownership.specs.Highs.{highs_from, highs_of}
 use Rattle.rc_ownership.proofs.RecordHighs.{highs_after}
 
@@ -25,52 +24,61 @@ pub last_high : (highs : List (ℕ × ℕ)) → last_high_or None highs ≡ slic
 last_high [] = refl
 last_high (first ∷ highs) = last_high-at (first ∷ highs) None (length (first ∷ highs) - 1) (omega arith)
 
--- what stands at a high, with its version
-abbrev pub found_at : List Entry → Found → Option (ℕ × ℕ) → Found
-found_at entries found None = found
-found_at entries found (Some high) =
-    option_map_or (λ entry. record { version = high.1; value = entry.value }) (slice_get entries high.0) found
+-- the entry that stands at a high
+abbrev pub entry_at : List Entry → Option (ℕ × ℕ) → Option Entry
+entry_at entries None = None
+entry_at entries (Some high) = slice_get entries high.0
+
+-- the least version above what was found
+abbrev pub least_above : Option Entry → ℕ
+least_above None = 0
+least_above (Some found) = found.version + 1
+
+above-least : (found : Option Entry) (version : ℕ) → is_above found version ≡ nat_le (least_above found) version
+above-least None version = grind (arith, nat_tests)
+above-least (Some found) version = less found.version version
+  where
+    less : (one other : ℕ) → nat_lt one other ≡ nat_le (one + 1) other
+    less one other = grind (arith, nat_tests)
 
 slice_get-after : (before : List Entry) (entry : Entry) (entries : List Entry) →
     slice_get (before ++ entry ∷ entries) (length before) ≡ Some entry
 slice_get-after [] entry entries = refl
 slice_get-after (first ∷ before) entry entries = slice_get-after before entry entries
 
-read_from-highs : (term table key : ℕ) (all before entries : List Entry) (start found : Found) (high : Option (ℕ × ℕ)) →
+greatest-highs : (term table key : ℕ) (all before entries : List Entry) (found : Option Entry) (high : Option (ℕ × ℕ)) →
     all ≡ before ++ entries →
-    found ≡ found_at all start high →
-    read_from term table key found entries ≡ found_at all start
-    (last_high_or high (highs_from term table key (length before) found.version entries))
-read_from-highs term table key all before [] start found high is at = at
-read_from-highs term table key all before (entry ∷ entries) start found high is at =
-    by (λ next h e. read_from-highs term table key all (before ++ entry ∷ []) entries start next h
+    found ≡ entry_at all high →
+    greatest_from term table key found entries ≡ entry_at all
+    (last_high_or high (highs_from term table key (length before) (least_above found) entries))
+greatest-highs term table key all before [] found high is at = at
+greatest-highs term table key all before (entry ∷ entries) found high is at =
+    ap (λ b. greatest_from term table key (cond (is_of term table key entry && b) (Some entry) found) entries) (above-least found entry.version)
+    ∙ by (λ next h e. greatest-highs term table key all (before ++ entry ∷ []) entries next h
     (is ∙ sym (append_assoc before (entry ∷ []) entries)) e
-    ∙ ap (λ place. found_at all start (last_high_or h (highs_from term table key place next.version entries)))
+    ∙ ap (λ place. entry_at all (last_high_or h (highs_from term table key place (least_above next) entries)))
     (length-append before (entry ∷ [])))
-    (is_of term table key entry && nat_lt found.version entry.version)
+    (is_of term table key entry && nat_le (least_above found) entry.version)
   where
-    here : found_at all start (Some (length before, entry.version)) ≡ record { version = entry.version; value = entry.value }
-    here = ap (λ o. option_map_or (λ one. let f : Found = record { version = entry.version; value = one.value } in f) o start)
-        (ap (λ es. slice_get es (length before)) is ∙ slice_get-after before entry entries)
+    here : Some entry ≡ entry_at all (Some (length before, entry.version))
+    here = sym (ap (λ es. slice_get es (length before)) is ∙ slice_get-after before entry entries)
 
-    by : ((next : Found) (h : Option (ℕ × ℕ)) → next ≡ found_at all start h →
-        read_from term table key next entries ≡ found_at all start
-        (last_high_or h (highs_from term table key (length before + 1) next.version entries))) →
+    by : ((next : Option Entry) (h : Option (ℕ × ℕ)) → next ≡ entry_at all h →
+        greatest_from term table key next entries ≡ entry_at all
+        (last_high_or h (highs_from term table key (length before + 1) (least_above next) entries))) →
         (b : Bool) →
-        read_from term table key (cond b (record { version = entry.version; value = entry.value }) found) entries
-        ≡ found_at all start (last_high_or high (highs_after b term table key (length before) found.version entry entries))
-    by later true = later (record { version = entry.version; value = entry.value }) (Some (length before, entry.version)) (sym here)
+        greatest_from term table key (cond b (Some entry) found) entries
+        ≡ entry_at all (last_high_or high (highs_after b term table key (length before) (least_above found) entry entries))
+    by later true = later (Some entry) (Some (length before, entry.version)) here
     by later false = later found high at
 
 -- a read finds what stands at the last high
 pub read_of-highs : (term table key : ℕ) (entries : List Entry) →
     read_of term table key entries
-    ≡ found_at entries (record { version = 0; value = None })
-    (slice_get (highs_of term table key entries) (length (highs_of term table key entries) - 1))
+    ≡ found_in (entry_at entries (slice_get (highs_of term table key entries) (length (highs_of term table key entries) - 1)))
 read_of-highs term table key entries =
-    read_from-highs term table key entries [] entries (record { version = 0; value = None })
-    (record { version = 0; value = None }) None refl refl
-    ∙ ap (λ high. found_at entries (record { version = 0; value = None }) high) (last_high (highs_of term table key entries))
+    ap found_in (greatest-highs term table key entries [] entries None None refl refl
+    ∙ ap (entry_at entries) (last_high (highs_of term table key entries)))
 
 -- a greater version of a key is there where the greatest is greater
 pub list_any-greatest : (term table key version : ℕ) (entries : List Entry) →
@@ -95,19 +103,16 @@ pub read-none : (term table key : ℕ) (entries : List Entry) (highs : List (ℕ
     slice_get highs (length highs - 1) ≡ None → read_of term table key entries ≡ record { version = 0; value = None }
 read-none term table key entries highs is at =
     read_of-highs term table key entries
-    ∙ ap (λ high. found_at entries (record { version = 0; value = None }) high) (ap (λ hs. slice_get hs (length hs - 1)) (sym is) ∙ at)
+    ∙ ap (λ high. found_in (entry_at entries high)) (ap (λ hs. slice_get hs (length hs - 1)) (sym is) ∙ at)
 
 read_at : (term table key : ℕ) (entries : List Entry) (highs : List (ℕ × ℕ)) (high : ℕ × ℕ) (entry : Option Entry) →
     highs ≡ highs_of term table key entries →
     slice_get highs (length highs - 1) ≡ Some high → slice_get entries high.0 ≡ entry →
-    read_of term table key entries
-    ≡ option_map_or (λ one. let f : Found = record { version = high.1; value = one.value } in f) entry
-    (record { version = 0; value = None })
+    read_of term table key entries ≡ found_in entry
 read_at term table key entries highs high entry is at there =
     read_of-highs term table key entries
-    ∙ ap (λ h. found_at entries (record { version = 0; value = None }) h) (ap (λ hs. slice_get hs (length hs - 1)) (sym is) ∙ at)
-    ∙ ap (λ o. option_map_or (λ one. let f : Found = record { version = high.1; value = one.value } in f) o
-    (record { version = 0; value = None })) there
+    ∙ ap (λ h. found_in (entry_at entries h)) (ap (λ hs. slice_get hs (length hs - 1)) (sym is) ∙ at)
+    ∙ ap found_in there
 
 pub read-nothing : (term table key : ℕ) (entries : List Entry) (highs : List (ℕ × ℕ)) (high : ℕ × ℕ) →
     highs ≡ highs_of term table key entries →
@@ -118,5 +123,5 @@ read-nothing term table key entries highs high is at there = read_at term table 
 pub read-some : (term table key : ℕ) (entries : List Entry) (highs : List (ℕ × ℕ)) (high : ℕ × ℕ) (entry : Entry) →
     highs ≡ highs_of term table key entries →
     slice_get highs (length highs - 1) ≡ Some high → slice_get entries high.0 ≡ Some entry →
-    read_of term table key entries ≡ record { version = high.1; value = entry.value }
+    read_of term table key entries ≡ record { version = entry.version; value = entry.value }
 read-some term table key entries highs high entry is at there = read_at term table key entries highs high (Some entry) is at there

@@ -11,3 +11,4 @@ pub mod Tops
 pub mod Unfinished
 pub mod Notes
 pub mod Looks
+pub mod Marks

@@ -5,7 +5,7 @@ ghost use Rattle.std.specs.Prelude.{◌≡◌, ℕ, ◌++◌, ◌∷◌, [], OnO
 ghost use Rattle.std.specs.Prelude.{take};
 ghost use Rattle.std.specs.List.Sorted.{IsNonDecreasingBy};
 ghost use Rattle.rc_model.specs.Versions.{is_of};
-ghost use Rattle.rc_ownership.specs.Highs.{last_version, with_high};
+ghost use Rattle.rc_ownership.specs.Highs.{is_higher, last_version, with_high};
 ghost use Rattle.rc_ownership.specs.Slots.{same_slot, highs_in};
 
 use indexmap::IndexMap;
@@ -46,6 +46,16 @@ pub(crate) fn last_version(highs: &[(usize, u64)]) -> u64
     }
 }
 
+/// Whether the version is above the highs, as any is where there is none.
+fn is_higher(highs: &[(usize, u64)], version: u64) -> bool
+    ensures { result ≡ is_higher highs.now version }
+{
+    match highs.last() {
+        Some((_, last)) => *last < version,
+        None => true,
+    }
+}
+
 /// The highs of a slot.
 pub(crate) fn highs_in(highs: &IndexMap<Slot, Vec<(usize, u64)>>, slot: Slot) -> &[(usize, u64)]
     ensures { result.now ≡ highs_in highs.now slot }
@@ -69,7 +79,7 @@ pub(crate) fn add_high(
         else highs_in highs.old other)) }
     ensures err { OnErr result ((other : Slot) → highs_in highs.new other ≡ highs_in highs.old other) }
 {
-    if version <= last_version(highs_in(highs, slot)) {
+    if !is_higher(highs_in(highs, slot), version) {
         return Ok(());
     }
     match highs.get_mut(&slot) {

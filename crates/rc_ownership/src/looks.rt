@@ -1,8 +1,9 @@
 //! What is shown of the parts of a recovery to whoever runs a master.
 
-ghost use Rattle.std.specs.Prelude.{◌≡◌, length, take, drop, slice_get, option_map, sum_by};
+ghost use Rattle.std.specs.Prelude.{◌≡◌, length, drop, slice_get, option_map, sum_by};
 ghost use Rattle.rc_types.specs.Counts.{within_64_bits};
 ghost use Rattle.rc_ownership.specs.Looks.{progress_of};
+ghost use Rattle.rc_ownership.specs.Notes.{replayed_in};
 
 use crate::notes::Notes;
 use crate::part::FetchedPart;
@@ -20,8 +21,8 @@ pub struct PartProgress {
     pub missing: usize,
     /// How many entries have come.
     pub entries: usize,
-    /// How many entries under its term are durable in the master's own log. The part is complete once no row is
-    /// missing, and as many are durable as have come.
+    /// How many of its own entries are durable in the master's own log: of those that the replay handed out. The part
+    /// is complete once no row is missing, and as many are durable as have come.
     pub durable: usize,
     /// Whether its end was told to the coordinator, which then grants its range.
     pub answered: bool,
@@ -30,13 +31,13 @@ pub struct PartProgress {
 impl FetchedPart {
     /// How far it has come.
     fn progress(&self, notes: &Notes) -> PartProgress
-        ensures { result ≡ progress_of (take notes.now.durable notes.now.noted) self.now }
+        ensures { result ≡ progress_of (replayed_in notes.now) self.now }
     {
         PartProgress {
             part: self.part,
             missing: self.missing,
             entries: self.count,
-            durable: notes.count_durable(self.part.term),
+            durable: notes.count_replayed(self.part.term),
             answered: self.answered,
         }
     }
@@ -52,7 +53,7 @@ impl Parts {
 
     /// How far the part of this number has come.
     pub(crate) fn progress(&self, number: usize, notes: &Notes) -> Option<PartProgress>
-        ensures { result ≡ option_map (progress_of (take notes.now.durable notes.now.noted))
+        ensures { result ≡ option_map (progress_of (replayed_in notes.now))
             (slice_get self.now.parts number) }
     {
         match self.begun.get_index(number) {

@@ -13,12 +13,13 @@ use rc_types::{Entry, Fault, Shared, TryClone};
 use std::alloc::Global;
 use std::marker::Model;
 
-/// The noted entries, how many of them are durable, how many there were and were durable when `begin`
-/// was called, the record highs of each slot, how many durable entries each term has, and the greatest version up to
-/// each entry.
+/// The noted entries, of each whether the replay had handed it out, how many of them are durable, how many there were
+/// and were durable when `begin` was called, the record highs of each slot, how many durable entries of each term the
+/// replay had handed out, and the greatest version up to each entry.
 #[derive(Drop)]
 pub(crate) struct Notes {
     noted: Vec<Entry>,
+    replayed: Vec<bool>,
     durable: usize,
     kept: usize,
     kept_durable: usize,
@@ -35,27 +36,38 @@ impl Model for Notes {
 
     ghost view = { λ s. record {
       noted = s.noted.items;
+      replayed = s.replayed.items;
       durable = s.durable;
       noted_before = take s.kept s.noted.items;
+      replayed_before = take s.kept s.replayed.items;
       durable_before = s.kept_durable;
     } };
 
-    ghost invariant = { λ s. AreNotes s.noted.items s.durable s.kept s.kept_durable s.highs s.counts
-        s.tops.items };
+    ghost invariant = { λ s. AreNotes s.noted.items s.replayed.items s.durable s.kept s.kept_durable s.highs
+        s.counts s.tops.items };
 }
 
 impl Notes {
     ghost use Rattle.rc_model.specs.Ownership.{count_under};
     ghost use Rattle.rc_model.specs.Versions.{next_version, greatest_version, read_of, is_outdated, is_dead};
     ghost use Rattle.rc_ownership.specs.Highs.{highs_of};
+    ghost use Rattle.rc_ownership.specs.Notes.{replayed_in};
     ghost use Rattle.rc_ownership.specs.Tops.{top_or, tops_of, LeaveRoom};
 
     /// No notes. It takes no memory until an entry is noted.
     pub(crate) fn new(alloc: Global) -> Notes
-        ensures { result ≡ record { noted = []; durable = 0; noted_before = []; durable_before = 0 } }
+        ensures { result ≡ record {
+          noted = [];
+          replayed = [];
+          durable = 0;
+          noted_before = [];
+          replayed_before = [];
+          durable_before = 0;
+        } }
     {
         Notes {
             noted: Vec::new(alloc),
+            replayed: Vec::new(alloc),
             durable: 0,
             kept: 0,
             kept_durable: 0,
@@ -67,7 +79,11 @@ impl Notes {
 
     /// From here on `restore` goes back to now.
     pub(crate) fn begin(&mut self)
-        ensures { self.new ≡ record self.old { noted_before = self.old.noted; durable_before = self.old.durable } }
+        ensures { self.new ≡ record self.old {
+          noted_before = self.old.noted;
+          replayed_before = self.old.replayed;
+          durable_before = self.old.durable;
+        } }
     {
         self.kept = self.noted.len();
         self.kept_durable = self.durable;
@@ -75,7 +91,11 @@ impl Notes {
 
     /// Goes back to where `begin` was called: the entries noted since are dropped one by one.
     pub(crate) fn restore(&mut self)
-        ensures { self.new ≡ record self.old { noted = self.old.noted_before; durable = self.old.durable_before } }
+        ensures { self.new ≡ record self.old {
+          noted = self.old.noted_before;
+          replayed = self.old.replayed_before;
+          durable = self.old.durable_before;
+        } }
     {
         self.set_durable(self.kept_durable);
         while self.noted.len() > self.kept {
@@ -87,25 +107,38 @@ impl Notes {
     fn drop_last(&mut self)
         requires noted { length self.old.noted_before < length self.old.noted }
         requires undurable { self.old.durable < length self.old.noted }
-        ensures { self.new ≡ record self.old { noted = take (length self.old.noted - 1) self.old.noted } }
+        ensures { self.new ≡ record self.old {
+          noted = take (length self.old.noted - 1) self.old.noted;
+          replayed = take (length self.old.noted - 1) self.old.replayed;
+        } }
     {
         let Some(entry) = self.noted.pop() else {
             return;
         };
         let slot = highs::slot_of(&entry);
         highs::drop_from(&mut self.highs, slot, self.noted.len());
+        self.replayed.truncate(self.noted.len());
         self.tops.truncate(self.noted.len());
     }
 
-    /// Notes an entry after the others. Only memory can be refused (F1).
-    pub(crate) fn note(&mut self, alloc: Global, entry: &Entry) -> Result<(), Fault>
-        ensures ok { OnOk result (self.new ≡ record self.old { noted = self.old.noted ++ entry.now ∷ [] }) }
+    /// Notes an entry after the others, and whether the replay had handed it out. Only memory can be refused (F1).
+    pub(crate) fn note(
+        &mut self,
+        alloc: Global,
+        entry: &Entry,
+        replayed: bool,
+    ) -> Result<(), Fault>
+        ensures ok { OnOk result (self.new ≡ record self.old {
+          noted = self.old.noted ++ entry.now ∷ [];
+          replayed = self.old.replayed ++ replayed ∷ [];
+        }) }
         ensures err { OnErr result (self.new ≡ self.old) }
         ensures no_memory { IfErr result (λ fault. fault ≡ OutOfMemory) }
     {
         let top = tops::higher(self.greatest(), entry.version);
         let copy = entry.try_clone(alloc)?;
         self.noted.reserve(1)?;
+        self.replayed.reserve(1)?;
         self.tops.reserve(1)?;
         counts::know_term(&mut self.counts, entry.term)?;
         let slot = highs::slot_of(entry);
@@ -117,6 +150,7 @@ impl Notes {
             entry.version,
         )?;
         self.tops.push(top).unwrap();
+        self.replayed.push(replayed).unwrap();
         self.noted.push(copy).unwrap();
         Ok(())
     }
@@ -160,7 +194,8 @@ impl Notes {
         ensures { self.new ≡ record self.old { durable = count } }
     {
         let newly = &self.noted.as_slice()[self.durable..count];
-        counts::count_up(&mut self.counts, newly);
+        let marks = &self.replayed.as_slice()[self.durable..count];
+        counts::count_up(&mut self.counts, newly, marks);
         self.durable = count;
     }
 
@@ -169,7 +204,8 @@ impl Notes {
         ensures { self.new ≡ record self.old { durable = count } }
     {
         let no_longer = &self.noted.as_slice()[count..self.durable];
-        counts::count_down(&mut self.counts, no_longer);
+        let marks = &self.replayed.as_slice()[count..self.durable];
+        counts::count_down(&mut self.counts, no_longer, marks);
         self.durable = count;
     }
 
@@ -215,14 +251,14 @@ impl Notes {
             { version = found.0; value = found.1 }) }
         ensures no_memory { IfErr result (λ fault. fault ≡ OutOfMemory) }
     {
-        let Some((place, version)) = self.durable_highs(term, table, key).last() else {
+        let Some((place, _)) = self.durable_highs(term, table, key).last() else {
             return Ok((0, None));
         };
         let Some(entry) = self.durable_entry(*place) else {
             return Ok((0, None));
         };
         let value = entry.value.try_clone(alloc)?;
-        Ok((*version, value))
+        Ok((entry.version, value))
     }
 
     /// Whether a durable entry has a greater version of the entry's key under its term.
@@ -240,9 +276,9 @@ impl Notes {
         entries.iter().all(|entry| self.is_outdated(entry))
     }
 
-    /// How many durable entries are under a term.
-    pub(crate) fn count_durable(&self, term: u32) -> usize
-        ensures { result ≡ count_under term (take self.now.durable self.now.noted) }
+    /// How many durable entries under a term the replay had handed out.
+    pub(crate) fn count_replayed(&self, term: u32) -> usize
+        ensures { result ≡ count_under term (replayed_in self.now) }
     {
         counts::count_in(&self.counts, term)
     }

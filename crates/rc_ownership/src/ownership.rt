@@ -1,7 +1,7 @@
 //! What a master owns, in one value.
 
-ghost use Rattle.std.specs.Prelude.{◌≡◌, ◌<◌, ◌≤◌, ◌+◌, ◌^◌, ◌++◌, ◌∷◌, [], length, not, nat_eq, nat_lt, slice_get};
-ghost use Rattle.std.specs.Prelude.{OnOk, OnErr, IfOk, IfErr, true, ◌↔◌, option_map};
+ghost use Rattle.std.specs.Prelude.{◌≡◌, ◌<◌, ◌≤◌, ◌+◌, ◌^◌, [], length, not, nat_eq, nat_lt, slice_get};
+ghost use Rattle.std.specs.Prelude.{OnOk, OnErr, IfOk, IfErr, None, true, ◌↔◌, option_map};
 ghost use Rattle.rc_types.specs.declared.faults.Fault.TheVariants.{OutOfMemory};
 ghost use Rattle.std.specs.List.{position};
 ghost use Rattle.rc_model.specs.Ownership.{owns_nothing};
@@ -11,7 +11,8 @@ ghost use Rattle.rc_ownership.specs.Grants.{grants_in};
 ghost use Rattle.rc_ownership.specs.Highs.{highs_of};
 ghost use Rattle.rc_types.specs.Counts.{within_64_bits};
 ghost use Rattle.rc_ownership.specs.Looks.{progress_of};
-ghost use Rattle.rc_ownership.specs.Owner.{durable_of, kept_now, kept_nothing};
+ghost use Rattle.rc_ownership.specs.Owner.{durable_of, replayed_of, kept_now, kept_nothing, was_handed, after_note};
+ghost use Rattle.rc_ownership.specs.Owner.{after_handing};
 ghost use Rattle.rc_ownership.specs.Parts.{awaiting_grant};
 ghost use Rattle.rc_ownership.specs.Tops.{LeaveRoom};
 ghost use Rattle.rc_ownership.specs.Unfinished.{HoldOthers, IsDone};
@@ -29,11 +30,18 @@ use std::marker::Model;
 pub struct Ownership {
     notes: Notes,
     parts: Parts,
+    handed: Option<u32>,
+    kept_handed: Option<u32>,
 }
 
 impl Drop for Ownership {
     fn drop(self) {
-        let Ownership { notes: _, parts: _ } = self;
+        let Ownership {
+            notes: _,
+            parts: _,
+            handed: _,
+            kept_handed: _,
+        } = self;
     }
 }
 
@@ -44,7 +52,9 @@ impl Model for Ownership {
 
     ghost view = { λ s. record {
       own = record { grants = s.parts.grants; parts = s.parts.parts; replay = s.parts.replay };
+      handed = s.handed;
       noted = s.notes.noted;
+      replayed = s.notes.replayed;
       durable = s.notes.durable;
       before = record {
         own = record {
@@ -52,7 +62,9 @@ impl Model for Ownership {
           parts = s.parts.parts_before;
           replay = s.parts.replay_before;
         };
+        handed = s.kept_handed;
         noted = s.notes.noted_before;
+        replayed = s.notes.replayed_before;
         durable = s.notes.durable_before;
       };
     } };
@@ -61,11 +73,20 @@ impl Model for Ownership {
 impl Ownership {
     /// What a new master owns: nothing. It takes no memory until something is taken in.
     pub fn new(alloc: Global) -> Ownership
-        ensures { result ≡ record { own = owns_nothing; noted = []; durable = 0; before = kept_nothing } }
+        ensures { result ≡ record {
+          own = owns_nothing;
+          handed = None;
+          noted = [];
+          replayed = [];
+          durable = 0;
+          before = kept_nothing;
+        } }
     {
         Ownership {
             notes: Notes::new(alloc),
             parts: Parts::new(alloc),
+            handed: None,
+            kept_handed: None,
         }
     }
 
@@ -75,6 +96,7 @@ impl Ownership {
     {
         self.notes.begin();
         self.parts.begin();
+        self.kept_handed = self.handed;
     }
 
     /// Goes back to where `begin` was called last, or to nothing where it never was; but for the
@@ -82,12 +104,15 @@ impl Ownership {
     pub fn restore(&mut self)
         ensures { self.new ≡ record self.old {
           own = self.old.before.own;
+          handed = self.old.before.handed;
           noted = self.old.before.noted;
+          replayed = self.old.before.replayed;
           durable = self.old.before.durable;
         } }
     {
         self.notes.restore();
         self.parts.restore();
+        self.handed = self.kept_handed;
     }
 
     /// Takes a granted range, unless one was granted under its term before. This isn't undone: what
@@ -137,17 +162,31 @@ impl Ownership {
         self.parts.grants().ranges()
     }
 
-    /// Notes an entry that was appended to the log, after those noted before.
+    /// Whether an entry of this term was handed out, and none was noted since.
+    fn was_handed(&self, term: u32) -> bool
+        ensures { result ≡ was_handed self.now.handed term }
+    {
+        match self.handed {
+            Some(handed) => handed == term,
+            None => false,
+        }
+    }
+
+    /// Notes an entry that was appended to the log, after those noted before. It is one of a part's own where
+    /// `next_replay` handed out an entry of its term and nothing was noted since.
     ///
     /// # Errors
     ///
     /// - `OutOfMemory` (F1): memory was refused; nothing has changed.
     pub fn note(&mut self, alloc: Global, entry: &Entry) -> Result<(), Fault>
-        ensures ok { OnOk result (self.new ≡ record self.old { noted = self.old.noted ++ entry.now ∷ [] }) }
+        ensures ok { OnOk result (self.new ≡ after_note entry.now self.old) }
         ensures err { OnErr result (self.new ≡ self.old) }
         ensures no_memory { IfErr result (λ fault. fault ≡ OutOfMemory) }
     {
-        self.notes.note(alloc, entry)
+        let replayed = self.was_handed(entry.term);
+        self.notes.note(alloc, entry, replayed)?;
+        self.handed = None;
+        Ok(())
     }
 
     /// Whether each noted entry leaves room for one more version in 64 bits, so that a write of any key can be
@@ -175,7 +214,7 @@ impl Ownership {
     }
 
     /// The record highs of a key under a term: the place, from 0, and the version of each noted entry
-    /// whose version is above 0 and above all earlier ones of that key and term.
+    /// whose version is above all earlier ones of that key and term: the first of them is one, whatever its version.
     pub fn highs(&self, term: u32, table: u32, key: u64) -> &[(usize, u64)]
         ensures { result.now ≡ highs_of term table key self.now.noted }
     {
@@ -302,7 +341,7 @@ impl Ownership {
     /// How far the part of this number has come; parts are numbered from 0 in the order in which they were begun.
     /// It takes no memory, and its cost does not grow with the part.
     pub fn part(&self, number: usize) -> Option<PartProgress>
-        ensures { result ≡ option_map (progress_of (durable_of self.now)) (slice_get self.now.own.parts number) }
+        ensures { result ≡ option_map (progress_of (replayed_of self.now)) (slice_get self.now.own.parts number) }
     {
         self.parts.progress(number, &self.notes)
     }
@@ -339,31 +378,36 @@ impl Ownership {
         self.parts.has_replay()
     }
 
-    /// A copy of the first entry that waits, under the term of its part: it waits no more.
+    /// A copy of the first entry that waits, under the term of its part: it waits no more. It is the part's own once
+    /// it is noted, before anything else is noted or handed out.
     ///
     /// # Errors
     ///
     /// - `OutOfMemory` (F1): memory was refused; nothing has changed.
     pub fn next_replay(&mut self, alloc: Global) -> Result<Option<Entry>, Fault>
         ensures first { IfOk result (λ entry. entry ≡ slice_get self.old.own.replay 0) }
-        ensures rest { OnOk result (self.new ≡ record self.old { own = owning.after_replay self.old.own }) }
+        ensures rest { OnOk result (self.new ≡ after_handing self.old) }
         ensures err { OnErr result (self.new ≡ self.old) }
         ensures no_memory { IfErr result (λ fault. fault ≡ OutOfMemory) }
     {
-        self.parts.next_replay(alloc)
+        let entry = self.parts.next_replay(alloc)?;
+        if let Some(first) = &entry {
+            self.handed = Some(first.term);
+        }
+        Ok(entry)
     }
 
     /// The term of the first begun part that is complete and whose end wasn't told: its rows have all
-    /// come, and as many entries under its term are durable as they held. Its end counts as told from
-    /// now on.
+    /// come, and as many of its own entries are durable as they held. Its own are those that `next_replay` handed out
+    /// and that were noted next. Its end counts as told from now on.
     ///
     /// # Errors
     ///
     /// - `OutOfMemory` (F1): memory was refused; nothing has changed.
     pub fn complete(&mut self) -> Result<Option<u32>, Fault>
-        ensures term { IfOk result (λ term. term ≡ owning.to_answer (durable_of self.old) self.old.own) }
+        ensures term { IfOk result (λ term. term ≡ owning.to_answer (replayed_of self.old) self.old.own) }
         ensures answered { OnOk result
-            (self.new ≡ record self.old { own = owning.after_answer (durable_of self.old) self.old.own }) }
+            (self.new ≡ record self.old { own = owning.after_answer (replayed_of self.old) self.old.own }) }
         ensures err { OnErr result (self.new ≡ self.old) }
         ensures no_memory { IfErr result (λ fault. fault ≡ OutOfMemory) }
     {
@@ -378,7 +422,7 @@ impl Ownership {
     ///
     /// - `OutOfMemory` (F1): the memory for the list was refused.
     pub fn awaiting_grant(&self, alloc: Global) -> Result<Vec<u32>, Fault>
-        ensures ok { IfOk result (λ terms. terms.items ≡ awaiting_grant (durable_of self.now) self.now.own
+        ensures ok { IfOk result (λ terms. terms.items ≡ awaiting_grant (replayed_of self.now) self.now.own
             self.now.own.parts) }
         ensures no_memory { IfErr result (λ fault. fault ≡ OutOfMemory) }
     {

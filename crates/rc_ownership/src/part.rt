@@ -1,10 +1,11 @@
 //! One part of a crashed master's log, from its begin to its end, and how a change of it is undone.
 
-ghost use Rattle.std.specs.Prelude.{◌≡◌, ◌<◌, true, nat_eq, length, take, [], IfOk, IfErr, OnOk, OnErr};
+ghost use Rattle.std.specs.Prelude.{◌≡◌, ◌<◌, true, nat_eq, length, [], IfOk, IfErr, OnOk, OnErr};
 ghost use Rattle.std.specs.List.{list_any};
 ghost use Rattle.rc_types.specs.declared.faults.Fault.TheVariants.{OutOfMemory};
 ghost use Rattle.rc_model.specs.Ownership.{new_part, is_awaited, part_with_row, all_came};
 ghost use Rattle.rc_model.specs.Ownership.{entries_that_came, is_complete, is_to_answer};
+ghost use Rattle.rc_ownership.specs.Notes.{replayed_in};
 ghost use Rattle.rc_ownership.specs.Parts.{part_before};
 ghost use Rattle.rc_ownership.specs.declared.part.Before.TheVariants.{Awaited};
 
@@ -170,17 +171,16 @@ impl FetchedPart {
         before
     }
 
-    /// Whether it is complete: it waits for no row, and as many entries under its term are durable as
-    /// it had.
+    /// Whether it is complete: it waits for no row, and as many of its own entries are durable as it had.
     pub(crate) fn is_complete(&self, notes: &Notes) -> bool
-        ensures { result ≡ is_complete (take notes.now.durable notes.now.noted) self.now }
+        ensures { result ≡ is_complete (replayed_in notes.now) self.now }
     {
-        self.awaits_none() && self.count <= notes.count_durable(self.part.term)
+        self.awaits_none() && self.count <= notes.count_replayed(self.part.term)
     }
 
     /// Whether it is complete and its end wasn't told.
     pub(crate) fn is_to_answer(&self, notes: &Notes) -> bool
-        ensures { result ≡ is_to_answer (take notes.now.durable notes.now.noted) self.now }
+        ensures { result ≡ is_to_answer (replayed_in notes.now) self.now }
     {
         self.is_complete(notes) && !self.answered
     }

@@ -1,10 +1,11 @@
 //! The parts that were begun, the grants by which they are finished, and the replay.
 
-ghost use Rattle.std.specs.Prelude.{◌≡◌, ◌++◌, ◌∷◌, [], true, false, nat_eq, nat_lt, length, slice_get, take};
+ghost use Rattle.std.specs.Prelude.{◌≡◌, ◌++◌, ◌∷◌, [], true, false, nat_eq, nat_lt, length, slice_get};
 ghost use Rattle.std.specs.Prelude.{OnOk, OnErr, IfOk, IfErr};
 ghost use Rattle.rc_types.specs.declared.faults.Fault.TheVariants.{OutOfMemory};
 ghost use Rattle.std.specs.List.{position};
 ghost use Rattle.rc_model.specs.Ownership as owning;
+ghost use Rattle.rc_ownership.specs.Notes.{replayed_in};
 ghost use Rattle.rc_ownership.specs.Parts.{who_fetched, awaiting_grant};
 ghost use Rattle.rc_ownership.specs.Grants.{owner_of};
 ghost use Rattle.rc_ownership.specs.Unfinished.{HoldOthers, IsDone};
@@ -216,7 +217,7 @@ impl Parts {
     /// The term of the first complete part whose end wasn't told. It looks at those parts alone that
     /// may be unfinished.
     fn to_answer(&self, notes: &Notes) -> Option<u32>
-        ensures { result ≡ owning.to_answer (take notes.now.durable notes.now.noted) (who_fetched self.now) }
+        ensures { result ≡ owning.to_answer (replayed_in notes.now) (who_fetched self.now) }
     {
         let places = self.unfinished.as_slice();
         let Some(place) = unfinished::first_due(&self.begun, notes, places) else {
@@ -230,11 +231,11 @@ impl Parts {
 
     /// The same term; the part's end counts as told from now on.
     pub(crate) fn complete(&mut self, notes: &Notes) -> Result<Option<u32>, AllocError>
-        ensures term { IfOk result (λ term. term ≡ owning.to_answer (take notes.now.durable notes.now.noted)
+        ensures term { IfOk result (λ term. term ≡ owning.to_answer (replayed_in notes.now)
             (who_fetched self.old)) }
         ensures answered { OnOk result
             (self.new ≡ record self.old {
-              parts = owning.answered_in (take notes.now.durable notes.now.noted)
+              parts = owning.answered_in (replayed_in notes.now)
                   self.old.parts;
             }) }
         ensures err { OnErr result (self.new ≡ self.old) }
@@ -259,7 +260,7 @@ impl Parts {
         alloc: Global,
         notes: &Notes,
     ) -> Result<Vec<u32>, AllocError>
-        ensures { IfOk result (λ terms. terms.items ≡ awaiting_grant (take notes.now.durable notes.now.noted)
+        ensures { IfOk result (λ terms. terms.items ≡ awaiting_grant (replayed_in notes.now)
             (who_fetched self.now) self.now.parts) }
     {
         let places = self.unfinished.as_slice();

@@ -1,8 +1,9 @@
 //! The places of the parts that may be unfinished: what a step and the timer look at in the place of all
 //! parts that were ever begun.
 
-ghost use Rattle.std.specs.Prelude.{◌≡◌, filter, find, take, IfOk};
+ghost use Rattle.std.specs.Prelude.{◌≡◌, filter, find, IfOk};
 ghost use Rattle.std.specs.List.{filter_map};
+ghost use Rattle.rc_ownership.specs.Notes.{replayed_in};
 ghost use Rattle.rc_ownership.specs.Unfinished.{is_finished, is_unfinished, is_due, is_awaiting, awaiting_at};
 
 use crate::grants::Grants;
@@ -41,7 +42,7 @@ pub(crate) fn keep_unfinished(
 
 /// Whether the part at a place is complete and its end wasn't told.
 fn is_due(begun: &IndexMap<u32, FetchedPart>, notes: &Notes, place: usize) -> bool
-    ensures { result ≡ is_due (take notes.now.durable notes.now.noted) begun.now.entries place }
+    ensures { result ≡ is_due (replayed_in notes.now) begun.now.entries place }
 {
     match begun.get_index(place) {
         Some((_, part)) => part.is_to_answer(notes),
@@ -55,7 +56,7 @@ pub(crate) fn first_due(
     notes: &Notes,
     places: &[usize],
 ) -> Option<usize>
-    ensures { result ≡ find (is_due (take notes.now.durable notes.now.noted) begun.now.entries) places.now }
+    ensures { result ≡ find (is_due (replayed_in notes.now) begun.now.entries) places.now }
 {
     places
         .iter()
@@ -65,7 +66,7 @@ pub(crate) fn first_due(
 
 /// Whether the part is complete and its term isn't granted yet.
 fn is_awaiting(part: &FetchedPart, notes: &Notes, grants: &Grants) -> bool
-    ensures { result ≡ is_awaiting (take notes.now.durable notes.now.noted) grants.now part.now }
+    ensures { result ≡ is_awaiting (replayed_in notes.now) grants.now part.now }
 {
     part.is_complete(notes) && !grants.owns_term(part.term())
 }
@@ -77,7 +78,7 @@ fn awaiting_at(
     grants: &Grants,
     place: usize,
 ) -> Option<u32>
-    ensures { result ≡ awaiting_at (take notes.now.durable notes.now.noted) grants.now begun.now.entries place }
+    ensures { result ≡ awaiting_at (replayed_in notes.now) grants.now begun.now.entries place }
 {
     match begun.get_index(place) {
         Some((_, part)) if is_awaiting(part, notes, grants) => Some(part.term()),
@@ -94,7 +95,7 @@ pub(crate) fn awaiting_terms(
     places: &[usize],
 ) -> Result<Vec<u32>, AllocError>
     ensures { IfOk result (λ terms. terms.items ≡ filter_map
-        (awaiting_at (take notes.now.durable notes.now.noted) grants.now begun.now.entries) places.now) }
+        (awaiting_at (replayed_in notes.now) grants.now begun.now.entries) places.now) }
 {
     places
         .iter()

@@ -1,8 +1,8 @@
 -- What a read finds among entries: the greatest version of its key under its term, of one of them, or 0.
-use Rattle.std.proofs.Common.{◌≡◌, ◌⊎◌, ℕ, ◌<◌, ◌≤◌, true, false, ◌&&◌, nat_eq, nat_lt, List, [], ◌∷◌, None}
+use Rattle.std.proofs.Common.{◌≡◌, ◌⊎◌, ℕ, ◌<◌, ◌≤◌, true, false, ◌&&◌, nat_eq, nat_lt, List, [], ◌∷◌, Option, Some, None}
 use Rattle.std.proofs.Common.{refl, sym, ap, ◌∙◌, subst, inl, inr, arith}
 use Rattle.std.proofs.lemmas.Bool.{and_parts, eqb-true, ltb-true, and_from}
-use Rattle.rc_model.specs.Model.{Entry, is_of, Found, or_greater, read_from, read_of, In}
+use Rattle.rc_model.specs.Model.{Entry, is_of, is_above, Found, found_in, or_greater, greatest_from, read_of, In}
 use Rattle.rc_model.proofs.Tests.{true_false, either}
 use Rattle.rc_owner_laws.proofs.Appending.{is-of-true}
 
@@ -24,20 +24,29 @@ module _ (term table key : ℕ) where
     pub version_is : found.version ≡ entry.version
     pub value_is : found.value ≡ entry.value
 
-  or-least : (found : Found) (entry : Entry) → found.version ≤ (or_greater term table key found entry).version
-  or-least found entry =
-      either (λ (now : Found). found.version ≤ now.version) (is_of term table key entry && nat_lt found.version entry.version)
-      (record { version = entry.version; value = entry.value }) found
-      (λ e. let less : found.version < entry.version = ltb-true found.version entry.version
-      (and_parts (is_of term table key entry) (nat_lt found.version entry.version) e).1 in omega arith)
+  -- an entry was found: one of these
+  record IsOne (entries : List Entry) (found : Option Entry) : Type 0 where
+    pub entry : Entry
+    pub among : In entry entries
+    pub of : is_of term table key entry ≡ true
+    pub is : found ≡ Some entry
+
+  or-least : (found : Option Entry) (entry : Entry) →
+      (found_in found).version ≤ (found_in (or_greater term table key found entry)).version
+  or-least None entry = omega arith
+  or-least (Some old) entry =
+      either (λ (now : Option Entry). old.version ≤ (found_in now).version) (is_of term table key entry && nat_lt old.version entry.version)
+      (Some entry) (Some old)
+      (λ e. let less : old.version < entry.version = ltb-true old.version entry.version
+      (and_parts (is_of term table key entry) (nat_lt old.version entry.version) e).1 in omega arith)
       (λ e. omega arith)
 
-  or-above : (found : Found) (entry : Entry) → is_of term table key entry ≡ true →
-      entry.version ≤ (or_greater term table key found entry).version
+  or-above : (found : Option Entry) (entry : Entry) → is_of term table key entry ≡ true →
+      entry.version ≤ (found_in (or_greater term table key found entry)).version
   or-above found entry of =
-      either (λ (now : Found). entry.version ≤ now.version) (is_of term table key entry && nat_lt found.version entry.version)
-      (record { version = entry.version; value = entry.value }) found
-      (λ e. omega arith) (λ e. not-less (ways entry.version found.version) e)
+      either (λ (now : Option Entry). entry.version ≤ (found_in now).version)
+      (is_of term table key entry && is_above found entry.version) (Some entry) found
+      (λ e. omega arith) (not-above found)
     where
       ways : (a b : ℕ) → (b < a) ⊎ (a ≤ b)
       ways a b = grind arith
@@ -45,99 +54,97 @@ module _ (term table key : ℕ) where
       less-test : (a b : ℕ) → a < b → nat_lt a b ≡ true
       less-test a b less = grind arith
 
-      not-less : (found.version < entry.version) ⊎ (entry.version ≤ found.version) →
-          (is_of term table key entry && nat_lt found.version entry.version) ≡ false → entry.version ≤ found.version
-      not-less (inr p) e = p
-      not-less (inl less) e = true_false
-          (sym (and_from (is_of term table key entry) (nat_lt found.version entry.version) of
-          (less-test found.version entry.version less)) ∙ e)
+      not-less : (old : Entry) → (old.version < entry.version) ⊎ (entry.version ≤ old.version) →
+          (is_of term table key entry && nat_lt old.version entry.version) ≡ false → entry.version ≤ old.version
+      not-less old (inr p) e = p
+      not-less old (inl less) e = true_false
+          (sym (and_from (is_of term table key entry) (nat_lt old.version entry.version) of
+          (less-test old.version entry.version less)) ∙ e)
 
-  from-least : (found : Found) (entries : List Entry) → found.version ≤ (read_from term table key found entries).version
+      not-above : (found : Option Entry) → (is_of term table key entry && is_above found entry.version) ≡ false →
+          entry.version ≤ (found_in found).version
+      not-above None e = true_false (sym (and_from (is_of term table key entry) true of refl) ∙ e)
+      not-above (Some old) e = not-less old (ways entry.version old.version) e
+
+  from-least : (found : Option Entry) (entries : List Entry) →
+      (found_in found).version ≤ (found_in (greatest_from term table key found entries)).version
   from-least found [] = omega arith
   from-least found (entry ∷ entries) =
       let a = or-least found entry in
       let b = from-least (or_greater term table key found entry) entries in
       omega arith
 
-  from-above : (found : Found) (entries : List Entry) (entry : Entry) → In entry entries → is_of term table key entry ≡ true →
-      entry.version ≤ (read_from term table key found entries).version
+  from-above : (found : Option Entry) (entries : List Entry) (entry : Entry) → In entry entries → is_of term table key entry ≡ true →
+      entry.version ≤ (found_in (greatest_from term table key found entries)).version
   from-above found [] entry at of = absurd at
   from-above found (first ∷ entries) entry (inr at) of = from-above (or_greater term table key found first) entries entry at of
   from-above found (first ∷ entries) entry (inl same) of =
-      let a : first.version ≤ (or_greater term table key found first).version = or-above found first
+      let a : first.version ≤ (found_in (or_greater term table key found first)).version = or-above found first
       (subst (λ (one : Entry). is_of term table key one ≡ true) same of) in
       let b = from-least (or_greater term table key found first) entries in
       let c : entry.version ≡ first.version = ap (λ (one : Entry). one.version) same in
       omega arith
 
-  or-is : (found : Found) (entry : Entry) → (or_greater term table key found entry ≡ found)
-      ⊎ IsFound (entry ∷ []) (or_greater term table key found entry)
+  or-is : (found : Option Entry) (entry : Entry) → (or_greater term table key found entry ≡ found)
+      ⊎ IsOne (entry ∷ []) (or_greater term table key found entry)
   or-is found entry =
-      either (λ (now : Found). (now ≡ found) ⊎ IsFound (entry ∷ []) now) (is_of term table key entry && nat_lt found.version entry.version)
-      (record { version = entry.version; value = entry.value }) found
-      (λ e. let of = of-is term table key entry (and_parts (is_of term table key entry) (nat_lt found.version entry.version) e).0 in
-      inr (record { entry = entry; among = inl refl; term_is = of.0; table_is = of.1; key_is = of.2; version_is = refl; value_is = refl }))
+      either (λ (now : Option Entry). (now ≡ found) ⊎ IsOne (entry ∷ []) now)
+      (is_of term table key entry && is_above found entry.version) (Some entry) found
+      (λ e. inr (record {
+        entry = entry;
+        among = inl refl;
+        of = (and_parts (is_of term table key entry) (is_above found entry.version) e).0;
+        is = refl;
+      }))
       (λ e. inl refl)
 
-  from-is : (found : Found) (entries : List Entry) → (read_from term table key found entries ≡ found)
-      ⊎ IsFound entries (read_from term table key found entries)
+  from-is : (found : Option Entry) (entries : List Entry) → (greatest_from term table key found entries ≡ found)
+      ⊎ IsOne entries (greatest_from term table key found entries)
   from-is found [] = inl refl
   from-is found (entry ∷ entries) = by (from-is (or_greater term table key found entry) entries) (or-is found entry)
     where
-      now : Found
-      now = read_from term table key (or_greater term table key found entry) entries
+      more : IsOne entries (greatest_from term table key (or_greater term table key found entry) entries) →
+          IsOne (entry ∷ entries) (greatest_from term table key (or_greater term table key found entry) entries)
+      more p = record { entry = p.entry; among = inr p.among; of = p.of; is = p.is }
 
-      more : IsFound entries (read_from term table key (or_greater term table key found entry) entries) →
-          IsFound (entry ∷ entries) (read_from term table key (or_greater term table key found entry) entries)
-      more p = record {
-        entry = p.entry;
-        among = inr p.among;
-        term_is = p.term_is;
-        table_is = p.table_is;
-        key_is = p.key_is;
-        version_is
-            = p.version_is;
-        value_is = p.value_is;
-      }
-
-      first : IsFound (entry ∷ []) (or_greater term table key found entry) →
-          IsFound (entry ∷ entries) (or_greater term table key found entry)
-      first p = record {
-        entry = p.entry;
-        among = here p.among;
-        term_is = p.term_is;
-        table_is = p.table_is;
-        key_is = p.key_is;
-        version_is
-            = p.version_is;
-        value_is = p.value_is;
-      }
+      first : IsOne (entry ∷ []) (or_greater term table key found entry) →
+          IsOne (entry ∷ entries) (or_greater term table key found entry)
+      first p = record { entry = p.entry; among = here p.among; of = p.of; is = p.is }
         where
           here : (p.entry ≡ entry) ⊎ ⊥ → (p.entry ≡ entry) ⊎ In p.entry entries
           here (inl e) = inl e
           here (inr never) = absurd never
 
-      by : (read_from term table key (or_greater term table key found entry) entries ≡ or_greater term table key found entry)
-          ⊎ IsFound entries (read_from term table key (or_greater term table key found entry) entries) →
-          (or_greater term table key found entry ≡ found) ⊎ IsFound (entry ∷ []) (or_greater term table key found entry) →
-          (read_from term table key (or_greater term table key found entry) entries ≡ found)
-          ⊎ IsFound (entry ∷ entries) (read_from term table key (or_greater term table key found entry) entries)
+      by : (greatest_from term table key (or_greater term table key found entry) entries ≡ or_greater term table key found entry)
+          ⊎ IsOne entries (greatest_from term table key (or_greater term table key found entry) entries) →
+          (or_greater term table key found entry ≡ found) ⊎ IsOne (entry ∷ []) (or_greater term table key found entry) →
+          (greatest_from term table key (or_greater term table key found entry) entries ≡ found)
+          ⊎ IsOne (entry ∷ entries) (greatest_from term table key (or_greater term table key found entry) entries)
       by (inr p) q = inr (more p)
       by (inl same) (inl still) = inl (same ∙ still)
-      by (inl same) (inr p) = inr (subst (IsFound (entry ∷ entries)) (sym same) (first p))
+      by (inl same) (inr p) = inr (subst (IsOne (entry ∷ entries)) (sym same) (first p))
 
   -- no entry of the key under the term is above what a read finds
   pub read-above : (entries : List Entry) (entry : Entry) → In entry entries → entry.term ≡ term → entry.table ≡ table → entry.key ≡ key →
       entry.version ≤ (read_of term table key entries).version
-  read-above entries entry at a b c = from-above
-      (record { version = 0; value = None }) entries entry at (is-of-true term table key entry a b c)
+  read-above entries entry at a b c = from-above None entries entry at (is-of-true term table key entry a b c)
 
   -- and above 0 it is one of them
   pub read-is : (entries : List Entry) → ((read_of term table key entries).version ≡ 0 → ⊥) →
       IsFound entries (read_of term table key entries)
-  read-is entries above = by (from-is (record { version = 0; value = None }) entries)
+  read-is entries above = by (from-is None entries)
     where
-      by : (read_of term table key entries ≡ record { version = 0; value = None }) ⊎ IsFound entries (read_of term table key entries) →
+      by : (greatest_from term table key None entries ≡ None) ⊎ IsOne entries (greatest_from term table key None entries) →
           IsFound entries (read_of term table key entries)
-      by (inl e) = absurd (above (ap (λ (found : Found). found.version) e))
-      by (inr p) = p
+      by (inl e) = absurd (above (ap (λ (found : Option Entry). (found_in found).version) e))
+      by (inr p) =
+          let of = of-is term table key p.entry p.of in
+          record {
+            entry = p.entry;
+            among = p.among;
+            term_is = of.0;
+            table_is = of.1;
+            key_is = of.2;
+            version_is = ap (λ (found : Option Entry). (found_in found).version) p.is;
+            value_is = ap (λ (found : Option Entry). (found_in found).value) p.is;
+          }

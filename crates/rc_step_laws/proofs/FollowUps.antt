@@ -9,7 +9,7 @@ use Rattle.rc_model.specs.Model.{Commit, Ready, Recovered, between, to_coordinat
 use Rattle.rc_model.specs.Model.{Segment, is_ready, is_all_closed, is_unclosed, has_unclosed, with_closes_sent, Log, LogPlace, places_of}
 use Rattle.rc_model.specs.Model.{head_of, old_head_of, has_old_head, with_segment, numbers_to, is_opening, is_closing, durable_now, shuts}
 use Rattle.rc_model.specs.Model.{may_start, may_close, may_write, left_out, with_freed, starts, closes_old, writes_on, after_replay}
-use Rattle.rc_model.specs.Model.{after_answer, Master, with_log, durable_entries, to_ids, ids_of, appends_entry, close_is_due}
+use Rattle.rc_model.specs.Model.{after_answer, Master, with_log, durable_replayed, to_ids, ids_of, appends_entry, close_is_due}
 use Rattle.rc_model.specs.Model.{close_marked, frees_segments, first_open, commits, write_oks, new_durable, attempt_of, goes_on}
 use Rattle.rc_model.specs.Model.{In}
 use Rattle.rc_model.proofs.Members.{In-append, In-map, In-filter}
@@ -401,7 +401,7 @@ by_rule m = record {
       record { log = done.log; known = done.known });
   answers = λ master term is sent view. (
       let one : Message = to_coordinator master.log.own (Recovered (attempt_of term master.tasks) term) in
-      moved-quiet sent m master (record master { ownership = after_answer (durable_entries master) master.ownership })
+      moved-quiet sent m master (record master { ownership = after_answer (durable_replayed master) master.ownership })
       (one ∷ []) view refl refl (quiet-one m one (record { from = ap Server view.log.own; quiet = tt })));
 }
 

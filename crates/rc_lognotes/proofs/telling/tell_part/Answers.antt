@@ -1,8 +1,8 @@
-use Rattle.rc_ownership.specs.Owner.{durable_of}
+use Rattle.rc_ownership.specs.Owner.{replayed_of}
 use Rattle.rc_notices.proofs.TasksOfParts.{tasks-answered}
 use Rattle.rc_lognotes.proofs.telling.tell_part.Goals as goal
 
 pub recovered-requires : goal.recovered-requires
 recovered-requires c =
     rw c.in_ok-term.ensures.answered
-    (tasks-answered (durable_of c.args.ownership.now) c.args.ownership.now.own.parts c.args.tasks.now c.requires)
+    (tasks-answered (replayed_of c.args.ownership.now) c.args.ownership.now.own.parts c.args.tasks.now c.requires)

@@ -1,13 +1,49 @@
-use Rattle.std.proofs.Common.{◌≡◌, ◌≤◌, take, unwrap_or, sym, ap, arith}
-use Rattle.rc_model.specs.Ownership.{count_under}
+use Rattle.std.proofs.Common.{◌≡◌, ◌+◌, ◌-◌, nat_eq, ap, subst, sym, ◌∙◌, arith}
+use Rattle.std.proofs.lemmas.Bool.Decides.{nat_tests}
+use Rattle.std.specs.Option.{IsSome}
+use Rattle.std.specs.Prelude.{slice_index_or}
+use Rattle.indexmap.specs.IndexMap.{get}
 use Rattle.rc_ownership.specs.Counts.{count_in}
-use Rattle.rc_ownership.proofs.Under.{count_under-le}
+use Rattle.rc_ownership.proofs.Marking.{marked-le, marked-some, marked-none}
 use Rattle.rc_ownership.proofs.counts.count_up.Goals as goal
+use Rattle.rc_ownership.proofs.counts.count_up.Goals.{then-marks-place, else-marks-place}
 
-pub overflow_add-count : goal.overflow_add-count
-overflow_add-count c =
-    let term = c.entry-item.result.term in
-    let is : count_in c.loop-entry.counts term ≡ c.in-Some.count.now = ap (λ o. unwrap_or o 0) (sym c.in-Some.ensures.value) in
-    let few : count_under term (take c.loop-entry.entry-index c.args.entries.now) ≤ c.loop-entry.entry-index =
-    count_under-le term c.args.entries.now c.loop-entry.entry-index in
-    omega (arith, is, few, c.loop-entry.invariant.counted term, c.requires.room term)
+pub raise-requires : goal.raise-requires
+raise-requires c =
+    let term = (slice_index_or c.args.entries.now c.loop-place.place c.index-entries-place.result).term in
+    omega (
+      arith,
+      c.loop-place.invariant.counted term,
+      marked-le term c.loop-place.place c.args.marks.now c.args.entries.now,
+      c.requires.room term,
+      c.loop-place-test.true,
+    )
+
+pub loop-place-preserved : goal.loop-place-preserved
+loop-place-preserved c = record {
+  counted = λ term. elim c.if-marks-place.branch [
+    | then-marks-place w ↦
+        ap (λ counts. count_in counts term) w.counts-is ∙ omega (
+          arith,
+          (w.raise.ensures.counted
+          (c.loop-place.invariant.kept _ (c.requires.known c.loop-place.place w.index-entries-place.result c.loop-place-test.true)) term),
+          c.loop-place.invariant.counted term,
+          marked-some term c.loop-place.place c.args.marks.now c.args.entries.now w.index-entries-place.result c.requires.each
+              c.loop-place-test.true w.if-marks-place.true,
+        )
+    | else-marks-place w ↦
+        ap (λ counts. count_in counts term) w.counts-is ∙ omega (
+          arith,
+          c.loop-place.invariant.counted term,
+          marked-none term c.loop-place.place c.args.marks.now c.args.entries.now c.requires.each c.loop-place-test.true
+              w.if-marks-place.false,
+        )
+  ];
+  kept = λ term was. elim c.if-marks-place.branch [
+    | then-marks-place w ↦
+        subst (λ counts. IsSome (get nat_eq counts term)) (sym w.counts-is)
+        (w.raise.ensures.kept term (c.loop-place.invariant.kept term was))
+    | else-marks-place w ↦
+        subst (λ counts. IsSome (get nat_eq counts term)) (sym w.counts-is) (c.loop-place.invariant.kept term was)
+  ];
+}

@@ -1,4 +1,4 @@
-use Rattle.std.proofs.Common.{◌≡◌, arith, rules, sym}
+use Rattle.std.proofs.Common.{◌≡◌, rules, sym}
 use Rattle.rc_ownership.specs.declared.highs.Slot.{Slot}
 use Rattle.rc_ownership.specs.Slots.{highs_in}
 use Rattle.rc_ownership.proofs.HighTables.{added-new, written-same}
@@ -17,4 +17,4 @@ returns-in_ok-insert-in-None-clause-ok c =
     added-new c.args.highs.now c.get_mut.follows.lender-at-none c.insert.new.self c.args.slot c.in_ok-list-in-None.list
     c.args.place c.args.version
     c.get_mut.follows.holds-at-none (sym c.in-None.ensures.value) c.in_ok-insert-in-None.ensures.updates
-    c.in_ok-list-in-None.ensures.items (omega arith)
+    c.in_ok-list-in-None.ensures.items

@@ -1,6 +1,6 @@
 use Rattle.std.proofs.Common.{◌≡◌, List, sym, ap, ◌∙◌, subst}
 use Rattle.rc_model.specs.Model.{Entry, after_answer}
-use Rattle.rc_ownership.specs.Owner.{Owner, durable_of}
+use Rattle.rc_ownership.specs.Owner.{Owner, replayed_of}
 use Rattle.rc_master.specs.View.{state_view}
 use Rattle.rc_master.proofs.Quiet.{on_ok-then}
 use Rattle.rc_master.proofs.Outer.{durable-noted}
@@ -14,7 +14,7 @@ pub returns-clause-state : goal.returns-clause-state
 returns-clause-state c =
     let s = c.args.self.now in
     on_ok-then c.tell_part.result
-    (λ (told : c.tell_part.new.ownership ≡ record s.ownership { own = after_answer (durable_of s.ownership) s.ownership.own }).
+    (λ (told : c.tell_part.new.ownership ≡ record s.ownership { own = after_answer (replayed_of s.ownership) s.ownership.own }).
     ap (λ (owner : Owner). record (state_view s) { ownership = owner.own }) told
     ∙ (ap (λ (durable : List Entry). record (state_view s) { ownership = after_answer durable s.ownership.own })
     (durable-noted s c.requires.noted) ∙ sym (answered-state (state_view s))))
@@ -29,7 +29,7 @@ pub returns-clause-noted : goal.returns-clause-noted
 returns-clause-noted c =
     let s = c.args.self.now in
     on_ok-then c.tell_part.result
-    (λ (told : c.tell_part.new.ownership ≡ record s.ownership { own = after_answer (durable_of s.ownership) s.ownership.own }).
-    rw told (notes-parts (tasks-answered (durable_of s.ownership) s.ownership.own.parts s.tasks.items c.requires.noted.tasks_are)
+    (λ (told : c.tell_part.new.ownership ≡ record s.ownership { own = after_answer (replayed_of s.ownership) s.ownership.own }).
+    rw told (notes-parts (tasks-answered (replayed_of s.ownership) s.ownership.own.parts s.tasks.items c.requires.noted.tasks_are)
     c.requires.noted))
     c.tell_part.ensures.owner

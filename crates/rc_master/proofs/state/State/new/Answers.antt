@@ -12,6 +12,8 @@ returns-clause-noted c =
     rw (c.new-2.ensures.log, c.new-3.ensures, none)
     (record {
       entries = refl;
+      replays = refl;
+      none_handed = refl;
       durable_are = refl;
       opened = λ writing. true_false (sym writing);
       replicas = c.requires.some;

@@ -5,11 +5,11 @@ use Rattle.rc_notices.specs.Sender.{sender}
 use Rattle.rc_notices.specs.Tasks.{AreTasksOf}
 use Rattle.rc_notices.proofs.Senders.{reminds-sender}
 use Rattle.rc_master.specs.View.{state_view}
-use Rattle.rc_master.proofs.Notes.{durable-same}
+use Rattle.rc_master.proofs.Notes.{replayed-same}
 use Rattle.rc_master.proofs.state.State.remind.Goals as goal
 
 pub add_reminders-requires-clause-durable : goal.add_reminders-requires-clause-durable
-add_reminders-requires-clause-durable c = durable-same _ _ _ c.requires.noted
+add_reminders-requires-clause-durable c = replayed-same _ _ _ _ c.requires.noted
 
 pub add_reminders-requires-clause-tasks : goal.add_reminders-requires-clause-tasks
 add_reminders-requires-clause-tasks c =

@@ -1,6 +1,7 @@
 use Rattle.std.proofs.Common.{◌≡◌, ◌+◌, ◌-◌, length, take, drop, ap, ◌∙◌, arith}
 use Rattle.rc_model.specs.Ownership.{count_under}
 use Rattle.rc_ownership.specs.Counts.{count_in}
+use Rattle.rc_ownership.specs.Marks.{marked}
 use Rattle.rc_ownership.proofs.NoteTables.{tables-durable, counts_fit}
 use Rattle.rc_ownership.proofs.notes.Notes.raise_durable.Goals as goal
 
@@ -9,7 +10,7 @@ count_up-requires-clause-room c =
     let durable_is : c.self.inside.durable ≡ c.args.self.now.durable = ap (λ notes. notes.durable) c.self.view_is in
     λ term. omega (
       arith,
-      counts_fit c.self.inside.noted.items c.self.inside.durable c.args.count c.self.inside.highs c.self.inside.counts
+      counts_fit c.self.inside.noted.items c.self.inside.replayed.items c.self.inside.durable c.args.count c.self.inside.highs c.self.inside.counts
           c.self.invariant.tables (omega arith) term,
       ap (λ entries. length (take (c.args.count - c.self.inside.durable) (drop c.self.inside.durable entries))) c.as_slice.ensures.value,
     )
@@ -19,12 +20,16 @@ invariant_of-self c =
     let durable_is : c.self.inside.durable ≡ c.args.self.now.durable = ap (λ notes. notes.durable) c.self.view_is in
     let noted_is : length c.self.inside.noted.items ≡ length c.args.self.now.noted = ap (λ notes. length notes.noted) c.self.view_is in
     let tables =
-    tables-durable c.self.inside.noted.items c.self.inside.durable c.args.count c.self.inside.highs c.self.inside.counts
+    tables-durable c.self.inside.noted.items c.self.inside.replayed.items c.self.inside.durable c.args.count c.self.inside.highs c.self.inside.counts
     c.count_up.new.counts
     c.self.invariant.tables (omega arith) (omega arith)
     (λ term. c.count_up.ensures.counted term
     ∙ ap (λ entries. count_in c.self.inside.counts term + count_under term
-    (take (c.args.count - c.self.inside.durable) (drop c.self.inside.durable entries))) c.as_slice.ensures.value)
+    (marked (take (c.args.count - c.self.inside.durable) (drop c.self.inside.durable c.as_slice-2.result.now))
+    (take (c.args.count - c.self.inside.durable) (drop c.self.inside.durable entries)))) c.as_slice.ensures.value
+    ∙ ap (λ marks. count_in c.self.inside.counts term + count_under term
+    (marked (take (c.args.count - c.self.inside.durable) (drop c.self.inside.durable marks))
+    (take (c.args.count - c.self.inside.durable) (drop c.self.inside.durable c.self.inside.noted.items)))) c.as_slice-2.ensures.value)
     c.count_up.ensures.kept in
     record {
       tables = tables;

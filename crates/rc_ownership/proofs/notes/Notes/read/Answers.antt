@@ -19,5 +19,5 @@ returns-clause-ok c =
     read-some c.args.term c.args.table c.args.key (take c.args.self.now.durable c.args.self.now.noted)
     c.durable_highs.result.now c.in-Some.field-0.now
     c.in-Some-durable_entry.entry.now c.durable_highs.ensures (sym c.in-Some.ensures.value) (sym c.in-Some-durable_entry.ensures)
-    ∙ ap (λ value. let found : Found = record { version = c.in-Some.field-0.now.1; value = value } in found)
+    ∙ ap (λ value. let found : Found = record { version = c.in-Some-durable_entry.entry.now.version; value = value } in found)
     (sym c.in_ok-value.ensures.copy)

@@ -8,6 +8,7 @@ pub loop-self-init : goal.loop-self-init
 loop-self-init c = record {
   durable = ap (λ notes. notes.durable) c.set_durable-2.ensures ∙ ap (λ notes. notes.durable_before) c.set_durable.view_is;
   noted_before = ap (λ notes. notes.noted_before) c.set_durable-2.ensures;
+  replayed_before = ap (λ notes. notes.replayed_before) c.set_durable-2.ensures;
   durable_before = ap (λ notes. notes.durable_before) c.set_durable-2.ensures;
 }
 
@@ -43,6 +44,7 @@ pub loop-self-preserved : goal.loop-self-preserved
 loop-self-preserved c = record {
   durable = ap (λ notes. notes.durable) c.drop_last.ensures ∙ c.loop-self.invariant.durable;
   noted_before = ap (λ notes. notes.noted_before) c.drop_last.ensures ∙ c.loop-self.invariant.noted_before;
+  replayed_before = ap (λ notes. notes.replayed_before) c.drop_last.ensures ∙ c.loop-self.invariant.replayed_before;
   durable_before = ap (λ notes. notes.durable_before) c.drop_last.ensures ∙ c.loop-self.invariant.durable_before;
 }
 
@@ -55,11 +57,19 @@ returns c =
     ∙ sym (take_all c.self.inside.kept c.self.inside.noted.items within)
     ∙ ap (λ notes. notes.noted_before) c.self.view_is
     ∙ c.loop-self.invariant.noted_before in
+    let marks_are =
+    sym (ap (λ notes. notes.replayed) c.self.view_is)
+    ∙ sym (take_all c.self.inside.kept c.self.inside.replayed.items (omega (arith, within, c.self.invariant.tables.each_marked)))
+    ∙ ap (λ notes. notes.replayed_before) c.self.view_is
+    ∙ c.loop-self.invariant.replayed_before in
     same_notes c.loop-self.self
     (record {
       noted = c.args.self.now.noted_before;
+      replayed = c.args.self.now.replayed_before;
       durable = c.args.self.now.durable_before;
       noted_before = c.args.self.now.noted_before;
+      replayed_before = c.args.self.now.replayed_before;
       durable_before = c.args.self.now.durable_before;
     })
-    noted_is c.loop-self.invariant.durable c.loop-self.invariant.noted_before c.loop-self.invariant.durable_before
+    noted_is marks_are c.loop-self.invariant.durable c.loop-self.invariant.noted_before
+    c.loop-self.invariant.replayed_before c.loop-self.invariant.durable_before

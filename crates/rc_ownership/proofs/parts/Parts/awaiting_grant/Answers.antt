@@ -1,6 +1,7 @@
 use Rattle.std.proofs.Common.{◌≡◌, take, ap, subst, ◌∙◌}
 use Rattle.std.specs.Prelude.{IfOk}
 use Rattle.std.specs.List.{filter_map}
+use Rattle.rc_ownership.specs.Notes.{replayed_in}
 use Rattle.rc_ownership.specs.Parts.{who_fetched, awaiting_grant}
 use Rattle.rc_ownership.specs.Unfinished.{awaiting_at}
 use Rattle.rc_ownership.proofs.Places.{stand-all, terms-awaiting}
@@ -8,7 +9,7 @@ use Rattle.rc_ownership.proofs.parts.Parts.awaiting_grant.Goals as goal
 
 pub returns : goal.returns
 returns c =
-    let durable = take c.args.notes.now.durable c.args.notes.now.noted in
+    let durable = replayed_in c.args.notes.now in
     let entries = c.self.inside.begun.entries in
     let grants = c.self.inside.grants in
     subst (λ list. IfOk c.awaiting_terms.result (λ terms. terms.items ≡ list))

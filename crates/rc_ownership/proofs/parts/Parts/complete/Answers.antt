@@ -2,6 +2,7 @@ use Rattle.std.proofs.Common.{◌≡◌, ◌++◌, ◌∷◌, [], nat_eq, take, 
 use Rattle.std.proofs.lemmas.Grind.{common_steps}
 use Rattle.std.specs.Map.{set_value}
 use Rattle.rc_model.specs.Ownership.{is_to_answer, answered_in}
+use Rattle.rc_ownership.specs.Notes.{replayed_in}
 use Rattle.rc_ownership.specs.declared.part.Before.TheVariants.{Unanswered}
 use Rattle.rc_ownership.specs.Parts.{Fetched, parts_in}
 use Rattle.rc_ownership.proofs.PartTables.{answered_in-none, not_told, told, told-first, unmapped}
@@ -12,13 +13,13 @@ use Rattle.rc_ownership.proofs.parts.Parts.complete.Goals as goal
 pub returns-in_default-clause-answered : goal.returns-in_default-clause-answered
 returns-in_default-clause-answered c =
     ap (λ parts. let fetched : Fetched = record c.args.self.now { parts = parts } in fetched)
-    (sym (answered_in-none (take c.args.notes.now.durable c.args.notes.now.noted) c.args.self.now.parts
-    (unmapped (find (is_to_answer (take c.args.notes.now.durable c.args.notes.now.noted)) c.args.self.now.parts)
+    (sym (answered_in-none (replayed_in c.args.notes.now) c.args.self.now.parts
+    (unmapped (find (is_to_answer (replayed_in c.args.notes.now)) c.args.self.now.parts)
     (sym c.to_answer.ensures ∙ c.in_default.is))))
 
 pub unreachable-requires : goal.unreachable-requires
 unreachable-requires c =
-    let durable = take c.args.notes.now.durable c.args.notes.now.noted in
+    let durable = replayed_in c.args.notes.now in
     not_told durable c.self.inside.begun.entries c.in-Some.term c.self.invariant.under_terms
     (ap (λ fetched. option_map (λ state. state.part.term) (find (is_to_answer durable) fetched.parts)) c.self.view_is ∙
     sym c.to_answer.ensures ∙ c.in-Some.is)
@@ -26,7 +27,7 @@ unreachable-requires c =
 
 pub invariant_of-self-2 : goal.invariant_of-self-2
 invariant_of-self-2 c =
-    let durable = take c.args.notes.now.durable c.args.notes.now.noted in
+    let durable = replayed_in c.args.notes.now in
     let entries = c.self.inside.begun.entries in
     let changed = (c.get_mut.follows.lender c.answer.new.self).entries in
     let part = c.in-Some-get_mut.part.now in
@@ -51,7 +52,7 @@ invariant_of-self-2 c =
 
 pub returns-clause-answered : goal.returns-clause-answered
 returns-clause-answered c =
-    let durable = take c.args.notes.now.durable c.args.notes.now.noted in
+    let durable = replayed_in c.args.notes.now in
     let entries = c.self.inside.begun.entries in
     let changed = (c.get_mut.follows.lender c.answer.new.self).entries in
     let part = c.in-Some-get_mut.part.now in

@@ -2,13 +2,14 @@ use Rattle.std.proofs.Common.{Some, None, take, find, option_map, ap, sym, ◌�
 use Rattle.std.specs.Prelude.{slice_get}
 use Rattle.std.specs.Option.{option_map_or}
 use Rattle.rc_model.specs.Ownership.{is_to_answer}
+use Rattle.rc_ownership.specs.Notes.{replayed_in}
 use Rattle.rc_ownership.specs.Unfinished.{is_due}
 use Rattle.rc_ownership.proofs.Places.{term-due}
 use Rattle.rc_ownership.proofs.parts.Parts.to_answer.Goals as goal
 
 pub returns-in_default : goal.returns-in_default
 returns-in_default c =
-    let durable = take c.args.notes.now.durable c.args.notes.now.noted in
+    let durable = replayed_in c.args.notes.now in
     let entries = c.self.inside.begun.entries in
     let places = c.self.inside.unfinished.items in
     sym (ap (λ found. option_map_or (λ place. option_map (λ entry. entry.1.part.term) (slice_get entries place)) found None)
@@ -19,7 +20,7 @@ returns-in_default c =
 
 pub returns-in-Some-get_index : goal.returns-in-Some-get_index
 returns-in-Some-get_index c =
-    let durable = take c.args.notes.now.durable c.args.notes.now.noted in
+    let durable = replayed_in c.args.notes.now in
     let entries = c.self.inside.begun.entries in
     let places = c.self.inside.unfinished.items in
     ap Some c.term.ensures
@@ -32,7 +33,7 @@ returns-in-Some-get_index c =
 
 pub returns-in-None : goal.returns-in-None
 returns-in-None c =
-    let durable = take c.args.notes.now.durable c.args.notes.now.noted in
+    let durable = replayed_in c.args.notes.now in
     let entries = c.self.inside.begun.entries in
     let places = c.self.inside.unfinished.items in
     ap (option_map (λ entry. entry.1.part.term)) c.in-None.ensures.entry
