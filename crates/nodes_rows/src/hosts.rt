@@ -1,0 +1,155 @@
+//! A host through starts and stops, with its master and its backup.
+
+use crate::cases::unknown;
+use crate::{bodies, looks, masters, told};
+use rc_backup::Backup;
+use rc_types::limits::{MAX_FACTOR, MAX_HOSTS, MAX_SEGMENT};
+use rc_types::{Addr, Fault, Message, NodeWork, Seq, ServerId, Setup};
+use rc_world::NodeState;
+use rows::{Numbers, Page};
+use std::alloc::{AllocError, Global};
+
+/// A host, whose tablets, of which it has none, would lie in ordinary memory.
+pub type Host = NodeState<Global>;
+
+/// The host of this index, in this setup.
+pub fn new(alloc: Global, numbers: &mut Numbers) -> Result<Host, AllocError> {
+    let index = numbers.byte().min(MAX_HOSTS - 1);
+    let setup = setup_of(alloc, numbers, false)?;
+    Ok(NodeState::host(alloc, index, &setup))
+}
+
+/// A setup: how many replicas a segment has, and how many entries; and the factors of single hosts.
+pub fn setup_of(alloc: Global, numbers: &mut Numbers, free: bool) -> Result<Setup, AllocError> {
+    let factor = next_factor(numbers);
+    let segment = numbers.short().clamp(1, MAX_SEGMENT);
+    let mut factors = Vec::new(alloc);
+    for _ in 0..numbers.left() {
+        factors.push(next_factor(numbers))?;
+    }
+    Ok(Setup {
+        factor,
+        segment,
+        free,
+        factors: Seq::from_vec(factors),
+    })
+}
+
+fn next_factor(numbers: &mut Numbers) -> u8 {
+    numbers.byte().clamp(1, MAX_FACTOR)
+}
+
+/// One command for the host.
+pub fn take(
+    alloc: Global,
+    host: &mut Host,
+    command: &str,
+    numbers: &mut Numbers,
+    page: &mut Page,
+) -> Result<(), Fault> {
+    match (command, host.master()) {
+        ("replicas", _) => write_replicas(host.backup(), page)?,
+        ("looks", _) => write_looks(host, page),
+        ("state", Some(master)) => masters::write_state(master, page),
+        ("state", None) => {
+            page.put("\n    ");
+            page.shown(host);
+        }
+        ("segment", Some(master)) => masters::write_segment(master.log(), numbers.short(), page),
+        _ => work(alloc, host, command, numbers, page)?,
+    }
+    Ok(())
+}
+
+/// The names of the open replicas of a backup.
+fn write_replicas(backup: Option<&Backup>, page: &mut Page) -> Result<(), Fault> {
+    match backup {
+        Some(backup) => write_names(backup.open_names()?.as_slice(), page),
+        None => unknown(page),
+    }
+    Ok(())
+}
+
+/// Names of replicas, or that there is none.
+pub fn write_names(names: &[(ServerId, u16)], page: &mut Page) {
+    page.put("\n    open replicas:");
+    page.put(if names.is_empty() { " none" } else { "" });
+    for (master, seg) in names {
+        page.id(" (", *master);
+        page.number(" seg ", u64::from(*seg));
+        page.put(")");
+    }
+}
+
+/// Whether a server runs on the host, and which; its master, where it does; and what the host holds as a backup.
+fn write_looks(host: &Host, page: &mut Page) {
+    page.id("\n    ", host.server());
+    page.yes(" runs ", host.runs());
+    if let Some(master) = host.master() {
+        looks::write_master(master, page);
+    }
+    match host.backup() {
+        Some(backup) => looks::write_backup(backup, page),
+        None => unknown(page),
+    }
+}
+
+/// The host is given something.
+fn work(
+    alloc: Global,
+    host: &mut Host,
+    command: &str,
+    numbers: &mut Numbers,
+    page: &mut Page,
+) -> Result<(), Fault> {
+    match work_of(alloc, host.server(), command, numbers)? {
+        Some(work) if numbers.are_taken() && host.has_room() => {
+            let mut sent = Vec::new(alloc);
+            let answer = host.step_into(&work, &mut sent);
+            write_sent(answer, sent.as_slice(), page)
+        }
+        _ => {
+            unknown(page);
+            Ok(())
+        }
+    }
+}
+
+/// What is sent in a step, or why there was none.
+fn write_sent(answer: Result<(), Fault>, sent: &[Message], page: &mut Page) -> Result<(), Fault> {
+    match answer {
+        Ok(()) => bodies::write_all(sent, page),
+        Err(Fault::OutOfMemory) => return Err(Fault::OutOfMemory),
+        Err(fault) => page.code("\n    ", fault.code()),
+    }
+    Ok(())
+}
+
+/// What a command gives the host: a message is addressed to the server of its last start.
+fn work_of(
+    alloc: Global,
+    server: ServerId,
+    command: &str,
+    numbers: &mut Numbers,
+) -> Result<Option<NodeWork>, AllocError> {
+    Ok(match command {
+        "start" => {
+            let kept = Seq::from_vec(numbers.names(alloc)?);
+            Some(NodeWork::Start { kept })
+        }
+        "stop" => Some(NodeWork::Stop),
+        "tick" => Some(NodeWork::Tick),
+        _ => message_of(alloc, server, command, numbers)?,
+    })
+}
+
+fn message_of(
+    alloc: Global,
+    server: ServerId,
+    command: &str,
+    numbers: &mut Numbers,
+) -> Result<Option<NodeWork>, AllocError> {
+    let told = told::to_server(alloc, command, numbers)?;
+    let to = Addr::Server(server);
+    Ok(told.map(|(from, body)| NodeWork::Deliver(Message { from, to, body })))
+}

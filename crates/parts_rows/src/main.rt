@@ -1,0 +1,26 @@
+//! Parts of the protocol, told what to do line by line: `rows` tells how lines are read. A command that names a part
+//! begins a new case of it, and the commands below it are for that case.
+//!
+//! A command that is refused memory is given again, so it takes all its memory before anything changes; one that makes
+//! several changes goes on where it was.
+#![tactic(auto)]
+
+mod audits;
+mod backups;
+mod cases;
+mod entries;
+mod heads;
+mod lists;
+mod members;
+mod owners;
+mod picks;
+mod replicas;
+mod tablets;
+mod texts;
+
+use cases::Case;
+use std::io;
+
+fn main(rt: HostRuntime) -> io::Result<()> {
+    rows::run(&rt, &mut Case::None)
+}
