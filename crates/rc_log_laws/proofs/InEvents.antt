@@ -24,7 +24,8 @@ use Rattle.rc_step_laws.specs.Words.{log_in}
 use Rattle.rc_step_laws.proofs.MasterSteps.{master_takes_keeps, master_ticks_keeps}
 use Rattle.rc_log_laws.specs.WordClaims.{sent_after, log_of}
 use Rattle.rc_log_laws.specs.SendClaims.{newly_sent, OfEachSent, OfEachEvent, KeepsUnlessWritten, is_backups, RefusesClient}
-use Rattle.rc_log_laws.specs.SendClaims.{DeposedRefuseClients, DeposedAcknowledgeNothing, DeposedStay, AnswersOfFenced, TheFencedAreTold, GrantsGoToTheUpAlone}
+use Rattle.rc_log_laws.specs.SendClaims.{DeposedRefuseClients, DeposedAcknowledgeNothing, DeposedStay, AnswersOfFenced, TheFencedAreTold}
+use Rattle.rc_log_laws.specs.SendClaims.{GrantsGoToTheUpAlone}
 use Rattle.rc_log_laws.proofs.Replays.{GoodWorld, good-world, good-step, led-step, is-good, is-fine, hears}
 use Rattle.rc_log_laws.proofs.EachMaster.{IsLed, led-by, is_others, coordinator-from}
 use Rattle.rc_log_laws.proofs.Since.{replay_from-append}

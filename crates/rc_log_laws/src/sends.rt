@@ -3,7 +3,8 @@
 ghost use Rattle.rc_model.specs.HeadClaims.{WritesWhereItMay};
 ghost use Rattle.rc_model.specs.SendClaims.{ClosesAreDue};
 ghost use Rattle.rc_log_laws.specs.SendClaims.{OfEachSent, OfEachEvent, KeepsUnlessWritten, DeposedRefuseClients};
-ghost use Rattle.rc_log_laws.specs.SendClaims.{DeposedAcknowledgeNothing, DeposedStay, TheFencedAreTold, GrantsGoToTheUpAlone};
+ghost use Rattle.rc_log_laws.specs.SendClaims.{DeposedAcknowledgeNothing, DeposedStay, TheFencedAreTold};
+ghost use Rattle.rc_log_laws.specs.SendClaims.{GrantsGoToTheUpAlone};
 
 /// A Close has the final length of a segment below the head, under a committed epoch of it; and it goes out only where
 /// the phase is Closing, or becomes so in that event, for which the new head has to be placed on all its members.

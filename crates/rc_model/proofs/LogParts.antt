@@ -1,5 +1,6 @@
 -- What of a log counts for the follow-ups: its entries, its configs and what was sent, each of which a change may leave.
-use Rattle.std.proofs.Common.{◌≡◌, ◌⊎◌, inl, inr, ℕ, zero, suc, ◌+◌, ◌<◌, ◌≤◌, Bool, true, List, [], ◌∷◌, ◌++◌, length, map, min, refl, ap, ◌∙◌, arith}
+use Rattle.std.proofs.Common.{◌≡◌, ◌⊎◌, inl, inr, ℕ, zero, suc, ◌+◌, ◌<◌, ◌≤◌, Bool, true, List, [], ◌∷◌, ◌++◌, length, map, min, refl}
+use Rattle.std.proofs.Common.{ap, ◌∙◌, arith}
 use Rattle.std.proofs.lemmas.List.{length-append, map-append}
 use Rattle.rc_model.specs.Model.{Entry, put, durable_len, Segment, durable_in, Log, places_in, places_to, numbers_to, durable_among}
 use Rattle.rc_model.specs.Model.{with_segment, with_freed}

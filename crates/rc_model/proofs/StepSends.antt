@@ -1,6 +1,8 @@
 -- When a master asks for commits and closes the old head: by the log after the step that says it.
-use Rattle.std.proofs.Common.{◌≡◌, ◌⊎◌, inl, inr, ℕ, zero, suc, ◌+◌, ◌-◌, ◌<◌, ◌≤◌, Bool, true, false, cond, not, nat_eq, nat_lt, ◌&&◌, List}
-use Rattle.std.proofs.Common.{[], ◌∷◌, ◌++◌, map, filter, drop, length, find, is_some, Option, Some, None, refl, sym, ap, ◌∙◌, subst, arith}
+use Rattle.std.proofs.Common.{◌≡◌, ◌⊎◌, inl, inr, ℕ, zero, suc, ◌+◌, ◌-◌, ◌<◌, ◌≤◌, Bool, true, false, cond, not, nat_eq, nat_lt, ◌&&◌}
+use Rattle.std.proofs.Common.{List}
+use Rattle.std.proofs.Common.{[], ◌∷◌, ◌++◌, map, filter, drop, length, find, is_some, Option, Some, None, refl, sym, ap, ◌∙◌, subst}
+use Rattle.std.proofs.Common.{arith}
 use Rattle.std.proofs.lemmas.Bool.{and_parts, eqb-true, ltb-true, not-false}
 use Rattle.rc_model.specs.Model.{Addr, Body, Message, Append, Close, Commit, Enlist, Told, Member, Config, all_placed, Segment}
 use Rattle.rc_model.specs.Model.{between, to_coordinator, Log, old_head_of, has_old_head, numbers_to, is_closing}
@@ -328,10 +330,12 @@ module _ (log : Log) where
   abbrev Again : Message → Type 0
   Again message = Said log log message.body
 
-  again-lacking : (seg : ℕ) (member : Member) (told : Option Told) → Each Again (map (λ body. between log.own member.id body) (lacking log seg told))
+  again-lacking : (seg : ℕ) (member : Member) (told : Option Told) →
+      Each Again (map (λ body. between log.own member.id body) (lacking log seg told))
   again-lacking seg member None = each-one Again _ tt
   again-lacking seg member (Some told) =
-      either (λ bodies. Each Again (map (λ body. between log.own member.id body) bodies)) (nat_lt told.len (length (log.segments seg).entries))
+      either (λ bodies. Each Again (map (λ body. between log.own member.id body) bodies))
+      (nat_lt told.len (length (log.segments seg).entries))
       (Append seg told.len (map (λ one. one.0) (drop told.len (log.segments seg).entries)) ∷ [])
       (cond (is_closing_old log seg && not told.closed) (Close seg (length (log.segments seg).entries) ∷ []) [])
       (λ _. each-one Again _ tt)

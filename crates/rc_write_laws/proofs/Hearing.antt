@@ -3,7 +3,8 @@ use Rattle.std.proofs.Common.{◌≡◌, ◌⊎◌, ℕ, ◌+◌, ◌-◌, Bool,
 use Rattle.std.proofs.Common.{Some, None, is_some, Result, Ok, Err, refl, sym, ap, ◌∙◌, subst, inl, inr}
 use Rattle.std.proofs.lemmas.Bool.{and_parts, eqb-true}
 use Rattle.rc_model.specs.Model.{ServerId, Addr, Server, Setup, Event, Fault, EpochsExhausted, LAST_EPOCH, Message, Body, Stored}
-use Rattle.rc_model.specs.Model.{Member, between, ServerList, has_crashed, Config, new_member, new_config, is_heard, told_if_heard, told_with, noted}
+use Rattle.rc_model.specs.Model.{Member, between, ServerList, has_crashed, Config, new_member, new_config, is_heard, told_if_heard}
+use Rattle.rc_model.specs.Model.{told_with, noted}
 use Rattle.rc_model.specs.Model.{committed_at, is_placed, all_placed, any_lost, lost_if_crashed, with_lost, substitutes_for, replaced}
 use Rattle.rc_model.specs.Model.{changed, changes_to, lose, refills_with, refill, Segment, new_segment, with_entry, under_new_epoch}
 use Rattle.rc_model.specs.Model.{with_closes_sent, Log, head_of, old_head_of, with_segment, has_segment, opens_head, with_config}

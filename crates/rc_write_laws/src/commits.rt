@@ -12,8 +12,8 @@ pub fn commits_are_in_order()
 {}
 
 /// A master asks for a commit of a segment only where that segment is placed on all members of its current epoch, none
-/// of which is known lost, and no earlier segment is open: each id to which it has sent the segment under that epoch has
-/// told something under it.
+/// of which is known lost, and no earlier segment is open: each id to which it has sent the segment under that epoch
+/// has told something under it.
 pub fn commits_are_of_placed_segments()
     ensures placed { CommitsAreOfPlaced }
     ensures told { CommitsAreOfTheTold }
