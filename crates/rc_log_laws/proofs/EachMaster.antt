@@ -1,10 +1,10 @@
 -- A walk over the events of a world: what the own steps of masters keep of each of them holds in every world.
 use Rattle.std.proofs.Common.{◌≡◌, ℕ, ◌+◌, Bool, true, false, List, [], ◌∷◌, ◌++◌, Option, Some}
 use Rattle.std.proofs.Common.{None, refl, sym, ap, ◌∙◌, subst, inl, inr, arith}
-use Rattle.rc_model.specs.Model.{ServerId, Addr, Server, Outside, Part, Setup, Event, Message, Body, Place, Append, Close, Free, Gather}
-use Rattle.rc_model.specs.Model.{Fetch, Data, Stored, Replicas, Enlist, same_id, is_server, put_id, between, to_coordinator, Replica}
-use Rattle.rc_model.specs.Model.{Backup, backup_takes, keeps, stores, stored_of, is_refused, replica_of, replica_after, rows_of_replicas}
-use Rattle.rc_model.specs.Model.{data_of, answers_fetch, Master, new_master, master_takes, master_ticks, Work, Take, Create, Split}
+use Rattle.rc_model.specs.Model.{ServerId, Addr, Server, Outside, Setup, Event, Message, Body}
+use Rattle.rc_model.specs.Model.{Data, Stored, Replicas, Enlist, same_id, is_server, put_id, to_coordinator}
+use Rattle.rc_model.specs.Model.{Backup, backup_takes}
+use Rattle.rc_model.specs.Model.{Master, new_master, master_takes, master_ticks, Work, Take, Create, Split}
 use Rattle.rc_model.specs.Model.{HostNode, master_setup, outside_sends, coordinator_step, server_of, host_step, is_for_backup}
 use Rattle.rc_model.specs.Model.{with_backup, with_master, server_takes, takes_if_running, ticks_if_running, starts_host, next_server}
 use Rattle.rc_model.specs.Model.{World, opening, NodeName, TheOutside, TheCoordinator, TheHost, Job, work_of, is_possible, with_last_view}
@@ -16,7 +16,8 @@ use Rattle.rc_step_laws.proofs.MasterSteps.{master_takes_keeps, master_ticks_kee
 use Rattle.rc_step_laws.proofs.CoordinatorSteps as coordinator
 use Rattle.rc_log_laws.proofs.Replays.{GoodWorld, IsGiven, is-good, is-fine, hears, is_server-true, work_of-given}
 use Rattle.rc_log_laws.proofs.Replays.{may-hear, to-coordinator-is, good-step, good-opening}
-use Rattle.rc_model.proofs.Sending.{Each, each-none, each-one, each-if}
+use Rattle.rc_model.proofs.Sending.{Each, each-none, each-one}
+use Rattle.rc_model.proofs.Telling.{each-told}
 use Rattle.rc_model.proofs.Ids.{same_id-true, same_id-refl, server-same}
 use Rattle.rc_model.proofs.Tests.{true_false, either}
 
@@ -54,42 +55,9 @@ pub record IsKeptByAll (setup : Setup) (P : List Message → ServerId → Master
 
 -- Backups
 
-others-keeps : (backup : Backup) (master : ServerId) (seg : ℕ) (found : Option Replica) → Each BySelf (keeps backup master seg found).1
-others-keeps backup master seg None = each-none BySelf
-others-keeps backup master seg (Some replica) = each-one BySelf (between backup.own master (stored_of seg replica)) refl
-
-others-stores : (backup : Backup) (master : ServerId) (seg : ℕ) (body : Body) → Each BySelf (stores backup master seg body).1
-others-stores backup master seg body =
-    either (λ (after : Backup × List Message). Each BySelf after.1) (is_refused seg (backup.held master)) (backup, [])
-    (keeps backup master seg (replica_after (replica_of seg (backup.held master).replicas) body))
-    (λ e. each-none BySelf) (λ e. others-keeps backup master seg (replica_after (replica_of seg (backup.held master).replicas) body))
-
-others-data : (attempt seg len : ℕ) (part : Part) (found : Option Replica) → (body : Body) →
-    In body (data_of attempt seg len part found) → is_others body ≡ true
-others-data attempt seg len part None = λ body at. absurd at
-others-data attempt seg len part (Some replica) =
-    either (λ bodies. (body : Body) → In body bodies → is_others body ≡ true) _ (Data attempt seg part.term _ ∷ []) []
-    (λ e. each-one (λ (body : Body). is_others body ≡ true) (Data attempt seg part.term _) refl) (λ e body at. absurd at)
-
-others-answers : (backup : Backup) (asker master : ServerId) (bodies : List Body) →
-    ((body : Body) → In body bodies → is_others body ≡ true) → Each BySelf (answers_fetch backup asker master bodies)
-others-answers backup asker master [] all = each-none BySelf
-others-answers backup asker master (body ∷ bodies) all =
-    each-if BySelf (backup.held master).fenced (between backup.own asker body ∷ [])
-    (λ e. each-one BySelf (between backup.own asker body) (all body (inl refl)))
-
 others-backup : (backup : Backup) (from : Addr) (body : Body) → Each BySelf (backup_takes backup from body).1
-others-backup backup (Server master) (Place seg epoch digest entries closed) =
-    others-stores backup master seg (Place seg epoch digest entries closed)
-others-backup backup (Server master) (Append seg offset entries) = others-stores backup master seg (Append seg offset entries)
-others-backup backup (Server master) (Close seg len) = others-stores backup master seg (Close seg len)
-others-backup backup (Server master) (Free seg) = each-none BySelf
-others-backup backup (Server asker) (Fetch attempt master seg len part) =
-    others-answers backup asker master (data_of attempt seg len part (replica_of seg (backup.held master).replicas))
-    (others-data attempt seg len part (replica_of seg (backup.held master).replicas))
-others-backup backup from (Gather attempt master) =
-    each-one BySelf (to_coordinator backup.own (Replicas attempt (rows_of_replicas (backup.held master).replicas))) refl
-others-backup backup from body = each-none BySelf
+others-backup backup from body = each-told BySelf backup (λ x s e len closed. refl) (λ attempt rows. refl)
+    (λ x attempt seg term entries. refl) from body
 
 -- A world
 

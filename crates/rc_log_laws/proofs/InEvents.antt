@@ -1,6 +1,7 @@
 -- What is sent in one event, by the views of its sender: the laws of single steps, in every world.
 use Rattle.std.proofs.Common.{◌≡◌, ◌⊎◌, ℕ, ◌+◌, ◌<◌, ◌≤◌, Bool, true, false, List, [], ◌∷◌, ◌++◌, length, drop, map, cond, Some}
 use Rattle.std.proofs.Common.{refl, sym, ap, ◌∙◌, subst, inl, inr, arith}
+use Rattle.rc_model.specs.Model.{to_outside, WriteOk}
 use Rattle.rc_model.specs.Model.{ServerId, Addr, Server, Outside, Setup, Event, Deposed, Entry, Message, Body, Enlist, Replicas, Data}
 use Rattle.rc_model.specs.Model.{refuses, is_up, Log, Segment, Master, master_takes, master_ticks, Backup, backup_takes}
 use Rattle.rc_model.specs.Model.{server_of, is_for_clients, World, opening, step, replay_from}
@@ -21,9 +22,10 @@ use Rattle.rc_model.proofs.Telling.{each-told, tells-only-of-fenced}
 use Rattle.rc_model.proofs.GrantsUp.{grants-go-only-to-the-up}
 use Rattle.rc_step_laws.specs.Words.{log_in}
 use Rattle.rc_step_laws.proofs.MasterSteps.{master_takes_keeps, master_ticks_keeps}
-use Rattle.rc_log_laws.specs.WordClaims.{log_of}
+use Rattle.rc_log_laws.specs.WordClaims.{sent_after, log_of}
 use Rattle.rc_log_laws.specs.SendClaims.{newly_sent, OfEachSent, OfEachEvent, KeepsUnlessWritten, is_backups, RefusesClient}
-use Rattle.rc_log_laws.specs.SendClaims.{DeposedRefuseClients, DeposedStay, AnswersOfFenced, TheFencedAreTold, GrantsGoToTheUpAlone}
+use Rattle.rc_log_laws.specs.SendClaims.{DeposedRefuseClients, DeposedAcknowledgeNothing, DeposedStay, AnswersOfFenced, TheFencedAreTold}
+use Rattle.rc_log_laws.specs.SendClaims.{GrantsGoToTheUpAlone}
 use Rattle.rc_log_laws.proofs.Replays.{GoodWorld, good-world, good-step, led-step, is-good, is-fine, hears}
 use Rattle.rc_log_laws.proofs.EachMaster.{IsLed, led-by, is_others, coordinator-from}
 use Rattle.rc_log_laws.proofs.Since.{replay_from-append}
@@ -375,6 +377,15 @@ closes-are-due-each = of-sent ClosesAreDue soft-closes closes-are-due
 pub deposed-refuse-clients : DeposedRefuseClients
 deposed-refuse-clients setup events one m message is at from =
     silent-in (replay setup events) one (good-world setup events) m message (sent-of setup events one message at) is from
+
+pub deposed-acknowledge-nothing : DeposedAcknowledgeNothing
+deposed-acknowledge-nothing setup events one m s o term table key version is at =
+    by (deposed-refuse-clients setup events one m (to_outside m (WriteOk s o term table key version)) is at refl)
+  where
+    by : (false ≡ true) ⊎ RefusesClient (sent_after setup events) m (to_outside m (WriteOk s o term table key version)) → ⊥
+    by (inl e) = true_false (sym e)
+    by (inr p) = let bodies : WriteOk s o term table key version ≡ (refuses m Deposed).body =
+        ap (λ (message : Message). message.body) p.refusal in cc
 
 pub the-fenced-are-told : TheFencedAreTold
 the-fenced-are-told setup events one y message at from is =

@@ -7,8 +7,8 @@ use Rattle.rc_types.specs.declared.events.Setup.{Setup}
 use Rattle.rc_types.specs.declared.events.Event.{Event}
 use Rattle.rc_types.specs.declared.messages.Message.{Message}
 use Rattle.rc_types.specs.declared.messages.Body.{Body}
-use Rattle.rc_types.specs.declared.messages.Body.TheVariants.{Stored, Replicas, Data}
-use Rattle.rc_model.specs.Messages.{refuses}
+use Rattle.rc_types.specs.declared.messages.Body.TheVariants.{Stored, Replicas, Data, WriteOk}
+use Rattle.rc_model.specs.Messages.{refuses, to_outside}
 use Rattle.rc_model.specs.ServerList.{is_up}
 use Rattle.rc_model.specs.Log.{Log}
 use Rattle.rc_model.specs.Nodes.{is_for_clients}
@@ -62,6 +62,12 @@ abbrev pub DeposedRefuseClients : Type 0
 DeposedRefuseClients = (setup : Setup) (events : List Event) (one : Event) (m : ServerId) (message : Message) →
     (master_of (replay setup events) m).deposed ≡ true → In message (newly_sent setup events one) →
     message.from ≡ Server m → (is_backups message.body ≡ true) ⊎ RefusesClient (sent_after setup events) m message
+
+-- so it acknowledges nothing
+abbrev pub DeposedAcknowledgeNothing : Type 0
+DeposedAcknowledgeNothing = (setup : Setup) (events : List Event) (one : Event) (m : ServerId)
+    (s o term table key version : ℕ) → (master_of (replay setup events) m).deposed ≡ true →
+    In (to_outside m (WriteOk s o term table key version)) (newly_sent setup events one) → ⊥
 
 -- and the master stays as it is, for good
 abbrev pub DeposedStay : Type 0

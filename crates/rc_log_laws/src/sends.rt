@@ -1,15 +1,10 @@
 //! What is sent in one event, and in which view of its sender.
 
 ghost use Rattle.rc_model.specs.HeadClaims.{WritesWhereItMay};
-ghost use Rattle.rc_model.specs.SendClaims.{CommitsAreDue, ClosesAreDue};
+ghost use Rattle.rc_model.specs.SendClaims.{ClosesAreDue};
 ghost use Rattle.rc_log_laws.specs.SendClaims.{OfEachSent, OfEachEvent, KeepsUnlessWritten, DeposedRefuseClients};
-ghost use Rattle.rc_log_laws.specs.SendClaims.{DeposedStay, TheFencedAreTold, GrantsGoToTheUpAlone};
-
-/// A Commit goes out only where its segment is placed on all members of its current epoch; and no earlier segment is
-/// open then, or the Commit was sent before. (`rc_write_laws::commits` has that none is open at all.)
-pub fn commits_are_of_placed_segments()
-    ensures { OfEachSent CommitsAreDue }
-{}
+ghost use Rattle.rc_log_laws.specs.SendClaims.{DeposedAcknowledgeNothing, DeposedStay, TheFencedAreTold};
+ghost use Rattle.rc_log_laws.specs.SendClaims.{GrantsGoToTheUpAlone};
 
 /// A Close has the final length of a segment below the head, under a committed epoch of it; and it goes out only where
 /// the phase is Closing, or becomes so in that event, for which the new head has to be placed on all its members.
@@ -24,10 +19,11 @@ pub fn entries_are_appended_in_writing()
     ensures appends { OfEachEvent KeepsUnlessWritten }
 {}
 
-/// The server of a deposed master sends what its backup says; and where a Write or a Read was sent to it the refusal F5;
-/// nothing else, so no WriteOk. The master stays as it is for good.
+/// The server of a deposed master sends what its backup says, and where a Write or a Read was sent to it the refusal
+/// F5; nothing else, so no WriteOk. The master stays as it is for good.
 pub fn deposed_masters_only_refuse()
     ensures refuse { DeposedRefuseClients }
+    ensures acknowledge { DeposedAcknowledgeNothing }
     ensures stay { DeposedStay }
 {}
 

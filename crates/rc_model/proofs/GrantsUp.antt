@@ -175,7 +175,8 @@ up-repeats c id number term None is = up-part c id number (part_of_sender c id n
 up-recovered : (c : Coordinator) (id : ServerId) (number term : ℕ) → UpAfter c (takes_recovered c id number term)
 up-recovered c id number term =
     either (UpAfter c) (is_up c.servers id) (grants_or_repeats c id number term (grant_to c id term)) (c, refuses_server id Deposed ∷ [])
-    (λ is. up-repeats c id number term (grant_to c id term) is) (λ _. plain-up c (refuses_server id Deposed ∷ []) (plain-refuses id Deposed))
+    (λ is. up-repeats c id number term (grant_to c id term) is)
+    (λ _. plain-up c (refuses_server id Deposed ∷ []) (plain-refuses id Deposed))
 
 up-commits : (c : Coordinator) (id : ServerId) (pair : Pair) → UpAfter c (commits_pair c id pair)
 up-commits c id pair =

@@ -1,8 +1,11 @@
 -- What of a log counts for the follow-ups: its entries, its configs and what was sent, each of which a change may leave.
-use Rattle.std.proofs.Common.{◌≡◌, ℕ, zero, suc, ◌+◌, ◌≤◌, Bool, true, List, [], ◌∷◌, ◌++◌, length, map, min, refl, ap, ◌∙◌, arith}
+use Rattle.std.proofs.Common.{◌≡◌, ◌⊎◌, inl, inr, ℕ, zero, suc, ◌+◌, ◌<◌, ◌≤◌, Bool, true, List, [], ◌∷◌, ◌++◌, length, map, min, refl}
+use Rattle.std.proofs.Common.{ap, ◌∙◌, arith}
 use Rattle.std.proofs.lemmas.List.{length-append, map-append}
 use Rattle.rc_model.specs.Model.{Entry, put, durable_len, Segment, durable_in, Log, places_in, places_to, numbers_to, durable_among}
 use Rattle.rc_model.specs.Model.{with_segment, with_freed}
+use Rattle.rc_model.specs.Model.{In}
+use Rattle.rc_model.proofs.Members.{In-left, In-right, In-append}
 use Rattle.rc_model.proofs.Tests.{either}
 use Rattle.rc_model.proofs.Tables.{put_each}
 
@@ -110,3 +113,24 @@ marked-alone (seg ∷ segs) segments k =
       };
       closes_sent = rest.closes_sent ∙ first.closes_sent;
     }
+
+-- the segments up to a number
+pub In-numbers : (t n : ℕ) → 0 < t → t ≤ n → In t (numbers_to n)
+In-numbers t zero above upto = absurd (omega arith)
+In-numbers t (suc n) above upto = by (upto_or t n) (λ less. In-numbers t n above less)
+  where
+    upto_or : (t n : ℕ) → (t ≤ n) ⊎ (n < t)
+    upto_or t n = grind arith
+
+    by : (t ≤ n) ⊎ (n < t) → (t ≤ n → In t (numbers_to n)) → In t (numbers_to n ++ suc n ∷ [])
+    by (inl less) rec = In-left t (numbers_to n) (suc n ∷ []) (rec less)
+    by (inr over) rec = In-right t (numbers_to n) (suc n ∷ []) (inl (omega arith))
+
+pub numbers-In : (t n : ℕ) → In t (numbers_to n) → (0 < t) × (t ≤ n)
+numbers-In t zero at = absurd at
+numbers-In t (suc n) at = by (numbers-In t n) (In-append t (numbers_to n) (suc n ∷ []) at)
+  where
+    by : (In t (numbers_to n) → (0 < t) × (t ≤ n)) → In t (numbers_to n) ⊎ ((t ≡ suc n) ⊎ ⊥) → (0 < t) × (t ≤ suc n)
+    by rec (inl there) = (let p = rec there in (p.0, omega (arith, p.1)))
+    by rec (inr (inl e)) = (omega arith, omega arith)
+    by rec (inr (inr none)) = absurd none

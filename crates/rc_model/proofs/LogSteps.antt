@@ -5,7 +5,8 @@ use Rattle.std.proofs.lemmas.Bool.{and_parts, eqb-true, eq-eqb}
 use Rattle.rc_model.specs.Model.{ServerId, Addr, Fault, Phase, Opening, Closing, Writing, Entry, Body, put, ServerList, Config}
 use Rattle.rc_model.specs.Model.{all_placed, lose, refill, noted, committed_at, Segment, new_segment, with_entry, with_closes_sent, Log}
 use Rattle.rc_model.specs.Model.{head_of, with_segment, old_head_of, has_old_head, has_segment, is_opening, is_closing, is_writing}
-use Rattle.rc_model.specs.Model.{is_ready, may_start, may_close, may_write, left_out, with_freed, starts, writes_on, with_config, opens_change, refills, loses}
+use Rattle.rc_model.specs.Model.{is_ready, may_start, may_close, may_write, left_out, with_freed, starts, writes_on, with_config}
+use Rattle.rc_model.specs.Model.{opens_change, refills, loses}
 use Rattle.rc_model.specs.Model.{opens_head, appends, Master, ticks, obeys_list, master_takes_first, goes_on}
 use Rattle.rc_model.specs.HeadClaims.{MayTakeData, IsWritingIn, WritesWhereItMay, HasItsEntries, AppendsWhereItWrites}
 use Rattle.rc_model.proofs.Tests.{either, true_false}

@@ -1,6 +1,8 @@
 -- When a master asks for commits and closes the old head: by the log after the step that says it.
-use Rattle.std.proofs.Common.{◌≡◌, ◌⊎◌, inl, inr, ℕ, zero, suc, ◌+◌, ◌-◌, ◌<◌, ◌≤◌, Bool, true, false, cond, not, nat_eq, nat_lt, ◌&&◌, List}
-use Rattle.std.proofs.Common.{[], ◌∷◌, ◌++◌, map, filter, drop, length, find, is_some, Option, Some, None, refl, sym, ap, ◌∙◌, subst, arith}
+use Rattle.std.proofs.Common.{◌≡◌, ◌⊎◌, inl, inr, ℕ, zero, suc, ◌+◌, ◌-◌, ◌<◌, ◌≤◌, Bool, true, false, cond, not, nat_eq, nat_lt, ◌&&◌}
+use Rattle.std.proofs.Common.{List}
+use Rattle.std.proofs.Common.{[], ◌∷◌, ◌++◌, map, filter, drop, length, find, is_some, Option, Some, None, refl, sym, ap, ◌∙◌, subst}
+use Rattle.std.proofs.Common.{arith}
 use Rattle.std.proofs.lemmas.Bool.{and_parts, eqb-true, ltb-true, not-false}
 use Rattle.rc_model.specs.Model.{Addr, Body, Message, Append, Close, Commit, Enlist, Told, Member, Config, all_placed, Segment}
 use Rattle.rc_model.specs.Model.{between, to_coordinator, Log, old_head_of, has_old_head, numbers_to, is_closing}
@@ -14,33 +16,17 @@ use Rattle.rc_model.specs.Model.{ready_again, recovered_again, fetches_again, aw
 use Rattle.rc_model.specs.HeadClaims.{OfEachStep, WritesWhereItMay, AppendsWhereItWrites}
 use Rattle.rc_model.specs.SendClaims.{OfEachMessage, EarlierAreShut, IsPlacedOnAll, IsCommitDue, CommitsAreDue, IsClosingOf, IsCloseDue}
 use Rattle.rc_model.specs.SendClaims.{ClosesAreDue, DeposedAnswer, DeposedOnlyRefuse, DeposedDoNotTick}
+use Rattle.rc_model.proofs.LogParts.{In-numbers, numbers-In}
 use Rattle.rc_model.proofs.Tests.{either, true_false}
-use Rattle.rc_model.proofs.Members.{In-append, In-left, In-right, In-filter}
+use Rattle.rc_model.proofs.Members.{In-filter}
 use Rattle.rc_model.proofs.Walk.{Joined, Listed, Taken, Followed, kept-goes_on, kept-obeys, kept-takes_first, same-deposed}
 use Rattle.rc_model.proofs.Sending.{Each, each-none, each-one, each-both, each-map, each-if, each-to_ids, each-frees}
 use Rattle.rc_model.proofs.Sending.{each-write_oks, each-fetches_again, each-recovered, each-ready}
 use Rattle.rc_model.proofs.Sending.{Asked}
 use Rattle.rc_model.proofs.LogSteps.{InputLeads, FollowLeads, StepLeads, takes_first-leads, obeys-leads, ticks_first-leads}
-use Rattle.rc_model.proofs.LogSteps.{closing-was, upto_or, follow-joined, followed, follow-written, step-leads, step-same}
+use Rattle.rc_model.proofs.LogSteps.{closing-was, follow-joined, followed, follow-written, step-leads, step-same}
 
--- Numbers and searches
-
-number-in : (t n : ℕ) → 0 < t → t ≤ n → In t (numbers_to n)
-number-in t zero above upto = absurd (omega (arith, above, upto))
-number-in t (suc n) above upto = by (upto_or t n) (number-in t n above)
-  where
-    by : (t ≤ n) ⊎ (n < t) → (t ≤ n → In t (numbers_to n)) → In t (numbers_to n ++ suc n ∷ [])
-    by (inl less) rec = In-left t (numbers_to n) (suc n ∷ []) (rec less)
-    by (inr over) rec = In-right t (numbers_to n) (suc n ∷ []) (inl (omega (arith, over, upto)))
-
-number-upto : (t n : ℕ) → In t (numbers_to n) → t ≤ n
-number-upto t zero at = absurd at
-number-upto t (suc n) at = by (In-append t (numbers_to n) (suc n ∷ []) at) (number-upto t n)
-  where
-    by : In t (numbers_to n) ⊎ ((t ≡ suc n) ⊎ ⊥) → (In t (numbers_to n) → t ≤ n) → t ≤ suc n
-    by (inl there) rec = (let upto = rec there in omega (arith, upto))
-    by (inr (inl e)) rec = omega (arith, e)
-    by (inr (inr never)) rec = absurd never
+-- Searches
 
 find-in : {X : Type 0} (test : X → Bool) (xs ys : List X) (x : X) → find test (xs ++ ys) ≡ Some x →
     (find test xs ≡ Some x) ⊎ (((y : X) → In y xs → test y ≡ false) × (find test ys ≡ Some x))
@@ -216,7 +202,7 @@ first-open log (suc n) s e = by (find-in (λ seg. not (log.segments seg).shut) (
     by (inl found) rec = (let p = rec found in (p.0, omega (arith, p.1)))
     by (inr (none, found)) rec =
         let same : s ≡ suc n = last-found (not (log.segments (suc n)).shut) found in
-        (λ t above less. not-false (log.segments t).shut (none t (number-in t n above (omega (arith, less, same)))), omega (arith, same))
+        (λ t above less. not-false (log.segments t).shut (none t (In-numbers t n above (omega (arith, less, same)))), omega (arith, same))
       where
         last-found : (b : Bool) → cond b (Some (suc n)) None ≡ Some s → s ≡ suc n
         last-found true e = cc
@@ -344,10 +330,12 @@ module _ (log : Log) where
   abbrev Again : Message → Type 0
   Again message = Said log log message.body
 
-  again-lacking : (seg : ℕ) (member : Member) (told : Option Told) → Each Again (map (λ body. between log.own member.id body) (lacking log seg told))
+  again-lacking : (seg : ℕ) (member : Member) (told : Option Told) →
+      Each Again (map (λ body. between log.own member.id body) (lacking log seg told))
   again-lacking seg member None = each-one Again _ tt
   again-lacking seg member (Some told) =
-      either (λ bodies. Each Again (map (λ body. between log.own member.id body) bodies)) (nat_lt told.len (length (log.segments seg).entries))
+      either (λ bodies. Each Again (map (λ body. between log.own member.id body) bodies))
+      (nat_lt told.len (length (log.segments seg).entries))
       (Append seg told.len (map (λ one. one.0) (drop told.len (log.segments seg).entries)) ∷ [])
       (cond (is_closing_old log seg && not told.closed) (Close seg (length (log.segments seg).entries) ∷ []) [])
       (λ _. each-one Again _ tt)
@@ -398,7 +386,7 @@ module _ (log : Log) where
           all_placed (log.segments seg).config) awaits in
           let second = and_parts (not (log.segments seg).config.committed) (all_placed (log.segments seg).config) first.1 in (
             record { placed = record { epoch = refl; placed = second.1 }; first = inr first.0 },
-            number-upto seg log.head at,
+            (numbers-In seg log.head at).1,
           )
 
 again-reminds : (before : Log) (master : Master) → Each (Again master.log) (reminds before master).1

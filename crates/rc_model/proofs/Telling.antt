@@ -1,5 +1,6 @@
 -- A backup tells what it keeps of a master only once it has fenced it.
-use Rattle.std.proofs.Common.{◌≡◌, ℕ, Bool, true, false, nat_eq, nat_le, ◌&&◌, List, [], ◌∷◌, take, filter, length, Option, Some, None, refl, sym, ap, ◌∙◌, inl}
+use Rattle.std.proofs.Common.{◌≡◌, ℕ, Bool, true, false, nat_eq, nat_le, ◌&&◌, List, [], ◌∷◌, take, filter, length, Option, Some, None}
+use Rattle.std.proofs.Common.{refl, sym, ap, ◌∙◌, inl}
 use Rattle.std.proofs.lemmas.Bool.{eq-eqb}
 use Rattle.rc_model.specs.Model.{ServerId, Addr, Server, Part, Message, Body, Place, Append, Close, Free, Gather, Fetch, Data, Replicas}
 use Rattle.rc_model.specs.Model.{Row, Entry, Stored}
@@ -30,7 +31,8 @@ module _ (P : Message → Type 0) (backup : Backup)
       Each (λ body. P (between backup.own asker body)) (data_of attempt seg len part found)
   each-data asker attempt seg len part None = each-none _
   each-data asker attempt seg len part (Some replica) =
-      each-if _ (nat_le len (length replica.entries)) (Data attempt seg part.term (filter (is_in_part part) (take len replica.entries)) ∷ [])
+      each-if _ (nat_le len (length replica.entries))
+      (Data attempt seg part.term (filter (is_in_part part) (take len replica.entries)) ∷ [])
       (λ _. each-one _ (Data attempt seg part.term _) (fetched asker attempt seg part.term _))
 
   each-answers : (asker master : ServerId) (bodies : List Body) → Each (λ body. P (between backup.own asker body)) bodies →

@@ -21,7 +21,8 @@ pub fn fences_hold()
     ensures gather { GatherFences }
 {}
 
-/// Replicas and Data go out only in answer to a Gather or a Fetch of a master's log, and only once that master is fenced.
+/// Replicas and Data go out only in answer to a Gather or a Fetch of a master's log, and only once that master is
+/// fenced.
 pub fn answers_are_of_the_fenced()
     ensures { TellsOnlyOfFenced }
 {}

@@ -4,11 +4,12 @@ use Rattle.std.proofs.Common.{◌++◌, length, map, slice_get, Some, refl, sym,
 use Rattle.std.proofs.lemmas.List.{append_assoc, map-append, length-append}
 use Rattle.rc_model.specs.Model.{ServerId, Entry, Message, durable_len, Segment, durable_in, Log, LogPlace, places_in, places_to}
 use Rattle.rc_model.specs.Model.{places_of, numbers_to, durable_among, durable_now, In}
-use Rattle.rc_model.proofs.Members.{In-left, In-right, In-append, map-In}
+use Rattle.rc_model.proofs.Members.{In-append, map-In}
 use Rattle.rc_step_laws.specs.All.{Begins, log_in, LogLater}
 use Rattle.rc_step_laws.proofs.Lists.{get-append, get-within, begins-refl, begins-trans}
 use Rattle.rc_step_laws.proofs.Tests.{begins-cons, map-get}
 use Rattle.rc_model.proofs.LogParts.{length-places_in}
+pub use Rattle.rc_model.proofs.LogParts.{In-numbers, numbers-In}
 
 -- Which they are
 
@@ -132,27 +133,6 @@ record Passes (xs : List Segment) : Type 0 where
 
 abbrev Stops : List Segment → Type 0
 Stops xs = (ys : List Segment) → durable_among (xs ++ ys) ≡ durable_among xs
-
--- the segments up to a number
-pub In-numbers : (t n : ℕ) → 0 < t → t ≤ n → In t (numbers_to n)
-In-numbers t zero above upto = absurd (omega arith)
-In-numbers t (suc n) above upto = by (upto_or t n) (λ less. In-numbers t n above less)
-  where
-    upto_or : (t n : ℕ) → (t ≤ n) ⊎ (n < t)
-    upto_or t n = grind arith
-
-    by : (t ≤ n) ⊎ (n < t) → (t ≤ n → In t (numbers_to n)) → In t (numbers_to n ++ suc n ∷ [])
-    by (inl less) rec = In-left t (numbers_to n) (suc n ∷ []) (rec less)
-    by (inr over) rec = In-right t (numbers_to n) (suc n ∷ []) (inl (omega arith))
-
-pub numbers-In : (t n : ℕ) → In t (numbers_to n) → (0 < t) × (t ≤ n)
-numbers-In t zero at = absurd at
-numbers-In t (suc n) at = by (numbers-In t n) (In-append t (numbers_to n) (suc n ∷ []) at)
-  where
-    by : (In t (numbers_to n) → (0 < t) × (t ≤ n)) → In t (numbers_to n) ⊎ ((t ≡ suc n) ⊎ ⊥) → (0 < t) × (t ≤ suc n)
-    by rec (inl there) = (let p = rec there in (p.0, omega (arith, p.1)))
-    by rec (inr (inl e)) = (omega arith, omega arith)
-    by rec (inr (inr none)) = absurd none
 
 -- what is counted up to a segment
 record Counts (segments : ℕ → Segment) (n : ℕ) : Type 0 where

@@ -13,3 +13,4 @@ pub mod DurableSteps
 pub mod Worlds
 pub mod Sending
 pub mod Handing
+pub mod Hearing

@@ -1,17 +1,18 @@
 -- Commits are asked in the order of segments.
-use Rattle.std.proofs.Common.{◌≡◌, ◌⊎◌, ℕ, zero, suc, ◌<◌, ◌≤◌, Bool, true, false, cond, not, List, [], ◌∷◌, ◌++◌}
-use Rattle.std.proofs.Common.{length, filter, find, drop, Some, refl, sym, ap, ◌∙◌, subst, inl, inr, arith}
+use Rattle.std.proofs.Common.{◌≡◌, ◌⊎◌, ℕ, zero, suc, ◌<◌, ◌≤◌, Bool, true, false, List, [], ◌∷◌, ◌++◌}
+use Rattle.std.proofs.Common.{length, filter, drop, Some, refl, sym, ap, ◌∙◌, subst, inl, inr, arith}
 use Rattle.std.specs.List.{All}
-use Rattle.std.proofs.lemmas.Bool.{and_parts, not-false}
+use Rattle.std.proofs.lemmas.Bool.{and_parts}
 use Rattle.std.proofs.lemmas.List.Elements.{All-nil, All-cons}
 use Rattle.rc_model.specs.Model.{ServerId, Entry, Message, Body, Append, Commit, Setup, to_coordinator, Segment, with_entry, Log}
 use Rattle.rc_model.specs.Model.{LogPlace, head_of, numbers_to, durable_now, Master, with_log, ids_of, not_lost, appends_entry, write_oks}
 use Rattle.rc_model.specs.Model.{new_durable, first_open, commits, master_takes, master_ticks, commits_again, awaits_commit, In}
 use Rattle.rc_model.proofs.Members.{In-append, In-map, In-filter}
 use Rattle.rc_step_laws.specs.Facts.{GoodMaster}
-use Rattle.rc_step_laws.proofs.Tests.{find-one}
-use Rattle.rc_step_laws.proofs.Places.{In-numbers}
-use Rattle.rc_write_laws.specs.CommitClaims.{CommitsAreAskedInOrder, CommitsAreOfPlaced}
+use Rattle.rc_write_laws.specs.CommitClaims.{CommitsAreAskedInOrder, CommitsAreOfPlaced, HasToldOf, CommitsAreOfTheTold}
+use Rattle.rc_step_laws.specs.Words.{IsMember}
+use Rattle.rc_write_laws.proofs.Hearing.{members-have-told}
+use Rattle.rc_model.proofs.StepSends.{first-open}
 use Rattle.rc_log_laws.specs.WordClaims.{sent_after}
 use Rattle.rc_log_laws.proofs.InEvents.{commits-are-due-each}
 use Rattle.rc_write_laws.proofs.Quiet.{is_loud, AllSoft, soft-ids, QuietLog, All-In}
@@ -134,52 +135,6 @@ orders-counts master =
     (λ _. no-commit _ master.log.own (write_oks master.log.own (new_durable master.log))
     (oks-no_commit master.log.own (new_durable master.log)))
 
--- The first segment that isn't shut
-
-find-in : {X : Type 0} (test : X → Bool) (xs ys : List X) (x : X) → find test (xs ++ ys) ≡ Some x →
-    (find test xs ≡ Some x) ⊎ (((y : X) → In y xs → test y ≡ false) × (find test ys ≡ Some x))
-find-in test [] ys x e = inr (λ y at. absurd at, e)
-find-in {X} test (z ∷ xs) ys x e = by (test z) refl (find-in test xs ys x) e
-  where
-    further : test z ≡ false → (find test xs ≡ Some x) ⊎ (((y : X) → In y xs → test y ≡ false) × (find test ys ≡ Some x)) →
-        (find test xs ≡ Some x) ⊎ (((y : X) → (y ≡ z) ⊎ In y xs → test y ≡ false) × (find test ys ≡ Some x))
-    further isn't (inl old) = inl old
-    further isn't (inr (none, new)) = inr (λ y at. each y at, new)
-      where
-        each : (y : X) → (y ≡ z) ⊎ In y xs → test y ≡ false
-        each y (inl same) = ap test same ∙ isn't
-        each y (inr rest) = none y rest
-
-    by : (b : Bool) → test z ≡ b →
-        (find test (xs ++ ys) ≡ Some x →
-        (find test xs ≡ Some x) ⊎ (((y : X) → In y xs → test y ≡ false) × (find test ys ≡ Some x))) →
-        cond b (Some z) (find test (xs ++ ys)) ≡ Some x → (cond b (Some z) (find test xs) ≡ Some x) ⊎
-        (((y : X) → (y ≡ z) ⊎ In y xs → test y ≡ false) × (find test ys ≡ Some x))
-    by true is rec e = inl e
-    by false isn't rec e = further isn't (rec e)
-
-first-next : (segments : ℕ → Segment) (n s : ℕ) → find (λ seg. not (segments seg).shut) (numbers_to n) ≡ Some s →
-    (s ≤ n) × ((t : ℕ) → 0 < t → t < s → (segments t).shut ≡ true)
-first-next segments zero s e = cc
-first-next segments (suc n) s e = by (first-next segments n s) (find-in (λ seg. not (segments seg).shut) (numbers_to n) (suc n ∷ []) s e)
-  where
-    last : find (λ seg. not (segments seg).shut) (suc n ∷ []) ≡ Some s → s ≡ suc n
-    last found = one (find-one (λ seg. not (segments seg).shut) (suc n ∷ []) s found).0
-      where
-        one : (s ≡ suc n) ⊎ ⊥ → s ≡ suc n
-        one (inl same) = same
-        one (inr never) = absurd never
-
-    by : (find (λ seg. not (segments seg).shut) (numbers_to n) ≡ Some s → (s ≤ n) × ((t : ℕ) → 0 < t → t < s → (segments t).shut ≡ true)) →
-        (find (λ seg. not (segments seg).shut) (numbers_to n) ≡ Some s) ⊎
-        (((y : ℕ) → In y (numbers_to n) → not (segments y).shut ≡ false) ×
-        (find (λ seg. not (segments seg).shut) (suc n ∷ []) ≡ Some s)) →
-        (s ≤ suc n) × ((t : ℕ) → 0 < t → t < s → (segments t).shut ≡ true)
-    by rec (inl old) = let p = rec old in (omega (arith, p.0), p.1)
-    by rec (inr (none, new)) =
-        let same : s ≡ suc n = last new in
-        (omega (arith, same), λ t above less. not-false (segments t).shut (none t (In-numbers t n above (omega (arith, same, less)))))
-
 orders-commits : (master : Master) (seg : ℕ) → first_open master.log ≡ Some seg → Orders master (commits master seg)
 orders-commits master seg found = record {
   own = refl;
@@ -189,7 +144,7 @@ orders-commits master seg found = record {
 }
   where
     next : IsNext master.log seg
-    next = let p = first-next master.log.segments master.log.head seg found in record { upto = p.0; shut = p.1 }
+    next = let p = first-open master.log master.log.head seg found in record { upto = p.1; shut = p.0 }
 
     later : ShutStays master.log (commits master seg).0.log
     later = record {
@@ -303,3 +258,10 @@ commits-are-of-placed setup events one m s e at = (
   λ t above less. commits-are-asked-in-order setup (events ++ one ∷ []) m s e t
       (in-drop (to_coordinator m (Commit s e)) (length (sent_after setup events)) (sent_after setup (events ++ one ∷ [])) at) above less,
 )
+
+pub commits-are-of-the-told : CommitsAreOfTheTold
+commits-are-of-the-told setup events one m s e at x member =
+    let due = (commits-are-of-placed setup events one m s e at).0 in
+    subst (HasToldOf (sent_after setup (events ++ one ∷ [])) x m s) (sym due.epoch)
+    (members-have-told setup (events ++ one ∷ []) m s x due.placed
+    (subst (λ n. IsMember (sent_after setup (events ++ one ∷ [])) m s n x) due.epoch member))
