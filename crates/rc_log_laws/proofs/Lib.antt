@@ -22,7 +22,6 @@ mod LeastPairs
 pub mod Silent
 pub mod Stays
 pub mod Walk
-mod FreeWorlds
+pub mod FreeWorlds
 pub mod Senders
 pub mod InEvents
-pub mod FreeWorlds
