@@ -11,3 +11,4 @@ pub mod Shown
 pub mod Happening
 pub mod Sentences
 pub mod Clients
+pub mod Ordered

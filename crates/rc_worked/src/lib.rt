@@ -8,6 +8,7 @@ pub mod first_path;
 pub mod freeing;
 pub mod happening;
 pub mod kept;
+pub mod ordered;
 pub mod recoveries;
 pub mod restarts;
 pub mod rolls;
