@@ -10,3 +10,4 @@ pub mod Pending
 pub mod Standing
 pub mod Linear
 pub mod Following
+pub mod Ordering
