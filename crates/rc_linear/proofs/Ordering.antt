@@ -1,11 +1,11 @@
 -- What is said of reads makes the test of a run true; so a run whose test fails refutes it.
-use Rattle.std.proofs.Common.{◌≡◌, ◌⊎◌, ◌≢◌, ℕ, ◌+◌, ◌<◌, ◌≤◌, Bool, true, false, not, ◌&&◌, ◌||◌, nat_eq, nat_lt, nat_le, List, [], ◌∷◌, ◌++◌}
-use Rattle.std.proofs.Common.{length, Option, refl, sym, ap, ◌∙◌, subst, inl, inr, append_assoc, arith}
+use Rattle.std.proofs.Common.{◌≡◌, ◌⊎◌, ◌≢◌, ℕ, ◌+◌, ◌<◌, ◌≤◌, Bool, true, false, not, ◌&&◌, ◌||◌, nat_eq, nat_lt, nat_le}
+use Rattle.std.proofs.Common.{List, [], ◌∷◌, ◌++◌, length, Option, refl, sym, ap, ◌∙◌, subst, inl, inr, append_assoc, arith}
 use Rattle.std.specs.List.{list_any, list_all}
 use Rattle.std.proofs.lemmas.Bool.{eqb-true, lt-ltb, le-leb, and_parts, and_from}
 use Rattle.std.proofs.lemmas.List.{length-append}
-use Rattle.rc_model.specs.Model.{ServerId, Addr, Server, Entry, Setup, Event, Message, Body, ReadOk, Ack, made, same_id, same_value, World, opening}
-use Rattle.rc_model.specs.Model.{replay, factor_of, In, HasMade, HasAcknowledged}
+use Rattle.rc_model.specs.Model.{ServerId, Addr, Server, Entry, Setup, Event, Message, Body, ReadOk, Ack, made, same_id, same_value}
+use Rattle.rc_model.specs.Model.{World, opening, replay, factor_of, In, HasMade, HasAcknowledged}
 use Rattle.rc_model.proofs.Members.{In-append}
 use Rattle.rc_model.proofs.Said.{HasMade-in}
 use Rattle.rc_model.proofs.Ids.{same_id-true}

@@ -16,7 +16,7 @@ use Rattle.rc_model.specs.Recovered.{Ack}
 use Rattle.rc_model.specs.Breach.{same_value}
 use Rattle.rc_worked.specs.Settling.{of_eight, decide, deliver, id, read, settle, settle_without, suspect, write}
 use Rattle.rc_worked.specs.Shown.{four_hosts, own_line}
-use Rattle.rc_worked.specs.Sentences.{Run, acks_of, is_of_key, is_no_more, whole_world}
+use Rattle.rc_worked.specs.Sentences.{Run, acks_of, is_of_key, is_no_more, whole_world, broken}
 use Rattle.rc_worked.specs.Clients.{two_handovers, told}
 
 -- The test
@@ -162,3 +162,8 @@ ShownAgainConfirms = confirmed_in shown_again ≡ (1, true) ∷ (1, true) ∷ []
 
 abbrev pub ShownAgainKeepsOrder : Type 0
 ShownAgainKeepsOrder = order_of shown_again ≡ true
+
+-- Where a wrong rule lets the replaced master confirm its read, the order is broken, and no other sentence
+
+abbrev pub ZombieBreaksNoOther : Type 0
+ZombieBreaksNoOther = broken zombie_confirms_nothing ≡ []

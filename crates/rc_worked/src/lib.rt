@@ -7,6 +7,7 @@ pub mod epochs;
 pub mod first_path;
 pub mod freeing;
 pub mod happening;
+pub mod in_order;
 pub mod kept;
 pub mod ordered;
 pub mod recoveries;
