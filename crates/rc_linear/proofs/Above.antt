@@ -1,9 +1,9 @@
 -- What a client asked for only afterwards stands above all that had stood.
-use Rattle.std.proofs.Common.{◌≡◌, ◌⊎◌, ◌≢◌, ℕ, ◌<◌, true, List, ◌∷◌, ◌++◌, Some, slice_get, refl, sym, ap, ◌∙◌, subst, inl, inr, arith}
+use Rattle.std.proofs.Common.{◌≡◌, ◌⊎◌, ◌≢◌, ◌<◌, true, List, ◌∷◌, ◌++◌, Some, slice_get, refl, sym, ap, ◌∙◌, subst, inl, inr}
 use Rattle.rc_model.specs.Model.{ServerId, Entry, Setup, Event, Grant, Ack, IsEarlier, LogPlace, places_of, in_range, factor_of, replay}
 use Rattle.rc_model.specs.Model.{HasAcknowledged, In}
 use Rattle.rc_model.proofs.Members.{place_of}
-use Rattle.rc_step_laws.specs.All.{log_in, IsSafe}
+use Rattle.rc_step_laws.specs.All.{log_in}
 use Rattle.rc_step_laws.proofs.Logs.{get-log}
 use Rattle.rc_step_laws.proofs.Places.{IsOf, places_to-are, place-logged}
 use Rattle.rc_owner_laws.specs.Parts.{part_view, IsClients}
@@ -11,11 +11,12 @@ use Rattle.rc_owner_laws.specs.VersionClaims.{MayFree}
 use Rattle.rc_owner_laws.proofs.OwnersOrdered.{one-chain}
 use Rattle.rc_owner_laws.proofs.Kept.{was-granted}
 use Rattle.rc_owner_laws.proofs.VersionsOrdered.{logs-rise}
-use Rattle.rc_owner_laws.proofs.Rising.{Stands, stands, granted_of, covers-anyhow, GoesTo, above-base, IsAcked, acked, IsOwned, owned, owner}
+use Rattle.rc_owner_laws.proofs.Rising.{Stands, stands, granted_of, covers-anyhow, GoesTo}
+use Rattle.rc_owner_laws.proofs.Rising.{above-base, IsAcked, acked, IsOwned, owned, owner}
 use Rattle.rc_promises.proofs.Standing.{goes-from}
 use Rattle.rc_promises.proofs.Time.{IsLeft, left, still-granted}
 use Rattle.rc_linear.specs.Confirmed.{HasSentFor}
-use Rattle.rc_linear.proofs.Behind.{old, new, all_old, all_new, later-of, IsSentTo, behind, no-plan}
+use Rattle.rc_linear.proofs.Behind.{all_new, later-of, IsSentTo, behind, no-plan}
 use Rattle.rc_linear.proofs.Stood.{Stood}
 
 module _ (setup : Setup) (past rest : List Event) (m x : ServerId) (some : factor_of setup x.index ≢ 0) (one : Entry)
@@ -82,7 +83,8 @@ module _ (setup : Setup) (past rest : List Event) (m x : ServerId) (some : facto
         above-base (replay setup (past ++ rest)).sent (replay setup (past ++ rest)).masters (replay setup (past ++ rest)).hosts
         (replay setup (past ++ rest)).coordinator (all_new setup past rest) MayFree
         (covers-anyhow (replay setup (past ++ rest)).sent (replay setup (past ++ rest)).masters (replay setup (past ++ rest)).hosts
-        (replay setup (past ++ rest)).coordinator (all_new setup past rest)) goes.grant one goes.starts at.before at.after place whole client
+        (replay setup (past ++ rest)).coordinator (all_new setup past rest)) goes.grant one goes.starts at.before at.after place
+        whole client
         (sym goes.term_is) tables keys
       where
         goes : GoesTo (replay setup (past ++ rest)).sent (replay setup (past ++ rest)).masters (replay setup (past ++ rest)).hosts
@@ -114,7 +116,8 @@ module _ (setup : Setup) (past rest : List Event) (m x : ServerId) (some : facto
             ⊎ IsEarlier (replay setup (past ++ rest)).sent one.table one.key its.grant.term s.owned.grant.term) →
             one.version < place.entry.version
         by (inl same) = under-one-term same
-        by (inr (inl way)) = under-later-term (subst (λ n. IsEarlier (replay setup (past ++ rest)).sent one.table one.key n place.entry.term)
+        by (inr (inl way)) = under-later-term
+            (subst (λ n. IsEarlier (replay setup (past ++ rest)).sent one.table one.key n place.entry.term)
             s.owned.term_is (subst (λ n. IsEarlier (replay setup (past ++ rest)).sent one.table one.key s.owned.grant.term n) its_term way))
         by (inr (inr way)) = absurd (not_before (subst (λ n. IsEarlier (replay setup (past ++ rest)).sent one.table one.key n one.term)
             its_term (subst (λ n. IsEarlier (replay setup (past ++ rest)).sent one.table one.key its.grant.term n) s.owned.term_is way)))

@@ -1,18 +1,16 @@
 -- A place for which nothing had been sent stands behind all that was sent, durable or recovered by then.
-use Rattle.std.proofs.Common.{◌≡◌, ◌⊎◌, ◌≢◌, ℕ, ◌+◌, ◌-◌, ◌<◌, ◌≤◌, Bool, true, ◌&&◌, nat_lt, IsTrue, List, [], ◌++◌, length, take, Some, slice_get}
+use Rattle.std.proofs.Common.{◌≡◌, ◌⊎◌, ◌≢◌, ℕ, ◌+◌, ◌-◌, ◌<◌, ◌≤◌, Bool, true, ◌&&◌, nat_lt, List, [], ◌++◌, length, Some, slice_get}
 use Rattle.std.proofs.Common.{refl, sym, ap, ◌∙◌, subst, inl, inr, arith}
 use Rattle.std.proofs.lemmas.Bool.{and_parts, and_from, ltb-true}
 use Rattle.std.proofs.lemmas.List.{length-map}
 use Rattle.rc_model.specs.Model.{ServerId, Entry, Setup, Event, Ack, Accepted, Log, has_segment, durable_len, all_shut_to, is_stored_on_all}
-use Rattle.rc_model.specs.Model.{IsDurable, Phase, Writing, Opening, Closing, Segment, factor_of, World, replay, WasAccepted}
-use Rattle.rc_model.specs.Model.{IsHeld, HasAcknowledged, HasMade, Master}
+use Rattle.rc_model.specs.Model.{IsDurable, Phase, Writing, Opening, Closing, factor_of, World, replay, WasAccepted}
+use Rattle.rc_model.specs.Model.{IsHeld, HasAcknowledged, Master}
 use Rattle.rc_model.specs.Durable.{log_after}
 use Rattle.rc_step_laws.specs.All.{log_in, GoodMaster, IsWriteOk}
 use Rattle.rc_step_laws.proofs.Lists.{get-within}
-use Rattle.rc_step_laws.proofs.Logs.{get-log}
-use Rattle.rc_log_laws.proofs.Clauses.{made-is, accepted-is}
+use Rattle.rc_log_laws.proofs.Clauses.{accepted-is}
 use Rattle.rc_log_laws.proofs.Covers.{IsCovered, PlanIs, covered}
-use Rattle.rc_log_laws.proofs.Replays.{good-world}
 use Rattle.rc_log_laws.proofs.Growing.{recovered-is-made}
 use Rattle.rc_log_laws.proofs.Since.{Since, since-more}
 use Rattle.rc_owner_laws.specs.Worlds.{AllHold}

@@ -1,18 +1,19 @@
 -- Each client's place answers a request, before which nothing had been sent for the place.
-use Rattle.std.proofs.Common.{◌≡◌, ◌⊎◌, ℕ, zero, suc, ◌+◌, ◌<◌, ◌≤◌, Bool, true, List, [], ◌∷◌, ◌++◌, length, take, Option, Some, None, slice_get}
+use Rattle.std.proofs.Common.{◌≡◌, ◌⊎◌, ℕ, zero, suc, ◌+◌, ◌<◌, ◌≤◌, Bool, true, List, [], ◌∷◌, ◌++◌, take, Option, Some, None, slice_get}
 use Rattle.std.proofs.Common.{refl, sym, ap, ◌∙◌, subst, inl, inr, arith}
 use Rattle.std.proofs.lemmas.List.{append-nil, append_assoc, take-append-le}
-use Rattle.rc_model.specs.Model.{ServerId, Addr, Server, Outside, Entry, Setup, Event, Message, Write, Segment, LogPlace, places_in, places_to, places_of}
-use Rattle.rc_model.specs.Model.{Master, master_takes, master_ticks, World, opening, step, replay, In, HasMade}
-use Rattle.rc_model.proofs.Members.{In-left, In-right, In-get, place_of}
+use Rattle.rc_model.specs.Model.{ServerId, Server, Outside, Entry, Setup, Event}
+use Rattle.rc_model.specs.Model.{Message, Write, Segment, LogPlace, places_in, places_to, places_of}
+use Rattle.rc_model.specs.Model.{Master, World, opening, replay, In}
+use Rattle.rc_model.proofs.Members.{In-left, In-right, place_of}
 use Rattle.rc_model.proofs.Replays.{replay_from-push}
 use Rattle.rc_step_laws.specs.All.{log_in}
-use Rattle.rc_step_laws.proofs.Lists.{get-begins, get-left, get-take, get-within}
+use Rattle.rc_step_laws.proofs.Lists.{get-begins, get-left, get-within}
 use Rattle.rc_step_laws.proofs.Places.{IsOf, places_to-are}
 use Rattle.rc_step_laws.proofs.Tests.{get-map}
 use Rattle.rc_log_laws.proofs.Clauses.{made-is}
 use Rattle.rc_log_laws.proofs.EachMaster.{IsLed, led-by}
-use Rattle.rc_log_laws.proofs.Replays.{GoodWorld, good-world}
+use Rattle.rc_log_laws.proofs.Replays.{good-world}
 use Rattle.rc_log_laws.proofs.Since.{Since, since-more}
 use Rattle.rc_owner_laws.proofs.VersionReplays.{all-world}
 use Rattle.rc_owner_laws.proofs.VersionsOrdered.{opened}
@@ -58,7 +59,8 @@ place-at segments (suc n) s o one above upto e = by (last-or s n upto) (λ less.
     by (inl same) rec = In-right place (places_to segments n) (places_in (suc n) 0 (segments (suc n)).entries)
         (subst (λ t. In (record { seg = t; offset = o; entry = one.0; client = one.1 }) (places_in (suc n) 0 (segments (suc n)).entries))
         (sym same)
-        (subst (λ k. In (record { seg = suc n; offset = k; entry = one.0; client = one.1 }) (places_in (suc n) 0 (segments (suc n)).entries))
+        (subst (λ k. In (record { seg = suc n; offset = k; entry = one.0; client = one.1 })
+        (places_in (suc n) 0 (segments (suc n)).entries))
         (let plus : 0 + o ≡ o = omega arith in plus)
         (in-segment (suc n) 0 o (segments (suc n)).entries one (subst (λ t. slice_get (segments t).entries o ≡ Some one) same e))))
     by (inr less) rec = In-left place (places_to segments n) (places_in (suc n) 0 (segments (suc n)).entries) (rec less)
@@ -77,10 +79,10 @@ module _ (world : World) where
     takes = λ sent m master from body good p at. asks-takes
         (λ (entry : Entry). WasToldToWrite world.sent m entry.table entry.key entry.value) master from body
         (λ table key value under e. record {
-        message = record { from = from; to = Server m; body = body };
-        among = subst (In (record { from = from; to = Server m; body = body })) p.sent_is at;
-        to = refl;
-        says = e;
+          message = record { from = from; to = Server m; body = body };
+          among = subst (In (record { from = from; to = Server m; body = body })) p.sent_is at;
+          to = refl;
+          says = e;
         }) p.asked;
     ticks = λ sent m master good p. asks-ticks
         (λ (entry : Entry). WasToldToWrite world.sent m entry.table entry.key entry.value) master p.asked;
@@ -115,12 +117,15 @@ In-taken-from (suc n) (y ∷ xs) x (inl e) = inl e
 In-taken-from (suc n) (y ∷ xs) x (inr rest) = inr (In-taken-from n xs x rest)
 
 pub sent-of-take : (n : ℕ) (sent : List Message) (m : ServerId) (s o : ℕ) → HasSentFor (take n sent) m s o → HasSentFor sent m s o
-sent-of-take n sent m s o (entry, made) = (entry, record {
-  message = made.message;
-  among = In-taken-from n sent made.message made.among;
-  from = made.from;
-  holds = made.holds;
-})
+sent-of-take n sent m s o (entry, made) = (
+  entry,
+  record {
+    message = made.message;
+    among = In-taken-from n sent made.message made.among;
+    from = made.from;
+    holds = made.holds;
+  },
+)
 
 asked-one : (setup : Setup) (past : List Event) (one : Event) → AllAskedFor setup past → AllAskedFor setup (past ++ one ∷ [])
 asked-one setup past one p m place among client =
@@ -145,8 +150,11 @@ asked-one setup past one p m place among client =
         IsAskedFor (replay setup (past ++ one ∷ [])).sent m place
     now number asked fresh = record {
       number = number;
-      asked = subst (λ l. slice_get l number ≡ Some (record { from = Outside; to = Server m;
-          body = Write place.entry.table place.entry.key place.entry.value })) starts.1
+      asked = subst (λ l. slice_get l number ≡ Some (record {
+        from = Outside;
+        to = Server m;
+        body = Write place.entry.table place.entry.key place.entry.value;
+      })) starts.1
           (get-left (replay setup past).sent starts.0 number _ asked);
       fresh = λ sent. fresh (subst (λ l. HasSentFor l m place.seg place.offset)
           (ap (take number) (sym starts.1) ∙ take-append-le number (replay setup past).sent starts.0
@@ -196,7 +204,8 @@ asked-one setup past one p m place among client =
 asked-more : (setup : Setup) (past events : List Event) → AllAskedFor setup past → AllAskedFor setup (past ++ events)
 asked-more setup past [] p = subst (AllAskedFor setup) (sym (append-nil past)) p
 asked-more setup past (one ∷ events) p =
-    subst (AllAskedFor setup) (append_assoc past (one ∷ []) events) (asked-more setup (past ++ one ∷ []) events (asked-one setup past one p))
+    subst (AllAskedFor setup) (append_assoc past (one ∷ []) events)
+    (asked-more setup (past ++ one ∷ []) events (asked-one setup past one p))
 
 pub all-asked-for : (setup : Setup) (events : List Event) (m : ServerId) (place : LogPlace) →
     In place (places_of ((replay setup events).masters m).log) → place.client ≡ true → IsAskedFor (replay setup events).sent m place

@@ -9,3 +9,5 @@ pub mod Origin
 pub mod Pending
 pub mod Standing
 pub mod Linear
+pub mod Following
+pub mod Ordering

@@ -1,10 +1,10 @@
 -- The operations on a key, ordered by their versions, are a linearization.
-use Rattle.std.proofs.Common.{◌≡◌, ◌⊎◌, ◌≢◌, ℕ, zero, suc, ◌+◌, ◌<◌, ◌≤◌, true, Bool, List, [], ◌∷◌, ◌++◌, length, filter, take, Option, Some, None}
+use Rattle.std.proofs.Common.{◌≡◌, ◌⊎◌, ℕ, zero, suc, ◌<◌, ◌≤◌, true, Bool, List, [], ◌∷◌, ◌++◌, length, filter, take, Some, None}
 use Rattle.std.proofs.Common.{nat_eq, ◌&&◌, slice_get, refl, sym, ap, ◌∙◌, subst, inl, inr, arith}
 use Rattle.std.proofs.lemmas.Bool.{eq-eqb}
 use Rattle.rc_types.specs.declared.events.Setup.{Setup}
-use Rattle.rc_model.specs.Model.{ServerId, Addr, Server, Outside, Entry, Event, Message, Body, Write, WriteOk, ReadOk, Ack, LogPlace, places_of, Found}
-use Rattle.rc_model.specs.Model.{read_of, term_of, durable_entries, to_outside, factor_of, replay, In, HasMade, HasAcknowledged}
+use Rattle.rc_model.specs.Model.{ServerId, Server, Outside, Entry, Event, Message, Write, WriteOk, Ack, LogPlace, places_of, Found}
+use Rattle.rc_model.specs.Model.{read_of, term_of, durable_entries, to_outside, replay, In, HasMade, HasAcknowledged}
 use Rattle.rc_model.proofs.Members.{In-get, place_of, filter-In}
 use Rattle.rc_model.proofs.Tests.{true_false, either}
 use Rattle.rc_model.proofs.Ids.{same_id-refl}
@@ -12,7 +12,7 @@ use Rattle.rc_step_laws.specs.All.{log_in}
 use Rattle.rc_step_laws.proofs.Lists.{get-take, get-within}
 use Rattle.rc_step_laws.proofs.Places.{place-logged, places_to-are}
 use Rattle.rc_step_laws.proofs.Tests.{In-take}
-use Rattle.rc_history.specs.Apart.{Step, events_by, sent_by, TakenApart}
+use Rattle.rc_history.specs.Apart.{events_by}
 use Rattle.rc_owner_laws.specs.Worlds.{AllHold}
 use Rattle.rc_owner_laws.proofs.VersionReplays.{all-world}
 use Rattle.rc_write_laws.specs.AckClaims.{acks_place, is_ack_of, counted_places}
@@ -22,23 +22,23 @@ use Rattle.rc_write_laws.proofs.Settling.{ok_of}
 use Rattle.rc_write_laws.proofs.Worlds.{counted-is-durable}
 use Rattle.rc_write_laws.proofs.Handing.{durable-is-made}
 use Rattle.rc_write_laws.proofs.Once.{acknowledged-once}
-use Rattle.rc_promises.specs.Service.{IsOfKey, IsWritten, IsOneWrite, MissesOnlyLater}
+use Rattle.rc_promises.specs.Service.{IsWritten, IsOneWrite, MissesOnlyLater}
 use Rattle.rc_promises.proofs.Asked.{versions-begin-at-one}
 use Rattle.rc_promises.proofs.Once.{three, one-version-is-one-write}
 use Rattle.rc_promises.proofs.Reading.{reads-see-acknowledged-writes, is-ack}
 use Rattle.rc_promises.proofs.ServiceApart.{sent-apart}
-use Rattle.rc_linear.specs.Confirmed.{HasSentFor, IsConfirmed, MissesNothing}
-use Rattle.rc_linear.specs.Linearizable.{AWrite, ARead, Operation, IsRequest, IsWrite, IsRead, IsOn, Precedes, StandsBefore, WasAskedFor}
-use Rattle.rc_linear.specs.Linearizable.{IsLinearized, IsLinearizable, HasReplicas, Linearizable, LinearizableApart}
+use Rattle.rc_linear.specs.Confirmed.{HasSentFor, MissesNothing}
+use Rattle.rc_linear.specs.Linearizable.{AWrite, ARead, Operation, IsRequest, IsWrite, IsRead, Precedes, StandsBefore, WasAskedFor}
+use Rattle.rc_linear.specs.Linearizable.{IsLinearizable, HasReplicas, Linearizable, LinearizableApart}
 use Rattle.rc_linear.specs.Linearizable.{IsResponseOf, EachWriteIsAnOperation}
 use Rattle.rc_linear.proofs.NoneLater.{confirmed-reads-miss-nothing}
-use Rattle.rc_linear.proofs.Stood.{Stood, IsShowing, shown-stood, shows-none, reader-owned}
+use Rattle.rc_linear.proofs.Stood.{Stood, IsShowing, shown-stood, shows-none}
 use Rattle.rc_linear.proofs.Above.{above-acked}
 use Rattle.rc_linear.proofs.Shown.{Finds, zero-or-more, reads-rise, reads-alike}
 use Rattle.rc_linear.proofs.Fresh.{IsAskedFor, all-asked-for, In-taken-from}
 use Rattle.rc_linear.proofs.Origin.{Origin, origin}
 use Rattle.rc_linear.proofs.Pending.{below-at}
-use Rattle.rc_linear.proofs.Standing.{take-get, take-length, which-begins, sent-more, first-events, IsAnswered, is-answered, answered-number}
+use Rattle.rc_linear.proofs.Standing.{take-get, take-length, which-begins, first-events, IsAnswered, is-answered}
 use Rattle.rc_linear.proofs.Standing.{answered-first, acknowledged-at, read-at, IsFoundAt, found-at, HadStood, had-stood}
 
 fewer : {X : Type 0} (test : X → Bool) (xs : List X) (z : X) → length (filter test (z ∷ xs)) ≤ 1 → length (filter test xs) ≤ 1
@@ -187,7 +187,8 @@ module _ (setup : Setup) (events : List Event) (some : HasReplicas setup) where
             a.version r.version a.value r.value finds
             (subst (λ (l : List Event). Finds setup l r.master r.table r.key r.version r.value) (sym is_past) at.finds)
             is.confirmed.ack
-            (subst (λ (l : List Event). HasAcknowledged (replay setup (l ++ at.rest)).sent r.master is.confirmed.ack) (sym is_past) acked_since)
+            (subst (λ (l : List Event). HasAcknowledged (replay setup (l ++ at.rest)).sent r.master is.confirmed.ack) (sym is_past)
+            acked_since)
             (subst (λ (l : List Event). HasSentFor (replay setup l).sent r.master is.confirmed.ack.seg is.confirmed.ack.offset → ⊥)
             (sym is_past) unsent_then)
         by (inr (gap, is_past)) =
@@ -241,10 +242,10 @@ module _ (setup : Setup) (events : List Event) (some : HasReplicas setup) where
 
       requested : IsRequest sent asked.number came.x (Write r.table r.key r.value)
       requested = (get-take r.response sent asked.number _ (subst (λ l. slice_get l asked.number ≡ Some (record {
-            from = Outside;
-            to = Server came.x;
-            body = Write r.table r.key r.value;
-          })) at.sent_is same)).1
+        from = Outside;
+        to = Server came.x;
+        body = Write r.table r.key r.value;
+      })) at.sent_is same)).1
         where
           same : slice_get (replay setup at.past).sent asked.number
               ≡ Some (record { from = Outside; to = Server came.x; body = Write r.table r.key r.value })
@@ -438,7 +439,8 @@ each-write setup events m ack some p = by (oks-of m (counted_places ((replay set
       where
         asked : IsAskedFor (replay setup events).sent m place
         asked = all-asked-for setup events m place
-            (In-taken-from ((replay setup events).masters m).log.durable (places_of ((replay setup events).masters m).log) place among) client
+            (In-taken-from ((replay setup events).masters m).log.durable (places_of ((replay setup events).masters m).log) place among)
+            client
 
         got : (k : ℕ) × (slice_get (replay setup events).sent k ≡ Some p.message)
         got = place_of (replay setup events).sent p.message p.among
@@ -477,5 +479,6 @@ each-write setup events m ack some p = by (oks-of m (counted_places ((replay set
             let one : slice_get (log_in ((replay setup events).masters m).log place.seg) place.offset ≡ Some made.0 = made.1 in
             let other : slice_get (log_in ((replay setup events).masters m).log place.seg) place.offset ≡ Some place.entry =
             place-logged ((replay setup events).masters m).log place
-            (places_to-are ((replay setup events).masters m).log.segments ((replay setup events).masters m).log.head counted.0 place counted.2) in
+            (places_to-are ((replay setup events).masters m).log.segments ((replay setup events).masters m).log.head
+            counted.0 place counted.2) in
             cc

@@ -1,17 +1,16 @@
 -- A confirmed read misses nothing.
-use Rattle.std.proofs.Common.{◌≡◌, ◌≢◌, ℕ, ◌<◌, ◌≤◌, true, List, ◌++◌, slice_get, sym, ap, ◌∙◌, subst}
+use Rattle.std.proofs.Common.{◌≡◌, ◌≢◌, ℕ, ◌<◌, true, List, ◌++◌, sym, ap, ◌∙◌, subst}
 use Rattle.rc_model.specs.Model.{ServerId, Addr, Server, Setup, Event, Grant, Message, Ack, Granted, IsGranted, granted, covers, IsEarlier}
 use Rattle.rc_model.specs.Model.{in_range, factor_of, replay, HasAcknowledged}
 use Rattle.rc_model.proofs.Members.{In-get}
-use Rattle.rc_owner_laws.specs.Terms.{IsGrantedTo}
 use Rattle.rc_owner_laws.proofs.Rising.{granted_of, IsRemembered, remembered, IsOwned, acked, owner}
 use Rattle.rc_owner_laws.proofs.Kept.{was-granted}
-use Rattle.rc_promises.specs.Service.{WasGranted, IsOfKey, Answer, HasRead, MissesOnlyLater}
+use Rattle.rc_promises.specs.Service.{WasGranted, IsOfKey, MissesOnlyLater}
 use Rattle.rc_promises.proofs.News.{WasRead, clients-are-heard}
-use Rattle.rc_promises.proofs.Reading.{reads-see-acknowledged-writes, earlier-still, sees}
+use Rattle.rc_promises.proofs.Reading.{earlier-still, sees}
 use Rattle.rc_promises.proofs.Time.{IsLeft, left}
-use Rattle.rc_linear.specs.Confirmed.{HasSentFor, IsConfirmed, MissesNothing, ConfirmedReadsMissNothing}
-use Rattle.rc_linear.proofs.Behind.{old, new, all_old, no-plan}
+use Rattle.rc_linear.specs.Confirmed.{HasSentFor, MissesNothing, ConfirmedReadsMissNothing}
+use Rattle.rc_linear.proofs.Behind.{all_old, no-plan}
 
 module _ (setup : Setup) (past rest : List Event) where
   -- a grant that was sent is remembered

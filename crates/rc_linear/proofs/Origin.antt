@@ -1,9 +1,10 @@
 -- Where an entry comes from: a client's place, from which accepted recoveries have handed it on.
-use Rattle.std.proofs.Common.{◌≡◌, ◌⊎◌, ℕ, zero, suc, ◌<◌, ◌≤◌, Bool, true, false, ◌&&◌, List, [], ◌∷◌, ◌++◌, map, filter, take, nat_eq, Option}
+use Rattle.std.proofs.Common.{◌≡◌, ◌⊎◌, ℕ, zero, suc, ◌<◌, ◌≤◌, Bool, true, false, List, [], ◌∷◌, ◌++◌, map, take, nat_eq}
 use Rattle.std.proofs.Common.{Some, slice_get, refl, sym, ap, ◌∙◌, subst, inl, inr, arith}
 use Rattle.std.proofs.lemmas.Bool.{and_parts, eqb-true}
-use Rattle.rc_model.specs.Model.{ServerId, Entry, Part, PlanRow, Grant, Message, Accepted, made_below, recovered_entries, is_in_part, LogPlace, places_of}
-use Rattle.rc_model.specs.Model.{in_range, under_term, range_of, Master, Task, HostNode, In, WasAccepted, IsHeld, GivenPart}
+use Rattle.rc_model.specs.Model.{ServerId, Entry, Part, PlanRow, Grant, Message}
+use Rattle.rc_model.specs.Model.{Accepted, made_below, recovered_entries, is_in_part, LogPlace, places_of}
+use Rattle.rc_model.specs.Model.{in_range, under_term, Master, Task, HostNode, In, WasAccepted, IsHeld, GivenPart}
 use Rattle.rc_model.specs.Coordinator.{Coordinator}
 use Rattle.rc_model.proofs.Members.{In-left, In-right, In-append, In-map, In-filter, place_of}
 use Rattle.rc_step_laws.specs.All.{Begins, log_in}

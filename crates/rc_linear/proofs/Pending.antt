@@ -1,16 +1,17 @@
 -- What a read shows, a client asked for; and whatever had stood before it was asked for has a lower version.
-use Rattle.std.proofs.Common.{◌≡◌, ◌⊎◌, ◌≢◌, ℕ, ◌<◌, ◌≤◌, true, List, ◌++◌, Option, Some, slice_get, refl, sym, ap, ◌∙◌, subst, inl, inr, arith}
-use Rattle.rc_model.specs.Model.{ServerId, Entry, Setup, Event, Grant, Message, Ack, Accepted, Granted, granted, covers, grants_of, IsBefore, previous}
-use Rattle.rc_model.specs.Model.{onward, IsEarlier, Found, read_of, LogPlace, places_of, in_range, term_of, durable_entries, Master, HostNode}
+use Rattle.std.proofs.Common.{◌≡◌, ◌⊎◌, ◌≢◌, ℕ, ◌<◌, ◌≤◌, true, List, ◌++◌, Option}
+use Rattle.std.proofs.Common.{Some, slice_get, refl, sym, ap, ◌∙◌, subst, inl, inr, arith}
+use Rattle.rc_model.specs.Model.{ServerId, Entry, Setup, Event, Grant, Message, Ack, Accepted, Granted, grants_of, IsBefore, previous}
+use Rattle.rc_model.specs.Model.{onward, IsEarlier, Found, read_of, LogPlace}
+use Rattle.rc_model.specs.Model.{places_of, in_range, term_of, durable_entries, Master, HostNode}
 use Rattle.rc_model.specs.Model.{factor_of, World, replay, In, HasAcknowledged, WasAccepted}
 use Rattle.rc_model.specs.Coordinator.{Coordinator}
 use Rattle.rc_model.proofs.Members.{In-map}
 use Rattle.rc_owner_laws.specs.Terms.{IsGivenBy}
-use Rattle.rc_owner_laws.specs.Parts.{logged}
 use Rattle.rc_owner_laws.specs.Worlds.{AllHold}
 use Rattle.rc_owner_laws.specs.VersionClaims.{MayFree}
 use Rattle.rc_owner_laws.proofs.OwnersOrdered.{one-chain, earlier-less}
-use Rattle.rc_owner_laws.proofs.Bases.{IsTaskOf, task-of, IsStarted, started}
+use Rattle.rc_owner_laws.proofs.Bases.{task-of, IsStarted, started}
 use Rattle.rc_owner_laws.proofs.VersionCuts.{one-plan}
 use Rattle.rc_owner_laws.proofs.Kept.{was-granted, term-above, previous-earlier}
 use Rattle.rc_owner_laws.proofs.Rising.{granted_of, covers-anyhow, at-point, IsOwned}
@@ -190,8 +191,11 @@ module _ (setup : Setup) (early gap rest : List Event) (m x : ServerId) (some_x 
             plan : Accepted
             plan = record { attempt = st.task.attempt; master = st.task.master; rows = st.task.rows }
 
-            accepted : WasAccepted (replay setup early).sent (record { attempt = st.task.attempt; master = st.task.master;
-                rows = st.task.rows })
+            accepted : WasAccepted (replay setup early).sent (record {
+              attempt = st.task.attempt;
+              master = st.task.master;
+              rows = st.task.rows;
+            })
             accepted = (task-of (replay setup early).sent (replay setup early).masters (replay setup early).hosts
                 (replay setup early).coordinator (all_old setup early gap) then.0.owner st.task st.task_among).accepted
 
@@ -199,11 +203,11 @@ module _ (setup : Setup) (early gap rest : List Event) (m x : ServerId) (some_x 
             same_plan = one-plan new.sent new.masters new.hosts new.coordinator (all_new setup early gap).good h.plan
                 (record { attempt = st.task.attempt; master = st.task.master; rows = st.task.rows }) h.accepted
                 (record {
-                message = accepted.message;
-                among = (later-of setup early gap m).more accepted.message accepted.among;
-                head = accepted.head;
-                parts = accepted.parts;
-                says = accepted.says;
+                  message = accepted.message;
+                  among = (later-of setup early gap m).more accepted.message accepted.among;
+                  head = accepted.head;
+                  parts = accepted.parts;
+                  says = accepted.says;
                 })
                 (h.attempt ∙ ap (λ (g : Grant). g.attempt) (sym same_grant) ∙ sym st.attempt_is)
 

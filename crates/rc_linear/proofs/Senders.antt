@@ -1,14 +1,14 @@
 -- What a client sends is sent alone: when it was sent, an event had just ended.
-use Rattle.std.proofs.Common.{◌≡◌, ◌⊎◌, ℕ, zero, suc, ◌-◌, ◌+◌, ◌<◌, ◌≤◌, true, false, List, [], ◌∷◌, ◌++◌, length, take, Option, Some, None, slice_get}
+use Rattle.std.proofs.Common.{◌≡◌, ◌⊎◌, ℕ, ◌+◌, ◌<◌, List, [], ◌∷◌, ◌++◌, length, take, Option, Some, None, slice_get}
 use Rattle.std.proofs.Common.{refl, sym, ap, ◌∙◌, subst, inl, inr, arith}
 use Rattle.std.proofs.lemmas.List.{append-nil, append_assoc, take-append-le, take_all}
-use Rattle.rc_model.specs.Model.{ServerId, Addr, Server, Outside, Setup, Event, Message, Body, Enlist, is_server, put, to_coordinator}
-use Rattle.rc_model.specs.Model.{Backup, backup_takes, Master, master_takes, master_ticks, Work, Take, Create, Split, HostNode, outside_sends}
+use Rattle.rc_model.specs.Model.{ServerId, Addr, Server, Outside, Setup, Event, Message, Enlist, is_server, put, to_coordinator}
+use Rattle.rc_model.specs.Model.{Backup, backup_takes, Master, master_takes, master_ticks, Work, Take, HostNode, outside_sends}
 use Rattle.rc_model.specs.Model.{coordinator_step, server_of, host_step, is_for_backup, with_backup, with_master, server_takes}
-use Rattle.rc_model.specs.Model.{takes_if_running, ticks_if_running, starts_host, next_server, World, opening, NodeName, TheOutside}
+use Rattle.rc_model.specs.Model.{takes_if_running, ticks_if_running, next_server, World, opening, NodeName, TheOutside}
 use Rattle.rc_model.specs.Model.{TheCoordinator, TheHost, Job, work_of, is_possible, node_done, job_done, step, replay, In}
 use Rattle.rc_types.specs.declared.ids.Addr.TheVariants.{Coordinator as AtCoordinator}
-use Rattle.rc_model.specs.Nodes.{Ask, Tick, Stop, Start, Suspect, Decide}
+use Rattle.rc_model.specs.Nodes.{Ask, Tick, Start}
 use Rattle.rc_model.proofs.Members.{In-get}
 use Rattle.rc_model.proofs.Replays.{replay_from-push}
 use Rattle.rc_model.proofs.Tables.{put-same}
@@ -57,7 +57,8 @@ module _ (world : World) (one : Event) (i : ℕ) (good : GoodWorld world) where
       In (record { from = message.from; to = Server (server_of (world.hosts i)); body = message.body }) world.sent →
       Alone (server_takes (world.hosts i) master message)
   alone-server master e message at =
-      either Alone (is_for_backup message.body) (with_backup (world.hosts i) (backup_takes (world.hosts i).backup message.from message.body))
+      either Alone (is_for_backup message.body)
+      (with_backup (world.hosts i) (backup_takes (world.hosts i).backup message.from message.body))
       (with_master (world.hosts i) (master_takes master message.from message.body))
       (λ _. by-backup (backup_takes (world.hosts i).backup message.from message.body)
       (moved-backup world.sent world.masters world.hosts
@@ -138,7 +139,8 @@ AllEnd setup events = (n : ℕ) (message : Message) → slice_get (replay setup 
     IsEnd setup events n
 
 end-one : (setup : Setup) (past : List Event) (one : Event) → AllEnd setup past → AllEnd setup (past ++ one ∷ [])
-end-one setup past one p n message e from = by (get-append (replay setup past).sent new.messages n message (ap (λ l. slice_get l n) (sym grows) ∙ e))
+end-one setup past one p n message e from =
+    by (get-append (replay setup past).sent new.messages n message (ap (λ l. slice_get l n) (sym grows) ∙ e))
   where
     new : Adds (replay setup past) (step (replay setup past) one)
     new = adds-step (replay setup past) one (good-world setup past)

@@ -1,5 +1,6 @@
 -- Of two reads of a key the one that is answered later shows no smaller version, and of one version they show one value.
-use Rattle.std.proofs.Common.{◌≡◌, ◌⊎◌, ◌≢◌, ℕ, zero, suc, ◌<◌, ◌≤◌, true, List, ◌++◌, Option, Some, slice_get, refl, sym, ap, ◌∙◌, subst, inl, inr}
+use Rattle.std.proofs.Common.{◌≡◌, ◌⊎◌, ◌≢◌, ℕ, zero, suc, ◌<◌, ◌≤◌, true, List}
+use Rattle.std.proofs.Common.{◌++◌, Option, Some, slice_get, refl, sym, ap, ◌∙◌, subst, inl, inr}
 use Rattle.std.proofs.Common.{arith}
 use Rattle.rc_model.specs.Model.{ServerId, Entry, Setup, Event, Grant, Ack, IsEarlier, Found, read_of, in_range, term_of, durable_entries}
 use Rattle.rc_model.specs.Model.{factor_of, World, replay, HasAcknowledged, In}
@@ -17,7 +18,7 @@ use Rattle.rc_promises.proofs.Time.{still-granted}
 use Rattle.rc_linear.specs.Confirmed.{HasSentFor}
 use Rattle.rc_linear.proofs.Behind.{all_old, later-of}
 use Rattle.rc_linear.proofs.NoneLater.{none-later}
-use Rattle.rc_linear.proofs.Stood.{Stood, IsShowing, shown-stood, reader-owned}
+use Rattle.rc_linear.proofs.Stood.{IsShowing, shown-stood, reader-owned}
 
 -- what a master finds after these events
 pub record Finds (setup : Setup) (past : List Event) (m : ServerId) (table key version : ℕ) (value : Option (List ℕ)) : Type 0 where

@@ -1,11 +1,10 @@
 -- What an operation that was answered had made stand, when a message of a later number was sent.
-use Rattle.std.proofs.Common.{◌≡◌, ◌⊎◌, ◌≢◌, ℕ, zero, suc, ◌+◌, ◌<◌, ◌≤◌, min, List, [], ◌∷◌, ◌++◌, length, take, drop, Option, Some, slice_get}
+use Rattle.std.proofs.Common.{◌≡◌, ◌⊎◌, ℕ, zero, suc, ◌<◌, ◌≤◌, List, [], ◌∷◌, ◌++◌, length, take, drop, Some, slice_get}
 use Rattle.std.proofs.Common.{refl, sym, ap, ◌∙◌, subst, inl, inr, arith}
-use Rattle.rc_model.specs.Model.{ServerId, Server, Outside, Entry, Setup, Event, Message, Body, WriteOk, ReadOk, Ack, Found, read_of, term_of}
-use Rattle.rc_model.specs.Model.{durable_entries, to_outside, factor_of, replay, In, HasMade, HasAcknowledged}
+use Rattle.rc_model.specs.Model.{ServerId, Server, Outside, Entry, Setup, Event, Message, Body, WriteOk, ReadOk, Ack}
+use Rattle.rc_model.specs.Model.{to_outside, replay, In, HasAcknowledged}
 use Rattle.rc_model.proofs.Members.{In-get}
-use Rattle.rc_step_laws.specs.All.{Begins}
-use Rattle.rc_step_laws.proofs.Lists.{get-left, get-take, get-within}
+use Rattle.rc_step_laws.proofs.Lists.{get-within}
 use Rattle.rc_history.specs.Events.{StartsWith}
 use Rattle.rc_history.proofs.Longer.{longer-sent}
 use Rattle.rc_promises.specs.Service.{Answer, HasRead}
@@ -59,12 +58,15 @@ In-take-more (suc n) (suc k) (y ∷ xs) x less (inr rest) = inr (In-take-more n 
 
 pub sent-more : (n k : ℕ) (sent : List Message) (m : ServerId) (s o : ℕ) → n ≤ k → HasSentFor (take n sent) m s o →
     HasSentFor (take k sent) m s o
-sent-more n k sent m s o less (entry, made) = (entry, record {
-  message = made.message;
-  among = In-take-more n k sent made.message less made.among;
-  from = made.from;
-  holds = made.holds;
-})
+sent-more n k sent m s o less (entry, made) = (
+  entry,
+  record {
+    message = made.message;
+    among = In-take-more n k sent made.message less made.among;
+    from = made.from;
+    holds = made.holds;
+  },
+)
 
 pub first-events : (setup : Setup) (early more : List Event) → length (replay setup early).sent ≤ length (replay setup (early ++ more)).sent
 first-events setup early more =

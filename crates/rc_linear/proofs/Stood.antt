@@ -1,15 +1,15 @@
 -- What had stood durably under a term of its owner, and that acknowledged writes and what reads show had.
-use Rattle.std.proofs.Common.{◌≡◌, ◌≢◌, ℕ, zero, suc, ◌<◌, ◌≤◌, true, false, ◌&&◌, nat_lt, List, [], ◌∷◌, ◌++◌, map, take, Option, Some, None}
+use Rattle.std.proofs.Common.{◌≡◌, ◌≢◌, ℕ, zero, suc, ◌<◌, ◌≤◌, ◌&&◌, nat_lt, List, [], ◌∷◌, ◌++◌, take, Option, Some, None}
 use Rattle.std.proofs.Common.{slice_get, refl, sym, ap, ◌∙◌, subst, inl, inr, arith}
 use Rattle.std.proofs.lemmas.Bool.{and_parts, ltb-true}
-use Rattle.rc_model.specs.Model.{ServerId, Entry, Setup, Event, Ack, LogPlace, places_of, entries_of, Found, is_of, or_greater, read_from}
-use Rattle.rc_model.specs.Model.{read_of, term_of, IsDurable, durable_entries, factor_of, World, step, replay_from, replay, HasAcknowledged, In}
+use Rattle.rc_model.specs.Model.{ServerId, Entry, Setup, Event, Ack, LogPlace, places_of, Found, is_of, or_greater, read_from}
+use Rattle.rc_model.specs.Model.{read_of, term_of, durable_entries, factor_of, World, step, replay_from, replay, HasAcknowledged, In}
 use Rattle.rc_model.proofs.Tests.{either}
-use Rattle.rc_step_laws.specs.All.{Begins, log_in, IsSafe, IsWriteOk}
+use Rattle.rc_step_laws.specs.All.{log_in, IsSafe, IsWriteOk}
 use Rattle.rc_step_laws.proofs.Lists.{get-begins}
 use Rattle.rc_step_laws.proofs.Places.{places-later}
 use Rattle.rc_log_laws.proofs.Replays.{GoodWorld, led-step, good-world}
-use Rattle.rc_log_laws.proofs.Since.{Since, since-more, replay_from-append}
+use Rattle.rc_log_laws.proofs.Since.{since-more, replay_from-append}
 use Rattle.rc_owner_laws.proofs.Rising.{IsOwned, acked, owner}
 use Rattle.rc_write_laws.proofs.Moments.{Counts, counts-on}
 use Rattle.rc_write_laws.proofs.Worlds.{counted-is-durable, acknowledged-is-durable}
@@ -17,7 +17,7 @@ use Rattle.rc_promises.proofs.Found.{IsFound, read-is}
 use Rattle.rc_promises.proofs.Once.{granted-to}
 use Rattle.rc_promises.proofs.Reading.{IsPlaced, placed, In-take_map}
 use Rattle.rc_promises.proofs.Reading as reading
-use Rattle.rc_linear.proofs.Behind.{old, all_old, IsSentTo, durable-sent_to}
+use Rattle.rc_linear.proofs.Behind.{all_old, IsSentTo, durable-sent_to}
 use Rattle.rc_linear.proofs.NoneLater.{owned-by}
 
 -- Counts only rise
@@ -79,18 +79,24 @@ module _ (setup : Setup) (past rest : List Event) (m : ServerId) (some : factor_
   -- as what is acknowledged
   pub acked-stood : (ack : Ack) → (p : HasAcknowledged (replay setup past).sent m ack) →
       (one : Entry) × Stood setup past rest m one × (one.table ≡ ack.table) × (one.key ≡ ack.key) × (one.version ≡ ack.version)
-  acked-stood ack p = (w.entry, record {
-    seg = ack.seg;
-    offset = ack.offset;
-    safe = w.safe;
-    holds = w.holds;
-    sent_to = durable-sent_to setup past rest m ack.seg ack.offset (acknowledged-is-durable setup past m ack some p);
-    owned = subst (λ k. Owned w.entry.term w.entry.table k) (sym w.key_is)
-        (subst (λ t. Owned w.entry.term t ack.key) (sym w.table_is) (subst (λ n. Owned n ack.table ack.key) (sym w.term_is)
-        (owner (replay setup past).sent (replay setup past).masters (replay setup past).hosts (replay setup past).coordinator
-        (all_old setup past rest) m ack (acked (replay setup past).sent (replay setup past).masters (replay setup past).hosts
-        (replay setup past).coordinator (all_old setup past rest) m ack p))));
-  }, w.table_is, w.key_is, w.version_is)
+  acked-stood ack p = (
+    w.entry,
+    record {
+      seg = ack.seg;
+      offset = ack.offset;
+      safe = w.safe;
+      holds = w.holds;
+      sent_to = durable-sent_to setup past rest m ack.seg ack.offset (acknowledged-is-durable setup past m ack some p);
+      owned = subst (λ k. Owned w.entry.term w.entry.table k) (sym w.key_is)
+          (subst (λ t. Owned w.entry.term t ack.key) (sym w.table_is) (subst (λ n. Owned n ack.table ack.key) (sym w.term_is)
+          (owner (replay setup past).sent (replay setup past).masters (replay setup past).hosts (replay setup past).coordinator
+          (all_old setup past rest) m ack (acked (replay setup past).sent (replay setup past).masters (replay setup past).hosts
+          (replay setup past).coordinator (all_old setup past rest) m ack p))));
+    },
+    w.table_is,
+    w.key_is,
+    w.version_is,
+  )
     where
       w : IsWriteOk (replay setup past).sent m ((replay setup past).masters m).log ack.seg ack.offset ack.term ack.table ack.key ack.version
       w = (acked (replay setup past).sent (replay setup past).masters (replay setup past).hosts (replay setup past).coordinator

@@ -1,5 +1,5 @@
--- A confirmed read, and what it does not miss, after every list of events of every setup.
-use Rattle.std.specs.Prelude.{◌≡◌, ◌≢◌, ℕ, ◌≤◌, true, List}
+-- A confirmed read, what it does not miss, and how reads follow time, after every list of events of every setup.
+use Rattle.std.specs.Prelude.{◌≡◌, ◌≢◌, ◌⊎◌, ℕ, ◌<◌, ◌≤◌, true, List, length, None}
 use Rattle.rc_types.specs.declared.ids.ServerId.{ServerId}
 use Rattle.rc_types.specs.declared.entries.Entry.{Entry}
 use Rattle.rc_types.specs.declared.events.Setup.{Setup}
@@ -10,7 +10,7 @@ use Rattle.rc_model.specs.Recovered.{Ack}
 use Rattle.rc_model.specs.Owners.{Granted, IsGranted, covers, IsEarlier}
 use Rattle.rc_model.specs.Headline.{HasMade, HasAcknowledged}
 use Rattle.rc_log_laws.specs.WordClaims.{sent_after}
-use Rattle.rc_promises.specs.Service.{WasGranted, IsOfKey, Answer, HasRead}
+use Rattle.rc_promises.specs.Service.{WasGranted, HasAsked, IsOfKey, Answer, HasRead}
 
 -- the master has sent something for the place
 abbrev pub HasSentFor : List Message → ServerId → ℕ → ℕ → Type 0
@@ -33,9 +33,48 @@ pub record MissesNothing (m : ServerId) (before : List Message) (answer : Answer
   pub all : (x : ServerId) (ack : Ack) → HasAcknowledged before x ack → IsOfKey answer.table answer.key ack →
       ack.version ≤ answer.version
 
--- where segments have replicas at all
+-- All of this is said where segments have replicas at all.
+
 abbrev pub ConfirmedReadsMissNothing : Type 0
 ConfirmedReadsMissNothing =
     (setup : Setup) (events : List Event) (m : ServerId) (before : List Message) (answer : Answer) →
     factor_of setup m.index ≢ 0 → HasRead (sent_after setup events) m before answer →
     IsConfirmed (sent_after setup events) m before → MissesNothing m before answer
+
+-- Reads follow time
+
+-- a read of a key that was confirmed shows no smaller version than one that was answered before it, confirmed or not
+abbrev pub ReadsFollowTime : Type 0
+ReadsFollowTime =
+    (setup : Setup) (events : List Event) (m x : ServerId) (before since : List Message) (first later : Answer) →
+    factor_of setup m.index ≢ 0 → factor_of setup x.index ≢ 0 →
+    HasRead (sent_after setup events) m before first → HasRead (sent_after setup events) x since later →
+    IsConfirmed (sent_after setup events) x since → first.table ≡ later.table → first.key ≡ later.key →
+    length before < length since → first.version ≤ later.version
+
+-- a write of the key has a greater version than a read that was answered before anything was sent for its place, be it
+-- confirmed or not
+abbrev pub WritesFollowReads : Type 0
+WritesFollowReads =
+    (setup : Setup) (events : List Event) (m x : ServerId) (before : List Message) (answer : Answer) (later : Ack) →
+    factor_of setup m.index ≢ 0 → factor_of setup x.index ≢ 0 → HasRead (sent_after setup events) m before answer →
+    HasAcknowledged (sent_after setup events) x later → IsOfKey answer.table answer.key later →
+    (HasSentFor before x later.seg later.offset → ⊥) → answer.version < later.version
+
+-- What reads show, confirmed or not
+
+-- of one version above 0 they show one value
+abbrev pub ReadsShowOneValue : Type 0
+ReadsShowOneValue =
+    (setup : Setup) (events : List Event) (m x : ServerId) (before since : List Message) (one other : Answer) →
+    factor_of setup m.index ≢ 0 → factor_of setup x.index ≢ 0 →
+    HasRead (sent_after setup events) m before one → HasRead (sent_after setup events) x since other →
+    one.table ≡ other.table → one.key ≡ other.key → one.version ≡ other.version → one.value ≡ other.value
+
+-- and a client had asked a master for it; of version 0 they show nothing
+abbrev pub WhatReadsShowWasAsked : Type 0
+WhatReadsShowWasAsked =
+    (setup : Setup) (events : List Event) (m : ServerId) (before : List Message) (answer : Answer) →
+    factor_of setup m.index ≢ 0 → HasRead (sent_after setup events) m before answer →
+    ((answer.version ≡ 0) × (answer.value ≡ None))
+    ⊎ ((x : ServerId) × HasAsked before x answer.table answer.key answer.value)

@@ -1,2 +1,3 @@
 pub mod Confirmed
 pub mod Linearizable
+pub mod Runs

@@ -1,5 +1,5 @@
--- Linearizability, in the usual words: operation, invocation, response, the order of time, linearization. A history is a
--- list of messages, in the order in which they were sent; the moment of a message is its number, its place in the list.
+-- Linearizability, in the usual words: operation, invocation, response, the order of time, linearization. A history is
+-- a list of messages, as they were sent one after another; the moment of a message is its number, its place there.
 use Rattle.std.specs.Prelude.{◌≡◌, ◌≢◌, ◌⊎◌, ℕ, ◌<◌, List, take, Option, Some, None, slice_get}
 use Rattle.rc_types.specs.declared.ids.ServerId.{ServerId}
 use Rattle.rc_types.specs.declared.ids.Addr.TheVariants.{Server, Outside}
@@ -7,7 +7,7 @@ use Rattle.rc_types.specs.declared.events.Setup.{Setup}
 use Rattle.rc_types.specs.declared.events.Event.{Event}
 use Rattle.rc_types.specs.declared.messages.Message.{Message}
 use Rattle.rc_types.specs.declared.messages.Body.{Body}
-use Rattle.rc_types.specs.declared.messages.Body.TheVariants.{Write, WriteOk, Read, ReadOk}
+use Rattle.rc_types.specs.declared.messages.Body.TheVariants.{Write, WriteOk, ReadOk}
 use Rattle.rc_model.specs.Messages.{to_outside}
 use Rattle.rc_model.specs.Nodes.{factor_of}
 use Rattle.rc_model.specs.Recovered.{Ack}
@@ -55,10 +55,10 @@ pub record IsWrite (sent : List Message) (op : Operation) : Type 0 where
       (record { term = term; table = op.table; key = op.key; version = op.version; value = op.value })
   pub fresh : HasSentFor (take op.invocation sent) op.master seg offset → ⊥
 
--- a read that was answered, after it was asked for, and confirmed
+-- A read that was answered, and confirmed. Which Read it answers is left open: its invocation is any number below its
+-- response, and so that of the Read that it was.
 pub record IsRead (sent : List Message) (op : Operation) : Type 0 where
   pub kind : op.kind ≡ ARead
-  pub request : IsRequest sent op.invocation op.master (Read op.table op.key)
   pub response : IsResponse sent op.response op.master (ReadOk op.table op.key op.version op.value)
   pub after : op.invocation < op.response
   pub confirmed : IsConfirmed sent op.master (take op.response sent)
@@ -81,8 +81,8 @@ abbrev pub StandsBefore : Operation → Operation → Type 0
 StandsBefore a b = (a.version < b.version)
     ⊎ ((a.version ≡ b.version) × (b.kind ≡ ARead) × ((a.kind ≡ AWrite) ⊎ (a.response < b.response)))
 
--- The write of an operation's version: a client had asked a master for it, and whatever was answered before it was asked
--- for stands before that version. It may be pending: a write without a response.
+-- The write of an operation's version: a client had asked a master for it, and whatever was answered before it was
+-- asked for has a lower version. It may be pending: a write without a response.
 pub record WasAskedFor (sent : List Message) (op : Operation) : Type 0 where
   pub master : ServerId
   pub invocation : ℕ

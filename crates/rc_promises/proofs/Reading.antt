@@ -108,7 +108,14 @@ placed master entry at =
     let found = In-take master.log.durable (entries_of master.log) entry at in
     let place = get-map (λ (one : LogPlace). one.entry) (places_of master.log) found.0 entry found.2 in
     let is : IsOf master.log.segments master.log.head place.0 = places_to-are master.log.segments master.log.head found.0 place.0 place.1 in
-    record { index = found.0; place = place.0; below = found.1; at = place.1; entry_is = place.2; holds = place-logged master.log place.0 is ∙ ap Some place.2 }
+    record {
+      index = found.0;
+      place = place.0;
+      below = found.1;
+      at = place.1;
+      entry_is = place.2;
+      holds = place-logged master.log place.0 is ∙ ap Some place.2;
+    }
 
 -- durable for good
 durable-later : (setup : Setup) (past rest : List Event) (m : ServerId) (s o : ℕ) → IsDurable setup past m s o →

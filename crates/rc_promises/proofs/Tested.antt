@@ -20,7 +20,7 @@ use Rattle.rc_model.proofs.Headlines.{same_value-refl}
 
 -- Tests of lists
 
-all-from : {X : Type 0} (test : X → Bool) (xs : List X) → ((x : X) → In x xs → test x ≡ true) → list_all test xs ≡ true
+pub all-from : {X : Type 0} (test : X → Bool) (xs : List X) → ((x : X) → In x xs → test x ≡ true) → list_all test xs ≡ true
 all-from test [] each = refl
 all-from test (x ∷ xs) each =
     and_from (test x) (list_all test xs) (each x (inl refl)) (all-from test xs (λ y at. each y (inr at)))
@@ -32,18 +32,18 @@ any-from test (y ∷ xs) x (inl same) e =
 any-from test (y ∷ xs) x (inr rest) e = or_right (test y) (list_any test xs) (any-from test xs x rest e)
 
 -- a test that has to hold where another does
-where-from : (b c : Bool) → (b ≡ true → c ≡ true) → (not b || c) ≡ true
+pub where-from : (b c : Bool) → (b ≡ true → c ≡ true) → (not b || c) ≡ true
 where-from true c holds = holds refl
 where-from false c holds = refl
 
 -- a test that has to hold where another does not
-else-from : (b c : Bool) → (b ≡ false → c ≡ true) → (b || c) ≡ true
+pub else-from : (b c : Bool) → (b ≡ false → c ≡ true) → (b || c) ≡ true
 else-from true c holds = refl
 else-from false c holds = holds refl
 
 -- Values
 
-same_value-from : (a b : Option (List ℕ)) → a ≡ b → same_value a b ≡ true
+pub same_value-from : (a b : Option (List ℕ)) → a ≡ b → same_value a b ≡ true
 same_value-from a b e = subst (λ c. same_value a c ≡ true) e (same_value-refl a)
 
 -- What the lists say
@@ -60,7 +60,7 @@ acks_by-says (Server m') (WriteOk seg offset term table key version) m ack (inr 
 acks_by-says (Server m') _ m ack at = absurd at
 acks_by-says _ _ m ack at = absurd at
 
-acks-say : (sent : List Message) (m : ServerId) (ack : Ack) → In (m, ack) (acks_of sent) → HasAcknowledged sent m ack
+pub acks-say : (sent : List Message) (m : ServerId) (ack : Ack) → In (m, ack) (acks_of sent) → HasAcknowledged sent m ack
 acks-say [] m ack at = absurd at
 acks-say (first ∷ sent) m ack at =
     by (acks-say sent m ack) (In-append (m, ack) (acks_by first.from first.body) (acks_of sent) at)
@@ -91,7 +91,7 @@ asked-in (first ∷ sent) m table key value (inr rest) =
     In-right value (asked_by m table key first.from first.to first.body) (asked sent m table key)
     (asked-in sent m table key value rest)
 
-of-key : (table key : ℕ) (ack : Ack) → is_of_key table key ack ≡ true → IsOfKey table key ack
+pub of-key : (table key : ℕ) (ack : Ack) → is_of_key table key ack ≡ true → IsOfKey table key ack
 of-key table key ack e = let both = and_parts (nat_eq ack.table table) (nat_eq ack.key key) e in
     record { table_is = eqb-true ack.table table both.0; key_is = eqb-true ack.key key both.1 }
 
@@ -196,7 +196,7 @@ module _ (early sent : List Message) (follows : FollowsTime early sent)
 
 -- Reads see every acknowledged write
 
-no-more : (table key version : ℕ) (ack : Ack) → (IsOfKey table key ack → ack.version ≤ version) →
+pub no-more : (table key version : ℕ) (ack : Ack) → (IsOfKey table key ack → ack.version ≤ version) →
     is_no_more table key version ack ≡ true
 no-more table key version ack holds = where-from (is_of_key table key ack) (nat_le ack.version version)
     (λ e. le-leb ack.version version (holds (of-key table key ack e)))

@@ -12,3 +12,4 @@ pub mod Happening
 pub mod Sentences
 pub mod Clients
 pub mod Losses
+pub mod Ordered

@@ -22,7 +22,7 @@ one-of setup None other each = other
 one-of setup (Some factor) other each = each factor refl
 
 -- within the limits each host's segments have replicas
-has-replicas : (setup : Setup) → IsWithinLimits setup → (index : ℕ) → factor_of setup index ≢ 0
+pub has-replicas : (setup : Setup) → IsWithinLimits setup → (index : ℕ) → factor_of setup index ≢ 0
 has-replicas setup limits index =
     factor-is-some (factor_of setup index) (one-of setup (slice_get setup.factors index) limits.factor
     (λ factor given. All-get IsFactor setup.factors index factor limits.factors given))

@@ -13,6 +13,7 @@ ghost use Rattle.rc_backup.specs.BackupView.{backup_of};
 ghost use Rattle.rc_master.specs.Data.{master_of};
 ghost use Rattle.rc_world.specs.HostView.{IsWithinLimits, backup_once_started};
 ghost use Rattle.rc_world.specs.Kept.{KeepsLogs, KeepsOwners, KeepsWrites};
+ghost use Rattle.rc_linear.specs.Linearizable.{IsLinearizable};
 ghost use Rattle.rc_world.specs.Served.{IsServed};
 ghost use Rattle.rc_world.specs.Happened.{opened, replayed, with_events, sent_in, can_happen, AllHappen};
 
@@ -93,9 +94,15 @@ impl<A: Allocator + Clone> World<A> {
     /// So does what a client may rely on: an acknowledged version of a key is one write; a write that was first asked
     /// for after a write of its key was acknowledged, and is itself acknowledged, has a greater version; and of all
     /// that was acknowledged before its answer a read misses only what was acknowledged under a later term.
+    ///
+    /// And they are linearizable: for each key, the writes that were acknowledged and the reads that were confirmed are
+    /// one sequence, in the order of their versions, which keeps the order of time and in which each read shows the
+    /// value of the last write before it. A read is confirmed where its master has acknowledged a write, of any key,
+    /// for whose place it had sent nothing when it answered.
     pub fn sent(&self) -> &[Message]
         ensures messages { result.now ≡ sent_in self.now }
         ensures served { IsServed self.now result.now }
+        ensures linearizable { IsLinearizable result.now }
         ensures headline { breach result.now ≡ None }
         ensures strong { self.now.setup.free ≡ false → NothingIsDropped result.now }
     {

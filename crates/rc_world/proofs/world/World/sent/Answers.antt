@@ -4,7 +4,9 @@ use Rattle.rc_log_laws.proofs.KeptWorlds.{nothing-is-dropped}
 use Rattle.rc_owner_laws.proofs.VersionReplays.{there-is-no-breach}
 use Rattle.rc_world.specs.Happened.{Happened}
 use Rattle.rc_world.specs.Served.{IsServed}
-use Rattle.rc_world.proofs.Serving.{is-served}
+use Rattle.rc_linear.specs.Linearizable.{IsLinearizable}
+use Rattle.rc_linear.proofs.Linear.{linearized}
+use Rattle.rc_world.proofs.Serving.{has-replicas, is-served}
 use Rattle.rc_world.proofs.world.World.sent.Goals as goal
 
 pub returns-clause-served : goal.returns-clause-served
@@ -16,6 +18,13 @@ returns-clause-served g c =
     subst (λ (sent : List Message). IsServed opened sent) (sym same)
     (is-served c.self.inside.nodes.setup c.self.inside.events.items c.self.invariant.limits) in
     rw c.self.view_is at inside
+
+pub returns-clause-linearizable : goal.returns-clause-linearizable
+returns-clause-linearizable g c =
+    let same : c.as_slice.result.now ≡ (replay c.self.inside.nodes.setup c.self.inside.events.items).sent =
+    c.as_slice.ensures.value ∙ c.self.invariant.same.sent in
+    subst (λ (sent : List Message). IsLinearizable sent) (sym same)
+    (linearized c.self.inside.nodes.setup c.self.inside.events.items (has-replicas c.self.inside.nodes.setup c.self.invariant.limits))
 
 pub returns-clause-headline : goal.returns-clause-headline
 returns-clause-headline g c =
