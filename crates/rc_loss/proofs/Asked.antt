@@ -3,8 +3,10 @@ use Rattle.std.proofs.Common.{◌≡◌, ◌⊎◌, ℕ, Bool, true, false, List
 use Rattle.std.proofs.Common.{refl, sym, ap, ◌∙◌, subst, inl, inr, arith}
 use Rattle.std.proofs.lemmas.List.{append-nil, append_assoc}
 use Rattle.rc_model.specs.Model.{ServerId, Addr, Server, Row, Part, Setup, Event, Message, Body, Place, Append, Close, Gather, Fetch}
-use Rattle.rc_model.specs.Model.{Replicas, Data, Enlist, to_coordinator, between, Replica, Backup, Held, backup_takes, keeps, stores, is_refused}
-use Rattle.rc_model.specs.Model.{stored_of, replica_of, replica_after, rows_of_replicas, data_of, answers_fetch, Attempt, World, server_of, opening, step}
+use Rattle.rc_model.specs.Model.{Replicas, Data, Enlist, to_coordinator, between, Replica, Backup, Held, backup_takes, keeps, stores}
+use Rattle.rc_model.specs.Model.{is_refused}
+use Rattle.rc_model.specs.Model.{stored_of, replica_of, replica_after, rows_of_replicas, data_of, answers_fetch, Attempt, World}
+use Rattle.rc_model.specs.Model.{server_of, opening, step}
 use Rattle.rc_model.specs.Model.{replay, In}
 use Rattle.rc_types.specs.declared.ids.Addr.TheVariants.{Coordinator as AtCoordinator}
 use Rattle.rc_model.proofs.Replays.{replay_from-push}
@@ -97,7 +99,8 @@ AllNow world = (y m : ServerId) (number : ℕ) (rows : List Row) → IsOf world.
 -- one attempt has one master
 one-master : (attempts : List Attempt) (number : ℕ) (a b : ServerId) → IsOf attempts number a → IsOf attempts number b → a ≡ b
 one-master attempts number a b p q =
-    sym p.master_is ∙ (ap (λ (one : Attempt). one.master) (numbered-same attempts number p.attempt q.attempt p.numbered q.numbered) ∙ q.master_is)
+    sym p.master_is ∙ (ap (λ (one : Attempt). one.master) (numbered-same attempts number p.attempt q.attempt p.numbered q.numbered) ∙
+    q.master_is)
 
 -- what a backup has just answered
 record Answered (attempts : List Attempt) (number : ℕ) (rows : List Row) (backup : Backup) : Type 0 where
@@ -116,13 +119,23 @@ answer-said world good y number rows = record {
     differs : Replicas number rows ≡ Enlist → ⊥
     differs never = cc
 
-    by : (i : ℕ) (from : Addr) (heard : Body) → In (record { from = from; to = Server (server_of (world.hosts i)); body = heard }) world.sent →
+    by : (i : ℕ) (from : Addr) (heard : Body) → In (record {
+      from = from;
+      to = Server (server_of
+          (world.hosts i));
+      body = heard;
+    }) world.sent →
         Answers y number rows heard (backup_takes (world.hosts i).backup from heard).0 →
         Answered world.coordinator.attempts number rows (backup_takes (world.hosts i).backup from heard).0
     by i from heard given a = record {
       master = a.master;
       of = good.messages (record { from = from; to = Server (server_of (world.hosts i)); body = Gather number a.master })
-          (subst (λ (body : Body). In (record { from = from; to = Server (server_of (world.hosts i)); body = body }) world.sent) a.asked given);
+          (subst (λ (body : Body). In (record {
+            from = from;
+            to = Server (server_of
+                (world.hosts i));
+            body = body;
+          }) world.sent) a.asked given);
       rows_are = a.rows_are;
     }
 
@@ -141,7 +154,8 @@ now-step world one good p y m number rows is_of at same =
         one-master (step world one).coordinator.attempts number n m
         (record { attempt = up.now; numbered = up.numbered; master_is = up.master ∙ q.master_is }) is_of
 
-    old : In (to_coordinator y (Replicas number rows)) world.sent → rows ≡ rows_of_replicas (held_at (step world one).hosts y.index m).replicas
+    old : In (to_coordinator y (Replicas number rows)) world.sent → rows ≡ rows_of_replicas (held_at
+        (step world one).hosts y.index m).replicas
     old there =
         let answer : IsAnswer world.sent world.masters world.hosts world.coordinator y number rows =
         good.messages (to_coordinator y (Replicas number rows)) there in
@@ -156,14 +170,16 @@ now-step world one good p y m number rows is_of at same =
             let still : ((step world one).hosts y.index).generation ≡ (world.hosts y.index).generation = sym same ∙ was in
             let stays : StaysFenced (world.hosts y.index) ((step world one).hosts y.index) = stays-step world one y.index in
             let kept = stays.kept still answer.master (answer.fenced was) in
-            subst (λ (n : ServerId). rows ≡ rows_of_replicas (held_at (step world one).hosts y.index n).replicas) (later answer.master answer.attempt)
+            subst (λ (n : ServerId). rows ≡ rows_of_replicas (held_at (step world one).hosts y.index n).replicas)
+            (later answer.master answer.attempt)
             (p y answer.master number rows answer.attempt there was ∙ ap rows_of_replicas (sym kept.1))
 
     by : In (to_coordinator y (Replicas number rows)) world.sent ⊎
         Answered world.coordinator.attempts number rows ((step world one).hosts y.index).backup →
         rows ≡ rows_of_replicas (held_at (step world one).hosts y.index m).replicas
     by (inl there) = old there
-    by (inr a) = subst (λ (n : ServerId). rows ≡ rows_of_replicas (held_at (step world one).hosts y.index n).replicas) (later a.master a.of) a.rows_are
+    by (inr a) = subst (λ (n : ServerId). rows ≡ rows_of_replicas (held_at (step world one).hosts y.index n).replicas)
+        (later a.master a.of) a.rows_are
 
 now-from : (setup : Setup) (past events : List Event) → AllNow (replay setup past) → AllNow (replay setup (past ++ events))
 now-from setup past [] p = subst (λ (all : List Event). AllNow (replay setup all)) (sym (append-nil past)) p

@@ -3,8 +3,10 @@ use Rattle.std.proofs.Common.{◌≡◌, ◌⊎◌, ℕ, Bool, true, nat_eq, Lis
 use Rattle.std.proofs.Common.{refl, sym, ap, ◌∙◌, subst, inl, inr}
 use Rattle.std.proofs.lemmas.Bool.{eqb-true}
 use Rattle.rc_model.specs.Model.{ServerId, Addr, Server, Outside, Row, Part, Fault, NotReady, StaleAttempt, Message, Replicas}
-use Rattle.rc_model.specs.Model.{to_coordinator, coordinator_refuses, same_id, Replica, replica_of, row_of_replica, rows_of_replicas, HeldRow, rows_of}
-use Rattle.rc_model.specs.Model.{held_rows, pick, Attempt, Decision, has_answered, is_gathering, parts_of, plan_message, plan_messages, attempt_at}
+use Rattle.rc_model.specs.Model.{to_coordinator, coordinator_refuses, same_id, Replica, replica_of, row_of_replica, rows_of_replicas}
+use Rattle.rc_model.specs.Model.{HeldRow, rows_of}
+use Rattle.rc_model.specs.Model.{held_rows, pick, Attempt, Decision, has_answered, is_gathering, parts_of, plan_message, plan_messages}
+use Rattle.rc_model.specs.Model.{attempt_at}
 use Rattle.rc_model.specs.Model.{decides_with, decides_attempt, decides, ready_ids, server_of, replay, In}
 use Rattle.rc_types.specs.declared.faults.Fault.TheVariants.{HeadMissing, SegmentMissing}
 use Rattle.rc_types.specs.declared.rows.Plan.{Plan}
@@ -41,7 +43,8 @@ row-in (one ∷ others) s replica e =
     pair : (t : ℕ) (r : Replica) (other : ℕ × Replica) → t ≡ other.0 → other.1 ≡ r → (t, r) ≡ other
     pair t r other p q j = (p j, sym q j)
 
-rows_of-has : (holder : ServerId) (rows : List Row) (row : Row) → In row rows → In (record { holder = holder; row = row }) (rows_of holder rows)
+rows_of-has : (holder : ServerId) (rows : List Row) (row : Row) → In row rows → In (record { holder = holder; row = row })
+    (rows_of holder rows)
 rows_of-has holder [] row at = absurd at
 rows_of-has holder (one ∷ rows) row (inl same) = inl (ap (λ (r : Row). record { holder = holder; row = r }) same)
 rows_of-has holder (one ∷ rows) row (inr rest) = inr (rows_of-has holder rows row rest)
@@ -136,7 +139,8 @@ pick-refused : (c : Coordinator) (m : ServerId) (attempt : Attempt) (fault : Fau
 pick-refused c m attempt fault is current at =
     by (subst (λ (found : Option Attempt). In (coordinator_refuses fault) (decides_attempt c m found).1) current at)
   where
-    by : In (coordinator_refuses fault) (decides_attempt c m (Some attempt)).1 → (other : Fault) × (pick (c.least m) attempt.replies ≡ Err other)
+    by : In (coordinator_refuses fault) (decides_attempt c m (Some attempt)).1 → (other : Fault) × (pick
+        (c.least m) attempt.replies ≡ Err other)
     by there = either (λ (after : Coordinator × List Message). In (coordinator_refuses fault) after.1 →
         (other : Fault) × (pick (c.least m) attempt.replies ≡ Err other)) (is_gathering attempt)
         (decides_with c (c.current m) attempt (pick (c.least m) attempt.replies) (ready_ids c)) (c, coordinator_refuses StaleAttempt ∷ [])
@@ -189,7 +193,8 @@ refused-decides-mean-loss setup events m ready all decided =
             (held : HeldRow) × (In held (held_rows all.attempt.replies)) × (held.row ≡ row_of_replica (s, replica))
         of_answer rows at =
             let now : rows ≡ rows_of_replicas (held_after setup events ((replay setup events).hosts i).index m).replicas =
-            answers-are-now setup events (server_of ((replay setup events).hosts i)) m ((replay setup events).coordinator.current m) rows of_m
+            answers-are-now setup events (server_of ((replay setup events).hosts i)) m
+            ((replay setup events).coordinator.current m) rows of_m
             (sent (server_of ((replay setup events).hosts i)) rows at)
             (ap (λ k. ((replay setup events).hosts k).generation) (sym index)) in
             held_rows-has all.attempt.replies (server_of ((replay setup events).hosts i)) rows (row_of_replica (s, replica)) at

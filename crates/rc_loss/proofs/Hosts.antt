@@ -3,9 +3,12 @@ use Rattle.std.proofs.Common.{◌≡◌, ◌⊎◌, ℕ, Bool, true, nat_eq, Lis
 use Rattle.std.proofs.Common.{refl, sym, ap, ◌∙◌, subst, inl, inr}
 use Rattle.std.proofs.lemmas.Bool.{eqb-true}
 use Rattle.rc_model.specs.Model.{ServerId, Addr, Server, Outside, Event, Message, Body, Stored, Enlist, between, to_coordinator, put}
-use Rattle.rc_model.specs.Model.{is_server, Backup, backup_takes, restart, Log, Master, master_takes, master_ticks, Work, Take, Create, Split}
-use Rattle.rc_model.specs.Model.{HostNode, server_of, host_step, next_server, starts_host, is_for_backup, with_backup, with_master, server_takes}
-use Rattle.rc_model.specs.Model.{takes_if_running, ticks_if_running, outside_sends, coordinator_step, World, NodeName, TheOutside, TheCoordinator}
+use Rattle.rc_model.specs.Model.{is_server, Backup, backup_takes, restart, Log, Master, master_takes, master_ticks, Work, Take, Create}
+use Rattle.rc_model.specs.Model.{Split}
+use Rattle.rc_model.specs.Model.{HostNode, server_of, host_step, next_server, starts_host, is_for_backup, with_backup, with_master}
+use Rattle.rc_model.specs.Model.{server_takes}
+use Rattle.rc_model.specs.Model.{takes_if_running, ticks_if_running, outside_sends, coordinator_step, World, NodeName, TheOutside}
+use Rattle.rc_model.specs.Model.{TheCoordinator}
 use Rattle.rc_model.specs.Model.{TheHost, Job, work_of, delivery, is_possible, node_done, job_done, step, In}
 use Rattle.rc_types.specs.declared.ids.Addr.TheVariants.{Coordinator as AtCoordinator}
 use Rattle.rc_types.specs.declared.events.Event.TheVariants as event
@@ -70,7 +73,8 @@ start-work sent (event.Create table owner) i kept e =
 start-work sent (event.Split table key) i kept e =
     let never : ◌≡◌ {A = Work} (Split table key) (Start kept) = same-work _ (starting i kept) e in cc
 
-takes-same : (host : HostNode) (found : Option Master) (message : Message) → (takes_if_running host found message).0.generation ≡ host.generation
+takes-same : (host : HostNode) (found : Option Master) (message : Message) → (takes_if_running host found message).0.generation ≡
+    host.generation
 takes-same host None message = refl
 takes-same host (Some master) message =
     either (λ (after : HostNode × List Message). after.0.generation ≡ host.generation) (is_server (server_of host) message.to)
@@ -190,7 +194,8 @@ module _ (world : World) (one : Event) (good : GoodWorld world) (x : ServerId) (
             (ap (put world.hosts i (record (world.hosts i) { backup = (backup_takes (world.hosts i).backup message.from message.body).0 }))
             (good.hosts_are i).index ∙ put-same world.hosts i _)
 
-        by : (after : _) → backup_takes (world.hosts i).backup message.from message.body ≡ after → HostStands (with_backup (world.hosts i) after)
+        by : (after : _) → backup_takes (world.hosts i).backup message.from message.body ≡ after → HostStands (with_backup
+            (world.hosts i) after)
         by (backup, messages) is at =
             let there : In message_said (backup_takes (world.hosts i).backup message.from message.body).1 =
             subst (λ (one : Backup × List Message). In message_said one.1) (sym is) at in (
@@ -218,7 +223,8 @@ module _ (world : World) (one : Event) (good : GoodWorld world) (x : ServerId) (
         HostStands (takes_if_running (world.hosts i) found message)
     by-takes None is message given = λ at. absurd at
     by-takes (Some master) is message given =
-        either HostStands (is_server (server_of (world.hosts i)) message.to) (server_takes (world.hosts i) master message) (world.hosts i, [])
+        either HostStands (is_server (server_of (world.hosts i)) message.to) (server_takes (world.hosts i) master message)
+        (world.hosts i, [])
         (λ to. by-server master is message
         (subst (λ (addr : Addr). In (record { from = message.from; to = addr; body = message.body }) world.sent)
         (is_server-true world one i good (server_of (world.hosts i)) message.to to) given)) (λ _ at. absurd at)
@@ -226,7 +232,8 @@ module _ (world : World) (one : Event) (good : GoodWorld world) (x : ServerId) (
     by-ticks : (found : Option Master) → (world.hosts i).master ≡ found → HostStands (ticks_if_running (world.hosts i) found)
     by-ticks None is = λ at. absurd at
     by-ticks (Some master) is = by-master master (master_ticks master)
-        (master_ticks_keeps world.sent (server_of (world.hosts i)) master (is-good world one i good master is) (is-fine world one i good master is))
+        (master_ticks_keeps world.sent (server_of (world.hosts i)) master (is-good world one i good master is)
+        (is-fine world one i good master is))
 
     no-enlist : In message_said (to_coordinator (next_server (world.hosts i)) Enlist ∷ []) → ⊥
     no-enlist (inl same) = is_said.not_enlist (ap (λ (message : Message). message.body) same)
@@ -246,7 +253,8 @@ module _ (world : World) (one : Event) (good : GoodWorld world) (x : ServerId) (
         there : x ≡ server_of (world.hosts i) → P (host_step (world.hosts i) work).0.backup →
             P (put world.hosts i (host_step (world.hosts i) work).0 x.index).backup
         there same p = subst (λ (host : HostNode). P host.backup)
-            (sym (ap (put world.hosts i (host_step (world.hosts i) work).0) (ap (λ (id : ServerId). id.index) same ∙ (good.hosts_are i).index) ∙
+            (sym (ap (put world.hosts i (host_step (world.hosts i) work).0) (ap (λ (id : ServerId). id.index) same ∙
+            (good.hosts_are i).index) ∙
             put-same world.hosts i (host_step (world.hosts i) work).0)) p
 
   no-outside : (work : Work) → In message_said (outside_sends work) → ⊥
