@@ -14,9 +14,9 @@ use Rattle.rc_model.proofs.Tests.{either}
 use Rattle.rc_model.proofs.Tables.{put_each}
 
 -- a host later: as long as its generation stays, what it has fenced stays
-record StaysFenced (old new : HostNode) : Type 0 where
-  generation : old.generation ≤ new.generation
-  kept : new.generation ≡ old.generation → AllFencedStay old.backup new.backup
+pub record StaysFenced (old new : HostNode) : Type 0 where
+  pub generation : old.generation ≤ new.generation
+  pub kept : new.generation ≡ old.generation → AllFencedStay old.backup new.backup
 
 stays-same : (old new : HostNode) → new.generation ≡ old.generation → new.backup ≡ old.backup → StaysFenced old new
 stays-same old new generation backup =
@@ -91,7 +91,7 @@ stays-job : (world : World) (one : Event) (found : Option Job) (i : ℕ) → Sta
 stays-job world one None i = stays-still (world.hosts i)
 stays-job world one (Some job) i = stays-node world one job.node job.work i
 
-stays-step : (world : World) (one : Event) (i : ℕ) → StaysFenced (world.hosts i) ((step world one).hosts i)
+pub stays-step : (world : World) (one : Event) (i : ℕ) → StaysFenced (world.hosts i) ((step world one).hosts i)
 stays-step world one i =
     either (λ (after : World). StaysFenced (world.hosts i) (after.hosts i)) (is_possible world one)
     (job_done world one (work_of world.sent one)) world

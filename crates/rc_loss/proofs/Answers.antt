@@ -2,15 +2,16 @@
 use Rattle.std.proofs.Common.{◌≡◌, ◌⊎◌, ℕ, true, false, not, List, [], ◌∷◌, filter, Option, Some, None, Result, Ok, Err}
 use Rattle.std.proofs.Common.{refl, sym, ap, ◌∙◌, subst, inl, inr}
 use Rattle.std.proofs.lemmas.Bool.{and_parts, not-true}
-use Rattle.rc_model.specs.Model.{ServerId, Pair, Row, PlanRow, Setup, Event, Body, Fault, Replicas, to_coordinator, Attempt, Replica, replica_of}
-use Rattle.rc_model.specs.Model.{row_of_replica, rows_of_replicas, HeldRow, held_rows, is_valid, is_open_valid, head_first, head_row, taken_row}
+use Rattle.rc_model.specs.Model.{ServerId, Pair, Row, PlanRow, Setup, Event, Fault, Replicas, to_coordinator, Attempt, Replica, replica_of}
+use Rattle.rc_model.specs.Model.{row_of_replica, rows_of_replicas, HeldRow, held_rows, is_valid, is_open_valid, head_first, head_row}
+use Rattle.rc_model.specs.Model.{taken_row}
 use Rattle.rc_model.specs.Model.{row_then, taken_rows, plan_of, pick_by, pick, ascending, World, replay, In}
 use Rattle.rc_types.specs.declared.faults.Fault.TheVariants.{HeadMissing, SegmentMissing}
 use Rattle.rc_model.specs.PickOrders.{IsFirst, IsHigher}
 use Rattle.rc_model.proofs.PickFirsts.{first_by_first}
 use Rattle.rc_model.proofs.PickOrders.{tells_higher, apart_higher, split_higher}
 use Rattle.rc_model.proofs.Members.{In-right, In-filter}
-use Rattle.rc_step_laws.specs.All.{IsCopy, IsOf, IsAnswer, body_fine}
+use Rattle.rc_step_laws.specs.All.{IsCopy, IsOf, IsAnswer}
 use Rattle.rc_step_laws.proofs.Attempting.{numbered-same}
 use Rattle.rc_step_laws.proofs.ReplicaLists.{replica_of-row}
 use Rattle.rc_log_laws.specs.WordClaims.{sent_after, log_of}
@@ -26,10 +27,11 @@ pub record CopyAt (setup : Setup) (events : List Event) (m : ServerId) (row : Ro
       row.len row.digest
 
 answered-copy : (setup : Setup) (events : List Event) (m y : ServerId) (rows : List Row) (row : Row) →
-    WasAnswered (sent_after setup events) m y rows → In row rows → CopyAt setup events m row
+    WasAnswered setup events m y rows → In row rows → CopyAt setup events m row
 answered-copy setup events m y rows row was at = record {
   holder = y;
-  copy = subst (λ (n : ServerId). IsCopy world.sent n (world.masters n).log y.index y.generation row.seg row.epoch row.closed row.len row.digest)
+  copy = subst (λ (n : ServerId). IsCopy world.sent n (world.masters n).log y.index y.generation row.seg row.epoch row.closed row.len
+      row.digest)
       of_m (answer.rows_are row at);
 }
   where
@@ -39,14 +41,13 @@ answered-copy setup events m y rows row was at = record {
     good : GoodWorld (replay setup events)
     good = good-world setup events
 
-    answer : IsAnswer (replay setup events).sent (replay setup events).masters (replay setup events).hosts (replay setup events).coordinator y
+    answer : IsAnswer (replay setup events).sent (replay setup events).masters (replay setup events).hosts
+        (replay setup events).coordinator y
         was.number rows
     answer = good.messages (to_coordinator y (Replicas was.number rows)) was.answered
 
     is_of : IsOf (replay setup events).coordinator.attempts was.number m
-    is_of = subst (λ (body : Body). body_fine (replay setup events).sent (replay setup events).masters (replay setup events).hosts
-        (replay setup events).coordinator was.asked.message.from was.asked.message.to body) was.asked.says
-        (good.messages was.asked.message was.asked.among)
+    is_of = was.attempt
 
     of_m : answer.master ≡ m
     of_m =
@@ -74,7 +75,7 @@ pub row-copy : (setup : Setup) (events : List Event) (m : ServerId) (replies : L
     AreAnswers setup events m replies → (held : HeldRow) → In held (held_rows replies) → CopyAt setup events m held.row
 row-copy setup events m replies answers held at = by (held_rows-in replies held at)
   where
-    which : (rows : List Row) → In held.row rows → WasAnswered (sent_after setup events) m held.holder rows ⊎
+    which : (rows : List Row) → In held.row rows → WasAnswered setup events m held.holder rows ⊎
         (rows ≡ rows_of_replicas (held_after setup events held.holder.index m).replicas) → CopyAt setup events m held.row
     which rows row (inl was) = answered-copy setup events m held.holder rows held.row was row
     which rows row (inr same) = now-copy setup events m held.holder.index held.row (subst (λ (all : List Row). In held.row all) same row)
@@ -89,7 +90,8 @@ pub record HeadIs (min : Pair) (replies : List (ServerId × List Row)) (head : H
   pub unclosed : head.row.closed ≡ false
   pub valid : is_valid min head.row ≡ true
 
-pub head-is : (min : Pair) (replies : List (ServerId × List Row)) (head : HeldRow) → head_row min replies ≡ Some head → HeadIs min replies head
+pub head-is : (min : Pair) (replies : List (ServerId × List Row)) (head : HeldRow) → head_row min replies ≡ Some head → HeadIs min
+    replies head
 head-is min replies head e =
     let first : IsFirst IsHigher (filter (is_open_valid min) (held_rows replies)) head =
     first_by_first head_first IsHigher tells_higher apart_higher split_higher (filter (is_open_valid min) (held_rows replies)) head e in
@@ -117,15 +119,18 @@ taken-missing min replies head (seg ∷ segs) fault e =
         (t : ℕ) × (fault ≡ SegmentMissing t)
     by None rest rec it = (seg, (let same : SegmentMissing seg ≡ fault = cc in sym same))
     by (Some held) (Ok rows) rec it = cc
-    by (Some held) (Err other) rec it = let same : other ≡ fault = cc in subst (λ one. (t : ℕ) × (one ≡ SegmentMissing t)) same (rec other refl)
+    by (Some held) (Err other) rec it = let same : other ≡ fault = cc in subst (λ one. (t : ℕ) × (one ≡ SegmentMissing t)) same
+        (rec other refl)
 
 pub refused-is : (min : Pair) (replies : List (ServerId × List Row)) (fault : Fault) → pick min replies ≡ Err fault → IsMissing fault
 refused-is min replies fault e = by (head_row min replies) e
   where
     with_rows : (head : HeldRow) (found : Result (List PlanRow) Fault) →
-        ((other : Fault) → found ≡ Err other → (t : ℕ) × (other ≡ SegmentMissing t)) → plan_of head.row.seg found ≡ Err fault → IsMissing fault
+        ((other : Fault) → found ≡ Err other → (t : ℕ) × (other ≡ SegmentMissing t)) → plan_of head.row.seg found ≡ Err fault →
+        IsMissing fault
     with_rows head (Ok rows) rec it = cc
-    with_rows head (Err other) rec it = let same : other ≡ fault = cc in inr (subst (λ one. (t : ℕ) × (one ≡ SegmentMissing t)) same (rec other refl))
+    with_rows head (Err other) rec it = let same : other ≡ fault = cc in inr (subst (λ one. (t : ℕ) × (one ≡ SegmentMissing t)) same
+        (rec other refl))
 
     by : (found : Option HeldRow) → pick_by min replies found ≡ Err fault → IsMissing fault
     by None it = inl (let same : HeadMissing ≡ fault = cc in sym same)

@@ -6,9 +6,11 @@ use Rattle.std.proofs.lemmas.Bool.{and_parts, eqb-true, ltb-true}
 use Rattle.std.proofs.lemmas.List.{append_assoc}
 use Rattle.rc_model.specs.Model.{ServerId, Member, Phase, Opening, Closing, Writing, Message, Body, Append, Close, Ready}
 use Rattle.rc_model.specs.Model.{Recovered, to_coordinator, told_closed, is_closed, all_placed, all_closed, Segment, with_entry, is_ready}
-use Rattle.rc_model.specs.Model.{is_all_closed, is_unclosed, with_closes_sent, Log, head_of, old_head_of, has_old_head, has_unclosed, with_segment, numbers_to}
+use Rattle.rc_model.specs.Model.{is_all_closed, is_unclosed, with_closes_sent, Log, head_of, old_head_of, has_old_head, has_unclosed}
+use Rattle.rc_model.specs.Model.{with_segment, numbers_to}
 use Rattle.rc_model.specs.Model.{is_opening, is_closing, is_writing, durable_now, opens_head, next_digest, shuts, may_start, may_close}
-use Rattle.rc_model.specs.Model.{may_write, left_out, with_freed, starts, closes_old, writes_on, Master, with_log, to_ids, attempt_of, durable_entries}
+use Rattle.rc_model.specs.Model.{may_write, left_out, with_freed, starts, closes_old, writes_on, Master, with_log, to_ids, attempt_of}
+use Rattle.rc_model.specs.Model.{durable_entries}
 use Rattle.rc_model.specs.Model.{after_answer, after_replay, ids_of, not_lost, place_of, appends_entry, dead_segments, close_is_due}
 use Rattle.rc_model.specs.Model.{close_marked, frees_segments, first_open, wants_commit, commits, new_durable, In}
 use Rattle.rc_types.specs.declared.messages.Body.TheVariants as body
@@ -280,7 +282,8 @@ module _ (f : ℕ) (W : ℕ → ℕ → Type 0) (m : ServerId) where
       placed now = now seg (log.segments seg).config.epoch (kept-put log seg marked refl seg (log.segments seg).config.epoch (record {
         opened = record { above = opened.0; below = opened.1 };
         placed = (and_parts (all_placed (log.segments seg).config) (not (log.segments seg).commit_sent)
-            (and_parts (not (log.segments seg).config.committed) (all_placed (log.segments seg).config && not (log.segments seg).commit_sent) wants).1).0;
+            (and_parts (not (log.segments seg).config.committed) (all_placed (log.segments seg).config && not
+            (log.segments seg).commit_sent) wants).1).0;
         epoch = refl;
       }))
 

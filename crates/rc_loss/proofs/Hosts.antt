@@ -2,10 +2,13 @@
 use Rattle.std.proofs.Common.{◌≡◌, ◌⊎◌, ℕ, Bool, true, nat_eq, List, [], ◌∷◌, ◌++◌, Option, Some, None, slice_get}
 use Rattle.std.proofs.Common.{refl, sym, ap, ◌∙◌, subst, inl, inr}
 use Rattle.std.proofs.lemmas.Bool.{eqb-true}
-use Rattle.rc_model.specs.Model.{ServerId, Addr, Server, Outside, Event, Message, Stored, Enlist, between, to_coordinator, put}
-use Rattle.rc_model.specs.Model.{is_server, Backup, backup_takes, restart, Master, master_takes, master_ticks, Work, Take, Create, Split}
-use Rattle.rc_model.specs.Model.{HostNode, server_of, host_step, next_server, starts_host, is_for_backup, with_backup, with_master, server_takes}
-use Rattle.rc_model.specs.Model.{takes_if_running, ticks_if_running, outside_sends, coordinator_step, World, NodeName, TheOutside, TheCoordinator}
+use Rattle.rc_model.specs.Model.{ServerId, Addr, Server, Outside, Event, Message, Body, Stored, Enlist, between, to_coordinator, put}
+use Rattle.rc_model.specs.Model.{is_server, Backup, backup_takes, restart, Log, Master, master_takes, master_ticks, Work, Take, Create}
+use Rattle.rc_model.specs.Model.{Split}
+use Rattle.rc_model.specs.Model.{HostNode, server_of, host_step, next_server, starts_host, is_for_backup, with_backup, with_master}
+use Rattle.rc_model.specs.Model.{server_takes}
+use Rattle.rc_model.specs.Model.{takes_if_running, ticks_if_running, outside_sends, coordinator_step, World, NodeName, TheOutside}
+use Rattle.rc_model.specs.Model.{TheCoordinator}
 use Rattle.rc_model.specs.Model.{TheHost, Job, work_of, delivery, is_possible, node_done, job_done, step, In}
 use Rattle.rc_types.specs.declared.ids.Addr.TheVariants.{Coordinator as AtCoordinator}
 use Rattle.rc_types.specs.declared.events.Event.TheVariants as event
@@ -13,7 +16,7 @@ use Rattle.rc_model.specs.Nodes.{Ask, Tick, Stop, Start, Suspect, Decide}
 use Rattle.rc_model.proofs.Tests.{either}
 use Rattle.rc_model.proofs.Tables.{put-same, put-other}
 use Rattle.rc_model.proofs.Ids.{server-same}
-use Rattle.rc_step_laws.specs.All.{held_at, StillStands, MasterMoved, BackupMoved}
+use Rattle.rc_step_laws.specs.All.{body_said, held_at, StillStands, MasterMoved, BackupMoved}
 use Rattle.rc_step_laws.proofs.MasterSteps.{master_takes_keeps, master_ticks_keeps}
 use Rattle.rc_step_laws.proofs.Backups.{moved-backup}
 use Rattle.rc_step_laws.proofs.Copies.{In-either, split}
@@ -70,7 +73,8 @@ start-work sent (event.Create table owner) i kept e =
 start-work sent (event.Split table key) i kept e =
     let never : ◌≡◌ {A = Work} (Split table key) (Start kept) = same-work _ (starting i kept) e in cc
 
-takes-same : (host : HostNode) (found : Option Master) (message : Message) → (takes_if_running host found message).0.generation ≡ host.generation
+takes-same : (host : HostNode) (found : Option Master) (message : Message) → (takes_if_running host found message).0.generation ≡
+    host.generation
 takes-same host None message = refl
 takes-same host (Some master) message =
     either (λ (after : HostNode × List Message). after.0.generation ≡ host.generation) (is_server (server_of host) message.to)
@@ -143,49 +147,65 @@ module _ (world : World) (one : Event) (i : ℕ) where
       either Same (is_possible world one) (job_done world one (work_of world.sent one)) world
       (λ possible. same-job_done (work_of world.sent one) refl possible) (λ _. inl refl)
 
--- What is newly told
+-- What a backup newly says
 
--- it stands where it was told
-pub record NewlyStands (hosts : ℕ → HostNode) (x m : ServerId) (s e len : ℕ) (closed : Bool) : Type 0 where
-  pub stands : StillStands (held_at hosts x.index m) s e len closed
+-- a message of a backup's kind, and what holds of each backup that says it
+pub record IsSaid (world : World) (x : ServerId) (to : Addr) (says : Body) (P : Backup → Type 0) : Type 0 where
+  pub not_enlist : says ≡ Enlist → ⊥
+  pub no_master : (sent sent_now : List Message) (m : ServerId) (old log : Log) → body_said sent sent_now m old log to says → ⊥
+  pub by_backup : (i : ℕ) (from : Addr) (heard : Body) →
+      In (record { from = from; to = Server (server_of (world.hosts i)); body = heard }) world.sent →
+      In (record { from = Server x; to = to; body = says }) (backup_takes (world.hosts i).backup from heard).1 →
+      P (backup_takes (world.hosts i).backup from heard).0
 
-module _ (world : World) (one : Event) (good : GoodWorld world) (x m : ServerId) (s e len : ℕ) (closed : Bool) where
-  abbrev told : Message
-  told = between x m (Stored s e len closed)
+module _ (world : World) (one : Event) (good : GoodWorld world) (x : ServerId) (to : Addr) (says : Body) (P : Backup → Type 0)
+    (is_said : IsSaid world x to says P) where
+  abbrev message_said : Message
+  message_said = record { from = Server x; to = to; body = says }
 
-  abbrev pub Stands : World → Type 0
-  Stands after = In told after.sent → In told world.sent ⊎ NewlyStands after.hosts x m s e len closed
+  -- it was said before, or it holds of the backup of the host that says it
+  abbrev Stands : World → Type 0
+  Stands after = In (record { from = Server x; to = to; body = says }) after.sent →
+      In (record { from = Server x; to = to; body = says }) world.sent ⊎ P (after.hosts x.index).backup
 
-  none-new : (after : World) (messages : List Message) → after.sent ≡ world.sent ++ messages → (In told messages → ⊥) → Stands after
+  none-new : (after : World) (messages : List Message) → after.sent ≡ world.sent ++ messages → (In message_said messages → ⊥) → Stands after
   none-new after messages is none at =
-      In-either told world.sent messages (subst (In told) is at) (λ there. inl there) (λ new. absurd (none new))
+      In-either message_said world.sent messages (subst (In message_said) is at) (λ there. inl there) (λ new. absurd (none new))
 
-  -- who tells is the host's server
+  -- who says it is the host's server
   module _ (i : ℕ) where
     abbrev HostStands : HostNode × List Message → Type 0
-    HostStands after = In told after.1 → (x ≡ server_of (world.hosts i)) × StillStands (after.0.backup.held m) s e len closed
+    HostStands after = In message_said after.1 → (x ≡ server_of (world.hosts i)) × P after.0.backup
 
     by-backup : (message : Message) →
         In (record { from = message.from; to = Server (server_of (world.hosts i)); body = message.body }) world.sent →
         HostStands (with_backup (world.hosts i) (backup_takes (world.hosts i).backup message.from message.body))
     by-backup message given = by (backup_takes (world.hosts i).backup message.from message.body) refl
       where
-        by : (after : _) → backup_takes (world.hosts i).backup message.from message.body ≡ after → HostStands (with_backup (world.hosts i) after)
+        now : ℕ → HostNode
+        now = put world.hosts i (record (world.hosts i) { backup = (backup_takes (world.hosts i).backup message.from message.body).0 })
+
+        moved : BackupMoved world.sent world.masters
+            (put world.hosts i (record (world.hosts i) { backup = (backup_takes (world.hosts i).backup message.from message.body).0 }))
+            world.coordinator (world.hosts i) (backup_takes (world.hosts i).backup message.from message.body)
+        moved = moved-backup world.sent world.masters world.hosts
+            (put world.hosts i (record (world.hosts i) { backup = (backup_takes (world.hosts i).backup message.from message.body).0 }))
+            world.coordinator i message.from message.body good given
+            (ap (put world.hosts i (record (world.hosts i) { backup = (backup_takes (world.hosts i).backup message.from message.body).0 }))
+            (good.hosts_are i).index ∙ put-same world.hosts i _)
+
+        by : (after : _) → backup_takes (world.hosts i).backup message.from message.body ≡ after → HostStands (with_backup
+            (world.hosts i) after)
         by (backup, messages) is at =
-            let now : ℕ → HostNode = put world.hosts i (record (world.hosts i) { backup = (backup_takes (world.hosts i).backup message.from message.body).0 }) in
-            let moved : BackupMoved world.sent world.masters now world.coordinator (world.hosts i)
-            (backup_takes (world.hosts i).backup message.from message.body) =
-            moved-backup world.sent world.masters world.hosts now world.coordinator i message.from message.body good given
-            (ap now (good.hosts_are i).index ∙ put-same world.hosts i _) in
-            let there : In told (backup_takes (world.hosts i).backup message.from message.body).1 =
-            subst (λ (one : Backup × List Message). In told one.1) (sym is) at in (
-              server-same x (server_of (world.hosts i)) (moved.from told there),
-              subst (λ (one : Backup × List Message). StillStands (one.0.held m) s e len closed) is (moved.says told there).1.0,
+            let there : In message_said (backup_takes (world.hosts i).backup message.from message.body).1 =
+            subst (λ (one : Backup × List Message). In message_said one.1) (sym is) at in (
+              server-same x (server_of (world.hosts i)) (moved.from message_said there),
+              subst (λ (one : Backup × List Message). P one.0) is (is_said.by_backup i message.from message.body given there),
             )
 
     by-master : (master : Master) (after : Master × List Message) → MasterMoved world.sent (server_of (world.hosts i)) master after →
         HostStands (with_master (world.hosts i) after)
-    by-master master (now, messages) moved at = absurd (moved.says told at).says
+    by-master master (now, messages) moved at = absurd (is_said.no_master _ _ _ _ _ (moved.says message_said at).says)
 
     by-server : (master : Master) → (world.hosts i).master ≡ Some master → (message : Message) →
         In (record { from = message.from; to = Server (server_of (world.hosts i)); body = message.body }) world.sent →
@@ -203,7 +223,8 @@ module _ (world : World) (one : Event) (good : GoodWorld world) (x m : ServerId)
         HostStands (takes_if_running (world.hosts i) found message)
     by-takes None is message given = λ at. absurd at
     by-takes (Some master) is message given =
-        either HostStands (is_server (server_of (world.hosts i)) message.to) (server_takes (world.hosts i) master message) (world.hosts i, [])
+        either HostStands (is_server (server_of (world.hosts i)) message.to) (server_takes (world.hosts i) master message)
+        (world.hosts i, [])
         (λ to. by-server master is message
         (subst (λ (addr : Addr). In (record { from = message.from; to = addr; body = message.body }) world.sent)
         (is_server-true world one i good (server_of (world.hosts i)) message.to to) given)) (λ _ at. absurd at)
@@ -211,10 +232,11 @@ module _ (world : World) (one : Event) (good : GoodWorld world) (x m : ServerId)
     by-ticks : (found : Option Master) → (world.hosts i).master ≡ found → HostStands (ticks_if_running (world.hosts i) found)
     by-ticks None is = λ at. absurd at
     by-ticks (Some master) is = by-master master (master_ticks master)
-        (master_ticks_keeps world.sent (server_of (world.hosts i)) master (is-good world one i good master is) (is-fine world one i good master is))
+        (master_ticks_keeps world.sent (server_of (world.hosts i)) master (is-good world one i good master is)
+        (is-fine world one i good master is))
 
-    no-enlist : In told (to_coordinator (next_server (world.hosts i)) Enlist ∷ []) → ⊥
-    no-enlist (inl same) = (let never : ◌≡◌ {A = Addr} (Server m) AtCoordinator = ap (λ (message : Message). message.to) same in cc)
+    no-enlist : In message_said (to_coordinator (next_server (world.hosts i)) Enlist ∷ []) → ⊥
+    no-enlist (inl same) = is_said.not_enlist (ap (λ (message : Message). message.body) same)
     no-enlist (inr never) = never
 
     by-host : (work : Work) → IsGiven world.sent (TheHost i) work → HostStands (host_step (world.hosts i) work)
@@ -225,20 +247,20 @@ module _ (world : World) (one : Event) (good : GoodWorld world) (x m : ServerId)
 
     host-stands : (work : Work) → IsGiven world.sent (TheHost i) work → Stands (node_done world one (TheHost i) work)
     host-stands work given at =
-        In-either told world.sent (host_step (world.hosts i) work).1 at (λ there. inl there)
+        In-either message_said world.sent (host_step (world.hosts i) work).1 at (λ there. inl there)
         (λ new. (let p = by-host work given new in inr (there p.0 p.1)))
       where
-        there : x ≡ server_of (world.hosts i) → StillStands ((host_step (world.hosts i) work).0.backup.held m) s e len closed →
-            NewlyStands (put world.hosts i (host_step (world.hosts i) work).0) x m s e len closed
-        there same stands = record {
-          stands = subst (λ (host : HostNode). StillStands (host.backup.held m) s e len closed)
-              (sym (ap (put world.hosts i (host_step (world.hosts i) work).0) (ap (λ (id : ServerId). id.index) same ∙ (good.hosts_are i).index) ∙
-              put-same world.hosts i (host_step (world.hosts i) work).0)) stands;
-        }
+        there : x ≡ server_of (world.hosts i) → P (host_step (world.hosts i) work).0.backup →
+            P (put world.hosts i (host_step (world.hosts i) work).0 x.index).backup
+        there same p = subst (λ (host : HostNode). P host.backup)
+            (sym (ap (put world.hosts i (host_step (world.hosts i) work).0) (ap (λ (id : ServerId). id.index) same ∙
+            (good.hosts_are i).index) ∙
+            put-same world.hosts i (host_step (world.hosts i) work).0)) p
 
-  no-outside : (work : Work) → In told (outside_sends work) → ⊥
-  no-outside (Ask to says) (inl same) = (let never : ◌≡◌ {A = Addr} (Server x) Outside = ap (λ (message : Message). message.from) same in cc)
-  no-outside (Ask to says) (inr never) = never
+  no-outside : (work : Work) → In message_said (outside_sends work) → ⊥
+  no-outside (Ask addressee asked) (inl same) =
+      (let never : ◌≡◌ {A = Addr} (Server x) Outside = ap (λ (message : Message). message.from) same in cc)
+  no-outside (Ask addressee asked) (inr never) = never
   no-outside _ at = at
 
   from-coordinator : Server x ≡ AtCoordinator → ⊥
@@ -248,15 +270,49 @@ module _ (world : World) (one : Event) (good : GoodWorld world) (x m : ServerId)
   stands-node TheOutside work given = none-new (node_done world one TheOutside work) (outside_sends work) refl (no-outside work)
   stands-node TheCoordinator work given =
       none-new (node_done world one TheCoordinator work) (coordinator_step world.coordinator work).1 refl
-      (λ at. from-coordinator (coordinator-from world work good given told at))
+      (λ at. from-coordinator (coordinator-from world work good given message_said at))
   stands-node (TheHost i) work given = host-stands i work given
 
   stands-job : (found : Option Job) → work_of world.sent one ≡ found → Stands (job_done world one found)
   stands-job None is = λ at. inl at
   stands-job (Some job) is = stands-node job.node job.work (work_of-given world.sent one job is)
 
-  -- what was told before, or stands
-  pub told-stands : Stands (step world one)
-  told-stands =
+  pub said-stands : In (record { from = Server x; to = to; body = says }) (step world one).sent →
+      In (record { from = Server x; to = to; body = says }) world.sent ⊎ P ((step world one).hosts x.index).backup
+  said-stands =
       either Stands (is_possible world one) (job_done world one (work_of world.sent one)) world
       (λ _. stands-job (work_of world.sent one) refl) (λ _ at. inl at)
+
+-- What is newly told
+
+-- it stands where it was told
+pub record NewlyStands (hosts : ℕ → HostNode) (x m : ServerId) (s e len : ℕ) (closed : Bool) : Type 0 where
+  pub stands : StillStands (held_at hosts x.index m) s e len closed
+
+stored-said : (world : World) → GoodWorld world → (x m : ServerId) (s e len : ℕ) (closed : Bool) →
+    IsSaid world x (Server m) (Stored s e len closed) (λ backup. StillStands (backup.held m) s e len closed)
+stored-said world good x m s e len closed = record {
+  not_enlist = λ never. differs never;
+  no_master = λ sent sent_now n old log said. said;
+  by_backup = λ i from heard given at. ((moved-backup world.sent world.masters world.hosts
+      (put world.hosts i (record (world.hosts i) { backup = (backup_takes (world.hosts i).backup from heard).0 })) world.coordinator i from
+      heard good given
+      (ap (put world.hosts i (record (world.hosts i) { backup = (backup_takes (world.hosts i).backup from heard).0 }))
+      (good.hosts_are i).index ∙ put-same world.hosts i _)).says (between x m (Stored s e len closed)) at).1.0;
+}
+  where
+    differs : Stored s e len closed ≡ Enlist → ⊥
+    differs never = cc
+
+-- what was told before, or stands
+pub told-stands : (world : World) (one : Event) → GoodWorld world → (x m : ServerId) (s e len : ℕ) (closed : Bool) →
+    In (between x m (Stored s e len closed)) (step world one).sent →
+    In (between x m (Stored s e len closed)) world.sent ⊎ NewlyStands (step world one).hosts x m s e len closed
+told-stands world one good x m s e len closed at =
+    by (said-stands world one good x (Server m) (Stored s e len closed) (λ backup. StillStands (backup.held m) s e len closed)
+    (stored-said world good x m s e len closed) at)
+  where
+    by : In (between x m (Stored s e len closed)) world.sent ⊎ StillStands (held_at (step world one).hosts x.index m) s e len closed →
+        In (between x m (Stored s e len closed)) world.sent ⊎ NewlyStands (step world one).hosts x m s e len closed
+    by (inl there) = inl there
+    by (inr stands) = inr (record { stands = stands })

@@ -4,7 +4,8 @@ use Rattle.std.proofs.Common.{Some, None, refl, sym, ap, ◌∙◌, subst, inl, 
 use Rattle.std.specs.List.{list_any}
 use Rattle.std.proofs.lemmas.Bool.{cases_eq, eqb-true, or_cases, or_left, or_right}
 use Rattle.rc_model.specs.Model.{ServerId, Addr, Server, Message, Body, Place, Append, Close, Free, Gather, Fetch}
-use Rattle.rc_model.specs.Model.{Replica, Backup, Held, replica_of, replica_after, put_replica, without_replica, with_held, is_freed, is_refused}
+use Rattle.rc_model.specs.Model.{Replica, Backup, Held, replica_of, replica_after, put_replica, without_replica, with_held, is_freed}
+use Rattle.rc_model.specs.Model.{is_refused}
 use Rattle.rc_model.specs.Model.{keeps, stores, insert_once, frees, backup_takes, restarted, stays, closing_length, In}
 use Rattle.rc_model.proofs.Tests.{true_false, either}
 use Rattle.rc_model.proofs.Tables.{put_id_each}

@@ -2,7 +2,8 @@
 use Rattle.std.proofs.Common.{◌≡◌, ℕ, List, [], Option, Some, None, refl}
 use Rattle.rc_model.specs.Model.{ServerId, Event, Message, is_server, Backup, backup_takes, Master, master_takes, Work, Take, HostNode}
 use Rattle.rc_model.specs.Model.{server_of, host_step, is_for_backup, with_backup, with_master, server_takes, takes_if_running}
-use Rattle.rc_model.specs.Model.{ticks_if_running, World, NodeName, TheOutside, TheCoordinator, TheHost, Job, work_of, is_possible, node_done}
+use Rattle.rc_model.specs.Model.{ticks_if_running, World, NodeName, TheOutside, TheCoordinator, TheHost, Job, work_of, is_possible}
+use Rattle.rc_model.specs.Model.{node_done}
 use Rattle.rc_model.specs.Model.{job_done, step, In}
 use Rattle.rc_model.specs.Nodes.{Tick, Start}
 use Rattle.rc_model.proofs.Tests.{either}
@@ -60,5 +61,6 @@ module _ (world : World) (one : Event) (good : GoodWorld world) (all : AllHosts 
   pub kept-step : AllHosts (step world one).sent (step world one).hosts
   kept-step i m = kept-more world.sent (step world one).sent m (((step world one).hosts i).backup.held m)
       (led-step world one good).onward.more
-      (either (λ (after : World). AllHosts world.sent after.hosts) (is_possible world one) (job_done world one (work_of world.sent one)) world
+      (either (λ (after : World). AllHosts world.sent after.hosts) (is_possible world one) (job_done world one
+      (work_of world.sent one)) world
       (λ _. kept-job (work_of world.sent one) refl) (λ _. all) i m)

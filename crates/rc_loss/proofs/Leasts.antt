@@ -11,7 +11,8 @@ abbrev pub AllAsked : World → Type 0
 AllAsked world = (m : ServerId) → (world.coordinator.least m ≡ record { seg = 0; epoch = 0 })
     ⊎ In (to_coordinator m (Commit (world.coordinator.least m).seg (world.coordinator.least m).epoch)) world.sent
 
-asked-step : (setup : Setup) (events : List Event) (one : Event) → AllAsked (replay setup events) → AllAsked (step (replay setup events) one)
+asked-step : (setup : Setup) (events : List Event) (one : Event) → AllAsked (replay setup events) → AllAsked (step
+    (replay setup events) one)
 asked-step setup events one p m = by ((step (replay setup events) one).coordinator.least m) (asked-event (replay setup events) one m)
   where
     more : (message : Message) → In message (replay setup events).sent → In message (step (replay setup events) one).sent
@@ -23,7 +24,8 @@ asked-step setup events one p m = by ((step (replay setup events) one).coordinat
         (replay setup events).sent →
         (pair ≡ record { seg = 0; epoch = 0 }) ⊎ In (to_coordinator m (Commit pair.seg pair.epoch)) (step (replay setup events) one).sent
     was pair same (inl none) = inl (same ∙ none)
-    was pair same (inr at) = inr (more _ (subst (λ (one : Pair). In (to_coordinator m (Commit one.seg one.epoch)) (replay setup events).sent)
+    was pair same (inr at) = inr (more _ (subst (λ (one : Pair). In (to_coordinator m (Commit one.seg one.epoch))
+        (replay setup events).sent)
         (sym same) at))
 
     by : (pair : Pair) → Asked (replay setup events).sent (replay setup events).coordinator m pair →

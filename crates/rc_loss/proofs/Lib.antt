@@ -7,9 +7,11 @@ pub mod Follows
 pub mod Kept
 pub mod Hosts
 pub mod KeptWorlds
+pub mod Asked
 pub mod Masters
 pub mod Worlds
 pub mod Leasts
 pub mod Answers
 pub mod Refusals
 pub mod Few
+pub mod Decided

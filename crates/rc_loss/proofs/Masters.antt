@@ -33,7 +33,8 @@ module _ (f : ℕ) (W : ℕ → ℕ → Type 0) (m : ServerId) where
   After sent after = Placings f (OrNow W after.0.log) (sent ++ after.1) m after.0.log
 
   -- an input and the list rules, and then what follows up
-  joined : (sent : List Message) (one : Master × List Message) → Placings f W (sent ++ one.1) m one.0.log → After sent (then_does one goes_on)
+  joined : (sent : List Message) (one : Master × List Message) → Placings f W (sent ++ one.1) m one.0.log → After sent
+      (then_does one goes_on)
   joined sent one p =
       subst (λ (all : List Message). Placings f (OrNow W (goes_on one.0).0.log) all m (goes_on one.0).0.log)
       (append_assoc sent one.1 (goes_on one.0).1)

@@ -96,7 +96,8 @@ module _ (setup : Setup) (events : List Event) (m : ServerId) where
 
   -- freed segments are shut
   freed-shut : (s : ℕ) → 0 < s → HasFreed (sent_after setup events) m s → ((log_of setup events m).segments s).shut ≡ true
-  freed-shut s above freed = let out : IsLeftOut (log_of setup events m) s = freed-is-left-out setup events m s freed in out.shut s above out.below
+  freed-shut s above freed = let out : IsLeftOut (log_of setup events m) s = freed-is-left-out setup events m s freed in out.shut s
+      above out.below
 
   pub record Survivor (s e : ℕ) : Type 0 where
     pub host : ℕ
@@ -140,14 +141,16 @@ module _ (setup : Setup) (events : List Event) (m : ServerId) where
           of_member member there same =
               let is : is_placed member ≡ true =
               all-each is_placed member (config_after setup placed.placed.before m s).members placed.placed.placed there in
-              let told : HasStored (sent_after setup placed.placed.before) member.id m s (config_after setup placed.placed.before m s).epoch =
+              let told : HasStored (sent_after setup placed.placed.before) member.id m s
+              (config_after setup placed.placed.before m s).epoch =
               ((((loss-facts setup placed.placed.before).masters m).each s).known member there).told (and_parts (not member.lost) _ is).1 in
               let now : HasStored (sent_after setup events) x m s (config_after setup placed.placed.before m s).epoch =
               record {
                 len = told.len;
                 closed = told.closed;
                 told = more-since placed.placed.before placed.placed.beginning _
-                    (subst (λ (y : ServerId). In (between y m (Stored s (config_after setup placed.placed.before m s).epoch told.len told.closed))
+                    (subst (λ (y : ServerId). In (between y m (Stored s (config_after setup placed.placed.before m s).epoch told.len
+                    told.closed))
                     (sent_after setup placed.placed.before)) (sym same) told.told);
               } in
               which (fate x s (config_after setup placed.placed.before m s).epoch opened.0 unshut now)
@@ -179,12 +182,14 @@ module _ (setup : Setup) (events : List Event) (m : ServerId) where
       pair : Pair
       pair = (replay setup events).coordinator.least m
 
-      asked : In (to_coordinator m (Commit ((replay setup events).coordinator.least m).seg ((replay setup events).coordinator.least m).epoch))
+      asked : In (to_coordinator m (Commit ((replay setup events).coordinator.least m).seg
+          ((replay setup events).coordinator.least m).epoch))
           (replay setup events).sent →
           PlacedUnder setup events m ((replay setup events).coordinator.least m).seg ((replay setup events).coordinator.least m).epoch
       asked at = ((loss-facts setup events).masters m).said _ at refl
 
-      which : In (to_coordinator m (Commit ((replay setup events).coordinator.least m).seg ((replay setup events).coordinator.least m).epoch))
+      which : In (to_coordinator m (Commit ((replay setup events).coordinator.least m).seg
+          ((replay setup events).coordinator.least m).epoch))
           (replay setup events).sent →
           (((replay setup events).coordinator.least m).seg ≡ s) ⊎
           ((((replay setup events).coordinator.least m).seg < s) ⊎ (s < ((replay setup events).coordinator.least m).seg)) → BestPlaced s
@@ -228,7 +233,8 @@ module _ (setup : Setup) (events : List Event) (m : ServerId) where
 
   head-unshut : ((log_of setup events m).segments (log_of setup events m).head).shut ≡ false
   head-unshut = split ((log_of setup events m).segments (log_of setup events m).head).shut
-      (λ is. (let below = (((good-world setup events).masters_are m).shut_below (log_of setup events m).head is).1 in absurd (omega (arith, below))))
+      (λ is. (let below = (((good-world setup events).masters_are m).shut_below (log_of setup events m).head is).1 in absurd (omega
+      (arith, below))))
       (λ is. is)
 
   -- the least segment that isn't shut: the head, or the one before; it was placed
@@ -248,7 +254,8 @@ module _ (setup : Setup) (events : List Event) (m : ServerId) where
 
   opened-is : WasPlaced setup events m 1 → 0 < (log_of setup events m).head
   opened-is placed = by_beginning placed.before placed.beginning
-      (leb-true 1 (log_of setup placed.before m).head (and_parts (nat_lt 0 1) (nat_le 1 (log_of setup placed.before m).head) placed.opened).1)
+      (leb-true 1 (log_of setup placed.before m).head (and_parts (nat_lt 0 1) (nat_le 1
+      (log_of setup placed.before m).head) placed.opened).1)
     where
       by_beginning : (before : List Event) → Begins before events → 1 ≤ (log_of setup before m).head → 0 < (log_of setup events m).head
       by_beginning before (rest, same) has =
@@ -292,7 +299,8 @@ module _ (setup : Setup) (events : List Event) (m : ServerId) where
             upto = omega arith;
             unshut = unshut;
             last = omega (arith, more);
-            placed = ((loss-facts setup events).masters m).lower ((log_of setup events m).head - 1) (omega (arith, more)) (omega (arith, more));
+            placed = ((loss-facts setup events).masters m).lower ((log_of setup events m).head - 1) (omega (arith, more)) (omega
+                (arith, more));
           })
 
   -- The answers
@@ -306,8 +314,13 @@ module _ (setup : Setup) (events : List Event) (m : ServerId) where
         (is_valid ((replay setup events).coordinator.least m) held.row ≡ true)
     valid-row s e stands valid =
         let found : (held : HeldRow) × (In held (held_rows replies)) × (held.row ≡ row_of_replica (s, stands.replica)) =
-        all_rows stands.host s stands.replica stands.kept in
-        (found.0, found.1, found.2, subst (λ (row : Row). is_valid ((replay setup events).coordinator.least m) row ≡ true) (sym found.2) counts)
+        all_rows stands.host s stands.replica stands.kept in (
+          found.0,
+          found.1,
+          found.2,
+          subst (λ (row : Row). is_valid ((replay setup events).coordinator.least m) row ≡ true)
+              (sym found.2) counts,
+        )
       where
         counts : is_valid ((replay setup events).coordinator.least m) (row_of_replica (s, stands.replica)) ≡ true
         counts = or_right stands.replica.closed _ (ap not
@@ -346,7 +359,8 @@ module _ (setup : Setup) (events : List Event) (m : ServerId) where
               which (inl gone) = ((log_of setup events m).head, gone)
               which (inr stands) =
                   let closed : stands.replica.closed ≡ true = all-closed (log_of setup events m).head b.epoch stands b.valid in
-                  let below = ((replica-copy setup events m stands.host (log_of setup events m).head stands.replica stands.kept).copy.whole closed).0 in
+                  let below = ((replica-copy setup events m stands.host (log_of setup events m).head stands.replica
+                  stands.kept).copy.whole closed).0 in
                   absurd (omega (arith, below))
 
       no-head : LeastUnshut → 0 < factor_of setup m.index → (s : ℕ) × IsGone setup events m s
@@ -459,7 +473,8 @@ module _ (setup : Setup) (events : List Event) (m : ServerId) where
         let top : HeadIs ((replay setup events).coordinator.least m) replies is.head =
         head-is ((replay setup events).coordinator.least m) replies is.head is.head_is in
         let found : CopyAt setup events m is.head.row = row-copy setup events m replies answers is.head top.among in
-        no-row found.holder is.head.row found.copy top.unclosed top.valid t (In-contains t is.head.row.digest is.listed) is.other is.none some
+        no-row found.holder is.head.row found.copy top.unclosed top.valid t (In-contains t is.head.row.digest is.listed) is.other
+        is.none some
 
     -- A refusal
 

@@ -188,7 +188,8 @@ pub kept-put : (log : Log) (seg : ℕ) (segment : Segment) → segment.config �
 kept-put log seg segment same = placed-kept log (with_segment seg segment log) (omega arith)
     (λ s _. put_each (λ k (one : Segment). one.config ≡ (log.segments k).config) log.segments seg segment same (λ k. refl) s)
 
-pub kept-opens : (log : Log) (digest : List ℕ) (ids : List ServerId) (s e : ℕ) → PlacedNow log s e → PlacedNow (opens_head log digest ids) s e
+pub kept-opens : (log : Log) (digest : List ℕ) (ids : List ServerId) (s e : ℕ) → PlacedNow log s e → PlacedNow
+    (opens_head log digest ids) s e
 kept-opens log digest ids = placed-kept log (opens_head log digest ids) (omega arith)
     (λ s upto. put-cases (λ k (one : Segment). k ≤ log.head → one.config ≡ (log.segments k).config) log.segments (log.head + 1)
     (new_segment (log.head + 1) digest ids) (λ beyond. absurd (omega (arith, beyond))) (λ k _ _. refl) s upto)

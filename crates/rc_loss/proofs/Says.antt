@@ -3,7 +3,8 @@ use Rattle.std.proofs.Common.{◌≡◌, ◌⊎◌, ℕ, ◌+◌, ◌<◌, true,
 use Rattle.std.proofs.Common.{length, Option, Some, None, is_some, refl, sym, ap, ◌∙◌, subst, inl, inr, arith}
 use Rattle.std.proofs.lemmas.Bool.{and_parts, eqb-true}
 use Rattle.rc_model.specs.Model.{ServerId, Member, Told, Phase, Opening, Closing, Writing, Message, Append, Close, Ready}
-use Rattle.rc_model.specs.Model.{between, to_coordinator, Log, numbers_to, is_closing, is_writing, Master, Task, place_of, is_closing_old, lacking}
+use Rattle.rc_model.specs.Model.{between, to_coordinator, Log, numbers_to, is_closing, is_writing, Master, Task, place_of}
+use Rattle.rc_model.specs.Model.{is_closing_old, lacking}
 use Rattle.rc_model.specs.Model.{reminds_member, reminds_members, reminds_open, reminds_shut, reminds_shut_members, standing, to_remind}
 use Rattle.rc_model.specs.Model.{commits_again, fetch_of, fetches_again, has_not_come, recovered_again, awaits_grant, attempt_of, PartState}
 use Rattle.rc_model.specs.Model.{ready_again, reminds}
@@ -41,7 +42,8 @@ module _ (f : ℕ) (W : ℕ → ℕ → Type 0) (sent : List Message) (m : Serve
       Each Holds (map (λ body. between log.own member.id body) (lacking log seg told))
   lacking-holds seg member None = each-one Holds _ (λ never. true_false (sym never))
   lacking-holds seg member (Some told) =
-      either (λ bodies. Each Holds (map (λ body. between log.own member.id body) bodies)) (nat_lt told.len (length (log.segments seg).entries))
+      either (λ bodies. Each Holds (map (λ body. between log.own member.id body) bodies)) (nat_lt told.len (length
+      (log.segments seg).entries))
       (Append seg told.len (map (λ one. one.0) (drop told.len (log.segments seg).entries)) ∷ [])
       (cond (is_closing_old log seg && not told.closed) (Close seg (length (log.segments seg).entries) ∷ []) [])
       (λ _. each-one Holds _ tt)
@@ -85,7 +87,8 @@ module _ (f : ℕ) (W : ℕ → ℕ → Type 0) (sent : List Message) (m : Serve
   fetches-hold : (own : ServerId) (master : Master) (tasks : List Task) → Each Holds (fetches_again master tasks)
   fetches-hold own master [] = each-none Holds
   fetches-hold own master (task ∷ tasks) =
-      each-both Holds (map (fetch_of master.log.own task) (filter (has_not_come master.ownership task) task.rows)) (fetches_again master tasks)
+      each-both Holds (map (fetch_of master.log.own task) (filter (has_not_come master.ownership task) task.rows))
+      (fetches_again master tasks)
       (each-map Holds (fetch_of master.log.own task) (filter (has_not_come master.ownership task) task.rows) (λ row _. tt))
       (fetches-hold own master tasks)
 

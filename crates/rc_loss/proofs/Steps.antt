@@ -95,7 +95,8 @@ module _ (f : ℕ) (W : ℕ → ℕ → Type 0) (m : ServerId) where
     begins-appends : (master : Master) (entry : Entry) (client : Bool) → Begins master (appends_entry master entry client)
     begins-appends master entry client =
         begins-by master (appends_entry master entry client).0 (appends_entry master entry client).1
-        (λ sent more good. alike-put f W sent m master.log master.log.head (with_entry entry client (head_of master.log)) good refl refl refl)
+        (λ sent more good. alike-put f W sent m master.log master.log.head (with_entry entry client
+        (head_of master.log)) good refl refl refl)
         (λ sent good. each-to_ids (λ message. Claims _ (Some_placed W 1) W message.body) master.log.own
         (ids_of (not_lost (head_of master.log).config.members))
         (Append master.log.head (length (head_of master.log).entries) (entry ∷ [])) (λ id _. tt))
@@ -111,9 +112,11 @@ module _ (f : ℕ) (W : ℕ → ℕ → Type 0) (m : ServerId) where
       lists = λ version rows is newer. begins-same master (record master { known = from_rows version rows }) [] refl quiet-none;
       stores = λ teller seg epoch len closed is tells. begins-by master
           (with_log master (stored seg teller epoch len closed master.log)) []
-          (λ sent more good. stored-put f W sent m seg teller epoch len closed master.log (more _ (heard teller seg epoch len closed is tells))
+          (λ sent more good. stored-put f W sent m seg teller epoch len closed master.log (more _
+          (heard teller seg epoch len closed is tells))
           (λ shut. (let c = told teller seg epoch len closed (heard teller seg epoch len closed is tells) shut in
-          record { message = c.message; among = more _ c.among; from = c.from; says = c.says })) good) (λ sent good message none. absurd none);
+          record { message = c.message; among = more _ c.among; from = c.from; says = c.says })) good)
+          (λ sent good message none. absurd none);
       commits = λ seg epoch is. begins-by master (with_log master (commit_noted seg epoch master.log)) []
           (λ sent more good. commit-put f W sent m seg epoch master.log good) (λ sent good message none. absurd none);
       deposes = begins-same master (record master { deposed = true }) [] refl quiet-none;

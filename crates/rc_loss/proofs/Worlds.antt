@@ -155,7 +155,8 @@ module _ (setup : Setup) (events : List Event) (one : Event) (p : LossFacts setu
   masters-now m =
       placings-wider (factor_of setup m.index) _ (PlacedUnder setup (events ++ one ∷ []) m) (step (replay setup events) one).sent m
       ((step (replay setup events) one).masters m).log which
-      (led-by (Before (λ k. factor_of setup k.index) (PlacedUnder setup events)) (Now (λ k. factor_of setup k.index) (PlacedUnder setup events))
+      (led-by (Before (λ k. factor_of setup k.index) (PlacedUnder setup events)) (Now (λ k. factor_of setup k.index)
+      (PlacedUnder setup events))
       (masters-led (λ k. factor_of setup k.index) (PlacedUnder setup events)) (replay setup events) one (good-world setup events)
       (λ k. (p.shut k, p.masters k)) m)
     where
@@ -209,7 +210,11 @@ module _ (setup : Setup) (events : List Event) (one : Event) (p : LossFacts setu
               record {
                 before = events;
                 kept = start.kept;
-                beginning = ([], append-nil (events ++ event.Start x.index start.kept ∷ []) ∙ ap (λ (last : Event). events ++ last ∷ []) (sym start.is));
+                beginning = (
+                  [],
+                  append-nil (events ++ event.Start x.index start.kept ∷ []) ∙ ap (λ
+                      (last : Event). events ++ last ∷ []) (sym start.is),
+                );
                 told = told;
                 possible = subst (λ (last : Event). is_possible (replay setup events) last ≡ true) start.is start.possible;
                 replica = stands.replica;
@@ -224,7 +229,8 @@ module _ (setup : Setup) (events : List Event) (one : Event) (p : LossFacts setu
     stays-on : ((step (replay setup events) one).hosts x.index).generation ≡ ((replay setup events).hosts x.index).generation →
         StillStands (held_at (replay setup events).hosts x.index m) s e len closed → StandsNow
     stays-on still stands =
-        by (stands-then (held_at (replay setup events).hosts x.index m) (held_at (step (replay setup events) one).hosts x.index m) s e len closed
+        by (stands-then (held_at (replay setup events).hosts x.index m) (held_at (step
+        (replay setup events) one).hosts x.index m) s e len closed
         ((led.onward.hosts_later x.index).held (sym still) m) stands)
       where
         by : StillStands (held_at (step (replay setup events) one).hosts x.index m) s e len closed ⊎

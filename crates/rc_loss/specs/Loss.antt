@@ -14,11 +14,14 @@ use Rattle.rc_model.specs.Config.{Config, all_placed}
 use Rattle.rc_model.specs.Log.{has_segment}
 use Rattle.rc_model.specs.Master.{ids_of}
 use Rattle.rc_model.specs.Pick.{HeldRow, held_rows}
+use Rattle.rc_model.specs.Attempts.{Attempt, has_answered}
+use Rattle.rc_model.specs.Coordinator.{attempt_at}
+use Rattle.rc_model.specs.Nodes.{server_of}
 use Rattle.rc_model.specs.World.{replay, is_possible}
 use Rattle.rc_model.specs.Headline.{In}
-use Rattle.rc_step_laws.specs.Words.{Begins}
+use Rattle.rc_step_laws.specs.Words.{Begins, IsOf}
 use Rattle.rc_log_laws.specs.WordClaims.{sent_after, log_of}
-use Rattle.rc_log_laws.specs.LogClaims.{held_after, WasGathered}
+use Rattle.rc_log_laws.specs.LogClaims.{held_after}
 
 -- the members of a master's segment after these events, by the master's view
 abbrev pub config_after : Setup → List Event → ServerId → ℕ → Config
@@ -52,7 +55,8 @@ pub record WasDropped (setup : Setup) (events : List Event) (x m : ServerId) (s 
   pub since : e ≤ replica.epoch
   pub unnamed : is_kept kept m s ≡ false
 
--- a segment that isn't shut was once placed on all its members, and each of them, since it told so, is of a host that has
+-- a segment that isn't shut was once placed on all its members, and each of them, since it told so, is of a host that
+-- has
 -- dropped it
 pub record IsGone (setup : Setup) (events : List Event) (m : ServerId) (s : ℕ) : Type 0 where
   pub unshut : ((log_of setup events m).segments s).shut ≡ false
@@ -62,17 +66,16 @@ pub record IsGone (setup : Setup) (events : List Event) (m : ServerId) (s : ℕ)
 
 -- Answers
 
--- the answer was sent, to a Gather of this master
-pub record WasAnswered (sent : List Message) (m y : ServerId) (rows : List Row) : Type 0 where
+-- the answer was sent, in an attempt to recover this master
+pub record WasAnswered (setup : Setup) (events : List Event) (m y : ServerId) (rows : List Row) : Type 0 where
   pub number : ℕ
-  pub asked : WasGathered sent number m
-  pub answered : In (to_coordinator y (Replicas number rows)) sent
+  pub attempt : IsOf (replay setup events).coordinator.attempts number m
+  pub answered : In (to_coordinator y (Replicas number rows)) (sent_after setup events)
 
 -- each answer was sent, or is what the backup of its host would answer now
 abbrev pub AreAnswers : Setup → List Event → ServerId → List (ServerId × List Row) → Type 0
 AreAnswers setup events m replies = (y : ServerId) (rows : List Row) → In (y, rows) replies →
-    WasAnswered (sent_after setup events) m y rows ⊎
-    (rows ≡ rows_of_replicas (held_after setup events y.index m).replicas)
+    WasAnswered setup events m y rows ⊎ (rows ≡ rows_of_replicas (held_after setup events y.index m).replicas)
 
 -- what the backup of a host has of the segment now is a row of the answers, if it has it
 abbrev pub HasRow : Setup → List Event → ServerId → List (ServerId × List Row) → ℕ → ℕ → Type 0
@@ -83,3 +86,11 @@ HasRow setup events m replies i s = (replica : Replica) →
 -- the master has told the coordinator that it has a head
 abbrev pub WasReady : List Message → ServerId → Type 0
 WasReady sent m = In (to_coordinator m Ready) sent
+
+-- each host whose backup has anything of the master has answered, by its last server, in the master's current attempt
+pub record AllHaveAnswered (setup : Setup) (events : List Event) (m : ServerId) : Type 0 where
+  pub attempt : Attempt
+  pub current : attempt_at (replay setup events).coordinator ((replay setup events).coordinator.current m) ≡ Some
+      attempt
+  pub each : (i s : ℕ) (replica : Replica) → replica_of s (held_after setup events i m).replicas ≡ Some replica →
+      has_answered (server_of ((replay setup events).hosts i)) attempt.replies ≡ true

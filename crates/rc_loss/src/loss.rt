@@ -1,6 +1,6 @@
 //! Refused choices of the log.
 
-ghost use Rattle.rc_loss.specs.LossClaims.{RefusalsMeanLoss, FewDropsAreNoLoss};
+ghost use Rattle.rc_loss.specs.LossClaims.{RefusalsMeanLoss, FewDropsAreNoLoss, RefusedDecidesMeanLoss};
 
 /// After every list of events, of every setup: where all that any backup has of a master is among the
 /// answers and the choice of its log is refused, there is a segment that isn't shut and was at one
@@ -10,4 +10,5 @@ ghost use Rattle.rc_loss.specs.LossClaims.{RefusalsMeanLoss, FewDropsAreNoLoss};
 pub fn refusals_mean_loss()
     ensures all { RefusalsMeanLoss }
     ensures few { FewDropsAreNoLoss }
+    ensures decides { RefusedDecidesMeanLoss }
 {}

@@ -1,18 +1,18 @@
 -- Runs in which no host starts twice, so that nothing is dropped, each beside the choice of a log: it isn't refused.
-use Rattle.std.specs.Prelude.{◌≡◌, ℕ, Bool, true, false, ◌&&◌, List, [], ◌∷◌, ◌++◌, Result, Ok, Err, codes}
+use Rattle.std.specs.Prelude.{◌≡◌, ℕ, Bool, true, false, ◌&&◌, List, [], ◌∷◌, Result, Ok, Err, codes}
 use Rattle.std.specs.List.{list_any}
 use Rattle.rc_types.specs.declared.ids.ServerId.{ServerId}
 use Rattle.rc_types.specs.declared.rows.Row.{Row}
 use Rattle.rc_types.specs.declared.rows.Plan.{Plan}
 use Rattle.rc_types.specs.declared.events.Setup.{Setup}
 use Rattle.rc_types.specs.declared.faults.Fault.{Fault}
-use Rattle.rc_types.specs.declared.messages.Message.{Message}
 use Rattle.rc_model.specs.Ids.{is_server}
 use Rattle.rc_model.specs.Backup.{rows_of_replicas}
 use Rattle.rc_model.specs.Pick.{pick}
 use Rattle.rc_model.specs.Nodes.{server_of}
 use Rattle.rc_model.specs.World.{World, opening}
-use Rattle.rc_worked.specs.Settling.{Line, runs, of_eight, create, id, is_ready, settle, settle_without_place, start, suspect, write}
+use Rattle.rc_worked.specs.Settling.{Line, runs, of_eight, create, id, is_ready, settle, settle_without_place, start}
+use Rattle.rc_worked.specs.Settling.{suspect, tick, write}
 
 -- what all these hosts have of a master
 abbrev pub all_answers : World → List ℕ → ServerId → List (ServerId × List Row)
@@ -46,7 +46,7 @@ change_nowhere = start 0 ∷ start 1 ∷ start 2 ∷ settle ∷ suspect (id 1 1)
 abbrev pub roll_nowhere : List Line
 roll_nowhere =
     start 0 ∷ start 1 ∷ start 2 ∷ settle ∷ create 7 (id 0 1) ∷ settle ∷ write (id 0 1) 7 1 (codes "a") ∷ settle ∷
-    write (id 0 1) 7 2 (codes "b") ∷ settle_without_place ∷ []
+    write (id 0 1) 7 2 (codes "b") ∷ settle_without_place ∷ tick (id 0 1) ∷ settle_without_place ∷ []
 
 abbrev pub of_one_entry : Setup
 of_one_entry = record { factor = 1; segment = 1; free = false; factors = [] }

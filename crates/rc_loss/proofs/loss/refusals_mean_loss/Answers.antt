@@ -1,4 +1,5 @@
 use Rattle.rc_loss.proofs.Refusals.{refusals-mean-loss}
+use Rattle.rc_loss.proofs.Decided.{refused-decides-mean-loss}
 use Rattle.rc_loss.proofs.Few.{few-drops-are-no-loss}
 use Rattle.rc_loss.proofs.loss.refusals_mean_loss.Goals as goal
 
@@ -7,3 +8,6 @@ returns-clause-all c = refusals-mean-loss
 
 pub returns-clause-few : goal.returns-clause-few
 returns-clause-few c = few-drops-are-no-loss
+
+pub returns-clause-decides : goal.returns-clause-decides
+returns-clause-decides c = refused-decides-mean-loss

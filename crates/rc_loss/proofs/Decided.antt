@@ -1,0 +1,203 @@
+-- A Decide that is refused, where all hosts have answered, means that a segment is gone.
+use Rattle.std.proofs.Common.{◌≡◌, ◌⊎◌, ℕ, Bool, true, nat_eq, List, [], ◌∷◌, Option, Some, Result, Ok, Err}
+use Rattle.std.proofs.Common.{refl, sym, ap, ◌∙◌, subst, inl, inr}
+use Rattle.std.proofs.lemmas.Bool.{eqb-true}
+use Rattle.rc_model.specs.Model.{ServerId, Addr, Server, Outside, Row, Part, Fault, NotReady, StaleAttempt, Message, Replicas}
+use Rattle.rc_model.specs.Model.{to_coordinator, coordinator_refuses, same_id, Replica, replica_of, row_of_replica, rows_of_replicas}
+use Rattle.rc_model.specs.Model.{HeldRow, rows_of}
+use Rattle.rc_model.specs.Model.{held_rows, pick, Attempt, Decision, has_answered, is_gathering, parts_of, plan_message, plan_messages}
+use Rattle.rc_model.specs.Model.{attempt_at}
+use Rattle.rc_model.specs.Model.{decides_with, decides_attempt, decides, ready_ids, server_of, replay, In}
+use Rattle.rc_types.specs.declared.faults.Fault.TheVariants.{HeadMissing, SegmentMissing}
+use Rattle.rc_types.specs.declared.rows.Plan.{Plan}
+use Rattle.rc_types.specs.Codes.{code_of}
+use Rattle.rc_model.specs.Coordinator.{Coordinator}
+use Rattle.rc_model.proofs.Ids.{same_id-true}
+use Rattle.rc_model.proofs.Members.{In-left, In-right, In-append}
+use Rattle.rc_model.proofs.Tests.{true_false, either}
+use Rattle.rc_step_laws.specs.All.{IsOf, IsNumbered}
+use Rattle.rc_step_laws.proofs.Attempting.{numbered-at}
+use Rattle.rc_log_laws.specs.LogClaims.{held_after}
+use Rattle.rc_log_laws.proofs.Replays.{good-world}
+use Rattle.rc_loss.specs.Loss.{AreAnswers, HasRow}
+use Rattle.rc_loss.specs.LossClaims.{RefusedDecidesMeanLoss}
+use Rattle.rc_loss.proofs.Answers.{IsMissing}
+use Rattle.rc_loss.proofs.Asked.{answers-are-now}
+use Rattle.rc_loss.proofs.Refusals.{refusals-mean-loss}
+
+-- Rows
+
+-- a replica that is found has its row
+row-in : (replicas : List (ℕ × Replica)) (s : ℕ) (replica : Replica) → replica_of s replicas ≡ Some replica →
+    In (row_of_replica (s, replica)) (rows_of_replicas replicas)
+row-in [] s replica e = cc
+row-in (one ∷ others) s replica e =
+    either (λ (found : Option Replica). found ≡ Some replica → In (row_of_replica (s, replica)) (rows_of_replicas (one ∷ others)))
+    (nat_eq s one.0) (Some one.1) (replica_of s others)
+    (λ same here. inl (ap row_of_replica (pair s replica one (eqb-true s one.0 same) (inner one.1 here))))
+    (λ _ there. inr (row-in others s replica there)) e
+  where
+    inner : (other : Replica) → Some other ≡ Some replica → other ≡ replica
+    inner other same = cc
+
+    pair : (t : ℕ) (r : Replica) (other : ℕ × Replica) → t ≡ other.0 → other.1 ≡ r → (t, r) ≡ other
+    pair t r other p q j = (p j, sym q j)
+
+rows_of-has : (holder : ServerId) (rows : List Row) (row : Row) → In row rows → In (record { holder = holder; row = row })
+    (rows_of holder rows)
+rows_of-has holder [] row at = absurd at
+rows_of-has holder (one ∷ rows) row (inl same) = inl (ap (λ (r : Row). record { holder = holder; row = r }) same)
+rows_of-has holder (one ∷ rows) row (inr rest) = inr (rows_of-has holder rows row rest)
+
+held_rows-has : (replies : List (ServerId × List Row)) (y : ServerId) (rows : List Row) (row : Row) → In (y, rows) replies → In row rows →
+    (held : HeldRow) × (In held (held_rows replies)) × (held.row ≡ row)
+held_rows-has [] y rows row at among = absurd at
+held_rows-has (reply ∷ replies) y rows row (inl same) among = (
+  record { holder = reply.0; row = row },
+  In-left _ (rows_of reply.0 reply.1) (held_rows replies)
+      (rows_of-has reply.0 reply.1 row (subst (λ (all : List Row). In row all) (ap (λ (one : ServerId × List Row). one.1) same) among)),
+  refl,
+)
+held_rows-has (reply ∷ replies) y rows row (inr rest) among =
+    let found = held_rows-has replies y rows row rest among in
+    (found.0, In-right found.0 (rows_of reply.0 reply.1) (held_rows replies) found.1, found.2)
+
+-- who has answered has an answer there
+answer-of : (y : ServerId) (replies : List (ServerId × List Row)) → has_answered y replies ≡ true → (rows : List Row) × In (y, rows) replies
+answer-of y [] e = true_false (sym e)
+answer-of y (reply ∷ replies) e =
+    either (λ (b : Bool). b ≡ true → (rows : List Row) × In (y, rows) (reply ∷ replies)) (same_id y reply.0) true (has_answered y replies)
+    (λ same _. (reply.1, inl (ap (λ (id : ServerId). (id, reply.1)) (same_id-true y reply.0 same))))
+    (λ _ rest. (let found = answer-of y replies rest in (found.0, inr found.1))) e
+
+-- The refusal
+
+-- a plan is no refusal
+plans-not : (fault : Fault) (number : ℕ) (master : ServerId) (decision : Decision) (ids : List ServerId) →
+    In (coordinator_refuses fault) (plan_messages number master decision ids) → ⊥
+plans-not fault number master decision [] at = at
+plans-not fault number master decision (id ∷ ids) at =
+    by (parts_of id decision.parts) (In-append (coordinator_refuses fault)
+    (plan_message number master decision.plan id (parts_of id decision.parts)) (plan_messages number master decision ids) at)
+    (plans-not fault number master decision ids)
+  where
+    by : (parts : List Part) → In (coordinator_refuses fault) (plan_message number master decision.plan id parts) ⊎
+        In (coordinator_refuses fault) (plan_messages number master decision ids) →
+        (In (coordinator_refuses fault) (plan_messages number master decision ids) → ⊥) → ⊥
+    by [] (inl never) rec = never
+    by (part ∷ parts) (inl (inl same)) rec =
+        (let never : ◌≡◌ {A = Addr} Outside (Server id) = ap (λ (message : Message). message.to) same in cc)
+    by (part ∷ parts) (inl (inr never)) rec = never
+    by parts (inr rest) rec = rec rest
+
+-- where a row is missing, no other refusal is meant
+other-fault : (fault other : Fault) → IsMissing fault → (code_of HeadMissing ≡ code_of other → ⊥) →
+    ((t : ℕ) → code_of (SegmentMissing t) ≡ code_of other → ⊥) → In (coordinator_refuses fault) (coordinator_refuses other ∷ []) → ⊥
+other-fault fault other (inl is) head segment (inr never) = never
+other-fault fault other (inr is) head segment (inr never) = never
+other-fault fault other (inl is) head segment (inl same) =
+    head (ap code_of (sym is) ∙ refused (ap (λ (message : Message). message.body) same))
+  where
+    refused : Rattle.rc_types.specs.declared.messages.Body.TheVariants.Refused (code_of fault) ≡
+        Rattle.rc_types.specs.declared.messages.Body.TheVariants.Refused (code_of other) → code_of fault ≡ code_of other
+    refused e = cc
+other-fault fault other (inr (t, is)) head segment (inl same) =
+    segment t (ap code_of (sym is) ∙ refused (ap (λ (message : Message). message.body) same))
+  where
+    refused : Rattle.rc_types.specs.declared.messages.Body.TheVariants.Refused (code_of fault) ≡
+        Rattle.rc_types.specs.declared.messages.Body.TheVariants.Refused (code_of other) → code_of fault ≡ code_of other
+    refused e = cc
+
+not-ready : (fault : Fault) → IsMissing fault → In (coordinator_refuses fault) (coordinator_refuses NotReady ∷ []) → ⊥
+not-ready fault is = other-fault fault NotReady is (λ e. head e) (λ t e. segment t e)
+  where
+    head : code_of HeadMissing ≡ code_of NotReady → ⊥
+    head e = cc
+
+    segment : (t : ℕ) → code_of (SegmentMissing t) ≡ code_of NotReady → ⊥
+    segment t e = cc
+
+stale : (fault : Fault) → IsMissing fault → In (coordinator_refuses fault) (coordinator_refuses StaleAttempt ∷ []) → ⊥
+stale fault is = other-fault fault StaleAttempt is (λ e. head e) (λ t e. segment t e)
+  where
+    head : code_of HeadMissing ≡ code_of StaleAttempt → ⊥
+    head e = cc
+
+    segment : (t : ℕ) → code_of (SegmentMissing t) ≡ code_of StaleAttempt → ⊥
+    segment t e = cc
+
+-- so the choice was refused
+with-refused : (c : Coordinator) (number : ℕ) (attempt : Attempt) (found : Result Plan Fault) (ids : List ServerId) (fault : Fault) →
+    IsMissing fault → In (coordinator_refuses fault) (decides_with c number attempt found ids).1 → (other : Fault) × (found ≡ Err other)
+with-refused c number attempt (Err other) ids fault is at = (other, refl)
+with-refused c number attempt (Ok plan) [] fault is at = absurd (not-ready fault is at)
+with-refused c number attempt (Ok plan) (id ∷ ids) fault is at = absurd (plans-not fault number attempt.master _ (id ∷ ids) at)
+
+pick-refused : (c : Coordinator) (m : ServerId) (attempt : Attempt) (fault : Fault) → IsMissing fault →
+    attempt_at c (c.current m) ≡ Some attempt → In (coordinator_refuses fault) (decides c m).1 →
+    (other : Fault) × (pick (c.least m) attempt.replies ≡ Err other)
+pick-refused c m attempt fault is current at =
+    by (subst (λ (found : Option Attempt). In (coordinator_refuses fault) (decides_attempt c m found).1) current at)
+  where
+    by : In (coordinator_refuses fault) (decides_attempt c m (Some attempt)).1 → (other : Fault) × (pick
+        (c.least m) attempt.replies ≡ Err other)
+    by there = either (λ (after : Coordinator × List Message). In (coordinator_refuses fault) after.1 →
+        (other : Fault) × (pick (c.least m) attempt.replies ≡ Err other)) (is_gathering attempt)
+        (decides_with c (c.current m) attempt (pick (c.least m) attempt.replies) (ready_ids c)) (c, coordinator_refuses StaleAttempt ∷ [])
+        (λ _ refused. with-refused c (c.current m) attempt (pick (c.least m) attempt.replies) (ready_ids c) fault is refused)
+        (λ _ never. absurd (stale fault is never)) there
+
+-- All of it
+
+pub refused-decides-mean-loss : RefusedDecidesMeanLoss
+refused-decides-mean-loss setup events m ready all decided =
+    refusals-mean-loss setup events m all.attempt.replies refused.0 ready answers rows refused.1
+  where
+    c : Coordinator
+    c = (replay setup events).coordinator
+
+    refused : (other : Fault) × (pick ((replay setup events).coordinator.least m) all.attempt.replies ≡ Err other)
+    refused = pick-refused (replay setup events).coordinator m all.attempt decided.fault decided.missing all.current decided.refused
+
+    numbered : IsNumbered (replay setup events).coordinator.attempts ((replay setup events).coordinator.current m) all.attempt
+    numbered = numbered-at (replay setup events).coordinator ((replay setup events).coordinator.current m) all.attempt all.current
+
+    of_m : IsOf (replay setup events).coordinator.attempts ((replay setup events).coordinator.current m) m
+    of_m = record {
+      attempt = all.attempt;
+      numbered = numbered;
+      master_is = (good-world setup events).coordinator.current_master m all.attempt numbered;
+    }
+
+    sent : (y : ServerId) (rows : List Row) → In (y, rows) all.attempt.replies →
+        In (to_coordinator y (Replicas ((replay setup events).coordinator.current m) rows)) (replay setup events).sent
+    sent = ((good-world setup events).coordinator.attempts ((replay setup events).coordinator.current m) all.attempt numbered).answered
+
+    answers : AreAnswers setup events m all.attempt.replies
+    answers y rows at = inl (record {
+      number = (replay setup events).coordinator.current m;
+      attempt = of_m;
+      answered = sent y rows at;
+    })
+
+    rows : (i s : ℕ) → HasRow setup events m all.attempt.replies i s
+    rows i s replica kept =
+        let found : (rows : List Row) × In (server_of ((replay setup events).hosts i), rows) all.attempt.replies =
+        answer-of (server_of ((replay setup events).hosts i)) all.attempt.replies (all.each i s replica kept) in
+        of_answer found.0 found.1
+      where
+        index : ((replay setup events).hosts i).index ≡ i
+        index = ((good-world setup events).hosts_are i).index
+
+        of_answer : (rows : List Row) → In (server_of ((replay setup events).hosts i), rows) all.attempt.replies →
+            (held : HeldRow) × (In held (held_rows all.attempt.replies)) × (held.row ≡ row_of_replica (s, replica))
+        of_answer rows at =
+            let now : rows ≡ rows_of_replicas (held_after setup events ((replay setup events).hosts i).index m).replicas =
+            answers-are-now setup events (server_of ((replay setup events).hosts i)) m
+            ((replay setup events).coordinator.current m) rows of_m
+            (sent (server_of ((replay setup events).hosts i)) rows at)
+            (ap (λ k. ((replay setup events).hosts k).generation) (sym index)) in
+            held_rows-has all.attempt.replies (server_of ((replay setup events).hosts i)) rows (row_of_replica (s, replica)) at
+            (subst (λ (list : List Row). In (row_of_replica (s, replica)) list)
+            (sym (now ∙ ap (λ k. rows_of_replicas (held_after setup events k m).replicas) index))
+            (row-in (held_after setup events i m).replicas s replica kept))
