@@ -108,6 +108,7 @@ fn split_upwards(
     }
     page.size("\n    ", sent.len());
     page.put(" messages, of which the last is");
-    bodies::write_all(sent.last().map_or(&[], std::slice::from_ref), page);
+    let last = sent.as_slice().get(sent.len().saturating_sub(1)..);
+    bodies::write_all(last.unwrap_or(&[]), page);
     Ok(())
 }
