@@ -1,19 +1,20 @@
 -- Reads follow time, and show what was asked.
-use Rattle.std.proofs.Common.{◌≡◌, ◌⊎◌, ◌≢◌, ℕ, ◌<◌, ◌≤◌, List, ◌++◌, length, Option, Some, None, slice_get, refl, sym, ap, ◌∙◌}
+use Rattle.std.proofs.Common.{◌≡◌, ◌⊎◌, ◌<◌, ◌≤◌, List, ◌++◌, length, None, sym, ap, ◌∙◌}
 use Rattle.std.proofs.Common.{subst, inl, inr, arith}
-use Rattle.rc_model.specs.Model.{ServerId, Server, Outside, Setup, Event, Message, Write, Ack, factor_of, replay, In, HasAcknowledged}
+use Rattle.rc_model.specs.Model.{ServerId, Server, Outside, Setup, Event, Message, Write, replay, In, HasAcknowledged}
 use Rattle.rc_model.proofs.Members.{In-get}
 use Rattle.rc_owner_laws.proofs.VersionReplays.{all-world}
-use Rattle.rc_promises.specs.Service.{HasAsked, IsOfKey, Answer, HasRead}
+use Rattle.rc_promises.specs.Service.{HasAsked, Answer, HasRead}
 use Rattle.rc_promises.proofs.Asked.{versions-begin-at-one}
 use Rattle.rc_promises.proofs.News.{WasRead, clients-are-heard}
-use Rattle.rc_linear.specs.Confirmed.{HasSentFor, IsConfirmed, ReadsFollowTime, WritesFollowReads, ReadsShowOneValue, WhatReadsShowWasAsked}
+use Rattle.rc_linear.specs.Confirmed.{HasSentFor, ReadsFollowTime, WritesFollowReads, ReadsShowOneValue, WhatReadsShowWasAsked}
 use Rattle.rc_linear.proofs.Above.{above-acked}
 use Rattle.rc_linear.proofs.Fresh.{IsAskedFor, all-asked-for}
 use Rattle.rc_linear.proofs.Origin.{Origin, origin}
 use Rattle.rc_linear.proofs.Shown.{Finds, zero-or-more, reads-rise, reads-alike}
 use Rattle.rc_linear.proofs.Standing.{which-begins, first-events}
-use Rattle.rc_linear.proofs.Stood.{IsShowing, shown-stood, shows-none}
+use Rattle.rc_linear.proofs.Stood.{IsShowing, shown-stood}
+use Rattle.rc_linear.proofs.Zero.{shows-none}
 
 -- what the master of a read found, and when
 record IsReadAt (setup : Setup) (events : List Event) (m : ServerId) (before : List Message) (answer : Answer) : Type 0 where
@@ -122,11 +123,17 @@ what-reads-show-was-asked setup events m before answer some read = by (zero-or-m
 
     by : (answer.version ≡ 0) ⊎ (answer.version ≡ 0 → ⊥) → ((answer.version ≡ 0) × (answer.value ≡ None))
         ⊎ ((x : ServerId) × HasAsked before x answer.table answer.key answer.value)
-    by (inl none) = inl (none, shows-none setup a.past a.rest m some a.finds.term answer.table answer.key answer.version answer.value
-        a.finds.owns a.finds.found none)
-    by (inr above) = inr (came.x, subst (λ (l : List Message). HasAsked l came.x answer.table answer.key answer.value) (sym a.sent_is)
-        (subst (λ (message : Message). In message (replay setup a.past).sent) same
-        (In-get (replay setup a.past).sent asked.number _ asked.asked)))
+    by (inl none) = inl (
+      none,
+      shows-none setup a.past a.rest m some a.finds.term answer.table answer.key answer.version answer.value
+          a.finds.owns a.finds.found none,
+    )
+    by (inr above) = inr (
+      came.x,
+      subst (λ (l : List Message). HasAsked l came.x answer.table answer.key answer.value) (sym a.sent_is)
+          (subst (λ (message : Message). In message (replay setup a.past).sent) same
+          (In-get (replay setup a.past).sent asked.number _ asked.asked)),
+    )
       where
         is : IsShowing setup a.past a.rest m some a.finds.term answer.table answer.key answer.version answer.value a.finds.owns
             a.finds.found

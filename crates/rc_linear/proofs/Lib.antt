@@ -6,6 +6,7 @@ pub mod Shown
 pub mod Senders
 pub mod Fresh
 pub mod Origin
+pub mod Zero
 pub mod Pending
 pub mod Standing
 pub mod Linear

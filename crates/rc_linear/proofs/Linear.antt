@@ -32,7 +32,8 @@ use Rattle.rc_linear.specs.Linearizable.{AWrite, ARead, Operation, IsRequest, Is
 use Rattle.rc_linear.specs.Linearizable.{IsLinearizable, HasReplicas, Linearizable, LinearizableApart}
 use Rattle.rc_linear.specs.Linearizable.{IsResponseOf, EachWriteIsAnOperation}
 use Rattle.rc_linear.proofs.NoneLater.{confirmed-reads-miss-nothing}
-use Rattle.rc_linear.proofs.Stood.{Stood, IsShowing, shown-stood, shows-none}
+use Rattle.rc_linear.proofs.Stood.{Stood, IsShowing, shown-stood}
+use Rattle.rc_linear.proofs.Zero.{shows-none}
 use Rattle.rc_linear.proofs.Above.{above-acked}
 use Rattle.rc_linear.proofs.Shown.{Finds, zero-or-more, reads-rise, reads-alike}
 use Rattle.rc_linear.proofs.Fresh.{IsAskedFor, all-asked-for, In-taken-from}

@@ -1,21 +1,21 @@
 -- What is said of reads makes the test of a run true; so a run whose test fails refutes it.
-use Rattle.std.proofs.Common.{◌≡◌, ◌⊎◌, ◌≢◌, ℕ, ◌+◌, ◌<◌, ◌≤◌, Bool, true, false, not, ◌&&◌, ◌||◌, nat_eq, nat_lt, nat_le}
-use Rattle.std.proofs.Common.{List, [], ◌∷◌, ◌++◌, length, Option, refl, sym, ap, ◌∙◌, subst, inl, inr, append_assoc, arith}
+use Rattle.std.proofs.Common.{◌≡◌, ◌⊎◌, ◌<◌, Bool, true, false, not, ◌&&◌, ◌||◌, nat_eq, nat_lt, nat_le}
+use Rattle.std.proofs.Common.{List, [], ◌∷◌, ◌++◌, length, refl, sym, ap, ◌∙◌, subst, inl, inr, append_assoc, arith}
 use Rattle.std.specs.List.{list_any, list_all}
 use Rattle.std.proofs.lemmas.Bool.{eqb-true, lt-ltb, le-leb, and_parts, and_from}
 use Rattle.std.proofs.lemmas.List.{length-append}
 use Rattle.rc_model.specs.Model.{ServerId, Addr, Server, Entry, Setup, Event, Message, Body, ReadOk, Ack, made, same_id, same_value}
-use Rattle.rc_model.specs.Model.{World, opening, replay, factor_of, In, HasMade, HasAcknowledged}
+use Rattle.rc_model.specs.Model.{World, opening, replay, In, HasAcknowledged}
 use Rattle.rc_model.proofs.Members.{In-append}
 use Rattle.rc_model.proofs.Said.{HasMade-in}
 use Rattle.rc_model.proofs.Ids.{same_id-true}
 use Rattle.rc_model.proofs.Tests.{true_false}
-use Rattle.rc_worked.specs.Sentences.{Run, acks_of, is_of_key, is_no_more, early_world, whole_world}
+use Rattle.rc_worked.specs.Sentences.{Run, acks_of, is_of_key, is_no_more, whole_world}
 use Rattle.rc_worked.specs.Ordered.{is_some_entry, has_begun, is_confirmed, Shown, shown_by, shown_of, is_same_key, is_followed, is_no_less}
 use Rattle.rc_worked.specs.Ordered.{is_alike, is_in_order, answered_in_order, keeps_order_from, keeps_order, order_of}
 use Rattle.rc_worked.proofs.Scenarios.{scenarios-are-replays, runs-append}
 use Rattle.rc_log_laws.specs.WordClaims.{sent_after}
-use Rattle.rc_promises.specs.Service.{IsOfKey, Answer, HasRead}
+use Rattle.rc_promises.specs.Service.{Answer, HasRead}
 use Rattle.rc_promises.proofs.Tested.{all-from, where-from, else-from, same_value-from, acks-say, of-key, no-more}
 use Rattle.rc_linear.specs.Confirmed.{HasSentFor, IsConfirmed, MissesNothing, ConfirmedReadsMissNothing, ReadsFollowTime, WritesFollowReads}
 use Rattle.rc_linear.specs.Confirmed.{ReadsShowOneValue}
@@ -103,16 +103,19 @@ module _ (setup : Setup) (events : List Event) (some : HasReplicas setup) (misse
   module _ (m : ServerId) (before : List Message) (one : Shown) (read : HasRead sent m before (answer-of one)) where
     -- what was shown before it was a read, answered before it
     earlier : (other : Shown) (p : WasShown before other) → HasRead sent p.m p.before (answer-of other) × (length p.before < length before)
-    earlier other p = (record {
-      message = p.message;
-      after = p.after ++ read.message ∷ read.after;
-      whole = read.whole ∙ ap (λ l. l ++ read.message ∷ read.after) p.whole
-          ∙ append_assoc p.before (p.message ∷ p.after) (read.message ∷ read.after);
-      from = p.from;
-      says = p.says;
-    }, (let long : length before ≡ length (p.before ++ p.message ∷ p.after) = ap length p.whole in
-        let both = length-append p.before (p.message ∷ p.after) in
-        omega (arith, long, both)))
+    earlier other p = (
+      record {
+        message = p.message;
+        after = p.after ++ read.message ∷ read.after;
+        whole = read.whole ∙ ap (λ l. l ++ read.message ∷ read.after) p.whole
+            ∙ append_assoc p.before (p.message ∷ p.after) (read.message ∷ read.after);
+        from = p.from;
+        says = p.says;
+      },
+      (let long : length before ≡ length (p.before ++ p.message ∷ p.after) = ap length p.whole in
+          let both = length-append p.before (p.message ∷ p.after) in
+          omega (arith, long, both)),
+    )
 
     followed : list_all (is_followed before one) (acks_of sent) ≡ true
     followed = all-from (is_followed before one) (acks_of sent) each

@@ -2,7 +2,7 @@
 use Rattle.std.proofs.Common.{◌≡◌, ◌≢◌, ℕ, zero, suc, ◌<◌, ◌≤◌, ◌&&◌, nat_lt, List, [], ◌∷◌, ◌++◌, take, Option, Some, None}
 use Rattle.std.proofs.Common.{slice_get, refl, sym, ap, ◌∙◌, subst, inl, inr, arith}
 use Rattle.std.proofs.lemmas.Bool.{and_parts, ltb-true}
-use Rattle.rc_model.specs.Model.{ServerId, Entry, Setup, Event, Ack, LogPlace, places_of, Found, is_of, or_greater, read_from}
+use Rattle.rc_model.specs.Model.{ServerId, Entry, Setup, Event, Ack, LogPlace, places_of, Found}
 use Rattle.rc_model.specs.Model.{read_of, term_of, durable_entries, factor_of, World, step, replay_from, replay, HasAcknowledged, In}
 use Rattle.rc_model.proofs.Tests.{either}
 use Rattle.rc_step_laws.specs.All.{log_in, IsSafe, IsWriteOk}
@@ -42,22 +42,6 @@ In-taken zero xs k x less e = absurd (omega arith)
 In-taken (suc n) [] k x less e = cc
 In-taken (suc n) (y ∷ xs) zero x less e = (let same : y ≡ x = cc in inl (sym same))
 In-taken (suc n) (y ∷ xs) (suc k) x less e = inr (In-taken n xs k x (omega arith) e)
-
--- What a read shows at version 0 is nothing
-
-zero-from : (term table key : ℕ) (found : Found) (entries : List Entry) → (found.version ≡ 0 → found.value ≡ None) →
-    (read_from term table key found entries).version ≡ 0 → (read_from term table key found entries).value ≡ None
-zero-from term table key found [] p = p
-zero-from term table key found (entry ∷ entries) p = zero-from term table key (or_greater term table key found entry) entries
-    (either (λ (now : Found). now.version ≡ 0 → now.value ≡ None) (is_of term table key entry && nat_lt found.version entry.version)
-    (record { version = entry.version; value = entry.value }) found
-    (λ e none. (let less : found.version < entry.version = ltb-true found.version entry.version
-    (and_parts (is_of term table key entry) (nat_lt found.version entry.version) e).1 in absurd (omega (arith, less, none))))
-    (λ _. p))
-
-pub zero-is-none : (term table key : ℕ) (entries : List Entry) → (read_of term table key entries).version ≡ 0 →
-    (read_of term table key entries).value ≡ None
-zero-is-none term table key entries = zero-from term table key (record { version = 0; value = None }) entries (λ _. refl)
 
 -- Entries that stood
 
@@ -113,11 +97,6 @@ module _ (setup : Setup) (past rest : List Event) (m : ServerId) (some : factor_
         (replay setup past).hosts (replay setup past).coordinator (reading.all_old setup past rest) m term table key
         (reading.own setup past rest m term table key version value owns found))
 
-    pub shows-none : version ≡ 0 → value ≡ None
-    shows-none none = sym (ap (λ (one : Found). one.value) found)
-        ∙ zero-is-none term table key (durable_entries ((replay setup past).masters m))
-        (ap (λ (one : Found). one.version) found ∙ none)
-
     -- what it shows had stood, and had been counted
     pub record IsShowing : Type 0 where
       pub entry : Entry
@@ -129,8 +108,10 @@ module _ (setup : Setup) (past rest : List Event) (m : ServerId) (some : factor_
       pub value_is : entry.value ≡ value
       pub among : (more : List Event) → In entry (durable_entries ((replay setup (past ++ more)).masters m))
 
-    pub shown-stood : (version ≡ 0 → ⊥) → IsShowing
-    shown-stood above = record {
+    -- an entry that it finds had stood
+    pub found-stood : IsFound term table key (durable_entries ((replay setup past).masters m))
+        (read_of term table key (durable_entries ((replay setup past).masters m))) → IsShowing
+    found-stood is = record {
       entry = is.entry;
       stood = record {
         seg = at.place.seg;
@@ -150,11 +131,6 @@ module _ (setup : Setup) (past rest : List Event) (m : ServerId) (some : factor_
       among = λ more. still more;
     }
       where
-        is : IsFound term table key (durable_entries ((replay setup past).masters m))
-            (read_of term table key (durable_entries ((replay setup past).masters m)))
-        is = read-is term table key (durable_entries ((replay setup past).masters m))
-            (λ e. above (sym (ap (λ (one : Found). one.version) found) ∙ e))
-
         at : IsPlaced ((replay setup past).masters m).log is.entry
         at = placed ((replay setup past).masters m) is.entry is.among
 
@@ -167,3 +143,8 @@ module _ (setup : Setup) (past rest : List Event) (m : ServerId) (some : factor_
             (get-begins (places_of ((replay setup past).masters m).log) (places_of ((replay setup (past ++ more)).masters m).log)
             (places-later (replay setup (past ++ more)).sent m ((replay setup past).masters m).log
             ((replay setup (past ++ more)).masters m).log (since-more setup past more m).later) at.index at.place at.at)))
+
+    -- and what it shows above version 0
+    pub shown-stood : (version ≡ 0 → ⊥) → IsShowing
+    shown-stood above = found-stood (read-is term table key (durable_entries ((replay setup past).masters m))
+        (λ e. above (sym (ap (λ (one : Found). one.version) found) ∙ e)))

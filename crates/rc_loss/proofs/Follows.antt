@@ -319,6 +319,6 @@ module _ (f : ℕ) (W : ℕ → ℕ → Type 0) (m : ServerId) where
         (λ sent good. each-to_ids _ master.log.own (ids_of (not_lost (head_of master.log).config.members))
         (Append master.log.head (length (head_of master.log).entries) (entry ∷ [])) (λ id _. tt)));
     answers = λ master term is. follows-same master
-        (record master { ownership = after_answer (durable_entries master) master.ownership })
+        (record master { ownership = after_answer (durable_replayed master) master.ownership })
         (to_coordinator master.log.own (Recovered (attempt_of term master.tasks) term) ∷ []) refl (λ log. each-one _ _ tt);
   }

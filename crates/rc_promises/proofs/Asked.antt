@@ -43,7 +43,12 @@ above-kept setup = record {
   };
 }
 
--- versions begin at 1
+-- so the versions of clients' entries begin at 1
+pub clients-begin-at-one : (setup : Setup) (events : List Event) (m : ServerId) (place : LogPlace) →
+    In place (places_of ((replay setup events).masters m).log) → place.client ≡ true → 0 < place.entry.version
+clients-begin-at-one setup events m place = kept-replay setup ClientsAbove (above-kept setup) events m place
+
+-- and those that are acknowledged
 pub versions-begin-at-one : (setup : Setup) (events : List Event) (m : ServerId) (ack : Ack) →
     HasAcknowledged (sent_after setup events) m ack → 0 < ack.version
 versions-begin-at-one setup events m ack p =

@@ -129,17 +129,17 @@ module _ (term table key : ℕ) where
       entry.version ≤ (read_of term table key entries).version
   read-above entries entry at a b c = from-above None entries entry at (is-of-true term table key entry a b c)
 
-  -- and above 0 it is one of them
-  pub read-is : (entries : List Entry) → ((read_of term table key entries).version ≡ 0 → ⊥) →
-      IsFound entries (read_of term table key entries)
-  read-is entries above = by (from-is None entries)
+  -- it finds nothing, or one of them,
+  pub read-ways : (entries : List Entry) → (read_of term table key entries ≡ record { version = 0; value = None })
+      ⊎ IsFound entries (read_of term table key entries)
+  read-ways entries = by (from-is None entries)
     where
       by : (greatest_from term table key None entries ≡ None) ⊎ IsOne entries (greatest_from term table key None entries) →
-          IsFound entries (read_of term table key entries)
-      by (inl e) = absurd (above (ap (λ (found : Option Entry). (found_in found).version) e))
+          (read_of term table key entries ≡ record { version = 0; value = None }) ⊎ IsFound entries (read_of term table key entries)
+      by (inl e) = inl (ap found_in e)
       by (inr p) =
           let of = of-is term table key p.entry p.of in
-          record {
+          inr (record {
             entry = p.entry;
             among = p.among;
             term_is = of.0;
@@ -147,4 +147,14 @@ module _ (term table key : ℕ) where
             key_is = of.2;
             version_is = ap (λ (found : Option Entry). (found_in found).version) p.is;
             value_is = ap (λ (found : Option Entry). (found_in found).value) p.is;
-          }
+          })
+
+  -- and above 0 it is one of them
+  pub read-is : (entries : List Entry) → ((read_of term table key entries).version ≡ 0 → ⊥) →
+      IsFound entries (read_of term table key entries)
+  read-is entries above = by (read-ways entries)
+    where
+      by : (read_of term table key entries ≡ record { version = 0; value = None }) ⊎ IsFound entries (read_of term table key entries) →
+          IsFound entries (read_of term table key entries)
+      by (inl e) = absurd (above (ap (λ (found : Found). found.version) e))
+      by (inr p) = p
