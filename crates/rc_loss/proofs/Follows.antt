@@ -10,7 +10,7 @@ use Rattle.rc_model.specs.Model.{is_all_closed, is_unclosed, with_closes_sent, L
 use Rattle.rc_model.specs.Model.{with_segment, numbers_to}
 use Rattle.rc_model.specs.Model.{is_opening, is_closing, is_writing, durable_now, opens_head, next_digest, shuts, may_start, may_close}
 use Rattle.rc_model.specs.Model.{may_write, left_out, with_freed, starts, closes_old, writes_on, Master, with_log, to_ids, attempt_of}
-use Rattle.rc_model.specs.Model.{durable_entries}
+use Rattle.rc_model.specs.Model.{durable_replayed}
 use Rattle.rc_model.specs.Model.{after_answer, after_replay, ids_of, not_lost, place_of, appends_entry, dead_segments, close_is_due}
 use Rattle.rc_model.specs.Model.{close_marked, frees_segments, first_open, wants_commit, commits, new_durable, In}
 use Rattle.rc_types.specs.declared.messages.Body.TheVariants as body
