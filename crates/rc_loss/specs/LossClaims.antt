@@ -61,8 +61,8 @@ pub record IsNobodyReady (c : Coordinator) (m : ServerId) : Type 0 where
   pub nobody : ready_ids c ≡ []
   pub refused : decides c m ≡ (c, coordinator_refuses NotReady ∷ [])
 
--- a Decide of an attempt that is gathering, where all hosts have answered, plans, unless nobody is ready or a segment is
--- gone
+-- a Decide of an attempt that is gathering, where all hosts have answered, plans, unless nobody is ready or a segment
+-- is gone
 abbrev pub DecidesPlanOrLoss : Type 0
 DecidesPlanOrLoss = (setup : Setup) (events : List Event) (m : ServerId) → WasReady (sent_after setup events) m →
     (all : AllHaveAnswered setup events m) → is_gathering all.attempt ≡ true →
