@@ -1,13 +1,13 @@
 -- A Decide that is refused, where all hosts have answered, means that a segment is gone.
-use Rattle.std.proofs.Common.{◌≡◌, ◌⊎◌, ℕ, Bool, true, nat_eq, List, [], ◌∷◌, Option, Some, Result, Ok, Err}
+use Rattle.std.proofs.Common.{◌≡◌, ◌⊎◌, ℕ, Bool, true, cond, nat_eq, List, [], ◌∷◌, Option, Some, Result, Ok, Err}
 use Rattle.std.proofs.Common.{refl, sym, ap, ◌∙◌, subst, inl, inr}
 use Rattle.std.proofs.lemmas.Bool.{eqb-true}
-use Rattle.rc_model.specs.Model.{ServerId, Addr, Server, Outside, Row, Part, Fault, NotReady, StaleAttempt, Message, Replicas}
+use Rattle.rc_model.specs.Model.{ServerId, Addr, Server, Outside, Row, Part, Setup, Event, Fault, NotReady, StaleAttempt, Message, Replicas}
 use Rattle.rc_model.specs.Model.{to_coordinator, coordinator_refuses, same_id, Replica, replica_of, row_of_replica, rows_of_replicas}
 use Rattle.rc_model.specs.Model.{HeldRow, rows_of}
 use Rattle.rc_model.specs.Model.{held_rows, pick, Attempt, Decision, has_answered, is_gathering, parts_of, plan_message, plan_messages}
 use Rattle.rc_model.specs.Model.{attempt_at}
-use Rattle.rc_model.specs.Model.{decides_with, decides_attempt, decides, ready_ids, server_of, replay, In}
+use Rattle.rc_model.specs.Model.{decides_with, decides_attempt, decides, decides_on, decision_of, ready_ids, server_of, replay, In}
 use Rattle.rc_types.specs.declared.faults.Fault.TheVariants.{HeadMissing, SegmentMissing}
 use Rattle.rc_types.specs.declared.rows.Plan.{Plan}
 use Rattle.rc_types.specs.Codes.{code_of}
@@ -18,9 +18,10 @@ use Rattle.rc_model.proofs.Tests.{true_false, either}
 use Rattle.rc_step_laws.specs.All.{IsOf, IsNumbered}
 use Rattle.rc_step_laws.proofs.Attempting.{numbered-at}
 use Rattle.rc_log_laws.specs.LogClaims.{held_after}
+use Rattle.rc_log_laws.specs.WordClaims.{sent_after}
 use Rattle.rc_log_laws.proofs.Replays.{good-world}
-use Rattle.rc_loss.specs.Loss.{AreAnswers, HasRow}
-use Rattle.rc_loss.specs.LossClaims.{RefusedDecidesMeanLoss}
+use Rattle.rc_loss.specs.Loss.{WasReady, AllHaveAnswered, AreAnswers, HasRow, IsGone}
+use Rattle.rc_loss.specs.LossClaims.{IsPlanned, IsNobodyReady, RefusedDecidesMeanLoss, DecidesPlanOrLoss}
 use Rattle.rc_loss.proofs.Answers.{IsMissing}
 use Rattle.rc_loss.proofs.Asked.{answers-are-now}
 use Rattle.rc_loss.proofs.Refusals.{refusals-mean-loss}
@@ -149,55 +150,101 @@ pick-refused c m attempt fault is current at =
 
 -- All of it
 
+module _ (setup : Setup) (events : List Event) (m : ServerId) (all : AllHaveAnswered setup events m) where
+  numbered : IsNumbered (replay setup events).coordinator.attempts ((replay setup events).coordinator.current m) all.attempt
+  numbered = numbered-at (replay setup events).coordinator ((replay setup events).coordinator.current m) all.attempt all.current
+
+  of_m : IsOf (replay setup events).coordinator.attempts ((replay setup events).coordinator.current m) m
+  of_m = record {
+    attempt = all.attempt;
+    numbered = numbered;
+    master_is = (good-world setup events).coordinator.current_master m all.attempt numbered;
+  }
+
+  sent : (y : ServerId) (rows : List Row) → In (y, rows) all.attempt.replies →
+      In (to_coordinator y (Replicas ((replay setup events).coordinator.current m) rows)) (replay setup events).sent
+  sent = ((good-world setup events).coordinator.attempts ((replay setup events).coordinator.current m) all.attempt numbered).answered
+
+  answers : AreAnswers setup events m all.attempt.replies
+  answers y rows at = inl (record {
+    number = (replay setup events).coordinator.current m;
+    attempt = of_m;
+    answered = sent y rows at;
+  })
+
+  rows : (i s : ℕ) → HasRow setup events m all.attempt.replies i s
+  rows i s replica kept =
+      let found : (rows : List Row) × In (server_of ((replay setup events).hosts i), rows) all.attempt.replies =
+      answer-of (server_of ((replay setup events).hosts i)) all.attempt.replies (all.each i s replica kept) in
+      of_answer found.0 found.1
+    where
+      index : ((replay setup events).hosts i).index ≡ i
+      index = ((good-world setup events).hosts_are i).index
+
+      of_answer : (rows : List Row) → In (server_of ((replay setup events).hosts i), rows) all.attempt.replies →
+          (held : HeldRow) × (In held (held_rows all.attempt.replies)) × (held.row ≡ row_of_replica (s, replica))
+      of_answer rows at =
+          let now : rows ≡ rows_of_replicas (held_after setup events ((replay setup events).hosts i).index m).replicas =
+          answers-are-now setup events (server_of ((replay setup events).hosts i)) m
+          ((replay setup events).coordinator.current m) rows of_m
+          (sent (server_of ((replay setup events).hosts i)) rows at)
+          (ap (λ k. ((replay setup events).hosts k).generation) (sym index)) in
+          held_rows-has all.attempt.replies (server_of ((replay setup events).hosts i)) rows (row_of_replica (s, replica)) at
+          (subst (λ (list : List Row). In (row_of_replica (s, replica)) list)
+          (sym (now ∙ ap (λ k. rows_of_replicas (held_after setup events k m).replicas) index))
+          (row-in (held_after setup events i m).replicas s replica kept))
+
+  -- where the choice is refused
+  refused-gone : (fault : Fault) → WasReady (sent_after setup events) m →
+      pick ((replay setup events).coordinator.least m) all.attempt.replies ≡ Err fault → (s : ℕ) × IsGone setup events m s
+  refused-gone fault ready refused = refusals-mean-loss setup events m all.attempt.replies fault ready answers rows refused
+
+  -- and where it isn't
+  planned : WasReady (sent_after setup events) m → is_gathering all.attempt ≡ true →
+      IsPlanned (replay setup events).coordinator m all.attempt ⊎
+      (IsNobodyReady (replay setup events).coordinator m ⊎ ((s : ℕ) × IsGone setup events m s))
+  planned ready gathering = by (pick ((replay setup events).coordinator.least m) all.attempt.replies) refl
+      (ready_ids (replay setup events).coordinator) refl
+    where
+      decided : (found : Result Plan Fault) (ids : List ServerId) →
+          pick ((replay setup events).coordinator.least m) all.attempt.replies ≡ found → ready_ids (replay setup events).coordinator ≡ ids →
+          decides (replay setup events).coordinator m ≡
+          decides_with (replay setup events).coordinator ((replay setup events).coordinator.current m) all.attempt found ids
+      decided found ids picked up =
+          ap (decides_attempt (replay setup events).coordinator m) all.current ∙
+          (ap (λ (b : Bool). cond b (decides_with (replay setup events).coordinator
+          ((replay setup events).coordinator.current m) all.attempt
+          (pick ((replay setup events).coordinator.least m) all.attempt.replies) (ready_ids (replay setup events).coordinator))
+          ((replay setup events).coordinator, coordinator_refuses StaleAttempt ∷ [])) gathering ∙
+          (ap (λ (one : Result Plan Fault). decides_with (replay setup events).coordinator ((replay setup events).coordinator.current m)
+          all.attempt one (ready_ids (replay setup events).coordinator)) picked ∙
+          ap (decides_with (replay setup events).coordinator ((replay setup events).coordinator.current m) all.attempt found) up))
+
+      by : (found : Result Plan Fault) → pick ((replay setup events).coordinator.least m) all.attempt.replies ≡ found →
+          (ids : List ServerId) → ready_ids (replay setup events).coordinator ≡ ids →
+          IsPlanned (replay setup events).coordinator m all.attempt ⊎
+          (IsNobodyReady (replay setup events).coordinator m ⊎ ((s : ℕ) × IsGone setup events m s))
+      by (Err fault) picked ids up = inr (inr (refused-gone fault ready picked))
+      by (Ok plan) picked [] up = inr (inl (record { nobody = up; refused = decided (Ok plan) [] picked up }))
+      by (Ok plan) picked (id ∷ ids) up = inl (record {
+        plan = plan;
+        picked = picked;
+        done = decided (Ok plan) (id ∷ ids) picked up ∙
+            (ap (λ (some : List ServerId). decides_on (replay setup events).coordinator ((replay setup events).coordinator.current m)
+            all.attempt (decision_of (replay setup events).coordinator ((replay setup events).coordinator.current m) all.attempt.master plan
+            some) some) (sym up) ∙
+            ap (λ (k : ServerId). decides_on (replay setup events).coordinator ((replay setup events).coordinator.current m)
+            all.attempt (decision_of (replay setup events).coordinator ((replay setup events).coordinator.current m) k plan
+            (ready_ids (replay setup events).coordinator)) (ready_ids (replay setup events).coordinator))
+            ((good-world setup events).coordinator.current_master m all.attempt numbered));
+      })
+
 pub refused-decides-mean-loss : RefusedDecidesMeanLoss
 refused-decides-mean-loss setup events m ready all decided =
-    refusals-mean-loss setup events m all.attempt.replies refused.0 ready answers rows refused.1
+    refused-gone setup events m all refused.0 ready refused.1
   where
-    c : Coordinator
-    c = (replay setup events).coordinator
-
     refused : (other : Fault) × (pick ((replay setup events).coordinator.least m) all.attempt.replies ≡ Err other)
     refused = pick-refused (replay setup events).coordinator m all.attempt decided.fault decided.missing all.current decided.refused
 
-    numbered : IsNumbered (replay setup events).coordinator.attempts ((replay setup events).coordinator.current m) all.attempt
-    numbered = numbered-at (replay setup events).coordinator ((replay setup events).coordinator.current m) all.attempt all.current
-
-    of_m : IsOf (replay setup events).coordinator.attempts ((replay setup events).coordinator.current m) m
-    of_m = record {
-      attempt = all.attempt;
-      numbered = numbered;
-      master_is = (good-world setup events).coordinator.current_master m all.attempt numbered;
-    }
-
-    sent : (y : ServerId) (rows : List Row) → In (y, rows) all.attempt.replies →
-        In (to_coordinator y (Replicas ((replay setup events).coordinator.current m) rows)) (replay setup events).sent
-    sent = ((good-world setup events).coordinator.attempts ((replay setup events).coordinator.current m) all.attempt numbered).answered
-
-    answers : AreAnswers setup events m all.attempt.replies
-    answers y rows at = inl (record {
-      number = (replay setup events).coordinator.current m;
-      attempt = of_m;
-      answered = sent y rows at;
-    })
-
-    rows : (i s : ℕ) → HasRow setup events m all.attempt.replies i s
-    rows i s replica kept =
-        let found : (rows : List Row) × In (server_of ((replay setup events).hosts i), rows) all.attempt.replies =
-        answer-of (server_of ((replay setup events).hosts i)) all.attempt.replies (all.each i s replica kept) in
-        of_answer found.0 found.1
-      where
-        index : ((replay setup events).hosts i).index ≡ i
-        index = ((good-world setup events).hosts_are i).index
-
-        of_answer : (rows : List Row) → In (server_of ((replay setup events).hosts i), rows) all.attempt.replies →
-            (held : HeldRow) × (In held (held_rows all.attempt.replies)) × (held.row ≡ row_of_replica (s, replica))
-        of_answer rows at =
-            let now : rows ≡ rows_of_replicas (held_after setup events ((replay setup events).hosts i).index m).replicas =
-            answers-are-now setup events (server_of ((replay setup events).hosts i)) m
-            ((replay setup events).coordinator.current m) rows of_m
-            (sent (server_of ((replay setup events).hosts i)) rows at)
-            (ap (λ k. ((replay setup events).hosts k).generation) (sym index)) in
-            held_rows-has all.attempt.replies (server_of ((replay setup events).hosts i)) rows (row_of_replica (s, replica)) at
-            (subst (λ (list : List Row). In (row_of_replica (s, replica)) list)
-            (sym (now ∙ ap (λ k. rows_of_replicas (held_after setup events k m).replicas) index))
-            (row-in (held_after setup events i m).replicas s replica kept))
+pub decides-plan-or-loss : DecidesPlanOrLoss
+decides-plan-or-loss setup events m ready all gathering = planned setup events m all ready gathering

@@ -55,8 +55,7 @@ pub record WasDropped (setup : Setup) (events : List Event) (x m : ServerId) (s 
   pub since : e ≤ replica.epoch
   pub unnamed : is_kept kept m s ≡ false
 
--- a segment that isn't shut was once placed on all its members, and each of them, since it told so, is of a host that
--- has
+-- a segment that isn't shut was once placed on all its members, and the host of each of them, since it told so, has
 -- dropped it
 pub record IsGone (setup : Setup) (events : List Event) (m : ServerId) (s : ℕ) : Type 0 where
   pub unshut : ((log_of setup events m).segments s).shut ≡ false
@@ -90,7 +89,7 @@ WasReady sent m = In (to_coordinator m Ready) sent
 -- each host whose backup has anything of the master has answered, by its last server, in the master's current attempt
 pub record AllHaveAnswered (setup : Setup) (events : List Event) (m : ServerId) : Type 0 where
   pub attempt : Attempt
-  pub current : attempt_at (replay setup events).coordinator ((replay setup events).coordinator.current m) ≡ Some
-      attempt
+  pub current : attempt_at (replay setup events).coordinator ((replay setup events).coordinator.current m) ≡
+      Some attempt
   pub each : (i s : ℕ) (replica : Replica) → replica_of s (held_after setup events i m).replicas ≡ Some replica →
       has_answered (server_of ((replay setup events).hosts i)) attempt.replies ≡ true

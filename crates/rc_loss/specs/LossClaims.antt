@@ -1,14 +1,17 @@
 -- What is claimed of a choice of the log that is refused, after every list of events of every setup.
-use Rattle.std.specs.Prelude.{◌≡◌, ◌⊎◌, ℕ, ◌<◌, List, length, Err}
+use Rattle.std.specs.Prelude.{◌≡◌, ◌⊎◌, ℕ, ◌<◌, true, List, [], ◌∷◌, length, Ok, Err}
 use Rattle.rc_types.specs.declared.ids.ServerId.{ServerId}
 use Rattle.rc_types.specs.declared.rows.Row.{Row}
+use Rattle.rc_types.specs.declared.rows.Plan.{Plan}
 use Rattle.rc_types.specs.declared.faults.Fault.{Fault}
-use Rattle.rc_types.specs.declared.faults.Fault.TheVariants.{HeadMissing, SegmentMissing}
+use Rattle.rc_types.specs.declared.faults.Fault.TheVariants.{HeadMissing, SegmentMissing, NotReady}
 use Rattle.rc_types.specs.declared.events.Setup.{Setup}
 use Rattle.rc_types.specs.declared.events.Event.{Event}
 use Rattle.rc_model.specs.Messages.{coordinator_refuses}
 use Rattle.rc_model.specs.Pick.{pick}
-use Rattle.rc_model.specs.Deciding.{decides}
+use Rattle.rc_model.specs.Attempts.{Attempt, is_gathering}
+use Rattle.rc_model.specs.Coordinator.{Coordinator}
+use Rattle.rc_model.specs.Deciding.{decides, decides_on, decision_of, ready_ids}
 use Rattle.rc_model.specs.Nodes.{factor_of}
 use Rattle.rc_model.specs.World.{replay}
 use Rattle.rc_model.specs.Headline.{In}
@@ -45,3 +48,23 @@ pub record IsDecidedMissing (setup : Setup) (events : List Event) (m : ServerId)
 abbrev pub RefusedDecidesMeanLoss : Type 0
 RefusedDecidesMeanLoss = (setup : Setup) (events : List Event) (m : ServerId) → WasReady (sent_after setup events) m →
     AllHaveAnswered setup events m → IsDecidedMissing setup events m → (s : ℕ) × IsGone setup events m s
+
+-- what a Decide of the attempt does: the plan is kept and goes out
+pub record IsPlanned (c : Coordinator) (m : ServerId) (attempt : Attempt) : Type 0 where
+  pub plan : Plan
+  pub picked : pick (c.least m) attempt.replies ≡ Ok plan
+  pub done : decides c m ≡
+      decides_on c (c.current m) attempt (decision_of c (c.current m) m plan (ready_ids c)) (ready_ids c)
+
+-- or it is refused, since nobody is up and ready
+pub record IsNobodyReady (c : Coordinator) (m : ServerId) : Type 0 where
+  pub nobody : ready_ids c ≡ []
+  pub refused : decides c m ≡ (c, coordinator_refuses NotReady ∷ [])
+
+-- a Decide of an attempt that is gathering, where all hosts have answered, plans, unless nobody is ready or a segment
+-- is gone
+abbrev pub DecidesPlanOrLoss : Type 0
+DecidesPlanOrLoss = (setup : Setup) (events : List Event) (m : ServerId) → WasReady (sent_after setup events) m →
+    (all : AllHaveAnswered setup events m) → is_gathering all.attempt ≡ true →
+    IsPlanned (replay setup events).coordinator m all.attempt ⊎
+    (IsNobodyReady (replay setup events).coordinator m ⊎ ((s : ℕ) × IsGone setup events m s))

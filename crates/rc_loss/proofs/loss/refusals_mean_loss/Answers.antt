@@ -1,5 +1,5 @@
 use Rattle.rc_loss.proofs.Refusals.{refusals-mean-loss}
-use Rattle.rc_loss.proofs.Decided.{refused-decides-mean-loss}
+use Rattle.rc_loss.proofs.Decided.{refused-decides-mean-loss, decides-plan-or-loss}
 use Rattle.rc_loss.proofs.Few.{few-drops-are-no-loss}
 use Rattle.rc_loss.proofs.loss.refusals_mean_loss.Goals as goal
 
@@ -11,3 +11,6 @@ returns-clause-few c = few-drops-are-no-loss
 
 pub returns-clause-decides : goal.returns-clause-decides
 returns-clause-decides c = refused-decides-mean-loss
+
+pub returns-clause-plans : goal.returns-clause-plans
+returns-clause-plans c = decides-plan-or-loss
