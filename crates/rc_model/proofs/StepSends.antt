@@ -15,7 +15,7 @@ use Rattle.rc_model.specs.Model.{close_marked, has_unclosed, next_digest, dead_s
 use Rattle.rc_model.specs.Model.{ready_again, recovered_again, fetches_again, awaits_commit, standing, Write, Read}
 use Rattle.rc_model.specs.HeadClaims.{OfEachStep, WritesWhereItMay, AppendsWhereItWrites}
 use Rattle.rc_model.specs.SendClaims.{OfEachMessage, EarlierAreShut, IsPlacedOnAll, IsCommitDue, CommitsAreDue, IsClosingOf, IsCloseDue}
-use Rattle.rc_model.specs.SendClaims.{ClosesAreDue, DeposedAnswer, DeposedOnlyRefuse, DeposedDoNotTick}
+use Rattle.rc_model.specs.SendClaims.{ClosesAreDue, deposed_answer, DeposedOnlyRefuse, DeposedDoNotTick}
 use Rattle.rc_model.proofs.LogParts.{In-numbers, numbers-In}
 use Rattle.rc_model.proofs.Tests.{either, true_false}
 use Rattle.rc_model.proofs.Members.{In-filter}
@@ -490,7 +490,7 @@ pub deposed-only-refuse : DeposedOnlyRefuse
 deposed-only-refuse master from body is =
     ap (λ b. cond b (deposed_takes master body) (then_does (master_takes_first master from body) goes_on)) is ∙ by body
   where
-    by : (body : Body) → deposed_takes master body ≡ (master, DeposedAnswer master body)
+    by : (body : Body) → deposed_takes master body ≡ (master, deposed_answer master body)
     by (Write table key value) = refl
     by (Read table key) = refl
     by _ = refl

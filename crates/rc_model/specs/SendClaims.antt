@@ -64,12 +64,12 @@ ClosesAreDue old new body = (s len : ℕ) → body ≡ Close s len → IsCloseDu
 
 -- a deposed master answers a client's Write or Read with the refusal that says so, and sends nothing else, and stays as
 -- it is
-abbrev pub DeposedAnswer : Master → Body → List Message
-DeposedAnswer master body = if is_for_clients body then refuses master.log.own Deposed ∷ [] else []
+abbrev pub deposed_answer : Master → Body → List Message
+deposed_answer master body = if is_for_clients body then refuses master.log.own Deposed ∷ [] else []
 
 abbrev pub DeposedOnlyRefuse : Type 0
 DeposedOnlyRefuse = (master : Master) (from : Addr) (body : Body) → master.deposed ≡ true →
-    master_takes master from body ≡ (master, DeposedAnswer master body)
+    master_takes master from body ≡ (master, deposed_answer master body)
 
 abbrev pub DeposedDoNotTick : Type 0
 DeposedDoNotTick = (master : Master) → master.deposed ≡ true → master_ticks master ≡ (master, [])

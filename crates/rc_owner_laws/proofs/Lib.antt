@@ -7,7 +7,7 @@ pub mod OwnersOrdered
 pub mod Marks
 pub mod Waiting
 pub mod OwnerReplays
-mod Chained
+pub mod Chained
 mod Grantable
 pub mod Keeping
 pub mod TermSteps

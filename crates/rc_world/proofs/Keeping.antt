@@ -1,6 +1,4 @@
 -- What logs, replicas, recoveries and owners keep holds of every world.
-use Rattle.std.proofs.Common.{List}
-use Rattle.rc_model.specs.Model.{Setup, Event}
 use Rattle.rc_log_laws.proofs.Growing.{one-entry, replicas-are-beginnings, recovered-is-made}
 use Rattle.rc_owner_laws.proofs.Chained.{points-have-one-chain, terms-rise, points-are-granted-once}
 use Rattle.rc_owner_laws.proofs.VersionReplays.{data-is-the-plan-cut, grants-start-from-their-base, versions-rise-with-the-place}

@@ -121,8 +121,7 @@ impl<A: Allocator + Clone> World<A> {
         ensures logs { KeepsLogs self.now }
         ensures owners { KeepsOwners self.now }
         ensures writes { KeepsWrites self.now }
-    {
-    }
+    {}
 
     /// All events that have happened, in order.
     pub fn events(&self) -> &[Event]

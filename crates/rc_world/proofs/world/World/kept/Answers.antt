@@ -1,5 +1,11 @@
 use Rattle.rc_world.proofs.Keeping.{keeps-logs, keeps-owners, keeps-writes}
 use Rattle.rc_world.proofs.world.World.kept.Goals as goal
 
-pub returns : goal.returns
-returns g c = record { logs = keeps-logs _; owners = keeps-owners _; writes = keeps-writes _ }
+pub returns-clause-logs : goal.returns-clause-logs
+returns-clause-logs g c = keeps-logs _
+
+pub returns-clause-owners : goal.returns-clause-owners
+returns-clause-owners g c = keeps-owners _
+
+pub returns-clause-writes : goal.returns-clause-writes
+returns-clause-writes g c = keeps-writes _
