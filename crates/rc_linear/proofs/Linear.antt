@@ -28,7 +28,8 @@ use Rattle.rc_promises.proofs.Once.{three, one-version-is-one-write}
 use Rattle.rc_promises.proofs.Reading.{reads-see-acknowledged-writes, is-ack}
 use Rattle.rc_promises.proofs.ServiceApart.{sent-apart}
 use Rattle.rc_linear.specs.Confirmed.{HasSentFor, MissesNothing}
-use Rattle.rc_linear.specs.Linearizable.{AWrite, ARead, Operation, IsRequest, IsWrite, IsRead, Precedes, StandsBefore, WasAskedFor}
+use Rattle.rc_linear.specs.Linearizable.{Kind, OrderIsStrict, AWrite, ARead, Operation, IsRequest}
+use Rattle.rc_linear.specs.Linearizable.{IsWrite, IsRead, Precedes, StandsBefore, WasAskedFor}
 use Rattle.rc_linear.specs.Linearizable.{IsLinearizable, HasReplicas, Linearizable, LinearizableApart}
 use Rattle.rc_linear.specs.Linearizable.{IsResponseOf, EachWriteIsAnOperation}
 use Rattle.rc_linear.proofs.NoneLater.{confirmed-reads-miss-nothing}
@@ -78,6 +79,28 @@ at-most-one test (z ∷ xs) few (suc i) (suc j) x y p q t u =
 
 less-or-same : (a b : ℕ) → a ≤ b → (a < b) ⊎ (a ≡ b)
 less-or-same a b p = grind arith
+
+-- The order
+
+other-kind : (a : Operation) → a.kind ≡ AWrite → a.kind ≡ ARead → ⊥
+other-kind a writes reads = (let e : ◌≡◌ {A = Kind} AWrite ARead = sym writes ∙ reads in cc)
+
+never-itself : (a : Operation) → StandsBefore a a → ⊥
+never-itself a (inl less) = absurd (omega (arith, less))
+never-itself a (inr (same, reads, inl writes)) = other-kind a writes reads
+never-itself a (inr (same, reads, inr less)) = absurd (omega (arith, less))
+
+goes-onward : (a b c : Operation) → StandsBefore a b → StandsBefore b c → StandsBefore a c
+goes-onward a b c (inl less) (inl more) = inl (omega (arith, less, more))
+goes-onward a b c (inl less) (inr (same, reads, how)) = inl (omega (arith, less, same))
+goes-onward a b c (inr (same, reads, how)) (inl more) = inl (omega (arith, same, more))
+goes-onward a b c (inr (same, reads, inl writes)) (inr (equal, last, how)) = inr (same ∙ equal, last, inl writes)
+goes-onward a b c (inr (same, reads, inr less)) (inr (equal, last, inl writes)) = absurd (other-kind b writes reads)
+goes-onward a b c (inr (same, reads, inr less)) (inr (equal, last, inr more)) =
+    inr (same ∙ equal, last, inr (omega (arith, less, more)))
+
+pub order-is-strict : OrderIsStrict
+order-is-strict = record { never = never-itself; onward = goes-onward }
 
 module _ (setup : Setup) (events : List Event) (some : HasReplicas setup) where
   abbrev sent : List Message

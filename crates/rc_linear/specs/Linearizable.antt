@@ -81,6 +81,14 @@ abbrev pub StandsBefore : Operation → Operation → Type 0
 StandsBefore a b = (a.version < b.version)
     ⊎ ((a.version ≡ b.version) × (b.kind ≡ ARead) × ((a.kind ≡ AWrite) ⊎ (a.response < b.response)))
 
+-- it is a strict order
+pub record IsStrictOrder (Before : Operation → Operation → Type 0) : Type 0 where
+  pub never : (a : Operation) → Before a a → ⊥
+  pub onward : (a b c : Operation) → Before a b → Before b c → Before a c
+
+abbrev pub OrderIsStrict : Type 0
+OrderIsStrict = IsStrictOrder StandsBefore
+
 -- The write of an operation's version: a client had asked a master for it, and whatever was answered before it was
 -- asked for has a lower version. It may be pending: a write without a response.
 pub record WasAskedFor (sent : List Message) (op : Operation) : Type 0 where
