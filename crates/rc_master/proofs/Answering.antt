@@ -1,8 +1,10 @@
 -- Where no part is to be answered, none is.
-use Rattle.std.proofs.Common.{◌≡◌, ℕ, Bool, true, false, cond, List, [], ◌∷◌, find, Option, Some, None, option_map, refl, sym, ap}
+use Rattle.std.proofs.Common.{◌≡◌, ℕ, Bool, true, false, cond, List, [], ◌∷◌, find, Option, Some, None}
+use Rattle.std.proofs.Common.{is_some, option_map, refl, sym, ap}
 use Rattle.rc_model.specs.Model.{Entry, Ownership, PartState, is_to_answer, to_answer, answered_in, after_answer, Master}
 use Rattle.rc_model.specs.Model.{durable_replayed, answers_part, follows_replay}
-use Rattle.rc_master.specs.Rules.{or_still}
+use Rattle.rc_lognotes.specs.Telling.{told_of}
+use Rattle.rc_master.specs.Rules.{did, or_still}
 
 answered-none : (durable : List Entry) (states : List PartState) → find (is_to_answer durable) states ≡ None →
     answered_in durable states ≡ states
@@ -36,3 +38,22 @@ answered-state master = by (to_answer (durable_replayed master) master.ownership
         ap (λ (own : Ownership). record master { ownership = own })
         (sym (answer-none (durable_replayed master) master.ownership (sym is)))
     by (Some term) is = refl
+
+-- whether a part is told of
+pub answered-did : (master : Master) →
+    is_some (to_answer (durable_replayed master) master.ownership) ≡ did (follows_replay master)
+answered-did master = by (to_answer (durable_replayed master) master.ownership)
+  where
+    by : (term : Option ℕ) → is_some term ≡ did (answers_part master term)
+    by None = refl
+    by (Some term) = refl
+
+-- and what is told
+pub answered-sends : (master : Master) →
+    told_of master.log.own master.tasks (to_answer (durable_replayed master) master.ownership)
+    ≡ (or_still master (follows_replay master)).1
+answered-sends master = by (to_answer (durable_replayed master) master.ownership)
+  where
+    by : (term : Option ℕ) → told_of master.log.own master.tasks term ≡ (or_still master (answers_part master term)).1
+    by None = refl
+    by (Some term) = refl

@@ -1,3 +1,4 @@
+pub mod Handing
 pub mod Notes
 pub mod Settling
 pub mod TasksOfParts

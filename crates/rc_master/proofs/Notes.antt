@@ -1,6 +1,6 @@
 -- The notes of a log stay those of the log, whatever is done to it.
-use Rattle.std.proofs.Common.{◌≡◌, ℕ, suc, ◌+◌, ◌-◌, ◌<◌, ◌≤◌, Bool, true, false, cond, not, ◌&&◌, nat_eq, nat_lt, List, [], ◌∷◌}
-use Rattle.std.proofs.Common.{◌++◌, length, take, map, Option, Some, None, Result, Ok, Err, is_err, refl, sym, ap, ◌∙◌, subst, arith}
+use Rattle.std.proofs.Common.{◌≡◌, ℕ, zero, suc, ◌+◌, ◌-◌, ◌<◌, ◌≤◌, Bool, true, false, cond, not, ◌&&◌, nat_eq, nat_lt, List, []}
+use Rattle.std.proofs.Common.{◌∷◌, ◌++◌, length, take, map, filter, Option, Some, None, Result, Ok, Err, is_err, refl, sym, ap, ◌∙◌, subst, arith}
 use Rattle.std.proofs.lemmas.List.{append-nil, map-append, length-map}
 use Rattle.std.proofs.lemmas.Bool.{and_parts, ltb-true, ne_eqb}
 use Rattle.std.proofs.Math.Numerals.{add-one}
@@ -10,12 +10,13 @@ use Rattle.rc_model.specs.Model.{head_of, old_head_of, has_old_head, has_segment
 use Rattle.rc_model.specs.Model.{entries_of, numbers_to, durable_now, is_closing, is_writing, is_full, append_fault, opens_head, appends}
 use Rattle.rc_model.specs.Model.{next_digest, rolled, begin_roll, with_config, stored, commit_noted, opens_change, refills, loses, shuts}
 use Rattle.rc_model.specs.Model.{with_shut, may_start, may_write, left_out, starts, closes_old, writes_on, close_marked}
-use Rattle.rc_model.specs.Model.{PartState, Task}
+use Rattle.rc_model.specs.Model.{PartState, Task, replayed_at}
 use Rattle.rc_model.proofs.Tests.{either, true_false}
 use Rattle.rc_model.proofs.Tables.{put_each, put-same, put-other}
 use Rattle.rc_model.proofs.LogParts.{places_to-agrees, total, total-places, durable-within, marked, with_freed-marked, marked-alone}
 use Rattle.rc_model.proofs.Numbering.{places-push}
 use Rattle.rc_headroll.proofs.LogSteps.{may_start-parts}
+use Rattle.rc_ownership.specs.Marks.{marked as marked_of}
 use Rattle.rc_master.specs.Notes.{AreNotes}
 
 -- the places are the same
@@ -198,9 +199,9 @@ pub notes-appended : {parts : List PartState} {tasks : List Task} (log : Log) (n
     (durable : ℕ) (entry : Entry) (client mark : Bool) → 0 < log.head → mark ≡ not client →
     AreNotes log notes replayed None durable parts tasks →
     AreNotes (appends entry client log) (notes ++ entry ∷ []) (replayed ++ mark ∷ []) None durable parts tasks
-notes-appended log notes replayed durable entry client mark some marked are = record {
+notes-appended log notes replayed durable entry client mark some is are = record {
   entries = ap (λ (es : List Entry). es ++ entry ∷ []) are.entries ∙ sym (entries-appended log entry client some);
-  replays = ap (λ (b : Bool). replayed ++ b ∷ []) marked ∙ ap (λ (bs : List Bool). bs ++ not client ∷ []) are.replays
+  replays = ap (λ (b : Bool). replayed ++ b ∷ []) is ∙ ap (λ (bs : List Bool). bs ++ not client ∷ []) are.replays
       ∙ sym (marks-appended log entry client some);
   none_handed = refl;
   durable_are = are.durable_are;
@@ -239,18 +240,18 @@ durable-same log notes durable are =
 
 -- what was replayed, by the marks of its places
 marked-places : (count : ℕ) (places : List LogPlace) →
-    marked (take count (map (λ place. not place.client) places)) (take count (map (λ place. place.entry) places))
+    marked_of (take count (map (λ place. not place.client) places)) (take count (map (λ place. place.entry) places))
     ≡ replayed_at (take count places)
 marked-places zero places = refl
 marked-places (suc count) [] = refl
 marked-places (suc count) (place ∷ places) = by place.client (marked-places count places)
   where
     by : (client : Bool) →
-        marked (take count (map (λ one. not one.client) places)) (take count (map (λ one. one.entry) places))
+        marked_of (take count (map (λ one. not one.client) places)) (take count (map (λ one. one.entry) places))
         ≡ replayed_at (take count places) →
-        cond (not client) (place.entry ∷ marked (take count (map (λ one. not one.client) places))
+        cond (not client) (place.entry ∷ marked_of (take count (map (λ one. not one.client) places))
         (take count (map (λ one. one.entry) places)))
-        (marked (take count (map (λ one. not one.client) places)) (take count (map (λ one. one.entry) places)))
+        (marked_of (take count (map (λ one. not one.client) places)) (take count (map (λ one. one.entry) places)))
         ≡ map (λ one. one.entry) (cond (not client) (place ∷ filter (λ one. not one.client) (take count places))
         (filter (λ one. not one.client) (take count places)))
     by true rest = rest
@@ -259,9 +260,9 @@ marked-places (suc count) (place ∷ places) = by place.client (marked-places co
 -- the durable entries that were replayed, by the notes
 pub replayed-same : {handed : Option ℕ} {parts : List PartState} {tasks : List Task} (log : Log) (notes : List Entry)
     (replayed : List Bool) (durable : ℕ) → AreNotes log notes replayed handed durable parts tasks →
-    marked (take durable replayed) (take durable notes) ≡ replayed_at (take log.durable (places_of log))
+    marked_of (take durable replayed) (take durable notes) ≡ replayed_at (take log.durable (places_of log))
 replayed-same log notes replayed durable are =
-    ap (λ (n : ℕ). marked (take n replayed) (take n notes)) are.durable_are
-    ∙ ap (λ (es : List Entry). marked (take log.durable replayed) (take log.durable es)) are.entries
-    ∙ ap (λ (bs : List Bool). marked (take log.durable bs) (take log.durable (entries_of log))) are.replays
+    ap (λ (n : ℕ). marked_of (take n replayed) (take n notes)) are.durable_are
+    ∙ ap (λ (es : List Entry). marked_of (take log.durable replayed) (take log.durable es)) are.entries
+    ∙ ap (λ (bs : List Bool). marked_of (take log.durable bs) (take log.durable (entries_of log))) are.replays
     ∙ marked-places log.durable (places_of log)

@@ -444,7 +444,8 @@ answered-lower durable (one ∷ others) state e = by (is_to_answer durable one) 
         ∙ omega arith in
         omega arith
 
-lowers-answer : (master : Master) (found : Option PartState) → find (is_to_answer (durable_replayed master)) master.ownership.parts ≡ found →
+lowers-answer : (master : Master) (found : Option PartState) →
+    find (is_to_answer (durable_replayed master)) master.ownership.parts ≡ found →
     AllLower master (answers_part master (option_map (λ state. state.part.term) found))
 lowers-answer master None found = tt
 lowers-answer master (Some state) found =

@@ -165,17 +165,17 @@ is_complete own state = nat_eq (length state.rows) 0 && nat_le state.size (count
 
 -- a complete part whose end wasn't told yet
 abbrev pub is_to_answer : List Entry → PartState → Bool
-is_to_answer replayed state = is_complete replayed state && not state.answered
+is_to_answer own state = is_complete own state && not state.answered
 
--- the term of the first one
+-- the term of the first one, of a master of which these replayed entries are durable
 abbrev pub to_answer : List Entry → Ownership → Option ℕ
 to_answer replayed own = option_map (λ state. state.part.term) (find (is_to_answer replayed) own.parts)
 
 -- its end is told
 abbrev pub answered_in : List Entry → List PartState → List PartState
-answered_in replayed [] = []
-answered_in replayed (state ∷ states) =
-    if is_to_answer replayed state then record state { answered = true } ∷ states else state ∷ answered_in replayed states
+answered_in own [] = []
+answered_in own (state ∷ states) =
+    if is_to_answer own state then record state { answered = true } ∷ states else state ∷ answered_in own states
 
 abbrev pub after_answer : List Entry → Ownership → Ownership
 after_answer replayed own = record own { parts = answered_in replayed own.parts }

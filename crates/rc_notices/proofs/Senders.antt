@@ -1,7 +1,8 @@
 -- What the timer's messages depend on: the log, the ownership and the tasks of a master.
 use Rattle.std.proofs.Common.{◌≡◌, List, [], ◌∷◌, ◌++◌, ◌&&◌, not, map, filter, take, ap, ◌∙◌, refl}
 use Rattle.std.proofs.lemmas.Simd.{map-map}
-use Rattle.rc_model.specs.Model.{Entry, Recovered, to_coordinator, Log, places_of, replayed_at, numbers_to, Ownership, PartState, is_complete}
+use Rattle.rc_model.specs.Model.{Entry, Recovered, to_coordinator, Log, places_of, replayed_at, numbers_to, Ownership}
+use Rattle.rc_model.specs.Model.{PartState, is_complete}
 use Rattle.rc_model.specs.Model.{owns_term, Master, Task, attempt_of, fetch_of, has_not_come, reminds_open, reminds_shut, commits_again}
 use Rattle.rc_model.specs.Model.{fetches_again, recovered_again, ready_again, reminds}
 use Rattle.rc_ownership.specs.Parts.{awaiting_grant}

@@ -2,7 +2,7 @@
 
 ghost use Rattle.std.specs.Prelude.{◌≡◌, ◌++◌, [], true, slice_get, take, OnOk, OnErr};
 ghost use Rattle.std.specs.Option.{option_map_or};
-ghost use Rattle.rc_model.specs.Log.{has_segment, entries_of};
+ghost use Rattle.rc_model.specs.Log.{has_segment, places_of, replayed_at};
 ghost use Rattle.rc_model.specs.MasterTick.{commits_again, fetches_again, recovered_again, ready_again};
 ghost use Rattle.rc_headroll.specs.LogData.{log_of};
 ghost use Rattle.rc_ownership.specs.Owner.{replayed_of};

@@ -1,7 +1,7 @@
 //! All that a master says again when its timer goes off.
 
 ghost use Rattle.std.specs.Prelude.{◌≡◌, ◌++◌, take, OnOk, OnErr};
-ghost use Rattle.rc_model.specs.Log.{entries_of};
+ghost use Rattle.rc_model.specs.Log.{places_of, replayed_at};
 ghost use Rattle.rc_model.specs.MasterTick.{reminds};
 ghost use Rattle.rc_headroll.specs.LogData.{log_of, before_of};
 ghost use Rattle.rc_ownership.specs.Owner.{replayed_of};

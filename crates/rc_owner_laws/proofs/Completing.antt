@@ -106,7 +106,8 @@ some-replayed term size d places late enough =
     (λ before after place split client same. omega (
       arith,
       late before (after ++ drop d places) place
-          (sym (take-append-drop d places) ∙ ap (λ first. first ++ drop d places) split ∙ append_assoc before (place ∷ after) (drop d places))
+          (sym (take-append-drop d places) ∙ ap (λ first. first ++ drop d places) split
+          ∙ append_assoc before (place ∷ after) (drop d places))
           client same,
     ))
     (omega (arith, ap (count_under term) (logged-take d places), enough)) in

@@ -53,7 +53,8 @@ greatest-highs : (term table key : ℕ) (all before entries : List Entry) (found
     (last_high_or high (highs_from term table key (length before) (least_above found) entries))
 greatest-highs term table key all before [] found high is at = at
 greatest-highs term table key all before (entry ∷ entries) found high is at =
-    ap (λ b. greatest_from term table key (cond (is_of term table key entry && b) (Some entry) found) entries) (above-least found entry.version)
+    ap (λ b. greatest_from term table key (cond (is_of term table key entry && b) (Some entry) found) entries)
+    (above-least found entry.version)
     ∙ by (λ next h e. greatest-highs term table key all (before ++ entry ∷ []) entries next h
     (is ∙ sym (append_assoc before (entry ∷ []) entries)) e
     ∙ ap (λ place. entry_at all (last_high_or h (highs_from term table key place (least_above next) entries)))

@@ -113,7 +113,8 @@ pub higher-last : (highs : List (ℕ × ℕ)) (high : ℕ × ℕ) (version : ℕ
     nat_lt high.1 version ≡ is_higher highs version
 higher-last [] high version at = absurd (cc)
 higher-last (first ∷ highs) high version at =
-    less high.1 version ∙ ap (λ n. nat_le n version) (sym (above_or-at (first ∷ highs) 0 (length (first ∷ highs) - 1) high at (omega arith)))
+    less high.1 version ∙ ap (λ n. nat_le n version)
+    (sym (above_or-at (first ∷ highs) 0 (length (first ∷ highs) - 1) high at (omega arith)))
   where
     less : (one other : ℕ) → nat_lt one other ≡ nat_le (one + 1) other
     less one other = grind (arith, nat_tests)

@@ -23,10 +23,10 @@ pub loop-place-preserved : goal.loop-place-preserved
 loop-place-preserved c = record {
   counted = λ term. elim c.if-marks-place.branch [
     | then-marks-place w ↦
+        let known = c.requires.known c.loop-place.place w.index-entries-place.result c.loop-place-test.true in
         ap (λ counts. count_in counts term) w.counts-is ∙ omega (
           arith,
-          (w.raise.ensures.counted
-          (c.loop-place.invariant.kept _ (c.requires.known c.loop-place.place w.index-entries-place.result c.loop-place-test.true)) term),
+          w.raise.ensures.counted (c.loop-place.invariant.kept _ known) term,
           c.loop-place.invariant.counted term,
           marked-some term c.loop-place.place c.args.marks.now c.args.entries.now w.index-entries-place.result c.requires.each
               c.loop-place-test.true w.if-marks-place.true,

@@ -15,7 +15,8 @@ invariant_of-self-2 c =
     let after_is : c.push-3.new.self.items ≡ before.noted.items ++ entry ∷ [] = grind (arith, common_steps) in
     let marks_are : c.push-2.new.self.items ≡ before.replayed.items ++ c.args.replayed ∷ [] = grind (arith, common_steps) in
     let place_is : c.len.result ≡ length before.noted.items = grind (arith, common_steps) in
-    let tables = subst (λ items. AreTablesOf items c.push-2.new.self.items before.durable c.add_high.new.highs c.know_term.new.counts) (sym after_is)
+    let tables = subst (λ items. AreTablesOf items c.push-2.new.self.items before.durable c.add_high.new.highs c.know_term.new.counts)
+    (sym after_is)
     (subst (λ marks. AreTablesOf (before.noted.items ++ entry ∷ []) marks before.durable c.add_high.new.highs c.know_term.new.counts)
     (sym marks_are)
     (tables-push before.noted.items before.durable before.highs c.add_high.new.highs before.counts

@@ -10,7 +10,8 @@ count_up-requires-clause-room c =
     let durable_is : c.self.inside.durable ≡ c.args.self.now.durable = ap (λ notes. notes.durable) c.self.view_is in
     λ term. omega (
       arith,
-      counts_fit c.self.inside.noted.items c.self.inside.replayed.items c.self.inside.durable c.args.count c.self.inside.highs c.self.inside.counts
+      counts_fit c.self.inside.noted.items c.self.inside.replayed.items c.self.inside.durable c.args.count
+          c.self.inside.highs c.self.inside.counts
           c.self.invariant.tables (omega arith) term,
       ap (λ entries. length (take (c.args.count - c.self.inside.durable) (drop c.self.inside.durable entries))) c.as_slice.ensures.value,
     )
@@ -20,7 +21,8 @@ invariant_of-self c =
     let durable_is : c.self.inside.durable ≡ c.args.self.now.durable = ap (λ notes. notes.durable) c.self.view_is in
     let noted_is : length c.self.inside.noted.items ≡ length c.args.self.now.noted = ap (λ notes. length notes.noted) c.self.view_is in
     let tables =
-    tables-durable c.self.inside.noted.items c.self.inside.replayed.items c.self.inside.durable c.args.count c.self.inside.highs c.self.inside.counts
+    tables-durable c.self.inside.noted.items c.self.inside.replayed.items c.self.inside.durable c.args.count
+    c.self.inside.highs c.self.inside.counts
     c.count_up.new.counts
     c.self.invariant.tables (omega arith) (omega arith)
     (λ term. c.count_up.ensures.counted term
