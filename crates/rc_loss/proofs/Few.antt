@@ -3,6 +3,7 @@ use Rattle.std.proofs.Common.{◌≡◌, ◌⊎◌, ℕ, suc, ◌<◌, ◌≤◌
 use Rattle.std.proofs.Common.{refl, sym, ap, ◌∙◌, subst, inl, inr, arith}
 use Rattle.std.proofs.lemmas.Bool.{and_parts, eqb-true, eq-eqb, ltb-true, leb-true}
 use Rattle.std.proofs.lemmas.List.{length-map}
+use Rattle.rc_types.specs.declared.faults.Fault.TheVariants.{SegmentMissing}
 use Rattle.rc_model.specs.Model.{ServerId, Setup, Event, Member, ids_of, factor_of, In}
 use Rattle.rc_model.proofs.Tests.{true_false, either}
 use Rattle.rc_step_laws.specs.All.{Begins, NotOnHostOf, OnDifferentHosts}
@@ -10,10 +11,10 @@ use Rattle.rc_step_laws.proofs.Copies.{split}
 use Rattle.rc_log_laws.specs.WordClaims.{log_of}
 use Rattle.rc_log_laws.proofs.Replays.{good-world}
 use Rattle.rc_log_laws.proofs.Since.{since-more}
-use Rattle.rc_loss.specs.Loss.{WasDropped, IsGone, config_after}
-use Rattle.rc_loss.specs.LossClaims.{FewDropsAreNoLoss}
+use Rattle.rc_loss.specs.Loss.{WasDropped, IsGone, IsGoneBut, config_after}
+use Rattle.rc_loss.specs.LossClaims.{FewDropsAreNoLoss, FewMissingHaveAHead}
 use Rattle.rc_loss.proofs.Worlds.{loss-facts}
-use Rattle.rc_loss.proofs.Refusals.{refusals-mean-loss}
+use Rattle.rc_loss.proofs.Refusals.{Refusal, refused-gone, refusals-mean-loss}
 
 -- the list without the first such number
 abbrev without : ℕ → List ℕ → List ℕ
@@ -60,7 +61,7 @@ no-more (id ∷ ids) hosts apart on =
     omega (arith, less, one)
 
 not-gone : (setup : Setup) (events : List Event) (m : ServerId) (s : ℕ) (hosts : List ℕ) → length hosts < factor_of setup m.index →
-    ((x : ServerId) (e : ℕ) → WasDropped setup events x m s e → In x.index hosts) → IsGone setup events m s → ⊥
+    ((x : ServerId) (e : ℕ) → WasDropped setup events x m s e → In x.index hosts) → IsGoneBut hosts setup events m s → ⊥
 not-gone setup events m s hosts few on gone =
     (let many : length (ids_of (config_after setup gone.placed.before m s).members) ≡ factor_of setup m.index =
     length-map (config_after setup gone.placed.before m s).members (λ (member : Member). member.id) ∙
@@ -68,9 +69,14 @@ not-gone setup events m s hosts few on gone =
     let less : length (ids_of (config_after setup gone.placed.before m s).members) ≤ length hosts =
     no-more (ids_of (config_after setup gone.placed.before m s).members) hosts
     (((good-world setup gone.placed.before).masters_are m).apart s unshut)
-    (λ x at. on x (config_after setup gone.placed.before m s).epoch (gone.dropped x at)) in
+    (λ x at. either_way x (gone.dropped x at)) in
     omega (arith, few, many, less))
   where
+    either_way : (x : ServerId) → In x.index hosts ⊎ WasDropped setup events x m s (config_after setup gone.placed.before m s).epoch →
+        In x.index hosts
+    either_way x (inl there) = there
+    either_way x (inr dropped) = on x (config_after setup gone.placed.before m s).epoch dropped
+
     opened : (0 < s) × (s ≤ (log_of setup gone.placed.before m).head)
     opened = let both = and_parts (nat_lt 0 s) (nat_le s (log_of setup gone.placed.before m).head) gone.placed.opened in
         (ltb-true 0 s both.0, leb-true s (log_of setup gone.placed.before m).head both.1)
@@ -87,5 +93,17 @@ not-gone setup events m s hosts few on gone =
 
 pub few-drops-are-no-loss : FewDropsAreNoLoss
 few-drops-are-no-loss setup events m replies fault ready answers all_rows hosts few on refused =
-    let gone : (s : ℕ) × IsGone setup events m s = refusals-mean-loss setup events m replies fault ready answers all_rows refused in
-    not-gone setup events m gone.0 (hosts gone.0) (few gone.0) (λ x e. on x gone.0 e) gone.1
+    by (refusals-mean-loss setup events m replies fault ready answers all_rows refused)
+  where
+    by : (s : ℕ) × IsGone setup events m s → ⊥
+    by (s, gone) = not-gone setup events m s (hosts s) (few s) (λ x e. on x s e)
+        (record { unshut = gone.unshut; placed = gone.placed; dropped = λ x at. inr (gone.dropped x at) })
+
+pub few-missing-have-a-head : FewMissingHaveAHead
+few-missing-have-a-head setup events m replies fault ready answers hosts few rows on refused =
+    by (refused-gone setup events m hosts replies answers rows fault ready refused)
+  where
+    by : Refusal setup events m hosts replies answers rows fault →
+        (t : ℕ) × (fault ≡ SegmentMissing t) × (((log_of setup events m).segments t).shut ≡ true)
+    by (inl (s, gone)) = absurd (not-gone setup events m s (hosts s) (few s) (λ x e. on x s e) gone)
+    by (inr (t, same, shut, absent)) = (t, same, shut)

@@ -7,13 +7,14 @@ use Rattle.std.proofs.lemmas.Bool.Decides.{nat_tests}
 use Rattle.std.proofs.lemmas.List.{append-nil}
 use Rattle.rc_model.specs.Model.{ServerId, Pair, Row, Setup, Event, Member, Fault, Stored, Commit, Ready, between, to_coordinator}
 use Rattle.rc_model.specs.Model.{Replica, replica_of, row_of_replica, HeldRow, held_rows, is_below, is_valid, is_open_valid, is_valid_of}
-use Rattle.rc_model.specs.Model.{pick, is_placed, Log, ids_of, factor_of, replay, In}
+use Rattle.rc_model.specs.Model.{pick, is_placed, ids_of, factor_of, replay, In}
+use Rattle.rc_types.specs.declared.faults.Fault.TheVariants.{SegmentMissing}
 use Rattle.rc_model.specs.PickMissing.{HasNoHead, IsLeastMissing}
 use Rattle.rc_model.proofs.NonePickable.{head_missing, segment_missing}
 use Rattle.rc_model.proofs.Ascending.{In-contains}
 use Rattle.rc_model.proofs.Members.{In-map}
 use Rattle.rc_model.proofs.Tests.{true_false}
-use Rattle.rc_step_laws.specs.All.{Begins, held_at, StillStands, IsCopy, IsDigest, GoodMaster}
+use Rattle.rc_step_laws.specs.All.{Begins, held_at, StillStands, IsCopy, IsDigest}
 use Rattle.rc_step_laws.proofs.Copies.{More, split}
 use Rattle.rc_step_laws.proofs.Tests.{all-each}
 use Rattle.rc_log_laws.specs.WordClaims.{sent_after, log_of}
@@ -21,16 +22,16 @@ use Rattle.rc_log_laws.specs.LogClaims.{held_after}
 use Rattle.rc_log_laws.specs.Freed.{IsLeftOut}
 use Rattle.rc_log_laws.specs.FreedClaims.{HasFreed}
 use Rattle.rc_log_laws.proofs.FreeWorlds.{freed-is-left-out}
-use Rattle.rc_log_laws.proofs.Replays.{GoodWorld, good-world}
+use Rattle.rc_log_laws.proofs.Replays.{good-world}
 use Rattle.rc_log_laws.proofs.Since.{since-more}
 use Rattle.rc_log_laws.proofs.Covers.{head-not-below}
 use Rattle.rc_write_laws.proofs.Quiet.{All-In}
 use Rattle.rc_write_laws.proofs.Leasts.{least-pairs-are-in-order}
-use Rattle.rc_loss.specs.Loss.{WasPlaced, HasStored, WasDropped, IsGone, AreAnswers, HasRow, WasReady, config_after}
+use Rattle.rc_loss.specs.Loss.{WasPlaced, HasStored, WasDropped, IsGone, IsGoneBut, AreAnswers, HasRow, WasReady, config_after}
 use Rattle.rc_loss.specs.LossClaims.{RefusalsMeanLoss, IsRefused}
-use Rattle.rc_loss.proofs.Placings.{IsNext, Some_placed, Placings, WasShut}
+use Rattle.rc_loss.proofs.Placings.{IsNext, Some_placed, WasShut}
 use Rattle.rc_loss.proofs.Follows.{closed-next}
-use Rattle.rc_loss.proofs.Worlds.{PlacedUnder, Standing, LossFacts, loss-facts, opened-has}
+use Rattle.rc_loss.proofs.Worlds.{PlacedUnder, Standing, loss-facts, opened-has}
 use Rattle.rc_loss.proofs.Leasts.{least-asked}
 use Rattle.rc_loss.proofs.Answers.{CopyAt, replica-copy, row-copy, HeadIs, head-is, refused-is, IsMissing}
 
@@ -67,27 +68,15 @@ below-less s e least less = grind (arith, nat_tests)
 below-same : (s : ℕ) (least : Pair) → least.seg ≡ s → is_below (record { seg = s; epoch = least.epoch }) least ≡ false
 below-same s least same = grind (arith, nat_tests)
 
-module _ (setup : Setup) (events : List Event) (m : ServerId) where
-  log : Log
-  log = log_of setup events m
+module _ (setup : Setup) (events : List Event) (m : ServerId) (hosts : ℕ → List ℕ) (replies : List (ServerId × List Row))
+    (answers : AreAnswers setup events m replies) (all_rows : (i s : ℕ) → In i (hosts s) ⊎ HasRow setup events m replies i s) where
+  -- the segment is gone, but for these hosts
+  abbrev Gone : ℕ → Type 0
+  Gone s = IsGoneBut (hosts s) setup events m s
 
-  least : Pair
-  least = (replay setup events).coordinator.least m
-
-  good : GoodWorld (replay setup events)
-  good = good-world setup events
-
-  mine : GoodMaster (replay setup events).sent m ((replay setup events).masters m)
-  mine = (good-world setup events).masters_are m
-
-  facts : LossFacts setup events (replay setup events)
-  facts = loss-facts setup events
-
-  f : ℕ
-  f = factor_of setup m.index
-
-  p : Placings (factor_of setup m.index) (PlacedUnder setup events m) (replay setup events).sent m ((replay setup events).masters m).log
-  p = (loss-facts setup events).masters m
+  -- the server's host is one of these, or has dropped it
+  abbrev Lost : ServerId → ℕ → ℕ → Type 0
+  Lost x s e = In x.index (hosts s) ⊎ WasDropped setup events x m s e
 
   -- what was sent in the past is still there
   more-since : (before : List Event) → Begins before events → More (sent_after setup before) (sent_after setup events)
@@ -104,40 +93,55 @@ module _ (setup : Setup) (events : List Event) (m : ServerId) where
     pub replica : Replica
     pub kept : replica_of s (held_after setup events host m).replicas ≡ Some replica
     pub upto : e ≤ replica.epoch
+    pub held : HeldRow
+    pub among : In held (held_rows replies)
+    pub row : held.row ≡ row_of_replica (s, replica)
 
   -- who was told of is lost, or has it still
   fate : (x : ServerId) (s e : ℕ) → 0 < s → ((log_of setup events m).segments s).shut ≡ false →
-      HasStored (sent_after setup events) x m s e → WasDropped setup events x m s e ⊎ Survivor s e
+      HasStored (sent_after setup events) x m s e → Lost x s e ⊎ Survivor s e
   fate x s e above unshut told = by ((loss-facts setup events).told x m s e told.len told.closed told.told)
     where
-      by : Standing setup events (replay setup events) x m s e told.len told.closed → WasDropped setup events x m s e ⊎ Survivor s e
-      by (inl stands) = inr (record { host = x.index; replica = stands.replica; kept = stands.kept; upto = stands.epoch })
+      by : Standing setup events (replay setup events) x m s e told.len told.closed → Lost x s e ⊎ Survivor s e
+      by (inl stands) = which (all_rows x.index s)
+        where
+          which : In x.index (hosts s) ⊎ HasRow setup events m replies x.index s → Lost x s e ⊎ Survivor s e
+          which (inl missing) = inl (inl missing)
+          which (inr has) =
+              let found : (held : HeldRow) × (In held (held_rows replies)) × (held.row ≡ row_of_replica (s, stands.replica)) =
+              has stands.replica stands.kept in
+              inr (record {
+                host = x.index;
+                replica = stands.replica;
+                kept = stands.kept;
+                upto = stands.epoch;
+                held = found.0;
+                among = found.1;
+                row = found.2;
+              })
       by (inr (inl freed)) = true_false (sym (freed-shut s above freed) ∙ unshut)
-      by (inr (inr (_, dropped))) = inl dropped
+      by (inr (inr (_, dropped))) = inl (inr dropped)
 
   -- a segment that was placed is gone, or some member has it still
   gone-or : (s e : ℕ) → ((log_of setup events m).segments s).shut ≡ false → PlacedUnder setup events m s e →
-      IsGone setup events m s ⊎ Survivor s e
+      Gone s ⊎ Survivor s e
   gone-or s e unshut placed = by (all-or-one
-      (λ x. WasDropped setup events x m s (config_after setup placed.placed.before m s).epoch) (λ x. Survivor s e)
+      (λ x. Lost x s (config_after setup placed.placed.before m s).epoch) (λ x. Survivor s e)
       (ids_of (config_after setup placed.placed.before m s).members) each)
     where
-      before : List Event
-      before = placed.placed.before
-
       opened : (0 < s) × (s ≤ (log_of setup placed.placed.before m).head)
       opened = let both = and_parts (nat_lt 0 s) (nat_le s (log_of setup placed.placed.before m).head) placed.placed.opened in
           (ltb-true 0 s both.0, leb-true s (log_of setup placed.placed.before m).head both.1)
 
       each : (x : ServerId) → In x (ids_of (config_after setup placed.placed.before m s).members) →
-          WasDropped setup events x m s (config_after setup placed.placed.before m s).epoch ⊎ Survivor s e
+          Lost x s (config_after setup placed.placed.before m s).epoch ⊎ Survivor s e
       each x at =
           let found : (member : Member) × (In member (config_after setup placed.placed.before m s).members) × (x ≡ member.id) =
           In-map (λ (member : Member). member.id) x (config_after setup placed.placed.before m s).members at in
           of_member found.0 found.1 found.2
         where
           of_member : (member : Member) → In member (config_after setup placed.placed.before m s).members → x ≡ member.id →
-              WasDropped setup events x m s (config_after setup placed.placed.before m s).epoch ⊎ Survivor s e
+              Lost x s (config_after setup placed.placed.before m s).epoch ⊎ Survivor s e
           of_member member there same =
               let is : is_placed member ≡ true =
               all-each is_placed member (config_after setup placed.placed.before m s).members placed.placed.placed there in
@@ -155,16 +159,16 @@ module _ (setup : Setup) (events : List Event) (m : ServerId) where
               } in
               which (fate x s (config_after setup placed.placed.before m s).epoch opened.0 unshut now)
             where
-              which : WasDropped setup events x m s (config_after setup placed.placed.before m s).epoch
+              which : Lost x s (config_after setup placed.placed.before m s).epoch
                   ⊎ Survivor s (config_after setup placed.placed.before m s).epoch →
-                  WasDropped setup events x m s (config_after setup placed.placed.before m s).epoch ⊎ Survivor s e
+                  Lost x s (config_after setup placed.placed.before m s).epoch ⊎ Survivor s e
               which (inl dropped) = inl dropped
               which (inr stands) = inr (subst (Survivor s) placed.epoch stands)
 
       by : ((x : ServerId) → In x (ids_of (config_after setup placed.placed.before m s).members) →
-          WasDropped setup events x m s (config_after setup placed.placed.before m s).epoch)
+          Lost x s (config_after setup placed.placed.before m s).epoch)
           ⊎ ((x : ServerId) × (In x (ids_of (config_after setup placed.placed.before m s).members)) × Survivor s e) →
-          IsGone setup events m s ⊎ Survivor s e
+          Gone s ⊎ Survivor s e
       by (inl all) = inl (record { unshut = unshut; placed = placed.placed; dropped = all })
       by (inr (x, at, stands)) = inr stands
 
@@ -179,9 +183,6 @@ module _ (setup : Setup) (events : List Event) (m : ServerId) where
   best : (s : ℕ) → 0 < s → ((log_of setup events m).segments s).shut ≡ false → Some_placed (PlacedUnder setup events m) s → BestPlaced s
   best s above unshut some = by (least-asked setup events m)
     where
-      pair : Pair
-      pair = (replay setup events).coordinator.least m
-
       asked : In (to_coordinator m (Commit ((replay setup events).coordinator.least m).seg
           ((replay setup events).coordinator.least m).epoch))
           (replay setup events).sent →
@@ -215,7 +216,7 @@ module _ (setup : Setup) (events : List Event) (m : ServerId) where
   none-members (member ∷ members) e = cc
 
   no-factor : (s : ℕ) → factor_of setup m.index ≡ 0 → 0 < s → s ≤ (log_of setup events m).head →
-      ((log_of setup events m).segments s).shut ≡ false → IsGone setup events m s
+      ((log_of setup events m).segments s).shut ≡ false → Gone s
   no-factor s none above upto unshut = record {
     unshut = unshut;
     placed = record {
@@ -268,9 +269,6 @@ module _ (setup : Setup) (events : List Event) (m : ServerId) where
   least-unshut : 0 < factor_of setup m.index → WasReady (sent_after setup events) m → LeastUnshut
   least-unshut some ready = by (which (log_of setup events m).head (ready-above ready))
     where
-      q : Placings (factor_of setup m.index) (PlacedUnder setup events m) (replay setup events).sent m ((replay setup events).masters m).log
-      q = (loss-facts setup events).masters m
-
       which : (n : ℕ) → 0 < n → (n ≡ 1) ⊎ (1 < n)
       which n above = grind arith
 
@@ -305,197 +303,221 @@ module _ (setup : Setup) (events : List Event) (m : ServerId) where
 
   -- The answers
 
-  module _ (replies : List (ServerId × List Row)) (answers : AreAnswers setup events m replies)
-      (all_rows : (i s : ℕ) → HasRow setup events m replies i s) where
-    -- a survivor's row is valid, and counts
-    valid-row : (s e : ℕ) (stands : Survivor s e) →
-        is_below (record { seg = s; epoch = e }) ((replay setup events).coordinator.least m) ≡ false →
-        (held : HeldRow) × (In held (held_rows replies)) × (held.row ≡ row_of_replica (s, stands.replica)) ×
-        (is_valid ((replay setup events).coordinator.least m) held.row ≡ true)
-    valid-row s e stands valid =
-        let found : (held : HeldRow) × (In held (held_rows replies)) × (held.row ≡ row_of_replica (s, stands.replica)) =
-        all_rows stands.host s stands.replica stands.kept in (
-          found.0,
-          found.1,
-          found.2,
-          subst (λ (row : Row). is_valid ((replay setup events).coordinator.least m) row ≡ true)
-              (sym found.2) counts,
-        )
+  -- a survivor's row is valid, and counts
+  valid-row : (s e : ℕ) (stands : Survivor s e) →
+      is_below (record { seg = s; epoch = e }) ((replay setup events).coordinator.least m) ≡ false →
+      (held : HeldRow) × (In held (held_rows replies)) × (held.row ≡ row_of_replica (s, stands.replica)) ×
+      (is_valid ((replay setup events).coordinator.least m) held.row ≡ true)
+  valid-row s e stands valid = (
+    stands.held,
+    stands.among,
+    stands.row,
+    subst (λ (row : Row). is_valid ((replay setup events).coordinator.least m) row ≡ true) (sym stands.row) counts,
+  )
+    where
+      counts : is_valid ((replay setup events).coordinator.least m) (row_of_replica (s, stands.replica)) ≡ true
+      counts = or_right stands.replica.closed _ (ap not
+          (above-valid s stands.replica.epoch e ((replay setup events).coordinator.least m) valid stands.upto))
+
+  -- No head
+
+  module _ (none : HasNoHead ((replay setup events).coordinator.least m) replies) where
+    -- so each survivor is closed
+    all-closed : (s e : ℕ) (stands : Survivor s e) →
+        is_below (record { seg = s; epoch = e }) ((replay setup events).coordinator.least m) ≡ false → stands.replica.closed ≡ true
+    all-closed s e stands valid =
+        let found = valid-row s e stands valid in
+        split stands.replica.closed (λ is. is) (λ isn't. true_false (sym (is-head found.0 found.2 found.3 isn't) ∙
+        All-In (λ held. is_open_valid ((replay setup events).coordinator.least m) held ≡ false) (held_rows replies) found.0 none found.1))
       where
-        counts : is_valid ((replay setup events).coordinator.least m) (row_of_replica (s, stands.replica)) ≡ true
-        counts = or_right stands.replica.closed _ (ap not
-            (above-valid s stands.replica.epoch e ((replay setup events).coordinator.least m) valid stands.upto))
+        both : (a b : Bool) → a ≡ false → b ≡ true → (not a && b) ≡ true
+        both true b e f = true_false e
+        both false b e f = f
 
-    -- No head
+        is-head : (held : HeldRow) → held.row ≡ row_of_replica (s, stands.replica) →
+            is_valid ((replay setup events).coordinator.least m) held.row ≡ true → stands.replica.closed ≡ false →
+            is_open_valid ((replay setup events).coordinator.least m) held ≡ true
+        is-head held is counts isn't = both held.row.closed _ (ap (λ (row : Row). row.closed) is ∙ isn't) counts
 
-    module _ (none : HasNoHead ((replay setup events).coordinator.least m) replies) where
-      -- so each survivor is closed
-      all-closed : (s e : ℕ) (stands : Survivor s e) →
-          is_below (record { seg = s; epoch = e }) ((replay setup events).coordinator.least m) ≡ false → stands.replica.closed ≡ true
-      all-closed s e stands valid =
-          let found = valid-row s e stands valid in
-          split stands.replica.closed (λ is. is) (λ isn't. true_false (sym (is-head found.0 found.2 found.3 isn't) ∙
-          All-In (λ held. is_open_valid ((replay setup events).coordinator.least m) held ≡ false) (held_rows replies) found.0 none found.1))
-        where
-          both : (a b : Bool) → a ≡ false → b ≡ true → (not a && b) ≡ true
-          both true b e f = true_false e
-          both false b e f = f
-
-          is-head : (held : HeldRow) → held.row ≡ row_of_replica (s, stands.replica) →
-              is_valid ((replay setup events).coordinator.least m) held.row ≡ true → stands.replica.closed ≡ false →
-              is_open_valid ((replay setup events).coordinator.least m) held ≡ true
-          is-head held is counts isn't = both held.row.closed _ (ap (λ (row : Row). row.closed) is ∙ isn't) counts
-
-      -- the head has no closed replica
-      head-gone : Some_placed (PlacedUnder setup events m) (log_of setup events m).head → 0 < (log_of setup events m).head →
-          (s : ℕ) × IsGone setup events m s
-      head-gone placed above = by (best (log_of setup events m).head above head-unshut placed)
-        where
-          by : BestPlaced (log_of setup events m).head → (s : ℕ) × IsGone setup events m s
-          by b = which (gone-or (log_of setup events m).head b.epoch head-unshut b.placed)
-            where
-              which : IsGone setup events m (log_of setup events m).head ⊎ Survivor (log_of setup events m).head b.epoch →
-                  (s : ℕ) × IsGone setup events m s
-              which (inl gone) = ((log_of setup events m).head, gone)
-              which (inr stands) =
-                  let closed : stands.replica.closed ≡ true = all-closed (log_of setup events m).head b.epoch stands b.valid in
-                  let below = ((replica-copy setup events m stands.host (log_of setup events m).head stands.replica
-                  stands.kept).copy.whole closed).0 in
-                  absurd (omega (arith, below))
-
-      no-head : LeastUnshut → 0 < factor_of setup m.index → (s : ℕ) × IsGone setup events m s
-      no-head l some = by (best l.seg l.above l.unshut l.placed)
-        where
-          by : BestPlaced l.seg → (s : ℕ) × IsGone setup events m s
-          by b = which (gone-or l.seg b.epoch l.unshut b.placed)
-            where
-              next : IsNext (factor_of setup m.index) (log_of setup events m).head (log_of setup events m).phase l.seg →
-                  (s : ℕ) × IsGone setup events m s
-              next (inl less) = (let last = l.last in absurd (omega (arith, less, last)))
-              next (inr (same, gone_on)) =
-                  let h = ((loss-facts setup events).masters m).head_placed (gone_on some) in head-gone h.1 h.0
-
-              which : IsGone setup events m l.seg ⊎ Survivor l.seg b.epoch → (s : ℕ) × IsGone setup events m s
-              which (inl gone) = (l.seg, gone)
-              which (inr stands) =
-                  let closed : stands.replica.closed ≡ true = all-closed l.seg b.epoch stands b.valid in
-                  next (closed-next (factor_of setup m.index) (PlacedUnder setup events m) (replay setup events).sent m
-                  ((replay setup events).masters m).log l.seg ((loss-facts setup events).masters m)
-                  (((loss-facts setup events).hosts stands.host m).closed l.seg stands.replica stands.kept closed))
-
-    -- A segment has no row
-
-    module _ (head : ServerId) (row : Row)
-        (copy : IsCopy (sent_after setup events) m (log_of setup events m) head.index head.generation row.seg row.epoch row.closed row.len
-        row.digest) (unclosed : row.closed ≡ false) (valid : is_valid ((replay setup events).coordinator.least m) row ≡ true) (t : ℕ)
-        (listed : In t row.digest) (other : t ≡ row.seg → ⊥)
-        (none : All (λ held. is_valid_of ((replay setup events).coordinator.least m) t held ≡ false) (held_rows replies)) where
-      row-unshut : ((log_of setup events m).segments row.seg).shut ≡ true → ⊥
-      row-unshut = head-not-below (replay setup events).sent (replay setup events).masters (replay setup events).hosts
-          (replay setup events).coordinator (good-world setup events) m head row copy unclosed valid
-
-      in_digest : In t ((log_of setup events m).segments row.seg).digest
-      in_digest = subst (λ (digest : List ℕ). In t digest) copy.digest_is listed
-
-      before-head : (0 < t) × (t < row.seg)
-      before-head =
-          let digest : IsDigest (replay setup events).sent m ((replay setup events).masters m).log row.seg
-          (((replay setup events).masters m).log.segments row.seg).digest =
-          ((good-world setup events).masters_are m).digests row.seg copy.opened in
-          ((digest.upto t in_digest).0, below t row.seg (digest.upto t in_digest).1 other)
-        where
-          below : (a b : ℕ) → a ≤ b → (a ≡ b → ⊥) → a < b
-          below a b upto differs = grind arith
-
-      -- no row of it counts
-      none-valid : (held : HeldRow) → In held (held_rows replies) → held.row.seg ≡ t →
-          is_valid ((replay setup events).coordinator.least m) held.row ≡ true → ⊥
-      none-valid held at same counts =
-          true_false (sym (both (nat_eq held.row.seg t) _ (eq-eqb held.row.seg t same) counts) ∙
-          All-In (λ one. is_valid_of ((replay setup events).coordinator.least m) t one ≡ false) (held_rows replies) held none at)
-        where
-          both : (a b : Bool) → a ≡ true → b ≡ true → (a && b) ≡ true
-          both true b e e' = e'
-          both false b e e' = e
-
-      -- a shut segment has a closed replica, or was freed and is in no such digest
-      if-shut : ((log_of setup events m).segments t).shut ≡ true → 0 < factor_of setup m.index → ⊥
-      if-shut shut some = by (((((loss-facts setup events).masters m).each t).shut some shut))
-        where
-          freed : IsLeftOut (log_of setup events m) t → ⊥
-          freed out = which (cases_order row.seg out.head)
-            where
-              lacks : out.head ≤ row.seg → ⊥
-              lacks from = out.lacks row.seg from copy.opened.below in_digest
-
-              which : (row.seg ≡ out.head) ⊎ ((row.seg < out.head) ⊎ (out.head < row.seg)) → ⊥
-              which (inl same) = lacks (omega (arith, same))
-              which (inr (inl less)) = row-unshut (out.shut row.seg copy.opened.above less)
-              which (inr (inr more)) = lacks (omega (arith, more))
-
-          stands-valid : (x : ServerId) (e len : ℕ) → StillStands (held_at (replay setup events).hosts x.index m) t e len true → ⊥
-          stands-valid x e len stands =
-              let found : (held : HeldRow) × (In held (held_rows replies)) × (held.row ≡ row_of_replica (t, stands.replica)) =
-              all_rows x.index t stands.replica stands.kept in
-              none-valid found.0 found.1 (ap (λ (one : Row). one.seg) found.2)
-              (subst (λ (one : Row). is_valid ((replay setup events).coordinator.least m) one ≡ true) (sym found.2)
-              (or_left stands.replica.closed _ (stands.closed_too refl)))
-
-          by : WasShut (replay setup events).sent m t → ⊥
-          by was = which ((loss-facts setup events).told was.teller m t was.epoch was.told.len true was.told.told)
-            where
-              which : Standing setup events (replay setup events) was.teller m t was.epoch was.told.len true → ⊥
-              which (inl stands) = stands-valid was.teller was.epoch was.told.len stands
-              which (inr (inl out)) = freed (freed-is-left-out setup events m t out)
-              which (inr (inr (never, _))) = never refl
-
-      -- one that isn't shut is the one before the head
-      if-unshut : ((log_of setup events m).segments t).shut ≡ false → (s : ℕ) × IsGone setup events m s
-      if-unshut unshut =
-          by (best t before-head.0 unshut (((loss-facts setup events).masters m).lower t before-head.0
-          (let less = before-head.1 in let upto = copy.opened.below in omega (arith, less, upto))))
-        where
-          by : BestPlaced t → (s : ℕ) × IsGone setup events m s
-          by b = which (gone-or t b.epoch unshut b.placed)
-            where
-              which : IsGone setup events m t ⊎ Survivor t b.epoch → (s : ℕ) × IsGone setup events m s
-              which (inl gone) = (t, gone)
-              which (inr stands) =
-                  let found = valid-row t b.epoch stands b.valid in
-                  absurd (none-valid found.0 found.1 (ap (λ (one : Row). one.seg) found.2) found.3)
-
-      no-row : 0 < factor_of setup m.index → (s : ℕ) × IsGone setup events m s
-      no-row some = split ((log_of setup events m).segments t).shut (λ shut. absurd (if-shut shut some)) if-unshut
-
-    segment-gone : (t : ℕ) → IsLeastMissing ((replay setup events).coordinator.least m) replies t → 0 < factor_of setup m.index →
-        (s : ℕ) × IsGone setup events m s
-    segment-gone t is some =
-        let top : HeadIs ((replay setup events).coordinator.least m) replies is.head =
-        head-is ((replay setup events).coordinator.least m) replies is.head is.head_is in
-        let found : CopyAt setup events m is.head.row = row-copy setup events m replies answers is.head top.among in
-        no-row found.holder is.head.row found.copy top.unclosed top.valid t (In-contains t is.head.row.digest is.listed) is.other
-        is.none some
-
-    -- A refusal
-
-    refused-gone : (fault : Fault) → WasReady (sent_after setup events) m → IsRefused setup events m replies fault →
-        (s : ℕ) × IsGone setup events m s
-    refused-gone fault ready refused = by_factor (positive (factor_of setup m.index))
+    -- the head has no closed replica
+    head-gone : Some_placed (PlacedUnder setup events m) (log_of setup events m).head → 0 < (log_of setup events m).head →
+        (s : ℕ) × Gone s
+    head-gone placed above = by (best (log_of setup events m).head above head-unshut placed)
       where
-        by_fault : 0 < factor_of setup m.index → IsMissing fault → (s : ℕ) × IsGone setup events m s
-        by_fault some (inl same) =
-            no-head (head_missing ((replay setup events).coordinator.least m) replies
-            (subst (λ (one : Fault). pick ((replay setup events).coordinator.least m) replies ≡ Err one) same refused))
-            (least-unshut some ready) some
-        by_fault some (inr (t, same)) =
-            segment-gone t (segment_missing ((replay setup events).coordinator.least m) replies t
-            (subst (λ (one : Fault). pick ((replay setup events).coordinator.least m) replies ≡ Err one) same refused)) some
+        by : BestPlaced (log_of setup events m).head → (s : ℕ) × Gone s
+        by b = which (gone-or (log_of setup events m).head b.epoch head-unshut b.placed)
+          where
+            which : Gone (log_of setup events m).head ⊎ Survivor (log_of setup events m).head b.epoch →
+                (s : ℕ) × Gone s
+            which (inl gone) = ((log_of setup events m).head, gone)
+            which (inr stands) =
+                let closed : stands.replica.closed ≡ true = all-closed (log_of setup events m).head b.epoch stands b.valid in
+                let below = ((replica-copy setup events m stands.host (log_of setup events m).head stands.replica
+                stands.kept).copy.whole closed).0 in
+                absurd (omega (arith, below))
 
-        by_factor : (factor_of setup m.index ≡ 0) ⊎ (0 < factor_of setup m.index) → (s : ℕ) × IsGone setup events m s
-        by_factor (inl none) =
-            ((log_of setup events m).head, no-factor (log_of setup events m).head none (ready-above ready) (omega arith) head-unshut)
-        by_factor (inr some) = by_fault some (refused-is ((replay setup events).coordinator.least m) replies fault refused)
+    no-head : LeastUnshut → 0 < factor_of setup m.index → (s : ℕ) × Gone s
+    no-head l some = by (best l.seg l.above l.unshut l.placed)
+      where
+        by : BestPlaced l.seg → (s : ℕ) × Gone s
+        by b = which (gone-or l.seg b.epoch l.unshut b.placed)
+          where
+            next : IsNext (factor_of setup m.index) (log_of setup events m).head (log_of setup events m).phase l.seg →
+                (s : ℕ) × Gone s
+            next (inl less) = (let last = l.last in absurd (omega (arith, less, last)))
+            next (inr (same, gone_on)) =
+                let h = ((loss-facts setup events).masters m).head_placed (gone_on some) in head-gone h.1 h.0
+
+            which : Gone l.seg ⊎ Survivor l.seg b.epoch → (s : ℕ) × Gone s
+            which (inl gone) = (l.seg, gone)
+            which (inr stands) =
+                let closed : stands.replica.closed ≡ true = all-closed l.seg b.epoch stands b.valid in
+                next (closed-next (factor_of setup m.index) (PlacedUnder setup events m) (replay setup events).sent m
+                ((replay setup events).masters m).log l.seg ((loss-facts setup events).masters m)
+                (((loss-facts setup events).hosts stands.host m).closed l.seg stands.replica stands.kept closed))
+
+  -- A segment has no row
+
+  -- some host is missing for it
+  abbrev Absent : ℕ → Type 0
+  Absent t = (i : ℕ) × In i (hosts t)
+
+  -- a segment is gone, or this one is shut
+  abbrev Outcome : ℕ → Type 0
+  Outcome t = ((s : ℕ) × Gone s) ⊎ ((((log_of setup events m).segments t).shut ≡ true) × Absent t)
+
+  module _ (head : ServerId) (row : Row)
+      (copy : IsCopy (sent_after setup events) m (log_of setup events m) head.index head.generation row.seg row.epoch row.closed row.len
+      row.digest) (unclosed : row.closed ≡ false) (valid : is_valid ((replay setup events).coordinator.least m) row ≡ true) (t : ℕ)
+      (listed : In t row.digest) (other : t ≡ row.seg → ⊥)
+      (none : All (λ held. is_valid_of ((replay setup events).coordinator.least m) t held ≡ false) (held_rows replies)) where
+    row-unshut : ((log_of setup events m).segments row.seg).shut ≡ true → ⊥
+    row-unshut = head-not-below (replay setup events).sent (replay setup events).masters (replay setup events).hosts
+        (replay setup events).coordinator (good-world setup events) m head row copy unclosed valid
+
+    in_digest : In t ((log_of setup events m).segments row.seg).digest
+    in_digest = subst (λ (digest : List ℕ). In t digest) copy.digest_is listed
+
+    before-head : (0 < t) × (t < row.seg)
+    before-head =
+        let digest : IsDigest (replay setup events).sent m ((replay setup events).masters m).log row.seg
+        (((replay setup events).masters m).log.segments row.seg).digest =
+        ((good-world setup events).masters_are m).digests row.seg copy.opened in
+        ((digest.upto t in_digest).0, below t row.seg (digest.upto t in_digest).1 other)
+      where
+        below : (a b : ℕ) → a ≤ b → (a ≡ b → ⊥) → a < b
+        below a b upto differs = grind arith
+
+    -- no row of it counts
+    none-valid : (held : HeldRow) → In held (held_rows replies) → held.row.seg ≡ t →
+        is_valid ((replay setup events).coordinator.least m) held.row ≡ true → ⊥
+    none-valid held at same counts =
+        true_false (sym (both (nat_eq held.row.seg t) _ (eq-eqb held.row.seg t same) counts) ∙
+        All-In (λ one. is_valid_of ((replay setup events).coordinator.least m) t one ≡ false) (held_rows replies) held none at)
+      where
+        both : (a b : Bool) → a ≡ true → b ≡ true → (a && b) ≡ true
+        both true b e e' = e'
+        both false b e e' = e
+
+    -- a shut segment has a closed replica, or was freed and is in no such digest
+    if-shut : ((log_of setup events m).segments t).shut ≡ true → 0 < factor_of setup m.index → Absent t
+    if-shut shut some = by (((((loss-facts setup events).masters m).each t).shut some shut))
+      where
+        freed : IsLeftOut (log_of setup events m) t → ⊥
+        freed out = which (cases_order row.seg out.head)
+          where
+            lacks : out.head ≤ row.seg → ⊥
+            lacks from = out.lacks row.seg from copy.opened.below in_digest
+
+            which : (row.seg ≡ out.head) ⊎ ((row.seg < out.head) ⊎ (out.head < row.seg)) → ⊥
+            which (inl same) = lacks (omega (arith, same))
+            which (inr (inl less)) = row-unshut (out.shut row.seg copy.opened.above less)
+            which (inr (inr more)) = lacks (omega (arith, more))
+
+        stands-valid : (x : ServerId) (e len : ℕ) → StillStands (held_at (replay setup events).hosts x.index m) t e len true → Absent t
+        stands-valid x e len stands = which (all_rows x.index t)
+          where
+            which : In x.index (hosts t) ⊎ HasRow setup events m replies x.index t → Absent t
+            which (inl missing) = (x.index, missing)
+            which (inr has) =
+                let found : (held : HeldRow) × (In held (held_rows replies)) × (held.row ≡ row_of_replica (t, stands.replica)) =
+                has stands.replica stands.kept in
+                absurd (none-valid found.0 found.1 (ap (λ (one : Row). one.seg) found.2)
+                (subst (λ (one : Row). is_valid ((replay setup events).coordinator.least m) one ≡ true) (sym found.2)
+                (or_left stands.replica.closed _ (stands.closed_too refl))))
+
+        by : WasShut (replay setup events).sent m t → Absent t
+        by was = which ((loss-facts setup events).told was.teller m t was.epoch was.told.len true was.told.told)
+          where
+            which : Standing setup events (replay setup events) was.teller m t was.epoch was.told.len true → Absent t
+            which (inl stands) = stands-valid was.teller was.epoch was.told.len stands
+            which (inr (inl out)) = absurd (freed (freed-is-left-out setup events m t out))
+            which (inr (inr (never, _))) = absurd (never refl)
+
+    -- one that isn't shut is the one before the head
+    if-unshut : ((log_of setup events m).segments t).shut ≡ false → (s : ℕ) × Gone s
+    if-unshut unshut =
+        by (best t before-head.0 unshut (((loss-facts setup events).masters m).lower t before-head.0
+        (let less = before-head.1 in let upto = copy.opened.below in omega (arith, less, upto))))
+      where
+        by : BestPlaced t → (s : ℕ) × Gone s
+        by b = which (gone-or t b.epoch unshut b.placed)
+          where
+            which : Gone t ⊎ Survivor t b.epoch → (s : ℕ) × Gone s
+            which (inl gone) = (t, gone)
+            which (inr stands) =
+                let found = valid-row t b.epoch stands b.valid in
+                absurd (none-valid found.0 found.1 (ap (λ (one : Row). one.seg) found.2) found.3)
+
+    no-row : 0 < factor_of setup m.index → Outcome t
+    no-row some = split ((log_of setup events m).segments t).shut (λ shut. inr (shut, if-shut shut some))
+        (λ unshut. inl (if-unshut unshut))
+
+  segment-gone : (t : ℕ) → IsLeastMissing ((replay setup events).coordinator.least m) replies t → 0 < factor_of setup m.index → Outcome t
+  segment-gone t is some =
+      let top : HeadIs ((replay setup events).coordinator.least m) replies is.head =
+      head-is ((replay setup events).coordinator.least m) replies is.head is.head_is in
+      let found : CopyAt setup events m is.head.row = row-copy setup events m replies answers is.head top.among in
+      no-row found.holder is.head.row found.copy top.unclosed top.valid t (In-contains t is.head.row.digest is.listed) is.other
+      is.none some
+
+  -- A refusal
+
+  -- a segment is gone, or none is found of one that is shut
+  abbrev pub Refusal : Fault → Type 0
+  Refusal fault = ((s : ℕ) × IsGoneBut (hosts s) setup events m s) ⊎ ((t : ℕ) × (fault ≡ SegmentMissing t) ×
+      (((log_of setup events m).segments t).shut ≡ true) × ((i : ℕ) × In i (hosts t)))
+
+  pub refused-gone : (fault : Fault) → WasReady (sent_after setup events) m → IsRefused setup events m replies fault → Refusal fault
+  refused-gone fault ready refused = by_factor (positive (factor_of setup m.index))
+    where
+      outcome : (t : ℕ) → fault ≡ SegmentMissing t → Outcome t → Refusal fault
+      outcome t same (inl gone) = inl gone
+      outcome t same (inr (shut, absent)) = inr (t, same, shut, absent)
+
+      by_fault : 0 < factor_of setup m.index → IsMissing fault → Refusal fault
+      by_fault some (inl same) =
+          inl (no-head (head_missing ((replay setup events).coordinator.least m) replies
+          (subst (λ (one : Fault). pick ((replay setup events).coordinator.least m) replies ≡ Err one) same refused))
+          (least-unshut some ready) some)
+      by_fault some (inr (t, same)) =
+          outcome t same (segment-gone t (segment_missing ((replay setup events).coordinator.least m) replies t
+          (subst (λ (one : Fault). pick ((replay setup events).coordinator.least m) replies ≡ Err one) same refused)) some)
+
+      by_factor : (factor_of setup m.index ≡ 0) ⊎ (0 < factor_of setup m.index) → Refusal fault
+      by_factor (inl none) =
+          inl ((log_of setup events m).head, no-factor (log_of setup events m).head none (ready-above ready) (omega arith) head-unshut)
+      by_factor (inr some) = by_fault some (refused-is ((replay setup events).coordinator.least m) replies fault refused)
 
 pub refusals-mean-loss : RefusalsMeanLoss
 refusals-mean-loss setup events m replies fault ready answers all_rows refused =
-    refused-gone setup events m replies answers all_rows fault ready refused
+    by (refused-gone setup events m (λ _. []) replies answers (λ i s. inr (all_rows i s)) fault ready refused)
+  where
+    by : Refusal setup events m (λ _. []) replies answers (λ i s. inr (all_rows i s)) fault → (s : ℕ) × IsGone setup events m s
+    by (inl (s, gone)) = (s, record { unshut = gone.unshut; placed = gone.placed; dropped = λ x at. which x (gone.dropped x at) })
+      where
+        which : (x : ServerId) → In x.index [] ⊎ WasDropped setup events x m s (config_after setup gone.placed.before m s).epoch →
+            WasDropped setup events x m s (config_after setup gone.placed.before m s).epoch
+        which x (inl never) = absurd never
+        which x (inr dropped) = dropped
+    by (inr (t, _, _, (i, never))) = absurd never
