@@ -1,4 +1,5 @@
 pub mod Notes
+pub mod Phases
 pub mod Settling
 pub mod TasksOfParts
 pub mod Versions
