@@ -60,14 +60,14 @@ pub fn take(
         "stored" => {
             let seg = numbers.short();
             let from = numbers.host();
-            stored(log, seg, from, numbers, page)?;
+            stored(log, seg, from, numbers, page);
         }
         "told" => {
             let seg = numbers.short();
             let from = numbers.id();
-            stored(log, seg, from, numbers, page)?;
+            stored(log, seg, from, numbers, page);
         }
-        "commit" => commit(log, numbers, page)?,
+        "commit" => commit(log, numbers, page),
         "segment" => segment(log, numbers.short(), page),
         "stood" => {
             let seg = numbers.short();
@@ -85,10 +85,8 @@ fn go_on(alloc: Global, log: &mut LogHead, command: &str, page: &mut Page) -> Re
         "begin" => log.begin(),
         "restore" => log.restore(),
         "shut" => log.mark_shut(),
-        "start" => start(log, page),
-        "close-old" => close_old(log, page),
+        "advance" => advance(alloc, log, page)?,
         "send-closes" => send_closes(log, page),
-        "write-on" => write_on(alloc, log, page)?,
         "keep-durable" => keep_durable(log),
         _ => page.put(" no such command"),
     }
@@ -117,21 +115,19 @@ fn stored(
     from: ServerId,
     numbers: &mut Numbers,
     page: &mut Page,
-) -> Result<(), Fault> {
+) {
     let epoch = numbers.short();
     let len = numbers.size();
     page.yes(
         " noted ",
-        log.stored(seg, from, epoch, len, numbers.mark())?,
+        log.stored(seg, from, epoch, len, numbers.mark()),
     );
-    Ok(())
 }
 
-fn commit(log: &mut LogHead, numbers: &mut Numbers, page: &mut Page) -> Result<(), Fault> {
+fn commit(log: &mut LogHead, numbers: &mut Numbers, page: &mut Page) {
     let seg = numbers.short();
-    log.committed_at(seg, numbers.short())?;
+    log.committed_at(seg, numbers.short());
     segment(log, seg, page);
-    Ok(())
 }
 
 /// The first head is opened.
@@ -206,20 +202,19 @@ fn segment(log: &LogHead, seg: u16, page: &mut Page) {
     }
 }
 
-/// The first head writes.
-fn start(log: &mut LogHead, page: &mut Page) {
-    if !log.may_start() {
-        return page.put(" not asked,");
+/// The phase goes on, if it may. Where a new head comes to write after an old one, it writes which segments are freed.
+fn advance(alloc: Global, log: &mut LogHead, page: &mut Page) -> Result<(), Fault> {
+    let freed = log.left_out(alloc)?;
+    let is_closing = matches!(log.phase(), Phase::Closing);
+    if !log.advance() {
+        page.put(" no,");
+        return Ok(());
     }
-    log.start();
-}
-
-/// The old head is being closed.
-fn close_old(log: &mut LogHead, page: &mut Page) {
-    if !log.may_close() {
-        return page.put(" not asked,");
+    if is_closing {
+        page.numbers(" frees", freed.as_slice());
+        page.put(",");
     }
-    log.close_old();
+    Ok(())
 }
 
 /// Close is sent to the members of the old head, and is then due no more.
@@ -230,19 +225,6 @@ fn send_closes(log: &mut LogHead, page: &mut Page) {
     log.mark_close_sent();
     page.yes(" due still ", log.close_is_due());
     page.put(",");
-}
-
-/// The new head writes. It writes which segments are freed.
-fn write_on(alloc: Global, log: &mut LogHead, page: &mut Page) -> Result<(), Fault> {
-    if !log.may_write() {
-        page.put(" not asked,");
-        return Ok(());
-    }
-    let freed = log.left_out(alloc)?;
-    log.write_on(freed.as_slice())?;
-    page.numbers(" frees", freed.as_slice());
-    page.put(",");
-    Ok(())
 }
 
 /// What is durable at this moment is durable for good.
@@ -284,11 +266,10 @@ fn fill(
 /// The next head is placed, the old one is closed and shut, and the next one writes.
 fn go_over(alloc: Global, log: &mut LogHead, page: &mut Page) -> Result<(), Fault> {
     let next = log.head();
-    log.stored(next, host(1), 0, 0, false)?;
-    close_old(log, page);
-    log.stored(next.saturating_sub(1), host(1), 0, 1, true)?;
-    log.mark_shut();
-    write_on(alloc, log, page)?;
+    log.stored(next, host(1), 0, 0, false);
+    advance(alloc, log, page)?;
+    log.stored(next.saturating_sub(1), host(1), 0, 1, true);
+    advance(alloc, log, page)?;
     keep_durable(log);
     Ok(())
 }

@@ -151,9 +151,9 @@ others_back-none head t = fun_ext (λ o. same (ltb 0 o && ltb (o + 1) head) (t o
     same true x = refl
     same false x = refl
 
-pub nothing-left : (xs : List (ℕ × SegmentState)) → (0 < length xs → false ≡ true) → xs ≡ []
-nothing-left [] some = refl
-nothing-left (x ∷ xs) some = absurd (false≢true (some (omega arith)))
+pub nothing-left : (xs : List (ℕ × SegmentState)) → false ≡ ltb 0 (length xs) → xs ≡ []
+nothing-left [] none = refl
+nothing-left (x ∷ xs) none = absurd (false≢true (none ∙ lt-ltb 0 (length (x ∷ xs)) (omega arith)))
 
 -- All are put back
 

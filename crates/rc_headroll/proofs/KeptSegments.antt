@@ -147,16 +147,14 @@ with_kept-is mark head t seg state back above = ⊎_elim {C = IsKept (with_kept 
 
 -- What the code does when it keeps a segment
 
-module _ {T E : Type 0} (mark new : Mark) (head : ℕ) (t : ℕ → Segment) (seg : ℕ) (x : Segment)
-    (back : CanGoBack mark head t) (read : x ≡ t seg) where
-  pub keep-keeps : (r : Result T E) → OnOk r (new ≡ with_kept seg (state_of x) mark) → OnErr r (new ≡ mark) → KeepsMore mark new head t
-  keep-keeps (Ok value) ok err = subst (λ (m : Mark). KeepsMore mark m head t) (sym ok)
+module _ (mark new : Mark) (head : ℕ) (t : ℕ → Segment) (seg : ℕ) (x : Segment)
+    (back : CanGoBack mark head t) (read : x ≡ t seg) (is : new ≡ with_kept seg (state_of x) mark) where
+  pub keep-keeps : KeepsMore mark new head t
+  keep-keeps = subst (λ (m : Mark). KeepsMore mark m head t) (sym is)
       (with_kept-keeps mark head t seg (state_of x) back (ap state_of read))
-  keep-keeps (Err fault) ok err = subst (λ (m : Mark). KeepsMore mark m head t) (sym err) (keeps-same mark head t back)
 
-  pub keep-kept : (r : Result T E) → 0 < seg → OnOk r (new ≡ with_kept seg (state_of x) mark) → OnOk r (IsKept new seg)
-  keep-kept (Ok value) above ok = subst (λ (m : Mark). IsKept m seg) (sym ok) (with_kept-is mark head t seg (state_of x) back above)
-  keep-kept (Err fault) above ok = tt
+  pub keep-kept : 0 < seg → IsKept new seg
+  keep-kept above = subst (λ (m : Mark). IsKept m seg) (sym is) (with_kept-is mark head t seg (state_of x) back above)
 
 pub before_of-kept : (kept : LogData) (new : Mark) →
     KeepsMore kept.mark new (length kept.segments) (segment_at kept.segments) →

@@ -4,6 +4,7 @@ pub mod LogChanges
 pub mod LogSteps
 pub mod DurableLogs
 pub mod PlaceLemmas
+pub mod OthersLemmas
 pub mod GoingBack
 pub mod BeforeLemmas
 pub mod KeptSegments

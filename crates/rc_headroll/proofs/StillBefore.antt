@@ -8,7 +8,6 @@ use Rattle.rc_segment.specs.Lists.{segment_at}
 use Rattle.rc_headroll.specs.LogData.{LogData, log_of, before_of}
 use Rattle.rc_headroll.specs.Soundness.{IsSound, IsSoundLog}
 use Rattle.rc_headroll.specs.Before.{Mark, segments_before, IsKept, CanGoBack}
-use Rattle.rc_headroll.specs.Freeing.{freed_in}
 use Rattle.rc_segment.proofs.SegmentTables.{segment_at-set, segment_at-read, segment_at-push, segment_at-past}
 use Rattle.rc_headroll.proofs.BeforeLemmas.{Extends, before-put, before-new, back-put}
 use Rattle.rc_headroll.proofs.LogChanges.{Keeps, seg_place, sound-written, sound-pushed, append-possible}
@@ -125,21 +124,6 @@ opened-back kept x segments back is =
     (length kept.segments + 1) x back
     (omega (arith, length_push kept.segments x)) (omega (arith, none))))
 
--- Segments are freed
-
-freed-extends : (x : Segment) → Extends (record x { freed = true }) x
-freed-extends x = record { digest = refl; longer = omega arith; beginning = λ n within. refl }
-
-pub freed-before : (mark : Mark) (head : ℕ) (segs : List ℕ) (t : ℕ → Segment) → CanGoBack mark head t → All (IsKept mark) segs →
-    (segments_before mark (freed_in segs t) ≡ segments_before mark t) × CanGoBack mark head (freed_in segs t)
-freed-before mark head [] t back kept = (refl, back)
-freed-before mark head (seg ∷ segs) t back kept =
-    let x : Segment = record (t seg) { freed = true } in
-    let here : IsKept mark seg = kept 0 0 (omega arith) in
-    let next = freed-before mark head segs (put t seg x) (back-put mark head head t seg x back (omega arith) (omega arith))
-    (λ k d inside. kept (suc k) d (omega arith)) in
-    (next.0 ∙ before-put mark t seg x here (freed-extends (t seg)) (back.beginnings seg), next.1)
-
 -- The old head is written
 
 module _ (kept : LogData) (place passed entries : ℕ) (x was : Segment) (sound : IsSoundLog kept passed entries)
@@ -196,24 +180,3 @@ module _ (kept : LogData) (place passed entries : ℕ) (entry : Entry) (client :
       before_of-same kept (set kept.segments place x)
       (set-before kept place (length kept.segments) x was head-at head-inside read (extends-entry entry client x was e)
       sound.back head-kept)
-
--- The new head writes
-
-module _ (kept : LogData) (passed entries : ℕ) (segs : List ℕ) (segments : List Segment) (sound : IsSoundLog kept passed entries)
-    (len : length segments ≡ length kept.segments)
-    (table : segment_at segments ≡ freed_in segs (segment_at kept.segments)) (is_kept : All (IsKept kept.mark) segs)
-  where
-    freed-same : segments_before kept.mark (segment_at segments) ≡ segments_before kept.mark (segment_at kept.segments)
-    freed-same =
-        ap (segments_before kept.mark) table
-        ∙ (freed-before kept.mark (length kept.segments) segs (segment_at kept.segments) sound.back is_kept).0
-
-    freed-back : CanGoBack kept.mark (length segments) (segment_at segments)
-    freed-back = rw (len, table) (freed-before kept.mark (length kept.segments) segs (segment_at kept.segments) sound.back is_kept).1
-
-    pub writes-sound : IsSound (log_of (record kept { segments = segments; phase = Writing })) passed entries →
-        IsSoundLog (record kept { segments = segments; phase = Writing }) passed entries
-    writes-sound now = sound_log-from kept segments Writing kept.durable passed entries passed entries sound freed-same freed-back now
-
-    pub writes-before : before_of (record kept { segments = segments; phase = Writing }) ≡ before_of kept
-    writes-before = before_of-same kept segments freed-same

@@ -3,7 +3,7 @@ use Rattle.std.proofs.Common.{◌≡◌, ⊎_elim, ℕ, ◌+◌, ◌-◌, ◌<�
 use Rattle.std.proofs.Common.{length, get_or, set, map, Some, is_some, Result, Ok, Err, is_ok, IsOk, refl, ap, sym, ◌∙◌, subst, arith}
 use Rattle.std.specs.List.{list_all, list_any}
 use Rattle.std.specs.Map.{lookup}
-use Rattle.std.proofs.lemmas.Bool.{and_parts, and_from, cases_eq, cond_both, cond-false, ne_eqb, false≢true}
+use Rattle.std.proofs.lemmas.Bool.{and_parts, and_from, cases_eq, cases_lt, cond_both, cond-false, ne_eqb, false≢true}
 use Rattle.std.proofs.lemmas.List.{length-set, length_push}
 use Rattle.rc_model.specs.Model.{ServerId, Member, Phase, same_id, ServerList, has_crashed, put, Config, is_placed, all_placed, is_heard}
 use Rattle.rc_model.specs.Model.{told_with, told_if_heard, noted, committed_at, Segment, Log, has_segment}
@@ -14,9 +14,9 @@ use Rattle.rc_segment.specs.Resting.{wants_nothing}
 use Rattle.rc_headroll.specs.Watching.{Watched, is_among, is_awake, is_filed, is_on_file, is_watched, AreWatched}
 use Rattle.rc_headroll.specs.Watching.{AreRoused}
 use Rattle.rc_headroll.specs.Soundness.{IsSoundLog, IsWatchedLog}
-use Rattle.rc_headroll.specs.Freeing.{freed_in}
 use Rattle.rc_headroll.specs.Before.{Mark}
 use Rattle.rc_segment.proofs.SegmentTables.{put_each, put-other, segment_at-set, segment_at-read, segment_at-push}
+use Rattle.rc_headroll.proofs.LogTables.{has-from}
 use Rattle.rc_headroll.proofs.LogChanges.{seg_place}
 
 or-from : (a b b' : Bool) → (b ≡ true → b' ≡ true) → (a || b) ≡ true → (a || b') ≡ true
@@ -194,29 +194,14 @@ wants-shut was x e = record {
 }
 
 -- it is freed
-wants-freed : (was : Segment) → StillWants was (record was { freed = true })
-wants-freed was = record {
+pub wants-freed : (was x : Segment) → x ≡ record was { freed = true } → StillWants was x
+wants-freed was x e = record {
   nothing = λ nothing.
       let parts = wants-parts was nothing in
-      wants-from (record was { freed = true }) parts.0 parts.1 refl;
-  filed = λ watch seg on_file. refl;
+      subst (λ (s : Segment). wants_nothing s ≡ true) (sym e)
+      (wants-from (record was { freed = true }) parts.0 parts.1 refl);
+  filed = λ watch seg on_file. subst (λ (s : Segment). is_on_file watch seg s ≡ true) (sym e) refl;
 }
-
-watched-freed : (watch : Watched) (head : ℕ) (segs : List ℕ) (t : ℕ → Segment) → AreWatched watch head t →
-    AreWatched watch head (freed_in segs t)
-watched-freed watch head [] t watched = watched
-watched-freed watch head (seg ∷ segs) t watched =
-    watched-freed watch head segs (put t seg (record (t seg) { freed = true }))
-    (watched-put watch head t seg (record (t seg) { freed = true }) watched
-    (still-watched watch seg (t seg) (record (t seg) { freed = true }) (wants-freed (t seg))))
-
-pub watched-frees : (kept : LogData) (segs : List ℕ) (segments : List Segment) (phase : Phase) → IsWatchedLog kept →
-    length segments ≡ length kept.segments → segment_at segments ≡ freed_in segs (segment_at kept.segments) →
-    before_of (record kept { segments = segments; phase = phase }) ≡ before_of kept →
-    IsWatchedLog (record kept { segments = segments; phase = phase })
-watched-frees kept segs segments phase watched len table before =
-    watched-from kept (record kept { segments = segments; phase = phase }) watched refl before
-    (rw (len, table) (watched-freed kept.watch (length kept.segments) segs (segment_at kept.segments) watched.now))
 
 -- More is gone over
 
@@ -455,3 +440,18 @@ roused-more servers old new same more roused =
     either : (a a' b : Bool) → (a ≡ true → a' ≡ true) → (a || b) ≡ true → (a' || b) ≡ true
     either true a' b more' e = or-first a' b (more' refl)
     either false a' b more' e = or-second a' b e
+
+-- What is passed over wants nothing
+
+pub asleep-nothing : (watch : Watched) (head : ℕ) (t : ℕ → Segment) → AreWatched watch head t → (seg : ℕ) → 0 < seg →
+    seg ≤ head → is_awake watch seg ≡ false → wants_nothing (t seg) ≡ true
+asleep-nothing watch head t watched seg above within asleep =
+    (and_parts (wants_nothing (t seg)) (is_on_file watch seg (t seg))
+    (ap (λ (b : Bool). b || (wants_nothing (t seg) && is_on_file watch seg (t seg))) (sym asleep)
+    ∙ watched seg above within)).0
+
+pub not-has-past : (log : Log) (seg : ℕ) → 0 < seg → false ≡ has_segment log seg → log.head < seg
+not-has-past log seg above none = ⊎_elim {C = log.head < seg}
+    (λ (past : log.head < seg). past)
+    (λ (within : seg ≤ log.head). absurd (false≢true (none ∙ has-from log seg above within)))
+    (cases_lt log.head seg)

@@ -83,6 +83,22 @@ with_kept seg state mark =
     if nat_lt (seg + 1) mark.head && is_none (other_of mark.others seg)
     then record mark { others = mark.others ++ (seg, state) ∷ [] } else mark
 
+-- what was kept of other segments than the last two, and room for it: for each number below this one
+pub record OthersKept : Type 0 where
+  pub kept : List (ℕ × SegmentState)
+  pub room : ℕ
+
+-- where something stands that was kept is noted under its number, so no number is kept twice
+abbrev pub ArePlaced : List ℕ → List (ℕ × SegmentState) → Type 0
+ArePlaced places kept =
+    (place seg : ℕ) (state : SegmentState) → slice_get kept place ≡ Some (seg, state) →
+    slice_get places seg ≡ Some place
+
+-- where a log goes back to, and room for what will be kept of others than the last two
+pub record WayBack : Type 0 where
+  pub mark : Mark
+  pub room : ℕ
+
 -- nothing more has to be kept before the segment is changed
 abbrev pub IsKept : Mark → ℕ → Type 0
 IsKept mark seg = seg ≤ mark.head → is_some (kept_of mark seg) ≡ true

@@ -1,6 +1,6 @@
 pub mod LogData
 pub mod Soundness
-pub mod Freeing
+pub mod Advancing
 pub mod Places
 pub mod Before
 pub mod Watching

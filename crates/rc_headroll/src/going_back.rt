@@ -1,18 +1,16 @@
 //! The log goes back to where a step began.
 
-ghost use Rattle.std.specs.Prelude.{◌≡◌, ℕ, true, length, All, OnOk};
+ghost use Rattle.std.specs.Prelude.{◌≡◌, true};
 ghost use Rattle.rc_model.specs.Log.{has_segment};
 ghost use Rattle.std.specs.List.{list_any};
 ghost use Rattle.rc_model.specs.Ids.{same_id};
 ghost use Rattle.rc_model.specs.MasterTick.{stood};
 ghost use Rattle.rc_headroll.specs.Before.{IsKept};
 ghost use Rattle.rc_headroll.specs.LogData.{log_of, before_of};
-ghost use Rattle.rc_headroll.specs.Soundness.{IsKnown};
 
 use crate::log::LogHead;
 use rc_config::Config;
 use rc_types::ServerId;
-use std::alloc::AllocError;
 
 impl LogHead {
     /// From here on `restore` goes back to now. It takes no memory.
@@ -64,29 +62,15 @@ impl LogHead {
     }
 
     /// Keeps how a segment is now, so that `restore` can put it back. It comes before each change of a
-    /// segment that need not be one of the last two.
-    pub(crate) fn keep(&mut self, seg: u16) -> Result<(), AllocError>
+    /// segment that need not be one of the last two. It takes no memory: room was taken when the segment was opened.
+    pub(crate) fn keep(&mut self, seg: u16)
         requires { has_segment (log_of self.old) seg ≡ true }
         ensures log { log_of self.new ≡ log_of self.old }
         ensures before { before_of self.new ≡ before_of self.old }
-        ensures kept { OnOk result (IsKept self.new.mark seg) }
-        ensures others { (other : ℕ) → IsKept self.old.mark other → IsKept self.new.mark other }
+        ensures kept { IsKept self.new.mark seg }
         ensures watch { self.new.watch ≡ self.old.watch }
     {
-        self.before.keep(seg, &self.segments[usize::from(seg) - 1])
-    }
-
-    /// Keeps how these segments are now.
-    pub(crate) fn keep_all(&mut self, segs: &[u16]) -> Result<(), AllocError>
-        requires { All (IsKnown (log_of self.old).head) segs.now }
-        ensures log { log_of self.new ≡ log_of self.old }
-        ensures before { before_of self.new ≡ before_of self.old }
-        ensures kept { OnOk result (All (IsKept self.new.mark) segs.now) }
-    {
-        for seg in segs {
-            self.keep(*seg)?;
-        }
-        Ok(())
+        self.before.keep(seg, &self.segments[usize::from(seg) - 1]);
     }
 }
 

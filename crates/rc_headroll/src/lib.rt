@@ -11,6 +11,7 @@ mod going_on;
 mod log;
 mod numbers;
 mod opening;
+mod others;
 mod telling;
 mod watch;
 mod watching;

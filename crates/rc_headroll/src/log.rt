@@ -53,6 +53,7 @@ impl Model for LogHead {
 
     ghost Value = { LogData };
 
+    ghost use Rattle.std.specs.Prelude.{length, ◌≤◌};
     ghost use Rattle.rc_headroll.specs.Soundness.{IsSoundLog, IsWatchedLog};
 
     ghost view = { λ l. record {
@@ -62,7 +63,7 @@ impl Model for LogHead {
       segments = l.segments.items;
       phase = l.phase;
       durable = l.durable;
-      mark = l.before;
+      mark = l.before.mark;
       watch = l.watch;
     } };
 
@@ -73,7 +74,7 @@ impl Model for LogHead {
       segments = l.segments.items;
       phase = l.phase;
       durable = l.durable;
-      mark = l.before;
+      mark = l.before.mark;
       watch = l.watch;
     }) l.passed l.passed_entries × IsWatchedLog (record {
       own = l.own;
@@ -82,9 +83,9 @@ impl Model for LogHead {
       segments = l.segments.items;
       phase = l.phase;
       durable = l.durable;
-      mark = l.before;
+      mark = l.before.mark;
       watch = l.watch;
-    }) };
+    }) × (length l.segments.items ≤ l.before.room) };
 }
 
 impl LogHead {
@@ -185,7 +186,8 @@ impl LogHead {
     /// The segment before the newest one.
     pub fn previous(&self) -> &Segment
         requires { 1 < (log_of self.now).head }
-        ensures { result.now ≡ old_head_of (log_of self.now) }
+        ensures previous { result.now ≡ old_head_of (log_of self.now) }
+        ensures known { All (IsKnown (log_of self.now).head) result.now.digest }
     {
         heads::previous(self.segments.as_slice())
     }

@@ -165,7 +165,7 @@ impl LogHead {
         Ok(digest)
     }
 
-    /// Opens a head with this digest on these members.
+    /// Opens a head with this digest on these members. With it comes room to keep how it was when a step began.
     fn open_head(
         &mut self,
         alloc: Global,
@@ -184,6 +184,7 @@ impl LogHead {
         let seg = self.head() + 1;
         let head = Segment::new(alloc, seg, digest, ids);
         self.segments.reserve(1)?;
+        self.before.make_room(usize::from(seg))?;
         self.watch.wake(seg)?;
         self.segments.push(head).unwrap();
         self.phase = Phase::Opening;

@@ -1,6 +1,6 @@
 //! What members tell, and what becomes of lost ones.
 
-ghost use Rattle.std.specs.Prelude.{◌≡◌, ◌⊎◌, ℕ, true, Ok, Err, OnOk, OnErr, IfOk, IfErr};
+ghost use Rattle.std.specs.Prelude.{◌≡◌, ◌⊎◌, ℕ, true, Ok, Err, IfOk, IfErr};
 ghost use Rattle.rc_types.specs.declared.faults.Fault.TheVariants.{OutOfMemory};
 ghost use Rattle.rc_model.specs.ServerList.{ServerList as Servers};
 ghost use Rattle.rc_model.specs.Log.{has_segment};
@@ -13,11 +13,11 @@ ghost use Rattle.rc_headroll.specs.Watching.{is_awake};
 use crate::log::LogHead;
 use rc_serverlist::ServerList;
 use rc_types::{Fault, ServerId};
-use std::alloc::{AllocError, Global};
+use std::alloc::Global;
 
 impl LogHead {
     /// Notes what a server has told of a segment, as `Config::stored` does, and says whether it did.
-    /// An unknown segment changes nothing. Where memory is refused, the log is as it was.
+    /// An unknown segment changes nothing. It takes no memory.
     pub fn stored(
         &mut self,
         seg: u16,
@@ -25,17 +25,16 @@ impl LogHead {
         epoch: u16,
         len: usize,
         closed: bool,
-    ) -> Result<bool, AllocError>
-        ensures notes { IfOk result (λ noted. noted ≡ notes_stored (log_of self.old) seg from epoch) }
-        ensures noted { OnOk result (log_of self.new ≡ stored seg from epoch len closed (log_of self.old)) }
-        ensures unchanged { OnErr result (log_of self.new ≡ log_of self.old) }
+    ) -> bool
+        ensures notes { result ≡ notes_stored (log_of self.old) seg from epoch }
+        ensures noted { log_of self.new ≡ stored seg from epoch len closed (log_of self.old) }
         ensures before { before_of self.new ≡ before_of self.old }
     {
         if !self.has(seg) {
-            return Ok(false);
+            return false;
         }
-        self.keep(seg)?;
-        Ok(self.note_stored(seg, from, epoch, len, closed))
+        self.keep(seg);
+        self.note_stored(seg, from, epoch, len, closed)
     }
 
     /// Notes what a server has told of a segment that is kept.
@@ -57,18 +56,16 @@ impl LogHead {
     }
 
     /// Notes that an epoch of a segment is committed. Another epoch than the present one, or an
-    /// unknown segment, changes nothing. Where memory is refused, the log is as it was.
-    pub fn committed_at(&mut self, seg: u16, epoch: u16) -> Result<(), AllocError>
-        ensures noted { OnOk result (log_of self.new ≡ commit_noted seg epoch (log_of self.old)) }
-        ensures unchanged { OnErr result (log_of self.new ≡ log_of self.old) }
+    /// unknown segment, changes nothing. It takes no memory.
+    pub fn committed_at(&mut self, seg: u16, epoch: u16)
+        ensures noted { log_of self.new ≡ commit_noted seg epoch (log_of self.old) }
         ensures before { before_of self.new ≡ before_of self.old }
     {
         if !self.has(seg) {
-            return Ok(());
+            return;
         }
-        self.keep(seg)?;
+        self.keep(seg);
         self.note_commit(seg, epoch);
-        Ok(())
     }
 
     /// Notes that an epoch of a segment is committed that is kept.
@@ -105,7 +102,7 @@ impl LogHead {
         ensures roused { (others : Servers) → IsRoused others self.old → IsRoused others self.new }
     {
         self.wake(seg)?;
-        self.keep(seg)?;
+        self.keep(seg);
         self.lose_members(alloc, seg, servers)
     }
 

@@ -1,5 +1,6 @@
 pub mod Handing
 pub mod Notes
+pub mod Phases
 pub mod Settling
 pub mod TasksOfParts
 pub mod Versions

@@ -2,15 +2,15 @@
 use Rattle.std.proofs.Common.{◌≡◌, ◌≢◌, ℕ, zero, suc, ◌+◌, ◌-◌, ◌<◌, ◌≤◌, true, false, List, [], ◌++◌, drop, get_or}
 use Rattle.std.proofs.Common.{Option, Some, None, refl, sym, ap, ◌∙◌, subst, arith, append_assoc}
 use Rattle.std.proofs.lemmas.List.{append-nil, drop_more}
-use Rattle.rc_model.specs.Model.{Message, Log, with_segment, old_head_of, shuts, Master, or_rule, follows_start, follows_placed}
-use Rattle.rc_model.specs.Model.{follows_closing, follows_shut, follows_change, follows_stored, follows_data, follows_replay, follow_up}
+use Rattle.rc_model.specs.Model.{Message, Log, with_segment, old_head_of, shuts, Master, or_rule, follows_change, follows_stored}
+use Rattle.rc_model.specs.Model.{follows_data, follows_replay, follow_up}
 use Rattle.rc_model.specs.Model.{marks_shut, further, followed, measure}
 use Rattle.rc_model.proofs.Tests.{either, true_false}
 use Rattle.rc_model.proofs.Measures.{AllLower, lowers, measure-marks_shut}
 use Rattle.rc_master.specs.declared.following.TheConstants.{RULES}
 use Rattle.rc_master.specs.declared.following.Rule.{Rule}
 use Rattle.rc_master.specs.declared.following.Rule.TheVariants as rule
-use Rattle.rc_master.specs.Rules.{did, or_still, does, first_of, settled}
+use Rattle.rc_master.specs.Rules.{did, or_still, does, first_of, settled, follows_rest}
 
 -- Many times
 
@@ -158,27 +158,26 @@ or-none : (one : Option (Master × List Message)) → or_rule one None ≡ one
 or-none None = refl
 or-none (Some done) = refl
 
-pub first-of-all : (master : Master) → first_of RULES master ≡ follow_up master
+pub first-of-all : (master : Master) → first_of RULES master ≡ follows_rest master
 first-of-all master =
-    ap (λ last. or_rule (follows_start master) (or_rule (follows_placed master) (or_rule (follows_closing master)
-    (or_rule (follows_shut master) (or_rule (follows_change master) (or_rule (follows_stored master)
-    (or_rule (follows_data master) last))))))) (or-none (follows_replay master))
+    ap (λ last. or_rule (follows_change master) (or_rule (follows_stored master) (or_rule (follows_data master) last)))
+    (or-none (follows_replay master))
 
 abbrev pub rule_at : ℕ → Rule
-rule_at i = get_or RULES i rule.Start
+rule_at i = get_or RULES i rule.Change
 
-from-here : (i : ℕ) (master : Master) → i < 8 → first_of (drop i RULES) master ≡ follow_up master →
-    or_rule (does (rule_at i) master) (first_of (drop (i + 1) RULES) master) ≡ follow_up master
-from-here i master inside left = sym (ap (λ rules. first_of rules master) (drop_more RULES i rule.Start inside)) ∙ left
+from-here : (i : ℕ) (master : Master) → i < 4 → first_of (drop i RULES) master ≡ follows_rest master →
+    or_rule (does (rule_at i) master) (first_of (drop (i + 1) RULES) master) ≡ follows_rest master
+from-here i master inside left = sym (ap (λ rules. first_of rules master) (drop_more RULES i rule.Change inside)) ∙ left
 
 -- what was done is what the first rule that applies does
 pub record IsFirst (start next : Master) (before sent : List Message) : Type 0 where
-  pub applied : true ≡ did (follow_up start)
-  pub state : next ≡ (or_still start (follow_up start)).0
-  pub sends : sent ≡ before ++ (or_still start (follow_up start)).1
+  pub applied : true ≡ did (follows_rest start)
+  pub state : next ≡ (or_still start (follows_rest start)).0
+  pub sends : sent ≡ before ++ (or_still start (follows_rest start)).1
 
 applies : (start next : Master) (before sent : List Message) (one rest : Option (Master × List Message)) →
-    or_rule one rest ≡ follow_up start → true ≡ did one → next ≡ (or_still start one).0 → sent ≡ before ++ (or_still start one).1 →
+    or_rule one rest ≡ follows_rest start → true ≡ did one → next ≡ (or_still start one).0 → sent ≡ before ++ (or_still start one).1 →
     IsFirst start next before sent
 applies start next before sent None rest left is state sends = true_false is
 applies start next before sent (Some done) rest left is state sends = record {
@@ -187,8 +186,8 @@ applies start next before sent (Some done) rest left is state sends = record {
   sends = sends ∙ ap (λ (one : Option (Master × List Message)). before ++ (or_still start one).1) left;
 }
 
-pub rule-applies : (i : ℕ) (start now next : Master) (before sent more : List Message) → i < 8 → now ≡ start → sent ≡ before →
-    first_of (drop i RULES) start ≡ follow_up start → true ≡ did (does (rule_at i) now) →
+pub rule-applies : (i : ℕ) (start now next : Master) (before sent more : List Message) → i < 4 → now ≡ start → sent ≡ before →
+    first_of (drop i RULES) start ≡ follows_rest start → true ≡ did (does (rule_at i) now) →
     next ≡ (or_still now (does (rule_at i) now)).0 → more ≡ sent ++ (or_still now (does (rule_at i) now)).1 →
     IsFirst start next before more
 rule-applies i start now next before sent more inside same unsent left is state sends =
@@ -201,16 +200,16 @@ rule-applies i start now next before sent more inside same unsent left is state 
 pub record IsStill (start next : Master) (before sent : List Message) (rest : Option (Master × List Message)) : Type 0 where
   pub same : next ≡ start
   pub sends : sent ≡ before
-  pub left : rest ≡ follow_up start
+  pub left : rest ≡ follows_rest start
 
 fails : (start next : Master) (before sent : List Message) (one rest : Option (Master × List Message)) →
-    or_rule one rest ≡ follow_up start → false ≡ did one → next ≡ (or_still start one).0 → sent ≡ before ++ (or_still start one).1 →
+    or_rule one rest ≡ follows_rest start → false ≡ did one → next ≡ (or_still start one).0 → sent ≡ before ++ (or_still start one).1 →
     IsStill start next before sent rest
 fails start next before sent None rest left isn't state sends = record { same = state; sends = sends ∙ append-nil before; left = left }
 fails start next before sent (Some done) rest left isn't state sends = true_false (sym isn't)
 
-pub rule-fails : (i : ℕ) (start now next : Master) (before sent more : List Message) → i < 8 → now ≡ start → sent ≡ before →
-    first_of (drop i RULES) start ≡ follow_up start → false ≡ did (does (rule_at i) now) →
+pub rule-fails : (i : ℕ) (start now next : Master) (before sent more : List Message) → i < 4 → now ≡ start → sent ≡ before →
+    first_of (drop i RULES) start ≡ follows_rest start → false ≡ did (does (rule_at i) now) →
     next ≡ (or_still now (does (rule_at i) now)).0 → more ≡ sent ++ (or_still now (does (rule_at i) now)).1 →
     IsStill start next before more (first_of (drop (i + 1) RULES) start)
 rule-fails i start now next before sent more inside same unsent left isn't state sends =

@@ -1,11 +1,16 @@
 -- Rules that may not apply, and the rules until none applies.
-use Rattle.std.specs.Prelude.{Bool, true, false, List, [], ◌∷◌, Option, Some, None}
+use Rattle.std.specs.Prelude.{Bool, true, false, if◌then◌else◌, List, [], ◌∷◌, Option, Some, None}
 use Rattle.rc_types.specs.declared.messages.Message.{Message}
-use Rattle.rc_model.specs.Heads.{begin_roll}
+use Rattle.rc_types.specs.declared.messages.Body.TheVariants.{Ready}
+use Rattle.rc_types.specs.declared.kept.Phase.{Phase}
+use Rattle.rc_types.specs.declared.kept.Phase.TheVariants.{Opening, Closing, Writing}
+use Rattle.rc_model.specs.Messages.{to_coordinator}
+use Rattle.rc_model.specs.Log.{Log, is_writing}
+use Rattle.rc_model.specs.Heads.{begin_roll, left_out}
 use Rattle.rc_model.specs.Master.{Master, dead_segments}
-use Rattle.rc_model.specs.FollowUps.{or_rule, follows_start, follows_placed, follows_closing, follows_shut}
-use Rattle.rc_model.specs.FollowUps.{follows_change, follows_stored, rolls_for_replay, follows_data, follows_replay}
-use Rattle.rc_model.specs.FollowUps.{followed, measure}
+use Rattle.rc_model.specs.FollowUps.{or_rule, follows_start, follows_placed, follows_shut}
+use Rattle.rc_model.specs.FollowUps.{frees_segments, follows_change, follows_stored, rolls_for_replay, follows_data}
+use Rattle.rc_model.specs.FollowUps.{follows_replay, followed, measure}
 use Rattle.rc_master.specs.declared.following.Rule.{Rule}
 use Rattle.rc_master.specs.declared.following.Rule.TheVariants as rule
 
@@ -19,12 +24,28 @@ abbrev pub or_still : Master → Option (Master × List Message) → Master × L
 or_still master None = (master, [])
 or_still master (Some done) = done
 
+-- the phase goes on, by the first, the second or the fourth rule: the first of them that applies
+abbrev pub follows_phase : Master → Option (Master × List Message)
+follows_phase master = or_rule (follows_start master) (or_rule (follows_placed master) (follows_shut master))
+
+-- the rules after that of the phase
+abbrev pub follows_rest : Master → Option (Master × List Message)
+follows_rest master =
+    or_rule (follows_change master) (or_rule (follows_stored master) (or_rule (follows_data master)
+    (follows_replay master)))
+
+-- what a master tells once the phase has gone on: that it is ready, where the first head writes ..
+abbrev pub tells_ready : Log → List Message
+tells_ready log = if is_writing log.phase then to_coordinator log.own Ready ∷ [] else []
+
+-- .. and by the phase that the log was in
+abbrev pub tells_phase : Phase → Log → List Message
+tells_phase Opening log = tells_ready log
+tells_phase Closing log = frees_segments log (left_out log)
+tells_phase Writing log = []
+
 -- what the rule does, where it applies
 abbrev pub does : Rule → Master → Option (Master × List Message)
-does rule.Start master = follows_start master
-does rule.Placed master = follows_placed master
-does rule.Closing master = follows_closing master
-does rule.Shut master = follows_shut master
 does rule.Change master = follows_change master
 does rule.Stored master = follows_stored master
 does rule.Data master = follows_data master

@@ -1,28 +1,26 @@
 //! The rules that a master follows up each input with, but for the replay's.
 
-ghost use Rattle.std.specs.Prelude.{◌≡◌, ◌++◌, [], true, IfOk, OnOk, IfErr};
+ghost use Rattle.std.specs.Prelude.{◌≡◌, ◌++◌, true, false, IfOk, OnOk, IfErr};
 ghost use Rattle.rc_types.specs.declared.faults.Fault.TheVariants.{OutOfMemory};
 ghost use Rattle.rc_model.specs.Log.{has_segment};
-ghost use Rattle.rc_model.specs.FollowUps.{follows_start, follows_placed, follows_closing, follows_shut};
-ghost use Rattle.rc_model.specs.FollowUps.{wants_commit, follows_change, follows_stored, follow_up, marks_shut};
-ghost use Rattle.rc_model.specs.FollowUps.{goes_on};
+ghost use Rattle.rc_model.specs.Heads.{left_out};
+ghost use Rattle.rc_model.specs.FollowUps.{follows_closing, wants_commit, follows_change, follows_stored, follow_up};
+ghost use Rattle.rc_model.specs.FollowUps.{marks_shut, close_is_due, frees_segments, goes_on};
 ghost use Rattle.rc_headroll.specs.LogData.{log_of};
-ghost use Rattle.rc_master.specs.Rules.{did, or_still, does, settled};
+ghost use Rattle.rc_master.specs.Rules.{did, or_still, does, settled, follows_phase, follows_rest};
+ghost use Rattle.rc_master.specs.Rules.{tells_phase, tells_ready};
 ghost use Rattle.rc_master.specs.Quiet.{IsQuiet};
 ghost use Rattle.rc_master.specs.View.{state_view, before_step, IsNoted};
 
 use crate::state::State;
 use rc_lognotes::acknowledge;
 use rc_notices::{add_closes, add_frees, commit, ready};
-use rc_types::{Fault, Message};
+use rc_types::{Fault, Message, Phase};
+use std::alloc::AllocError;
 
-/// A rule that a master follows up with.
+/// A rule that a master follows up with, of those that come after the rules of the phase.
 #[derive(Clone, Copy)]
 enum Rule {
-    Start,
-    Placed,
-    Closing,
-    Shut,
     Change,
     Stored,
     Data,
@@ -30,53 +28,61 @@ enum Rule {
 }
 
 /// Each of them, in the order in which they are tried.
-const RULES: [Rule; 8] = [
-    Rule::Start,
-    Rule::Placed,
-    Rule::Closing,
-    Rule::Shut,
-    Rule::Change,
-    Rule::Stored,
-    Rule::Data,
-    Rule::Replay,
-];
+const RULES: [Rule; 4] = [Rule::Change, Rule::Stored, Rule::Data, Rule::Replay];
 
 impl State {
-    /// The first head writes, once it is placed on all its members: the master is ready.
-    fn follow_start(&mut self, sent: &mut Vec<Message>) -> Result<bool, Fault>
+    /// What is shut is marked, and the phase goes on, if it may. The first head writes, once it is placed
+    /// on all its members: the master is ready. The old head is to be closed, once the new one is placed on
+    /// all its members. The new head writes, once the old one is shut and the new one is placed under a
+    /// committed epoch: segments that its digest leaves out are freed.
+    fn follow_phase(&mut self, sent: &mut Vec<Message>) -> Result<bool, Fault>
         requires noted { IsNoted self.old }
-        ensures applied { IfOk result (λ applied. applied ≡ did (follows_start (state_view self.old))) }
+        ensures applied { IfOk result (λ applied. applied ≡ did (follows_phase (marks_shut (state_view self.old)))) }
         ensures state { OnOk result
-            (state_view self.new ≡ (or_still (state_view self.old) (follows_start (state_view self.old))).0) }
+            (state_view self.new ≡ (or_still (marks_shut (state_view self.old))
+            (follows_phase (marks_shut (state_view self.old)))).0) }
         ensures sends { OnOk result (sent.new.items ≡ sent.old.items ++
-            (or_still (state_view self.old) (follows_start (state_view self.old))).1) }
+            (or_still (marks_shut (state_view self.old)) (follows_phase (marks_shut (state_view self.old)))).1) }
         ensures noted { OnOk result (IsNoted self.new) }
         ensures before { before_step self.new ≡ before_step self.old }
         ensures no_memory { IfErr result (λ fault. fault ≡ OutOfMemory) }
     {
-        if !self.log.may_start() {
+        let was = self.log.phase();
+        if !self.log.advance() {
             return Ok(false);
         }
-        sent.push(ready(self.log.own()))?;
-        self.log.start();
+        self.tell_phase(was, sent)?;
         Ok(true)
     }
 
-    /// The old head is to be closed, once the new one is placed on all its members.
-    fn follow_placed(&mut self) -> bool
-        requires noted { IsNoted self.old }
-        ensures applied { result ≡ did (follows_placed (state_view self.old)) }
-        ensures state { state_view
-            self.new ≡ (or_still (state_view self.old) (follows_placed (state_view self.old))).0 }
-        ensures silent { (or_still (state_view self.old) (follows_placed (state_view self.old))).1 ≡ [] }
-        ensures noted { IsNoted self.new }
-        ensures before { before_step self.new ≡ before_step self.old }
+    /// Tells what comes of it that the phase has gone on from this one.
+    fn tell_phase(&self, was: Phase, sent: &mut Vec<Message>) -> Result<(), AllocError>
+        ensures { OnOk result (sent.new.items ≡ sent.old.items ++ tells_phase was (log_of self.now.log)) }
     {
-        if !self.log.may_close() {
-            return false;
+        match was {
+            Phase::Opening => self.tell_ready(sent),
+            Phase::Closing => self.tell_freed(sent),
+            Phase::Writing => Ok(()),
         }
-        self.log.close_old();
-        true
+    }
+
+    /// Tells that the master is ready, if its first head writes.
+    fn tell_ready(&self, sent: &mut Vec<Message>) -> Result<(), AllocError>
+        ensures { OnOk result (sent.new.items ≡ sent.old.items ++ tells_ready (log_of self.now.log)) }
+    {
+        if self.log.is_writing() {
+            sent.push(ready(self.log.own()))?;
+        }
+        Ok(())
+    }
+
+    /// Frees the segments that the head's digest leaves out, at their members.
+    fn tell_freed(&self, sent: &mut Vec<Message>) -> Result<(), AllocError>
+        ensures { OnOk result (sent.new.items ≡ sent.old.items ++
+            frees_segments (log_of self.now.log) (left_out (log_of self.now.log))) }
+    {
+        let freed = self.log.left_out(self.alloc)?;
+        add_frees(&self.log, freed.as_slice(), sent)
     }
 
     /// Close goes to each old member, once under each committed epoch.
@@ -99,28 +105,6 @@ impl State {
         Ok(true)
     }
 
-    /// The new head writes, once the old one is shut and the new one is placed under a committed epoch;
-    /// segments that its digest leaves out are freed.
-    fn follow_shut(&mut self, sent: &mut Vec<Message>) -> Result<bool, Fault>
-        requires noted { IsNoted self.old }
-        ensures applied { IfOk result (λ applied. applied ≡ did (follows_shut (state_view self.old))) }
-        ensures state { OnOk result
-            (state_view self.new ≡ (or_still (state_view self.old) (follows_shut (state_view self.old))).0) }
-        ensures sends { OnOk result (sent.new.items ≡ sent.old.items ++
-            (or_still (state_view self.old) (follows_shut (state_view self.old))).1) }
-        ensures noted { OnOk result (IsNoted self.new) }
-        ensures before { before_step self.new ≡ before_step self.old }
-        ensures no_memory { IfErr result (λ fault. fault ≡ OutOfMemory) }
-    {
-        if !self.log.may_write() {
-            return Ok(false);
-        }
-        let freed = self.log.left_out(self.alloc)?;
-        add_frees(&self.log, freed.as_slice(), sent)?;
-        self.log.write_on(freed.as_slice())?;
-        Ok(true)
-    }
-
     /// Commit of the first segment that isn't shut, where its members have changed and all have it.
     fn follow_change(&mut self, sent: &mut Vec<Message>) -> Result<bool, Fault>
         requires noted { IsNoted self.old }
@@ -140,7 +124,7 @@ impl State {
             return Ok(false);
         }
         sent.push(commit(&self.log, seg))?;
-        self.log.mark_commit_sent(seg)?;
+        self.log.mark_commit_sent(seg);
         Ok(true)
     }
 
@@ -175,7 +159,8 @@ impl State {
     }
 
     /// The first rule that applies is made, after what has become shut was marked. The answer says
-    /// whether one did.
+    /// whether one did. Where a Close is due, no rule before that one applies, and it comes before the
+    /// last of the phase's rules.
     fn follow_up(&mut self, sent: &mut Vec<Message>) -> Result<bool, Fault>
         requires noted { IsNoted self.old }
         ensures applied { IfOk result (λ applied. applied ≡ did (follow_up (marks_shut (state_view self.old)))) }
@@ -188,18 +173,59 @@ impl State {
         ensures before { before_step self.new ≡ before_step self.old }
         ensures no_memory { IfErr result (λ fault. fault ≡ OutOfMemory) }
     {
+        if self.log.close_is_due() {
+            self.follow_due(sent)
+        } else {
+            self.follow_undue(sent)
+        }
+    }
+
+    /// The first rule that applies where a Close is due: after the mark that one.
+    fn follow_due(&mut self, sent: &mut Vec<Message>) -> Result<bool, Fault>
+        requires noted { IsNoted self.old }
+        requires due { close_is_due (log_of self.old.log) ≡ true }
+        ensures applied { IfOk result (λ applied. applied ≡ did (follow_up (marks_shut (state_view self.old)))) }
+        ensures state { OnOk result
+            (state_view self.new ≡ (or_still (marks_shut (state_view self.old))
+            (follow_up (marks_shut (state_view self.old)))).0) }
+        ensures sends { OnOk result (sent.new.items ≡ sent.old.items ++
+            (or_still (marks_shut (state_view self.old)) (follow_up (marks_shut (state_view self.old)))).1) }
+        ensures noted { OnOk result (IsNoted self.new) }
+        ensures before { before_step self.new ≡ before_step self.old }
+        ensures no_memory { IfErr result (λ fault. fault ≡ OutOfMemory) }
+    {
         self.log.mark_shut();
+        self.follow_closing(sent)
+    }
+
+    /// The first rule that applies where no Close is due: after the mark one of the phase, or else another.
+    fn follow_undue(&mut self, sent: &mut Vec<Message>) -> Result<bool, Fault>
+        requires noted { IsNoted self.old }
+        requires undue { close_is_due (log_of self.old.log) ≡ false }
+        ensures applied { IfOk result (λ applied. applied ≡ did (follow_up (marks_shut (state_view self.old)))) }
+        ensures state { OnOk result
+            (state_view self.new ≡ (or_still (marks_shut (state_view self.old))
+            (follow_up (marks_shut (state_view self.old)))).0) }
+        ensures sends { OnOk result (sent.new.items ≡ sent.old.items ++
+            (or_still (marks_shut (state_view self.old)) (follow_up (marks_shut (state_view self.old)))).1) }
+        ensures noted { OnOk result (IsNoted self.new) }
+        ensures before { before_step self.new ≡ before_step self.old }
+        ensures no_memory { IfErr result (λ fault. fault ≡ OutOfMemory) }
+    {
+        if self.follow_phase(sent)? {
+            return Ok(true);
+        }
         self.follow_first(sent)
     }
 
-    /// The first of the rules that applies.
+    /// The first that applies of the rules after those of the phase.
     fn follow_first(&mut self, sent: &mut Vec<Message>) -> Result<bool, Fault>
         requires noted { IsNoted self.old }
-        ensures applied { IfOk result (λ applied. applied ≡ did (follow_up (state_view self.old))) }
+        ensures applied { IfOk result (λ applied. applied ≡ did (follows_rest (state_view self.old))) }
         ensures state { OnOk result
-            (state_view self.new ≡ (or_still (state_view self.old) (follow_up (state_view self.old))).0) }
+            (state_view self.new ≡ (or_still (state_view self.old) (follows_rest (state_view self.old))).0) }
         ensures sends { OnOk result (sent.new.items ≡ sent.old.items ++
-            (or_still (state_view self.old) (follow_up (state_view self.old))).1) }
+            (or_still (state_view self.old) (follows_rest (state_view self.old))).1) }
         ensures noted { OnOk result (IsNoted self.new) }
         ensures before { before_step self.new ≡ before_step self.old }
         ensures no_memory { IfErr result (λ fault. fault ≡ OutOfMemory) }
@@ -225,10 +251,6 @@ impl State {
         ensures no_memory { IfErr result (λ fault. fault ≡ OutOfMemory) }
     {
         match rule {
-            Rule::Start => self.follow_start(sent),
-            Rule::Placed => Ok(self.follow_placed()),
-            Rule::Closing => self.follow_closing(sent),
-            Rule::Shut => self.follow_shut(sent),
             Rule::Change => self.follow_change(sent),
             Rule::Stored => self.follow_stored(sent),
             Rule::Data => self.follow_data(sent),

@@ -68,8 +68,14 @@ impl State {
                     len,
                     closed,
                 },
-            ) => self.take_stored(id, *seg, *epoch, *len, *closed),
-            (_, Body::CommitOk { seg, epoch }) => self.take_committed(*seg, *epoch),
+            ) => {
+                self.take_stored(id, *seg, *epoch, *len, *closed);
+                Ok(())
+            }
+            (_, Body::CommitOk { seg, epoch }) => {
+                self.take_committed(*seg, *epoch);
+                Ok(())
+            }
             (
                 _,
                 Body::Plan {

@@ -12,7 +12,7 @@ use crate::state::State;
 use rc_types::{Entry, Fault, ServerId};
 
 impl State {
-    /// What a member stores of a segment.
+    /// What a member stores of a segment. It takes no memory.
     pub(crate) fn take_stored(
         &mut self,
         from: ServerId,
@@ -20,29 +20,25 @@ impl State {
         epoch: u16,
         len: usize,
         closed: bool,
-    ) -> Result<(), Fault>
+    )
         requires noted { IsNoted self.old }
-        ensures state { OnOk result (state_view self.new ≡ with_log (state_view self.old)
-            (stored seg from epoch len closed (log_of self.old.log))) }
-        ensures noted { OnOk result (IsNoted self.new) }
+        ensures state { state_view self.new ≡ with_log (state_view self.old)
+            (stored seg from epoch len closed (log_of self.old.log)) }
+        ensures noted { IsNoted self.new }
         ensures before { before_step self.new ≡ before_step self.old }
-        ensures no_memory { IfErr result (λ fault. fault ≡ OutOfMemory) }
     {
-        self.log.stored(seg, from, epoch, len, closed)?;
-        Ok(())
+        self.log.stored(seg, from, epoch, len, closed);
     }
 
-    /// An epoch of a segment is committed.
-    pub(crate) fn take_committed(&mut self, seg: u16, epoch: u16) -> Result<(), Fault>
+    /// An epoch of a segment is committed. It takes no memory.
+    pub(crate) fn take_committed(&mut self, seg: u16, epoch: u16)
         requires noted { IsNoted self.old }
-        ensures state { OnOk result (state_view self.new ≡ with_log (state_view self.old)
-            (commit_noted seg epoch (log_of self.old.log))) }
-        ensures noted { OnOk result (IsNoted self.new) }
+        ensures state { state_view self.new ≡ with_log (state_view self.old)
+            (commit_noted seg epoch (log_of self.old.log)) }
+        ensures noted { IsNoted self.new }
         ensures before { before_step self.new ≡ before_step self.old }
-        ensures no_memory { IfErr result (λ fault. fault ≡ OutOfMemory) }
     {
-        self.log.committed_at(seg, epoch)?;
-        Ok(())
+        self.log.committed_at(seg, epoch);
     }
 
     /// The entries of a row of a crashed master's log.

@@ -5,8 +5,11 @@ use Rattle.rc_headroll.proofs.before.put_others_back.Given as goal
 
 -- once the others are put back too, all of them are
 abbrev pub invariant-loop-seg : goal.invariant-loop-seg
-invariant-loop-seg l =
-    others_back l.fn.head l.others.entries (segment_at l.segments) ≡ others_back l.fn.head l.fn.others.entries (segment_at l.fn.segments)
+invariant-loop-seg l = record {
+  back : others_back l.fn.head l.others.kept (segment_at l.segments)
+      ≡ others_back l.fn.head l.fn.others.kept (segment_at l.fn.segments);
+  room : l.others.room ≡ l.fn.others.room;
+}
 
 abbrev pub decreases-loop-seg : goal.decreases-loop-seg
-decreases-loop-seg l = length l.others.entries
+decreases-loop-seg l = length l.others.kept

@@ -1,4 +1,4 @@
-use Rattle.std.proofs.Common.{◌≡◌, true, length, sym}
+use Rattle.std.proofs.Common.{◌≡◌, true, length, sym, arith}
 use Rattle.rc_model.specs.Log.{has_segment}
 use Rattle.rc_segment.specs.Lists.{segment_at}
 use Rattle.rc_headroll.specs.LogData.{log_of}
@@ -15,15 +15,16 @@ invariant_of-self c =
     let has : true ≡ has_segment (log_of c.args.self.now) c.args.seg = sym c.requires in
     let at = seg_place (the_view c.self.inside) c.args.seg c.from.result (rw (← c.self.view_is) at has) c.from.ensures in
     let read = segment_at-read c.self.inside.segments.items c.args.seg _ c.index.result.now at.0 at.1 c.index.ensures in (
-      sound-kept (the_view c.self.inside) c.self.inside.passed c.self.inside.passed_entries c.keep.new.self c.self.invariant.0
-          (keep-keeps c.self.inside.before c.keep.new.self (length c.self.inside.segments.items)
+      sound-kept (the_view c.self.inside) c.self.inside.passed c.self.inside.passed_entries c.keep.new.self.mark c.self.invariant.0
+          (keep-keeps c.self.inside.before.mark c.keep.new.self.mark (length c.self.inside.segments.items)
           (segment_at c.self.inside.segments.items) c.args.seg c.index.result.now
-          c.self.invariant.0.back read c.keep.result c.keep.ensures.ok c.keep.ensures.err),
-      watched-kept (the_view c.self.inside) c.keep.new.self c.self.invariant.1
-          (before_of-kept (the_view c.self.inside) c.keep.new.self
-          (keep-keeps c.self.inside.before c.keep.new.self (length c.self.inside.segments.items)
+          c.self.invariant.0.back read c.keep.ensures.mark),
+      watched-kept (the_view c.self.inside) c.keep.new.self.mark c.self.invariant.1
+          (before_of-kept (the_view c.self.inside) c.keep.new.self.mark
+          (keep-keeps c.self.inside.before.mark c.keep.new.self.mark (length c.self.inside.segments.items)
           (segment_at c.self.inside.segments.items) c.args.seg c.index.result.now
-          c.self.invariant.0.back read c.keep.result c.keep.ensures.ok c.keep.ensures.err)),
+          c.self.invariant.0.back read c.keep.ensures.mark)),
+      omega (arith, c.self.invariant.2, c.keep.ensures.room),
     )
 
 pub returns-clause-before : goal.returns-clause-before
@@ -32,10 +33,10 @@ returns-clause-before c =
     let at = seg_place (the_view c.self.inside) c.args.seg c.from.result (rw (← c.self.view_is) at has) c.from.ensures in
     let read = segment_at-read c.self.inside.segments.items c.args.seg _ c.index.result.now at.0 at.1 c.index.ensures in
     rw (← c.self.view_is)
-    (before_of-kept (the_view c.self.inside) c.keep.new.self
-    (keep-keeps c.self.inside.before c.keep.new.self (length c.self.inside.segments.items)
+    (before_of-kept (the_view c.self.inside) c.keep.new.self.mark
+    (keep-keeps c.self.inside.before.mark c.keep.new.self.mark (length c.self.inside.segments.items)
     (segment_at c.self.inside.segments.items) c.args.seg c.index.result.now
-    c.self.invariant.0.back read c.keep.result c.keep.ensures.ok c.keep.ensures.err))
+    c.self.invariant.0.back read c.keep.ensures.mark))
 
 pub returns-clause-kept : goal.returns-clause-kept
 returns-clause-kept c =
@@ -44,16 +45,6 @@ returns-clause-kept c =
     let at = seg_place (the_view c.self.inside) c.args.seg c.from.result has' c.from.ensures in
     let read = segment_at-read c.self.inside.segments.items c.args.seg _ c.index.result.now at.0 at.1 c.index.ensures in
     let parts = has-parts (log_of (the_view c.self.inside)) c.args.seg (sym has') in
-    keep-kept c.self.inside.before c.keep.new.self (length c.self.inside.segments.items)
+    keep-kept c.self.inside.before.mark c.keep.new.self.mark (length c.self.inside.segments.items)
     (segment_at c.self.inside.segments.items) c.args.seg c.index.result.now
-    c.self.invariant.0.back read c.keep.result parts.0 c.keep.ensures.ok
-
-pub returns-clause-others : goal.returns-clause-others
-returns-clause-others c =
-    let has : true ≡ has_segment (log_of c.args.self.now) c.args.seg = sym c.requires in
-    let at = seg_place (the_view c.self.inside) c.args.seg c.from.result (rw (← c.self.view_is) at has) c.from.ensures in
-    let read = segment_at-read c.self.inside.segments.items c.args.seg _ c.index.result.now at.0 at.1 c.index.ensures in
-    let keeps = keep-keeps c.self.inside.before c.keep.new.self (length c.self.inside.segments.items)
-    (segment_at c.self.inside.segments.items) c.args.seg c.index.result.now
-    c.self.invariant.0.back read c.keep.result c.keep.ensures.ok c.keep.ensures.err in
-    rw (← c.self.view_is) keeps.others
+    c.self.invariant.0.back read c.keep.ensures.mark parts.0

@@ -34,4 +34,5 @@ invariant_of-self c =
           c.shut_front-front.result.segments c.shut_front-front.result.entries
           c.self.invariant.0.now known' shut' is' (rw (is', now') least)),
       watched-durable kept c.self.inside.phase c.durable_now-self-inside.result c.self.invariant.1,
+      c.self.invariant.2,
     )

@@ -8,6 +8,7 @@ use Rattle.rc_headroll.specs.contracts.log.LogHead.{the_view}
 use Rattle.rc_headroll.proofs.LogChanges.{lose_keeps, lose_ok, lose_err}
 use Rattle.rc_headroll.proofs.StillBefore.{written-sound, written-before}
 use Rattle.rc_headroll.proofs.WatchLemmas.{watched-awake, roused-set}
+use Rattle.rc_headroll.proofs.OthersLemmas.{room-set}
 use Rattle.rc_headroll.proofs.log.LogHead.lose_members.Goals as goal
 
 pub invariant_of-self : goal.invariant_of-self
@@ -29,6 +30,7 @@ invariant_of-self c =
           (lose_keeps c.self.inside.own c.args.servers.now c.lose.new.self was c.lose.result c.lose.ensures.ok c.lose.ensures.err)
           (rw (← c.self.view_is) at kept))
           (rw (← c.self.view_is) at awake),
+      room-set c.self.inside.segments.items _ _ _ c.self.invariant.2,
     )
 
 pub returns-clause-before : goal.returns-clause-before

@@ -7,6 +7,7 @@ use Rattle.rc_headroll.proofs.LogChanges.{keeps_from}
 use Rattle.rc_headroll.proofs.LogSteps.{commit-marked}
 use Rattle.rc_headroll.proofs.StillBefore.{written-sound, written-before}
 use Rattle.rc_headroll.proofs.WatchLemmas.{watched-written, wants-same}
+use Rattle.rc_headroll.proofs.OthersLemmas.{room-set}
 use Rattle.rc_headroll.proofs.log.LogHead.mark_commit.Goals as goal
 
 pub invariant_of-self : goal.invariant_of-self
@@ -27,6 +28,7 @@ invariant_of-self c =
           (keeps_from c.mark_commit_sent.new.self was _ c.mark_commit_sent.ensures refl refl refl)
           (rw (← c.self.view_is) at kept))
           (wants-same was c.mark_commit_sent.new.self _ c.mark_commit_sent.ensures refl refl refl),
+      room-set c.self.inside.segments.items _ _ _ c.self.invariant.2,
     )
 
 pub returns-clause-before : goal.returns-clause-before

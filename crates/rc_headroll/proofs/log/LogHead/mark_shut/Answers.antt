@@ -5,6 +5,7 @@ use Rattle.rc_headroll.specs.contracts.log.LogHead.{the_view}
 use Rattle.rc_headroll.proofs.LogSteps.{sound-shut_marked, shut-marked, shuts-parts}
 use Rattle.rc_headroll.proofs.StillBefore.{old_head-sound, old_head-before}
 use Rattle.rc_headroll.proofs.WatchLemmas.{watched-still, wants-shut}
+use Rattle.rc_headroll.proofs.OthersLemmas.{room-set}
 use Rattle.rc_headroll.proofs.log.LogHead.mark_shut.Goals as goal
 
 pub invariant_of-self : goal.invariant_of-self
@@ -27,6 +28,7 @@ invariant_of-self c =
           c.mark_shut.new.self c.index_mut.result.now c.self.invariant.0 more is c.index_mut.ensures.value
           (ap (λ (s : Segment). s.entries) c.mark_shut.ensures) (ap (λ (s : Segment). s.digest) c.mark_shut.ensures))
           (wants-shut c.index_mut.result.now c.mark_shut.new.self c.mark_shut.ensures),
+      room-set c.self.inside.segments.items _ _ _ c.self.invariant.2,
     )
 
 pub returns-then-shuts-clause-state : goal.returns-then-shuts-clause-state

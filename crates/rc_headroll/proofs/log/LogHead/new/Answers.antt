@@ -1,4 +1,4 @@
-use Rattle.std.proofs.Common.{length, ap}
+use Rattle.std.proofs.Common.{length, ap, arith}
 use Rattle.rc_headroll.specs.Before.{Mark}
 use Rattle.rc_headroll.proofs.LogTables.{log_of-nil}
 use Rattle.rc_headroll.proofs.SoundBefore.{before_of-nil, sound_log-new}
@@ -10,6 +10,7 @@ invariant_of-result c = (
   rw (c.new-2.ensures, c.new.ensures.items)
       (sound_log-new c.args.own c.args.factor c.args.size c.new-3.result c.requires.factor c.requires.size),
   watched-none _ (ap length c.new.ensures.items) (ap (λ (m : Mark). m.head) c.new-2.ensures),
+  omega (arith, ap length c.new.ensures.items),
 )
 
 pub returns-clause-log : goal.returns-clause-log

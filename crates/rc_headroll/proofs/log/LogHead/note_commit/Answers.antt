@@ -6,6 +6,7 @@ use Rattle.rc_headroll.specs.contracts.log.LogHead.{the_view}
 use Rattle.rc_headroll.proofs.LogChanges.{commit_noted-written, keeps_from}
 use Rattle.rc_headroll.proofs.StillBefore.{written-sound, written-before}
 use Rattle.rc_headroll.proofs.WatchLemmas.{watched-written, wants-committed}
+use Rattle.rc_headroll.proofs.OthersLemmas.{room-set}
 use Rattle.rc_headroll.proofs.log.LogHead.note_commit.Goals as goal
 
 pub invariant_of-self : goal.invariant_of-self
@@ -26,6 +27,7 @@ invariant_of-self c =
           (keeps_from c.committed_at.new.self was _ c.committed_at.ensures refl refl refl)
           (rw (← c.self.view_is) at kept))
           (wants-committed c.args.epoch was c.committed_at.new.self c.committed_at.ensures),
+      room-set c.self.inside.segments.items _ _ _ c.self.invariant.2,
     )
 
 pub returns-clause-noted : goal.returns-clause-noted

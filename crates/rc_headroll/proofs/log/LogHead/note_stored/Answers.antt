@@ -6,6 +6,7 @@ use Rattle.rc_headroll.specs.contracts.log.LogHead.{the_view}
 use Rattle.rc_headroll.proofs.LogChanges.{stored-written, notes-written, keeps_from}
 use Rattle.rc_headroll.proofs.StillBefore.{written-sound, written-before}
 use Rattle.rc_headroll.proofs.WatchLemmas.{watched-written, wants-noted}
+use Rattle.rc_headroll.proofs.OthersLemmas.{room-set}
 use Rattle.rc_headroll.proofs.log.LogHead.note_stored.Goals as goal
 
 pub invariant_of-self : goal.invariant_of-self
@@ -26,6 +27,7 @@ invariant_of-self c =
           (keeps_from c.stored.new.self was _ c.stored.ensures.noted refl refl refl)
           (rw (← c.self.view_is) at kept))
           (wants-noted c.args.from c.args.epoch c.args.len c.args.closed was c.stored.new.self c.stored.ensures.noted),
+      room-set c.self.inside.segments.items _ _ _ c.self.invariant.2,
     )
 
 pub returns-clause-before : goal.returns-clause-before

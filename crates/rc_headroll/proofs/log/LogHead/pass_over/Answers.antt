@@ -14,4 +14,5 @@ invariant_of-self c =
       sound-watch (the_view c.self.inside) c.self.inside.passed c.self.inside.passed_entries c.let_go.new.self c.self.invariant.0,
       watched-let_go (the_view c.self.inside) c.let_go.new.self c.args.seg c.self.invariant.1 (rw (← c.self.view_is) at same)
           c.let_go.ensures.filed (rw (← c.self.view_is) at nothing) (rw (← c.self.view_is) at filed) c.let_go.ensures.awake,
+      c.self.invariant.2,
     )

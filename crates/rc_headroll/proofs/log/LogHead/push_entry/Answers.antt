@@ -5,6 +5,7 @@ use Rattle.rc_headroll.specs.contracts.log.LogHead.{the_view}
 use Rattle.rc_headroll.proofs.LogChanges.{append-possible, appended}
 use Rattle.rc_headroll.proofs.StillBefore.{pushed-sound, pushed-before}
 use Rattle.rc_headroll.proofs.WatchLemmas.{watched-still, wants-same}
+use Rattle.rc_headroll.proofs.OthersLemmas.{room-set}
 use Rattle.rc_headroll.proofs.log.LogHead.push_entry.Goals as goal
 
 pub invariant_of-self-2 : goal.invariant_of-self-2
@@ -25,6 +26,7 @@ invariant_of-self-2 c =
           c.args.entry c.args.client c.push.new.self c.index_mut.result.now
           c.self.invariant.0 (rw (← c.self.view_is) at possible) last c.index_mut.ensures.value c.in_ok-push.ensures.ok)
           (wants-same c.index_mut.result.now c.push.new.self _ c.in_ok-push.ensures.ok refl refl refl),
+      room-set c.self.inside.segments.items _ _ _ c.self.invariant.2,
     )
 
 pub returns-clause-state : goal.returns-clause-state

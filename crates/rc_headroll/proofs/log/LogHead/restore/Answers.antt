@@ -1,4 +1,4 @@
-use Rattle.std.proofs.Common.{◌≡◌, ℕ, length, take, List, refl, ap, ◌∙◌, sym}
+use Rattle.std.proofs.Common.{◌≡◌, ℕ, length, take, List, refl, ap, ◌∙◌, sym, arith, length-take}
 use Rattle.std.proofs.lemmas.List.{with_items_is}
 use Rattle.rc_model.specs.Segment.{Segment}
 use Rattle.rc_segment.specs.Lists.{segment_at}
@@ -13,29 +13,31 @@ invariant_of-self c =
     let cut = c.truncate.ensures.items ∙ ap (λ (head : ℕ). take head c.self.inside.segments.items) c.head.ensures in
     let len : length c.put_back.new.segments ≡ length c.truncate.new.self.items =
     c.put_back.auto.segments ∙ ap length c.as_mut_slice.ensures.value in
-    let table = c.put_back.ensures ∙ ap (λ (ss : List Segment). segments_before c.self.inside.before (segment_at ss))
+    let table = c.put_back.ensures.back ∙ ap (λ (ss : List Segment). segments_before c.self.inside.before.mark (segment_at ss))
     c.as_mut_slice.ensures.value in
     let all = with_items_is c.truncate.new.self c.put_back.new.segments (len ∙ sym c.truncate.new.self.ok.0) in (
       restored-sound (the_view c.self.inside) c.truncate.new.self.items c.put_back.new.segments _
           c.phase-self-inside.result c.durable-self-inside.result
-          c.passed-self-inside.result c.passed_entries-self-inside.result c.begin.new.self c.self.invariant.0.back.known cut len table all
+          c.passed-self-inside.result c.passed_entries-self-inside.result c.begin.new.self.mark c.self.invariant.0.back.known cut len table all
           c.phase-self-inside.ensures c.durable-self-inside.ensures c.passed-self-inside.ensures c.passed_entries-self-inside.ensures
           c.self.inside.passed c.self.inside.passed_entries c.self.invariant.0
-          (c.begin.ensures ∙ ap (λ (ss : List Segment). mark_of ss c.phase-self-inside.result c.durable-self-inside.result
+          (c.begin.ensures.mark ∙ ap (λ (ss : List Segment). mark_of ss c.phase-self-inside.result c.durable-self-inside.result
           c.passed-self-inside.result c.passed_entries-self-inside.result)
           c.as_slice.ensures.value),
       watched-restored (the_view c.self.inside) _ c.self.invariant.1 refl
           (restored-log (the_view c.self.inside) c.truncate.new.self.items c.put_back.new.segments _
           c.phase-self-inside.result c.durable-self-inside.result
-          c.passed-self-inside.result c.passed_entries-self-inside.result c.begin.new.self c.self.invariant.0.back.known cut len table all
+          c.passed-self-inside.result c.passed_entries-self-inside.result c.begin.new.self.mark c.self.invariant.0.back.known cut len table all
           c.phase-self-inside.ensures c.durable-self-inside.ensures c.passed-self-inside.ensures c.passed_entries-self-inside.ensures)
           (restored-before (the_view c.self.inside) c.truncate.new.self.items c.put_back.new.segments _
           c.phase-self-inside.result c.durable-self-inside.result
-          c.passed-self-inside.result c.passed_entries-self-inside.result c.begin.new.self c.self.invariant.0.back.known cut len table all
+          c.passed-self-inside.result c.passed_entries-self-inside.result c.begin.new.self.mark c.self.invariant.0.back.known cut len table all
           c.phase-self-inside.ensures c.durable-self-inside.ensures c.passed-self-inside.ensures c.passed_entries-self-inside.ensures
-          (c.begin.ensures ∙ ap (λ (ss : List Segment). mark_of ss c.phase-self-inside.result c.durable-self-inside.result
+          (c.begin.ensures.mark ∙ ap (λ (ss : List Segment). mark_of ss c.phase-self-inside.result c.durable-self-inside.result
           c.passed-self-inside.result c.passed_entries-self-inside.result)
           c.as_slice.ensures.value)),
+      omega (arith, c.self.invariant.2, len, ap length cut, length-take c.self.inside.before.mark.head c.self.inside.segments.items,
+          ap length all, c.begin.ensures.room, c.put_back.ensures.room),
     )
 
 pub returns-clause-log : goal.returns-clause-log
@@ -43,13 +45,13 @@ returns-clause-log c =
     let cut = c.truncate.ensures.items ∙ ap (λ (head : ℕ). take head c.self.inside.segments.items) c.head.ensures in
     let len : length c.put_back.new.segments ≡ length c.truncate.new.self.items =
     c.put_back.auto.segments ∙ ap length c.as_mut_slice.ensures.value in
-    let table = c.put_back.ensures ∙ ap (λ (ss : List Segment). segments_before c.self.inside.before (segment_at ss))
+    let table = c.put_back.ensures.back ∙ ap (λ (ss : List Segment). segments_before c.self.inside.before.mark (segment_at ss))
     c.as_mut_slice.ensures.value in
     let all = with_items_is c.truncate.new.self c.put_back.new.segments (len ∙ sym c.truncate.new.self.ok.0) in
     rw (← c.self.view_is)
     (restored-log (the_view c.self.inside) c.truncate.new.self.items c.put_back.new.segments _
     c.phase-self-inside.result c.durable-self-inside.result
-    c.passed-self-inside.result c.passed_entries-self-inside.result c.begin.new.self c.self.invariant.0.back.known cut len table all
+    c.passed-self-inside.result c.passed_entries-self-inside.result c.begin.new.self.mark c.self.invariant.0.back.known cut len table all
     c.phase-self-inside.ensures c.durable-self-inside.ensures c.passed-self-inside.ensures c.passed_entries-self-inside.ensures)
 
 pub returns-clause-before : goal.returns-clause-before
@@ -57,14 +59,23 @@ returns-clause-before c =
     let cut = c.truncate.ensures.items ∙ ap (λ (head : ℕ). take head c.self.inside.segments.items) c.head.ensures in
     let len : length c.put_back.new.segments ≡ length c.truncate.new.self.items =
     c.put_back.auto.segments ∙ ap length c.as_mut_slice.ensures.value in
-    let table = c.put_back.ensures ∙ ap (λ (ss : List Segment). segments_before c.self.inside.before (segment_at ss))
+    let table = c.put_back.ensures.back ∙ ap (λ (ss : List Segment). segments_before c.self.inside.before.mark (segment_at ss))
     c.as_mut_slice.ensures.value in
     let all = with_items_is c.truncate.new.self c.put_back.new.segments (len ∙ sym c.truncate.new.self.ok.0) in
     rw (← c.self.view_is)
     (restored-before (the_view c.self.inside) c.truncate.new.self.items c.put_back.new.segments _
     c.phase-self-inside.result c.durable-self-inside.result
-    c.passed-self-inside.result c.passed_entries-self-inside.result c.begin.new.self c.self.invariant.0.back.known cut len table all
+    c.passed-self-inside.result c.passed_entries-self-inside.result c.begin.new.self.mark c.self.invariant.0.back.known cut len table all
     c.phase-self-inside.ensures c.durable-self-inside.ensures c.passed-self-inside.ensures c.passed_entries-self-inside.ensures
-    (c.begin.ensures ∙ ap (λ (ss : List Segment). mark_of ss c.phase-self-inside.result c.durable-self-inside.result
+    (c.begin.ensures.mark ∙ ap (λ (ss : List Segment). mark_of ss c.phase-self-inside.result c.durable-self-inside.result
     c.passed-self-inside.result c.passed_entries-self-inside.result)
     c.as_slice.ensures.value))
+
+pub begin-requires : goal.begin-requires
+begin-requires c =
+    let cut = c.truncate.ensures.items ∙ ap (λ (head : ℕ). take head c.self.inside.segments.items) c.head.ensures in
+    let len : length c.put_back.new.segments ≡ length c.truncate.new.self.items =
+    c.put_back.auto.segments ∙ ap length c.as_mut_slice.ensures.value in
+    let all = with_items_is c.truncate.new.self c.put_back.new.segments (len ∙ sym c.truncate.new.self.ok.0) in
+    omega (arith, c.self.invariant.2, len, ap length cut, length-take c.self.inside.before.mark.head c.self.inside.segments.items,
+    ap length all, ap length c.as_slice.ensures.value, c.put_back.ensures.room)

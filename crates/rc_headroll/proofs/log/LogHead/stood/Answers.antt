@@ -10,7 +10,7 @@ use Rattle.rc_headroll.proofs.log.LogHead.stood.Goals as goal
 pub returns-in-None : goal.returns-in-None
 returns-in-None c =
     let above : 0 < c.args.seg = omega (arith, c.if-seg-eq0.false) in
-    let within : c.args.seg ≤ c.self.inside.before.head = omega (arith, c.if-head-from.false, c.head.ensures, c.from.ensures) in
+    let within : c.args.seg ≤ c.self.inside.before.mark.head = omega (arith, c.if-head-from.false, c.head.ensures, c.from.ensures) in
     let inside : c.from-2.result - 1 < length c.self.inside.segments.items =
     omega (arith, above, within, c.self.invariant.0.back.known, c.from-2.ensures) in
     let is = segment_at-read c.self.inside.segments.items c.args.seg (c.from-2.result - 1) c.index.result.now
@@ -22,7 +22,7 @@ returns-in-None c =
 pub returns-then-epoch : goal.returns-then-epoch
 returns-then-epoch c =
     let above : 0 < c.args.seg = omega (arith, c.if-seg-eq0.false) in
-    let within : c.args.seg ≤ c.self.inside.before.head = omega (arith, c.if-head-from.false, c.head.ensures, c.from.ensures) in
+    let within : c.args.seg ≤ c.self.inside.before.mark.head = omega (arith, c.if-head-from.false, c.head.ensures, c.from.ensures) in
     let inside : c.from-2.result - 1 < length c.self.inside.segments.items =
     omega (arith, above, within, c.self.invariant.0.back.known, c.from-2.ensures) in
     let is = segment_at-read c.self.inside.segments.items c.args.seg (c.from-2.result - 1) c.index.result.now
@@ -39,7 +39,7 @@ returns-then-epoch c =
 pub returns-else-epoch : goal.returns-else-epoch
 returns-else-epoch c =
     let above : 0 < c.args.seg = omega (arith, c.if-seg-eq0.false) in
-    let within : c.args.seg ≤ c.self.inside.before.head = omega (arith, c.if-head-from.false, c.head.ensures, c.from.ensures) in
+    let within : c.args.seg ≤ c.self.inside.before.mark.head = omega (arith, c.if-head-from.false, c.head.ensures, c.from.ensures) in
     let inside : c.from-2.result - 1 < length c.self.inside.segments.items =
     omega (arith, above, within, c.self.invariant.0.back.known, c.from-2.ensures) in
     let is = segment_at-read c.self.inside.segments.items c.args.seg (c.from-2.result - 1) c.index.result.now

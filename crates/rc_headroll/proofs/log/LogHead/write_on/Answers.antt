@@ -1,17 +1,15 @@
-use Rattle.std.proofs.Common.{◌≡◌, true, length}
-use Rattle.std.specs.List.{All}
-use Rattle.rc_model.specs.Heads.{left_out, may_write}
+use Rattle.std.proofs.Common.{◌<◌, subst, sym, ap, ◌∙◌}
+use Rattle.rc_model.specs.Model.{Log, left_out, with_freed}
 use Rattle.rc_headroll.specs.LogData.{log_of}
-use Rattle.rc_headroll.specs.Soundness.{IsKnown}
-use Rattle.rc_headroll.specs.contracts.log.LogHead.{the_view}
-use Rattle.rc_headroll.proofs.LogSteps.{known-left_out}
+use Rattle.rc_headroll.proofs.LogSteps.{may_write-more}
 use Rattle.rc_headroll.proofs.log.LogHead.write_on.Goals as goal
 
-pub keep_all-requires : goal.keep_all-requires
-keep_all-requires c =
-    let may : may_write (log_of c.args.self.now) ≡ true = c.requires.may in
-    let left : c.args.freed.now ≡ left_out (log_of c.args.self.now) = c.requires.left in
-    let known : All (IsKnown (length c.self.inside.segments.items)) (left_out (log_of (the_view c.self.inside))) =
-    known-left_out (log_of (the_view c.self.inside)) c.self.inside.passed c.self.inside.passed_entries
-    c.self.invariant.0.now (rw (← c.self.view_is) at may) in
-    rw (left, ← c.self.view_is) known
+pub free_left_out-requires : goal.free_left_out-requires
+free_left_out-requires c =
+    subst (λ (log : Log). 1 < log.head) (sym c.begin_writing.ensures.writing)
+    (may_write-more (log_of c.args.self.now) c.requires)
+
+pub returns-clause-written : goal.returns-clause-written
+returns-clause-written c =
+    c.free_left_out.ensures.freed
+    ∙ ap (λ (log : Log). with_freed (left_out log) log) c.begin_writing.ensures.writing

@@ -1,6 +1,5 @@
 use Rattle.std.proofs.Common.{◌≡◌, drop}
-use Rattle.rc_model.specs.FollowUps.{follow_up}
-use Rattle.rc_master.specs.Rules.{first_of}
+use Rattle.rc_master.specs.Rules.{first_of, follows_rest}
 use Rattle.rc_master.specs.View.{state_view, before_step, IsNoted}
 use Rattle.rc_master.proofs.state.State.follow_first.Given as goal
 
@@ -11,5 +10,5 @@ invariant-loop-rule l = record {
   before : before_step l.self ≡ before_step l.fn.self;
   same : state_view l.self ≡ state_view l.fn.self;
   sends : l.sent.items ≡ l.fn.sent.items;
-  left : first_of (drop l.rule-index l.rule-items) (state_view l.fn.self) ≡ follow_up (state_view l.fn.self);
+  left : first_of (drop l.rule-index l.rule-items) (state_view l.fn.self) ≡ follows_rest (state_view l.fn.self);
 }
