@@ -104,7 +104,9 @@ fn split_upwards(
     let last = numbers.next();
     let mut sent: Vec<Message> = Vec::new(alloc);
     for at in first..=last.min(u64::from(u16::MAX)) {
-        book.step_into(&NodeWork::Split { table, at }, &mut sent)?;
+        if book.has_room() {
+            book.step_into(&NodeWork::Split { table, at }, &mut sent)?;
+        }
     }
     page.size("\n    ", sent.len());
     page.put(" messages, of which the last is");

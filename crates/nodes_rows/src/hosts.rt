@@ -1,5 +1,8 @@
 //! A host through starts and stops, with its master and its backup.
 
+ghost use Rattle.std.specs.Prelude.{All, IfOk};
+ghost use Rattle.rc_world.specs.HostView.{IsFactor, IsWithinLimits};
+
 use crate::cases::unknown;
 use crate::{bodies, looks, masters, told};
 use rc_backup::Backup;
@@ -19,23 +22,35 @@ pub fn new(alloc: Global, numbers: &mut Numbers) -> Result<Host, AllocError> {
     Ok(NodeState::host(alloc, index, &setup))
 }
 
-/// A setup: how many replicas a segment has, and how many entries; and the factors of single hosts.
-pub fn setup_of(alloc: Global, numbers: &mut Numbers, free: bool) -> Result<Setup, AllocError> {
+/// A setup: how many replicas a segment has, and how many entries; and the factor of host 0, where it has its own.
+pub fn setup_of(alloc: Global, numbers: &mut Numbers, free: bool) -> Result<Setup, AllocError>
+    ensures { IfOk result (λ setup. IsWithinLimits setup) }
+{
     let factor = next_factor(numbers);
     let segment = numbers.short().clamp(1, MAX_SEGMENT);
-    let mut factors = Vec::new(alloc);
-    for _ in 0..numbers.left() {
-        factors.push(next_factor(numbers))?;
-    }
+    let factors = factors_of(alloc, numbers)?;
     Ok(Setup {
         factor,
         segment,
         free,
-        factors: Seq::from_vec(factors),
+        factors,
     })
 }
 
-fn next_factor(numbers: &mut Numbers) -> u8 {
+/// The factor of host 0, where a number is left for it.
+fn factors_of(alloc: Global, numbers: &mut Numbers) -> Result<Seq<u8>, AllocError>
+    ensures { IfOk result (λ factors. All IsFactor factors) }
+{
+    if numbers.left() == 0 {
+        return Ok(Seq::new(alloc));
+    }
+    let factors = vec![in alloc; next_factor(numbers)]?;
+    Ok(Seq::from_vec(factors))
+}
+
+fn next_factor(numbers: &mut Numbers) -> u8
+    ensures { IsFactor result }
+{
     numbers.byte().clamp(1, MAX_FACTOR)
 }
 
