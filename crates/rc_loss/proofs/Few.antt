@@ -3,7 +3,6 @@ use Rattle.std.proofs.Common.{◌≡◌, ◌⊎◌, ℕ, suc, ◌<◌, ◌≤◌
 use Rattle.std.proofs.Common.{refl, sym, ap, ◌∙◌, subst, inl, inr, arith}
 use Rattle.std.proofs.lemmas.Bool.{and_parts, eqb-true, eq-eqb, ltb-true, leb-true}
 use Rattle.std.proofs.lemmas.List.{length-map}
-use Rattle.rc_types.specs.declared.faults.Fault.TheVariants.{SegmentMissing}
 use Rattle.rc_model.specs.Model.{ServerId, Setup, Event, Member, ids_of, factor_of, In}
 use Rattle.rc_model.proofs.Tests.{true_false, either}
 use Rattle.rc_step_laws.specs.All.{Begins, NotOnHostOf, OnDifferentHosts}
@@ -11,10 +10,10 @@ use Rattle.rc_step_laws.proofs.Copies.{split}
 use Rattle.rc_log_laws.specs.WordClaims.{log_of}
 use Rattle.rc_log_laws.proofs.Replays.{good-world}
 use Rattle.rc_log_laws.proofs.Since.{since-more}
-use Rattle.rc_loss.specs.Loss.{WasDropped, IsGone, IsGoneBut, config_after}
-use Rattle.rc_loss.specs.LossClaims.{FewDropsAreNoLoss, FewMissingHaveAHead}
+use Rattle.rc_loss.specs.Loss.{WasDropped, IsGone, config_after}
+use Rattle.rc_loss.specs.LossClaims.{FewDropsAreNoLoss, FewMissingAreNoLoss}
 use Rattle.rc_loss.proofs.Worlds.{loss-facts}
-use Rattle.rc_loss.proofs.Refusals.{Refusal, refused-gone, refusals-mean-loss}
+use Rattle.rc_loss.proofs.Refusals.{IsGoneBut, Refusal, refused-gone, refusals-mean-loss}
 
 -- the list without the first such number
 abbrev without : ℕ → List ℕ → List ℕ
@@ -99,11 +98,12 @@ few-drops-are-no-loss setup events m replies fault ready answers all_rows hosts 
     by (s, gone) = not-gone setup events m s (hosts s) (few s) (λ x e. on x s e)
         (record { unshut = gone.unshut; placed = gone.placed; dropped = λ x at. inr (gone.dropped x at) })
 
-pub few-missing-have-a-head : FewMissingHaveAHead
-few-missing-have-a-head setup events m replies fault ready answers hosts few rows on refused =
+pub few-missing-are-no-loss : FewMissingAreNoLoss
+few-missing-are-no-loss setup events m replies fault ready answers hosts few rows on refused =
     by (refused-gone setup events m hosts replies answers rows fault ready refused)
   where
-    by : Refusal setup events m hosts replies answers rows fault →
-        (t : ℕ) × (fault ≡ SegmentMissing t) × (((log_of setup events m).segments t).shut ≡ true)
-    by (inl (s, gone)) = absurd (not-gone setup events m s (hosts s) (few s) (λ x e. on x s e) gone)
-    by (inr (t, same, shut, absent)) = (t, same, shut)
+    by : Refusal setup events m hosts replies answers rows fault → ⊥
+    by (inl (s, gone)) = not-gone setup events m s (hosts s) (few s) (λ x e. on x s e) gone
+    by (inr (t, _, _, (some, w, missing))) =
+        (let many = w.many in let less : length w.ids ≤ length (hosts t) = no-more w.ids (hosts t) w.apart missing in
+        let fewer = few t in omega (arith, many, less, fewer))

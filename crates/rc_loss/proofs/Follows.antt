@@ -146,10 +146,9 @@ module _ (f : ℕ) (W : ℕ → ℕ → Type 0) (m : ServerId) where
           enough : 0 < f → 0 < length old.config.members
           enough some = subst (λ n. 0 < n) (sym ((good.each (log.head - 1)).many (omega (arith, has_old)) (omega arith))) some
 
-          told : (member : Member) × In member old.config.members → WasShut sent m (log.head - 1)
+          told : (member : Member) × In member old.config.members → WasShut sent m (log.head - 1) old.config.epoch
           told (member, at) = record {
             teller = member.id;
-            epoch = old.config.epoch;
             told = ((good.each (log.head - 1)).known member at).shut (told_so member at);
           }
 

@@ -10,6 +10,7 @@ pub mod KeptWorlds
 pub mod Asked
 pub mod Masters
 pub mod Worlds
+pub mod Tellers
 pub mod Leasts
 pub mod Answers
 pub mod Refusals

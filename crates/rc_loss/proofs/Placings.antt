@@ -50,10 +50,9 @@ abbrev pub AllKnown : List Message → ServerId → ℕ → ℕ → List Member 
 AllKnown sent m s e members = (member : Member) → In member members → IsKnown sent m s e member
 
 -- someone has told closed
-pub record WasShut (sent : List Message) (m : ServerId) (s : ℕ) : Type 0 where
+pub record WasShut (sent : List Message) (m : ServerId) (s e : ℕ) : Type 0 where
   pub teller : ServerId
-  pub epoch : ℕ
-  pub told : HasToldClosed sent teller m s epoch
+  pub told : HasToldClosed sent teller m s e
 
 -- what holds of a segment
 pub record GoodPlacing (f : ℕ) (W : ℕ → ℕ → Type 0) (sent : List Message) (m : ServerId) (head : ℕ) (phase : Phase) (s : ℕ)
@@ -61,7 +60,7 @@ pub record GoodPlacing (f : ℕ) (W : ℕ → ℕ → Type 0) (sent : List Messa
   pub many : 0 < s → s ≤ head → length segment.config.members ≡ f
   pub known : AllKnown sent m s segment.config.epoch segment.config.members
   pub next : segment.shut ≡ true → IsNext f head phase s
-  pub shut : 0 < f → segment.shut ≡ true → WasShut sent m s
+  pub shut : 0 < f → segment.shut ≡ true → WasShut sent m s segment.config.epoch
   pub asked : segment.commit_sent ≡ true → W s segment.config.epoch
 
 -- what holds of a log
@@ -99,9 +98,9 @@ known-more sent sent_now m s e member more p = record {
   closed = λ is. (let t = p.closed is in record { message = t.message; among = more _ t.among; from = t.from; says = t.says });
 }
 
-pub shut-more : (sent sent_now : List Message) (m : ServerId) (s : ℕ) → More sent sent_now → WasShut sent m s → WasShut sent_now m s
-shut-more sent sent_now m s more p =
-    record { teller = p.teller; epoch = p.epoch; told = record { len = p.told.len; told = more _ p.told.told } }
+pub shut-more : (sent sent_now : List Message) (m : ServerId) (s e : ℕ) → More sent sent_now → WasShut sent m s e → WasShut sent_now m s e
+shut-more sent sent_now m s e more p =
+    record { teller = p.teller; told = record { len = p.told.len; told = more _ p.told.told } }
 
 -- a segment stays good where more is sent, more is placed, and what was next is next
 pub good-later : (f : ℕ) (W V : ℕ → ℕ → Type 0) (sent sent_now : List Message) (m : ServerId) (head head_now : ℕ)
@@ -112,7 +111,7 @@ good-later f W V sent sent_now m head head_now phase phase_now s segment w more 
   many = λ above below. p.many above (within above below);
   known = λ member at. known-more sent sent_now m s segment.config.epoch member more (p.known member at);
   next = λ is. next (p.next is);
-  shut = λ some is. shut-more sent sent_now m s more (p.shut some is);
+  shut = λ some is. shut-more sent sent_now m s segment.config.epoch more (p.shut some is);
   asked = λ is. w s segment.config.epoch (p.asked is);
 }
 
@@ -195,14 +194,15 @@ placings-put f W sent m log seg segment p good =
 -- marked that wasn't
 pub good-config : (f : ℕ) (W : ℕ → ℕ → Type 0) (sent : List Message) (m : ServerId) (head : ℕ) (phase : Phase) (s : ℕ)
     (old new : Segment) → length new.config.members ≡ length old.config.members → new.shut ≡ old.shut →
+    (old.shut ≡ true → new.config.epoch ≡ old.config.epoch) →
     AllKnown sent m s new.config.epoch new.config.members →
     (new.commit_sent ≡ true → (old.commit_sent ≡ true) × (new.config.epoch ≡ old.config.epoch)) →
     GoodPlacing f W sent m head phase s old → GoodPlacing f W sent m head phase s new
-good-config f W sent m head phase s old new many same known asked p = record {
+good-config f W sent m head phase s old new many same still known asked p = record {
   many = λ above below. many ∙ p.many above below;
   known = known;
   next = λ is. p.next (sym same ∙ is);
-  shut = λ some is. p.shut some (sym same ∙ is);
+  shut = λ some is. subst (WasShut sent m s) (sym (still (sym same ∙ is))) (p.shut some (sym same ∙ is));
   asked = λ is. (let a = asked is in subst (W s) (sym a.1) (p.asked a.0));
 }
 
@@ -214,6 +214,6 @@ good-alike f W sent m head phase s old new config same marked p = record {
   many = λ above below. ap (λ (c : Config). length c.members) config ∙ p.many above below;
   known = subst (λ (c : Config). AllKnown sent m s c.epoch c.members) (sym config) p.known;
   next = λ is. p.next (sym same ∙ is);
-  shut = λ some is. p.shut some (sym same ∙ is);
+  shut = λ some is. subst (λ (c : Config). WasShut sent m s c.epoch) (sym config) (p.shut some (sym same ∙ is));
   asked = λ is. subst (λ (c : Config). W s c.epoch) (sym config) (p.asked (sym marked ∙ is));
 }

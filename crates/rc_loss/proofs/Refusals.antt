@@ -14,7 +14,7 @@ use Rattle.rc_model.proofs.NonePickable.{head_missing, segment_missing}
 use Rattle.rc_model.proofs.Ascending.{In-contains}
 use Rattle.rc_model.proofs.Members.{In-map}
 use Rattle.rc_model.proofs.Tests.{true_false}
-use Rattle.rc_step_laws.specs.All.{Begins, held_at, StillStands, IsCopy, IsDigest}
+use Rattle.rc_step_laws.specs.All.{Begins, HasToldClosed, held_at, StillStands, IsCopy, IsDigest}
 use Rattle.rc_step_laws.proofs.Copies.{More, split}
 use Rattle.rc_step_laws.proofs.Tests.{all-each}
 use Rattle.rc_log_laws.specs.WordClaims.{sent_after, log_of}
@@ -27,12 +27,13 @@ use Rattle.rc_log_laws.proofs.Since.{since-more}
 use Rattle.rc_log_laws.proofs.Covers.{head-not-below}
 use Rattle.rc_write_laws.proofs.Quiet.{All-In}
 use Rattle.rc_write_laws.proofs.Leasts.{least-pairs-are-in-order}
-use Rattle.rc_loss.specs.Loss.{WasPlaced, HasStored, WasDropped, IsGone, IsGoneBut, AreAnswers, HasRow, WasReady, config_after}
+use Rattle.rc_loss.specs.Loss.{WasPlaced, HasStored, WasDropped, IsGone, AreAnswers, HasRow, WasReady, config_after}
 use Rattle.rc_loss.specs.LossClaims.{RefusalsMeanLoss, IsRefused}
-use Rattle.rc_loss.proofs.Placings.{IsNext, Some_placed, WasShut}
+use Rattle.rc_loss.proofs.Placings.{IsNext, Some_placed}
 use Rattle.rc_loss.proofs.Follows.{closed-next}
 use Rattle.rc_loss.proofs.Worlds.{PlacedUnder, Standing, loss-facts, opened-has}
 use Rattle.rc_loss.proofs.Leasts.{least-asked}
+use Rattle.rc_loss.proofs.Tellers.{Tellers, tellers}
 use Rattle.rc_loss.proofs.Answers.{CopyAt, replica-copy, row-copy, HeadIs, head-is, refused-is, IsMissing}
 
 -- all are of one kind, or one is of the other
@@ -67,6 +68,13 @@ below-less s e least less = grind (arith, nat_tests)
 
 below-same : (s : ℕ) (least : Pair) → least.seg ≡ s → is_below (record { seg = s; epoch = least.epoch }) least ≡ false
 below-same s least same = grind (arith, nat_tests)
+
+-- a segment is gone, where its members may be of these hosts as well
+pub record IsGoneBut (hosts : List ℕ) (setup : Setup) (events : List Event) (m : ServerId) (s : ℕ) : Type 0 where
+  pub unshut : ((log_of setup events m).segments s).shut ≡ false
+  pub placed : WasPlaced setup events m s
+  pub dropped : (x : ServerId) → In x (ids_of (config_after setup placed.before m s).members) →
+      In x.index hosts ⊎ WasDropped setup events x m s (config_after setup placed.before m s).epoch
 
 module _ (setup : Setup) (events : List Event) (m : ServerId) (hosts : ℕ → List ℕ) (replies : List (ServerId × List Row))
     (answers : AreAnswers setup events m replies) (all_rows : (i s : ℕ) → In i (hosts s) ⊎ HasRow setup events m replies i s) where
@@ -378,9 +386,10 @@ module _ (setup : Setup) (events : List Event) (m : ServerId) (hosts : ℕ → L
 
   -- A segment has no row
 
-  -- some host is missing for it
-  abbrev Absent : ℕ → Type 0
-  Absent t = (i : ℕ) × In i (hosts t)
+  -- all of as many hosts as it has replicas are missing for it
+  abbrev pub Absent : ℕ → Type 0
+  Absent t = (0 < factor_of setup m.index) × (w : Tellers (factor_of setup m.index) (sent_after setup events) m t) ×
+      ((x : ServerId) → In x w.ids → In x.index (hosts t))
 
   -- a segment is gone, or this one is shut
   abbrev Outcome : ℕ → Type 0
@@ -421,7 +430,11 @@ module _ (setup : Setup) (events : List Event) (m : ServerId) (hosts : ℕ → L
 
     -- a shut segment has a closed replica, or was freed and is in no such digest
     if-shut : ((log_of setup events m).segments t).shut ≡ true → 0 < factor_of setup m.index → Absent t
-    if-shut shut some = by (((((loss-facts setup events).masters m).each t).shut some shut))
+    if-shut shut some = (
+      some,
+      tellers setup events m t some shut,
+      λ x at. missing x ((tellers setup events m t some shut).told x at).0 ((tellers setup events m t some shut).told x at).1,
+    )
       where
         freed : IsLeftOut (log_of setup events m) t → ⊥
         freed out = which (cases_order row.seg out.head)
@@ -434,11 +447,12 @@ module _ (setup : Setup) (events : List Event) (m : ServerId) (hosts : ℕ → L
             which (inr (inl less)) = row-unshut (out.shut row.seg copy.opened.above less)
             which (inr (inr more)) = lacks (omega (arith, more))
 
-        stands-valid : (x : ServerId) (e len : ℕ) → StillStands (held_at (replay setup events).hosts x.index m) t e len true → Absent t
+        stands-valid : (x : ServerId) (e len : ℕ) → StillStands (held_at (replay setup events).hosts x.index m) t e len true → In
+            x.index (hosts t)
         stands-valid x e len stands = which (all_rows x.index t)
           where
-            which : In x.index (hosts t) ⊎ HasRow setup events m replies x.index t → Absent t
-            which (inl missing) = (x.index, missing)
+            which : In x.index (hosts t) ⊎ HasRow setup events m replies x.index t → In x.index (hosts t)
+            which (inl missing) = missing
             which (inr has) =
                 let found : (held : HeldRow) × (In held (held_rows replies)) × (held.row ≡ row_of_replica (t, stands.replica)) =
                 has stands.replica stands.kept in
@@ -446,11 +460,11 @@ module _ (setup : Setup) (events : List Event) (m : ServerId) (hosts : ℕ → L
                 (subst (λ (one : Row). is_valid ((replay setup events).coordinator.least m) one ≡ true) (sym found.2)
                 (or_left stands.replica.closed _ (stands.closed_too refl))))
 
-        by : WasShut (replay setup events).sent m t → Absent t
-        by was = which ((loss-facts setup events).told was.teller m t was.epoch was.told.len true was.told.told)
+        missing : (x : ServerId) (e : ℕ) → HasToldClosed (sent_after setup events) x m t e → In x.index (hosts t)
+        missing x e told = which ((loss-facts setup events).told x m t e told.len true told.told)
           where
-            which : Standing setup events (replay setup events) was.teller m t was.epoch was.told.len true → Absent t
-            which (inl stands) = stands-valid was.teller was.epoch was.told.len stands
+            which : Standing setup events (replay setup events) x m t e told.len true → In x.index (hosts t)
+            which (inl stands) = stands-valid x e told.len stands
             which (inr (inl out)) = absurd (freed (freed-is-left-out setup events m t out))
             which (inr (inr (never, _))) = absurd (never refl)
 
@@ -486,7 +500,7 @@ module _ (setup : Setup) (events : List Event) (m : ServerId) (hosts : ℕ → L
   -- a segment is gone, or none is found of one that is shut
   abbrev pub Refusal : Fault → Type 0
   Refusal fault = ((s : ℕ) × IsGoneBut (hosts s) setup events m s) ⊎ ((t : ℕ) × (fault ≡ SegmentMissing t) ×
-      (((log_of setup events m).segments t).shut ≡ true) × ((i : ℕ) × In i (hosts t)))
+      (((log_of setup events m).segments t).shut ≡ true) × Absent t)
 
   pub refused-gone : (fault : Fault) → WasReady (sent_after setup events) m → IsRefused setup events m replies fault → Refusal fault
   refused-gone fault ready refused = by_factor (positive (factor_of setup m.index))
@@ -520,4 +534,8 @@ refusals-mean-loss setup events m replies fault ready answers all_rows refused =
             WasDropped setup events x m s (config_after setup gone.placed.before m s).epoch
         which x (inl never) = absurd never
         which x (inr dropped) = dropped
-    by (inr (t, _, _, (i, never))) = absurd never
+    by (inr (t, _, _, (some, w, missing))) = absurd (none w.ids w.many missing)
+      where
+        none : (ids : List ServerId) → length ids ≡ factor_of setup m.index → ((x : ServerId) → In x ids → In x.index []) → ⊥
+        none [] many all = omega (arith, some, many)
+        none (x ∷ ids) many all = all x (inl refl)

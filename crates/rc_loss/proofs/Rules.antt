@@ -25,7 +25,7 @@ module _ (f : ℕ) (W : ℕ → ℕ → Type 0) (sent : List Message) (m : Serve
   config-put log seg config p many epoch known =
       placings-put f W sent m log seg (record (log.segments seg) { config = config }) p
       (good-config f W sent m log.head log.phase seg (log.segments seg) (record (log.segments seg) { config = config }) many refl
-      known (λ is. (is, epoch)) (p.each seg))
+      (λ _. epoch) known (λ is. (is, epoch)) (p.each seg))
 
   -- marks that are not of the config
   pub alike-put : (log : Log) (seg : ℕ) (segment : Segment) → Placings f W sent m log →
@@ -54,29 +54,31 @@ module _ (f : ℕ) (W : ℕ → ℕ → Type 0) (sent : List Message) (m : Serve
       (known-replaced sent m seg (log.segments seg).config.epoch (map (lost_if_crashed servers) (log.segments seg).config.members) ids
       (known-lost sent m seg (log.segments seg).config.epoch servers (log.segments seg).config.members (p.each seg).known))
 
-  changed-put : (log : Log) (seg : ℕ) (servers : ServerList) (ids : List ServerId) → Placings f W sent m log →
+  changed-put : (log : Log) (seg : ℕ) (servers : ServerList) (ids : List ServerId) →
+      (log.segments seg).shut ≡ false → Placings f W sent m log →
       Placings f W sent m
       (with_segment seg (under_new_epoch (changed (with_lost servers (log.segments seg).config) ids) (log.segments seg)) log)
-  changed-put log seg servers ids p =
+  changed-put log seg servers ids unshut p =
       placings-put f W sent m log seg _ p
       (good-config f W sent m log.head log.phase seg (log.segments seg)
       (under_new_epoch (changed (with_lost servers (log.segments seg).config) ids) (log.segments seg))
       (length-map (replaced (map (lost_if_crashed servers) (log.segments seg).config.members) ids)
       (λ (member : Member). new_member member.id) ∙
       many-replaced (map (lost_if_crashed servers) (log.segments seg).config.members) ids ∙
-      length-map (log.segments seg).config.members (lost_if_crashed servers)) refl
+      length-map (log.segments seg).config.members (lost_if_crashed servers)) refl (λ is. true_false (sym is ∙ unshut))
       (known-anew sent m seg ((log.segments seg).config.epoch + 1)
       (replaced (map (lost_if_crashed servers) (log.segments seg).config.members) ids))
       (λ never. true_false (sym never)) (p.each seg))
 
-  changes-put : (log : Log) (seg : ℕ) (servers : ServerList) (found : Option (List ServerId)) → Placings f W sent m log →
+  changes-put : (log : Log) (seg : ℕ) (servers : ServerList) (found : Option (List ServerId)) →
+      (log.segments seg).shut ≡ false → Placings f W sent m log →
       Placings f W sent m (opens_change seg log (changes_to (with_lost servers (log.segments seg).config) found)).0
-  changes-put log seg servers None p = marked-put log seg servers p
-  changes-put log seg servers (Some ids) p =
+  changes-put log seg servers None unshut p = marked-put log seg servers p
+  changes-put log seg servers (Some ids) unshut p =
       either (λ (answer : Config × Result Bool Fault). Placings f W sent m (opens_change seg log answer).0)
       (nat_lt (log.segments seg).config.epoch LAST_EPOCH) (changed (with_lost servers (log.segments seg).config) ids, Ok true)
       (with_lost servers (log.segments seg).config, Err EpochsExhausted)
-      (λ _. changed-put log seg servers ids p) (λ _. marked-put log seg servers p)
+      (λ _. changed-put log seg servers ids unshut p) (λ _. marked-put log seg servers p)
 
   pub loses-put : (servers : ServerList) (seg : ℕ) (log : Log) → Placings f W sent m log →
       Placings f W sent m (loses servers seg log).0
@@ -85,12 +87,12 @@ module _ (f : ℕ) (W : ℕ → ℕ → Type 0) (sent : List Message) (m : Serve
       (refills seg log (refill log.own servers (log.segments seg).config))
       (opens_change seg log (lose log.own servers (log.segments seg).config))
       (λ _. refilled-put log seg servers (substitutes_for log.own servers (with_lost servers (log.segments seg).config)) p)
-      (λ _. either (λ (answer : Config × Result Bool Fault). Placings f W sent m (opens_change seg log answer).0)
+      (λ unshut. either (λ (answer : Config × Result Bool Fault). Placings f W sent m (opens_change seg log answer).0)
       (any_lost (with_lost servers (log.segments seg).config).members)
       (changes_to (with_lost servers (log.segments seg).config)
       (substitutes_for log.own servers (with_lost servers (log.segments seg).config)))
       (with_lost servers (log.segments seg).config, Ok false)
-      (λ _. changes-put log seg servers (substitutes_for log.own servers (with_lost servers (log.segments seg).config)) p)
+      (λ _. changes-put log seg servers (substitutes_for log.own servers (with_lost servers (log.segments seg).config)) unshut p)
       (λ _. marked-put log seg servers p))
 
   -- what members tell

@@ -63,13 +63,6 @@ pub record IsGone (setup : Setup) (events : List Event) (m : ServerId) (s : ℕ)
   pub dropped : (x : ServerId) → In x (ids_of (config_after setup placed.before m s).members) →
       WasDropped setup events x m s (config_after setup placed.before m s).epoch
 
--- the same, where the members may be of these hosts as well
-pub record IsGoneBut (hosts : List ℕ) (setup : Setup) (events : List Event) (m : ServerId) (s : ℕ) : Type 0 where
-  pub unshut : ((log_of setup events m).segments s).shut ≡ false
-  pub placed : WasPlaced setup events m s
-  pub dropped : (x : ServerId) → In x (ids_of (config_after setup placed.before m s).members) →
-      In x.index hosts ⊎ WasDropped setup events x m s (config_after setup placed.before m s).epoch
-
 -- Answers
 
 -- the answer was sent, in an attempt to recover this master

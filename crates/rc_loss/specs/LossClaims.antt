@@ -15,7 +15,7 @@ use Rattle.rc_model.specs.Deciding.{decides, decides_on, decision_of, ready_ids}
 use Rattle.rc_model.specs.Nodes.{factor_of}
 use Rattle.rc_model.specs.World.{replay}
 use Rattle.rc_model.specs.Headline.{In}
-use Rattle.rc_log_laws.specs.WordClaims.{sent_after, log_of}
+use Rattle.rc_log_laws.specs.WordClaims.{sent_after}
 use Rattle.rc_loss.specs.Loss.{WasDropped, IsGone, AreAnswers, HasRow, WasReady, AllHaveAnswered}
 
 -- the log of the master can't be chosen from these answers
@@ -38,16 +38,15 @@ FewDropsAreNoLoss = (setup : Setup) (events : List Event) (m : ServerId) (replie
     ((x : ServerId) (s e : ℕ) → WasDropped setup events x m s e → In x.index (hosts s)) →
     IsRefused setup events m replies fault → ⊥
 
--- where of each segment fewer hosts than it has replicas have dropped one or are missing from the answers, there is a
--- head, and a row is missing at most of a segment that is shut
-abbrev pub FewMissingHaveAHead : Type 0
-FewMissingHaveAHead = (setup : Setup) (events : List Event) (m : ServerId) (replies : List (ServerId × List Row))
+-- and where of each segment fewer hosts than it has replicas have dropped one or are missing from the answers, no
+-- choice is refused either
+abbrev pub FewMissingAreNoLoss : Type 0
+FewMissingAreNoLoss = (setup : Setup) (events : List Event) (m : ServerId) (replies : List (ServerId × List Row))
     (fault : Fault) → WasReady (sent_after setup events) m → AreAnswers setup events m replies →
     (hosts : ℕ → List ℕ) → ((s : ℕ) → length (hosts s) < factor_of setup m.index) →
     ((i s : ℕ) → In i (hosts s) ⊎ HasRow setup events m replies i s) →
     ((x : ServerId) (s e : ℕ) → WasDropped setup events x m s e → In x.index (hosts s)) →
-    IsRefused setup events m replies fault →
-    (t : ℕ) × (fault ≡ SegmentMissing t) × (((log_of setup events m).segments t).shut ≡ true)
+    IsRefused setup events m replies fault → ⊥
 
 -- a Decide of the master is refused, since there is no head, or no row of a segment
 pub record IsDecidedMissing (setup : Setup) (events : List Event) (m : ServerId) : Type 0 where

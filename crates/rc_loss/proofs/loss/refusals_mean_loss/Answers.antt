@@ -1,6 +1,6 @@
 use Rattle.rc_loss.proofs.Refusals.{refusals-mean-loss}
 use Rattle.rc_loss.proofs.Decided.{refused-decides-mean-loss, decides-plan-or-loss}
-use Rattle.rc_loss.proofs.Few.{few-drops-are-no-loss, few-missing-have-a-head}
+use Rattle.rc_loss.proofs.Few.{few-drops-are-no-loss, few-missing-are-no-loss}
 use Rattle.rc_loss.proofs.loss.refusals_mean_loss.Goals as goal
 
 pub returns-clause-all : goal.returns-clause-all
@@ -15,5 +15,5 @@ returns-clause-decides c = refused-decides-mean-loss
 pub returns-clause-plans : goal.returns-clause-plans
 returns-clause-plans c = decides-plan-or-loss
 
-pub returns-clause-head : goal.returns-clause-head
-returns-clause-head c = few-missing-have-a-head
+pub returns-clause-missing : goal.returns-clause-missing
+returns-clause-missing c = few-missing-are-no-loss
