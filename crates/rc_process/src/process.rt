@@ -1,0 +1,326 @@
+//! A node, how far its journal is written and safe, and what is held back until then.
+
+ghost use Rattle.std.specs.Prelude.{[], ◌≡◌, ◌≤◌, ◌↔◌, ◌⊎◌, ◌++◌, ◌-◌, true, false, length};
+ghost use Rattle.std.specs.Prelude.{Err, None, OnOk, OnErr, IfOk, IfErr, IfSome, IfNone};
+ghost use Rattle.rc_types.specs.declared.faults.Fault.TheVariants.{OutOfMemory, BadEvent};
+ghost use Rattle.rc_world.specs.declared.work.StepFault.TheVariants.{NoRoom, Refused};
+ghost use Rattle.rc_history.specs.Nodes.{name_of};
+ghost use Rattle.rc_world.specs.NodeView.{work_at, node_seen, may_take, NodeHasRoom};
+ghost use Rattle.rc_keeping.specs.Keeping.{kept_as};
+ghost use Rattle.rc_lives.specs.Lives.{keeps, is_masters};
+ghost use Rattle.rc_model.specs.Nodes.{is_for_backup};
+ghost use Rattle.rc_saves.specs.Claims.{IsSaved};
+ghost use Rattle.rc_process.specs.View.{process_seen, written_down, written_next, rests_on, started_next, given};
+ghost use Rattle.rc_process.specs.View.{Leaves, AllWait, begun, role_at, save_begun, moved};
+
+use crate::held::{Held, first_ready, move_held, moved};
+use crate::saving::Saving;
+use rc_keeping::{Role, keeps, write_down};
+use rc_saves::{SaveFault, save_into};
+use rc_types::{Addr, Body, Fault, Message, NodeWork};
+use rc_world::{NodeState, StepFault};
+use std::alloc::{AllocError, Allocator, Global};
+use std::marker::Model;
+
+/// A node in its process. It reads and writes nothing: it says what has to be added to the journal, is told how many
+/// bytes of that are safe, and lets messages leave that rest on no others.
+pub struct Process<A: Allocator> {
+    alloc: Global,
+    node: NodeState<A>,
+    written: usize,
+    started: usize,
+    safe: usize,
+    held: Vec<Held>,
+    saving: Option<Saving>,
+}
+
+impl<A: Allocator> Drop for Process<A> {
+    fn drop(self) {
+        let Process {
+            alloc: _,
+            node: _,
+            written: _,
+            started: _,
+            safe: _,
+            held: _,
+            saving: _,
+        } = self;
+    }
+}
+
+impl<A: Allocator> Model for Process<A> {
+    ghost use Rattle.rc_process.specs.View.{ProcessData};
+
+    ghost Value = { ProcessData };
+
+    ghost view = { λ p. record {
+        node = p.node;
+        written = p.written;
+        started = p.started;
+        safe = p.safe;
+        held = p.held.items;
+        saving = p.saving;
+    } };
+}
+
+impl<A: Allocator + Clone> Process<A> {
+    /// The process of a node that has taken nothing yet, or of one that was replayed: so many bytes are written.
+    pub(crate) fn of_node(alloc: Global, node: NodeState<A>, written: usize) -> Process<A>
+        ensures { result ≡ begun node written }
+    {
+        Process {
+            alloc,
+            node,
+            written,
+            started: 0,
+            safe: 0,
+            held: Vec::new(alloc),
+            saving: None,
+        }
+    }
+
+    /// The node, to be looked at.
+    pub fn node(&self) -> &NodeState<A>
+        ensures { result.now ≡ self.now.node }
+    {
+        &self.node
+    }
+
+    /// How many bytes the journal has.
+    pub fn written(&self) -> usize
+        ensures { result ≡ self.now.written }
+    {
+        self.written
+    }
+
+    /// Whether something is held back.
+    pub fn is_waiting(&self) -> bool
+        ensures { (result ≡ false) ↔ (self.now.held ≡ []) }
+    {
+        !self.held.is_empty()
+    }
+
+    /// Gives the node a work. What has to be added to the journal is added to `out`; what the step sends is held back.
+    ///
+    /// # Errors
+    ///
+    /// `NoRoom`: the node's numbers do not suffice for one more step. `BadEvent` (F18): it can't be given this now.
+    /// `OutOfMemory` (F1): memory was refused. After each nothing has changed, and nothing is to be written.
+    pub fn give(&mut self, work: &NodeWork, out: &mut Vec<u8>) -> Result<(), StepFault>
+        ensures taken { OnOk result (process_seen self.new ≡ given (process_seen self.old) work.now) }
+        ensures written { OnOk result (
+            out.new.items ≡ out.old.items ++ written_down (node_seen self.old.node) work.now) }
+        ensures possible { OnOk result (may_take (node_seen self.old.node) work.now ≡ true) }
+        ensures full { (result ≡ Err NoRoom) ↔ (NodeHasRoom (node_seen self.old.node) → ⊥) }
+        ensures bad { result ≡ Err (Refused BadEvent) → may_take (node_seen self.old.node) work.now ≡ false }
+        ensures fault { IfErr result (λ fault.
+            (fault ≡ NoRoom) ⊎ (fault ≡ Refused OutOfMemory) ⊎ (fault ≡ Refused BadEvent)) }
+        ensures err { OnErr result (process_seen self.new ≡ process_seen self.old) }
+        ensures unwritten { OnErr result (out.new.items ≡ out.old.items) }
+    {
+        if !self.node.has_room() {
+            return Err(StepFault::NoRoom);
+        }
+        let length = out.len();
+        if let Err(_) = self.write(work, out) {
+            return Err(StepFault::Refused(Fault::OutOfMemory));
+        }
+        let more = out.len() - length;
+        match self.step(work, more) {
+            Ok(()) => Ok(()),
+            Err(fault) => {
+                out.truncate(length);
+                Err(StepFault::Refused(fault))
+            }
+        }
+    }
+
+    /// Adds the record of a work that is kept.
+    fn write(&self, work: &NodeWork, out: &mut Vec<u8>) -> Result<(), AllocError>
+        ensures ok { OnOk result (out.new.items ≡ out.old.items ++ written_down (node_seen self.now.node) work.now) }
+        ensures err { OnErr result (out.new.items ≡ out.old.items) }
+    {
+        if self.keeps(work) {
+            write_down(self.alloc, work, out)
+        } else {
+            Ok(())
+        }
+    }
+
+    /// Whether the node keeps the work.
+    fn keeps(&self, work: &NodeWork) -> bool
+        ensures { result ≡ keeps (name_of (node_seen self.now.node)) (work_at (node_seen self.now.node) work.now) }
+    {
+        keeps(role_of(&self.node), work)
+    }
+
+    /// The step itself, whose record has so many bytes.
+    fn step(&mut self, work: &NodeWork, more: usize) -> Result<(), Fault>
+        requires room { NodeHasRoom (node_seen self.old.node) }
+        requires down { more ≡ length (written_down (node_seen self.old.node) work.now) }
+        ensures taken { OnOk result (process_seen self.new ≡ given (process_seen self.old) work.now) }
+        ensures possible { OnOk result (may_take (node_seen self.old.node) work.now ≡ true) }
+        ensures bad { result ≡ Err BadEvent → may_take (node_seen self.old.node) work.now ≡ false }
+        ensures fault { IfErr result (λ fault. (fault ≡ OutOfMemory) ⊎ (fault ≡ BadEvent)) }
+        ensures err { OnErr result (process_seen self.new ≡ process_seen self.old) }
+    {
+        let Some(written) = self.written.checked_add(more) else {
+            return Err(Fault::OutOfMemory);
+        };
+        if self.held.reserve(1).is_err() {
+            return Err(Fault::OutOfMemory);
+        }
+        let rests = self.rests_on(work, written);
+        let started = self.started_next(work, written);
+        let mut messages = Vec::new(self.alloc);
+        if let Err(fault) = self.node.step_into(work, &mut messages) {
+            return Err(fault);
+        }
+        self.written = written;
+        self.started = started;
+        self.held.push_reserved(Held::new(rests, messages));
+        Ok(())
+    }
+
+    /// How many bytes have to be safe before what the step sends may leave, where it leaves the journal so long.
+    fn rests_on(&self, work: &NodeWork, written: usize) -> usize
+        requires { written ≡ written_next (process_seen self.now) work.now }
+        ensures { result ≡ rests_on (process_seen self.now) work.now }
+    {
+        if self.is_masters(work) { self.started } else { written }
+    }
+
+    /// Whether the work is one for the master that runs, and for nothing else of the node.
+    fn is_masters(&self, work: &NodeWork) -> bool
+        ensures { result ≡ is_masters (node_seen self.now.node) (work_at (node_seen self.now.node) work.now) }
+    {
+        match work {
+            NodeWork::Tick => self.node.runs(),
+            NodeWork::Deliver(message) => {
+                self.node.runs()
+                    && message.to == Addr::Server(self.node.server())
+                    && !is_for_backup(&message.body)
+            }
+            _ => false,
+        }
+    }
+
+    /// How many bytes reach up to the start of the server that runs then.
+    fn started_next(&self, work: &NodeWork, written: usize) -> usize
+        ensures { result ≡ started_next (process_seen self.now) work.now written }
+    {
+        match work {
+            NodeWork::Start { .. } => written,
+            NodeWork::Stop => 0,
+            _ => self.started,
+        }
+    }
+
+    /// So many bytes of the journal are safe: they will be there after any crash. While a save takes the journal's
+    /// place, whichever of the two files will stand there, what stands for these bytes is safe in it.
+    pub fn synced(&mut self, count: usize)
+        requires more { self.old.safe ≤ count }
+        requires within { count ≤ self.old.written }
+        ensures { self.new ≡ record self.old { safe = count } }
+    {
+        self.safe = count;
+    }
+
+    /// How many bytes are known to be safe.
+    pub fn safe(&self) -> usize
+        ensures { result ≡ self.now.safe }
+    {
+        self.safe
+    }
+
+    /// Lets what one step has sent leave: the first that is held back and rests on nothing that is not safe. None where
+    /// all that is held back has to wait. What a master sends may overtake what its host does. It looks at what is held
+    /// back, and moves what stands behind.
+    pub fn leave(&mut self) -> Option<Vec<Message>>
+        ensures some { IfSome result (λ messages.
+            Leaves (process_seen self.old) (process_seen self.new) messages.items) }
+        ensures waits { IfNone result (AllWait (process_seen self.old)) }
+        ensures none { IfNone result (process_seen self.new ≡ process_seen self.old) }
+    {
+        match first_ready(self.held.as_slice(), self.safe) {
+            Some(index) => {
+                Some(self.held.remove(index).into_messages())
+            }
+            None => None,
+        }
+    }
+
+    /// Begins a save: adds it to `out`, which is to be the second file. From now on what `give` adds belongs at the
+    /// end of both files. When the second file is safe, and has taken the first one's place, and that is safe, call
+    /// `saved`.
+    ///
+    /// # Errors
+    ///
+    /// `Outside`: the node is the outside, which keeps nothing. `OutOfMemory`: memory was refused. After either nothing
+    /// has changed.
+    pub fn begin_save(&mut self, out: &mut Vec<u8>) -> Result<(), SaveFault>
+        ensures saved { OnOk result (IsSaved self.old.node out.old.items out.new.items) }
+        ensures ok { OnOk result (process_seen self.new ≡
+            save_begun (process_seen self.old) (length out.new.items - length out.old.items)) }
+        ensures err { OnErr result (process_seen self.new ≡ process_seen self.old) }
+        ensures unwritten { OnErr result (out.new.items ≡ out.old.items) }
+    {
+        let length = out.len();
+        save_into(self.alloc, &self.node, out)?;
+        self.saving = Some(Saving {
+            cut: self.written,
+            size: out.len() - length,
+        });
+        Ok(())
+    }
+
+    /// Whether a save was begun and has not taken the journal's place yet.
+    pub fn is_saving(&self) -> bool
+        ensures { (result ≡ false) ↔ (self.now.saving ≡ None) }
+    {
+        self.saving.is_some()
+    }
+
+    /// The save has taken the journal's place, and that is safe: so all is safe that it stands for. From now on bytes
+    /// of the journal are counted in the new file. Where none was begun nothing happens.
+    pub fn saved(&mut self)
+        ensures { process_seen self.new ≡ moved (process_seen self.old) }
+    {
+        let Some(saving) = self.saving else {
+            return;
+        };
+        self.written = moved(saving, self.written);
+        self.started = moved(saving, self.started);
+        self.safe = moved(saving, self.safe);
+        self.saving = None;
+        move_held(self.held.as_mut_slice(), saving);
+    }
+}
+
+/// What a node is.
+fn role_of<A: Allocator + Clone>(node: &NodeState<A>) -> Role
+    ensures { result ≡ role_at (node_seen node.now) }
+{
+    if node.as_coordinator().is_some() {
+        Role::Coordinator
+    } else if node.backup().is_some() {
+        Role::Host
+    } else {
+        Role::Outside
+    }
+}
+
+/// Whether a message is for a backup.
+fn is_for_backup(body: &Body) -> bool
+    ensures { result ≡ is_for_backup body.now }
+{
+    matches!(
+        body,
+        Body::Place { .. }
+            | Body::Append { .. }
+            | Body::Close { .. }
+            | Body::Gather { .. }
+            | Body::Fetch { .. }
+            | Body::Free { .. }
+    )
+}
