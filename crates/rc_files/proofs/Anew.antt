@@ -1,6 +1,6 @@
 -- A node that is made anew of a file.
-use Rattle.std.proofs.Common.{◌≡◌, ◌≤◌, ◌+◌, ℕ, zero, suc, Bool, true, false, cond, List, [], ◌∷◌, ◌++◌, length, take, refl, sym, ap, ◌∙◌}
-use Rattle.std.proofs.Common.{subst, arith}
+use Rattle.std.proofs.Common.{◌≡◌, ◌+◌, ℕ, zero, suc, Bool, true, false, cond, List, [], ◌∷◌, ◌++◌, length, take, refl, sym, ap, ◌∙◌}
+use Rattle.std.proofs.Common.{subst}
 use Rattle.std.proofs.Math.Seq.{take-append-add}
 use Rattle.rc_types.specs.declared.events.Setup.{Setup}
 use Rattle.rc_types.specs.declared.events.NodeWork.{NodeWork}
@@ -14,7 +14,7 @@ use Rattle.rc_model.proofs.Tests.{true_false}
 use Rattle.rc_history.specs.Nodes.{Node, TheOutside, TheCoordinator, TheHost, node_step, new_node, name_of}
 use Rattle.rc_history.specs.Remade.{SameButMaster, host_keeps}
 use Rattle.rc_world.specs.NodeView.{work_at, may_take, after_work, host_may, host_after_work}
-use Rattle.rc_keeping.specs.Keeping.{host_next, host_given, kept_by_host}
+use Rattle.rc_keeping.specs.Keeping.{host_next, host_given}
 use Rattle.rc_keeping.proofs.ComingBack.{saved-hosts-come-back}
 use Rattle.rc_lives.specs.Lives.{keeps, node_after, stops, SameNode}
 use Rattle.rc_lives.proofs.Cutting.{name-next}
@@ -22,7 +22,7 @@ use Rattle.rc_world.specs.NodeView.{NodeData, OutsideData, CoordinatorData, Host
 use Rattle.rc_codec.proofs.Lawful.{some_is}
 use Rattle.rc_saves.specs.Saved.{Saved, HostSave, CoordinatorSave, saved_of, node_from}
 use Rattle.rc_saves.proofs.Loaded.{loaded-is-same}
-use Rattle.rc_files.specs.Standing.{works_at, AllWritten, node_next, node_given, StandsFor, FilesMakeAnew}
+use Rattle.rc_files.specs.Standing.{works_at, AllWritten, node_next, node_given, FilesMakeAnew}
 use Rattle.rc_files.specs.Standing.{OneMoreIsWritten, FewerStandForFewer, StopsMakeEqual, SavesStandForAll}
 use Rattle.rc_history.specs.Remade.{stopped}
 use Rattle.rc_model.specs.Nodes.{is_some_master, server_of}
@@ -30,8 +30,6 @@ use Rattle.rc_model.specs.Master.{Master}
 use Rattle.rc_types.specs.declared.ids.ServerId.{ServerId}
 use Rattle.std.proofs.Common.{Option, Some, None, append_assoc}
 use Rattle.std.proofs.lemmas.List.{append-nil}
-use Rattle.rc_keeping.specs.Keeping.{kept_as}
-use Rattle.rc_keeping.specs.declared.keeping.Role.TheVariants.{Host}
 use Rattle.rc_keeping.proofs.ComingBack.{refusals-come-back}
 
 apart : (b : Bool) (x y : HostNode) → cond b (TheHost x) (TheHost y) ≡ TheHost (cond b x y)
@@ -59,7 +57,7 @@ next-same name TheOutside TheOutside given same is kept may = by (may_take TheOu
 next-same name (TheCoordinator c) (TheCoordinator d) given same is kept may =
     subst (λ (x : Coordinator). SameNode (node_next (TheCoordinator x) given) (after_work (TheCoordinator d) given).0) (sym same)
     (subst (λ b. SameNode (cond b (after_work (TheCoordinator d) given).0 (TheCoordinator d)) (after_work (TheCoordinator d) given).0)
-        (sym may) refl)
+    (sym may) refl)
 next-same name (TheHost one) (TheHost other) given same is kept may =
     subst (λ (x : Node). SameNode x (after_work (TheHost other) given).0) (sym (next-host one given))
     (host-next-same one other given same (subst (λ n. keeps n (work_at (TheHost other) given) ≡ true) (sym is) kept) may)
@@ -99,7 +97,7 @@ pub files-make-anew : FilesMakeAnew
 files-make-anew setup name saved before works journal count stands within =
     let base : Node = node_after (new_node setup name) before in
     let cut : node_after (new_node setup name) (take (length before + count) journal)
-        ≡ node_after base (take count (works_at base works)) =
+    ≡ node_after base (take count (works_at base works)) =
     ap (λ l. node_after (new_node setup name) (take (length before + count) l)) stands.same
     ∙ (ap (node_after (new_node setup name)) (take-past before (works_at base works) count)
     ∙ after-append (new_node setup name) before (take count (works_at base works))) in
@@ -148,7 +146,7 @@ same-at name (TheCoordinator c) (TheCoordinator d) given same is kept may =
     subst (λ (x : Coordinator). SameAt name (TheCoordinator x) (TheCoordinator d) given) (sym same) (record { at = refl; may = may })
 same-at name (TheHost one) (TheHost other) given same is kept may =
     let its : host_keeps (work_at (TheHost other) given) ≡ true = subst (λ n. keeps n (work_at (TheHost other) given) ≡ true)
-        (sym is) kept in
+    (sym is) kept in
     let equal : work_at (TheHost one) given ≡ work_at (TheHost other) given = host-at one other given same its in
     record {
       at = equal;
@@ -178,7 +176,7 @@ one-more-is-written setup name saved before works journal node given stands same
           ap (λ l. l ++ work_at node given ∷ []) stands.same
           ∙ (append_assoc before (works_at base works) (work_at node given ∷ [])
           ∙ ap (λ l. before ++ l) (ap (λ (w : Work). works_at base works ++ w ∷ []) (sym here.at)
-              ∙ sym (works_at-push base works given)));
+          ∙ sym (works_at-push base works given)));
     }
 
 -- A stop

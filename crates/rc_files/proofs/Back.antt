@@ -1,20 +1,20 @@
 -- What comes back of what a crash leaves of a file.
 use Rattle.std.proofs.Common.{◌≡◌, ◌≤◌, ◌<◌, ◌+◌, ◌⊎◌, inl, inr, ℕ, zero, suc, List, [], ◌∷◌, ◌++◌, length, take, drop}
 use Rattle.std.proofs.Common.{refl, sym, ap, ◌∙◌, subst, arith, append_assoc, length-append, Some}
-use Rattle.std.proofs.lemmas.List.{take-append-drop, take_at, drop_at, length-take-le, append-nil}
+use Rattle.std.proofs.lemmas.List.{drop_at, append-nil}
 use Rattle.rc_types.specs.declared.events.NodeWork.{NodeWork}
 use Rattle.rc_history.specs.Events.{StartsWith}
 use Rattle.rc_codec.specs.Claims.{IsPrefixFree, BeginsWithNone}
 use Rattle.rc_codec.proofs.Promises.{is_prefix_free}
-use Rattle.rc_world.specs.NodeView.{NodeData, node_seen}
+use Rattle.rc_world.specs.NodeView.{node_seen}
 use Rattle.rc_keeping.specs.Claims.{AreReadFrom}
 use Rattle.rc_keeping.specs.Spelling.{record_of, journal_of}
 use Rattle.rc_keeping.proofs.RecordLaws.{record_law}
 use Rattle.rc_keeping.proofs.JournalLaws.{what-stands-before-is-read}
 use Rattle.rc_saves.specs.Claims.{IsLoaded}
-use Rattle.rc_saves.specs.Saved.{Saved, save_of, node_from, saved_of}
+use Rattle.rc_saves.specs.Saved.{save_of, node_from, saved_of}
 use Rattle.rc_saves.proofs.SaveLaws.{saved-is-loaded}
-use Rattle.rc_files.specs.Files.{file_of, IsLeft, CutsAreLeft, GivesBack, WhatIsLeftComesBack}
+use Rattle.rc_files.specs.Files.{CutsAreLeft, WhatIsLeftComesBack}
 
 free : IsPrefixFree record_of
 free = is_prefix_free record_law
@@ -71,7 +71,7 @@ cut-whole w works rest cut = record {
     less zero h l = omega arith
     less (suc k) h l =
         let one : length (record_of w ++ journal_of (take k works)) ≡ length (record_of w) + length (journal_of (take k works)) =
-            length-append (record_of w) (journal_of (take k works)) in
+        length-append (record_of w) (journal_of (take k works)) in
         let two : length (record_of w ++ rest) ≡ length (record_of w) + length rest = length-append (record_of w) rest in
         let within : k ≤ cut.count = cut.no_less k (omega arith) (omega arith) in
         omega arith
@@ -84,7 +84,7 @@ cut-within w works rest lost e short = record {
   whole = refl;
   no_record = λ v xs is.
       let both : (w ≡ v) × (journal_of works ≡ xs ++ lost) =
-          free w v (journal_of works) (xs ++ lost) (e ∙ (ap (λ l. l ++ lost) is ∙ append_assoc (record_of v) xs lost)) in
+      free w v (journal_of works) (xs ++ lost) (e ∙ (ap (λ l. l ++ lost) is ∙ append_assoc (record_of v) xs lost)) in
       let size : length rest ≡ length (record_of v) + length xs = ap length is ∙ length-append (record_of v) xs in
       let same : length (record_of w) ≡ length (record_of v) = ap (λ (u : NodeWork). length (record_of u)) both.0 in
       omega (arith, short, size, same);
@@ -96,7 +96,7 @@ cut-within w works rest lost e short = record {
     less zero h l = omega arith
     less (suc k) h l =
         let one : length (record_of w ++ journal_of (take k works)) ≡ length (record_of w) + length (journal_of (take k works)) =
-            length-append (record_of w) (journal_of (take k works)) in
+        length-append (record_of w) (journal_of (take k works)) in
         omega (arith, one, l, short)
 
 cut-journal : (works : List NodeWork) (rest lost : List ℕ) → journal_of works ≡ rest ++ lost → IsCut works rest
@@ -116,7 +116,7 @@ cut-journal (w ∷ works) rest lost e =
         ((more : List ℕ) → journal_of works ≡ more ++ lost → IsCut works more) → IsCut (w ∷ works) rest
     by (inl h) later =
         let split : (more : List ℕ) × (rest ≡ record_of w ++ more) × (journal_of works ≡ more ++ lost) =
-            front (record_of w) (journal_of works) rest lost e h in
+        front (record_of w) (journal_of works) rest lost e h in
         subst (IsCut (w ∷ works)) (sym split.1) (cut-whole w works split.0 (later split.0 split.2))
     by (inr h) later = cut-within w works rest lost e h
 
@@ -124,7 +124,7 @@ pub cuts-are-left : CutsAreLeft
 cuts-are-left saved works safe left lost e long safe_within =
     let save : List ℕ = save_of saved in
     let split : (rest : List ℕ) × (left ≡ save ++ rest) × (journal_of works ≡ rest ++ lost) =
-        front save (journal_of works) left lost e long in
+    front save (journal_of works) left lost e long in
     let cut : IsCut works split.0 = cut-journal works split.0 lost split.2 in
     let total : length left ≡ length save + length split.0 = ap length split.1 ∙ length-append save split.0 in
     record {
@@ -135,7 +135,7 @@ cuts-are-left saved works safe left lost e long safe_within =
       no_more = cut.no_more;
       no_less = λ k h l.
           let one : length (save ++ journal_of (take k works)) ≡ length save + length (journal_of (take k works)) =
-              length-append save (journal_of (take k works)) in
+          length-append save (journal_of (take k works)) in
           cut.no_less k h (omega (arith, one, l, total, safe_within));
     }
 
@@ -151,6 +151,7 @@ none-behind kept read (w ∷ more) behind rest none is e = absurd (none w (journ
     cancel : (xs ys zs : List ℕ) → xs ++ ys ≡ xs ++ zs → ys ≡ zs
     cancel [] ys zs e = e
     cancel (x ∷ xs) ys zs e = let tail : xs ++ ys ≡ xs ++ zs = cc in cancel xs ys zs tail
+
     same : (kept : List NodeWork) → journal_of kept ++ behind ≡ journal_of kept ++ (record_of w ++ (journal_of more ++ rest)) →
         behind ≡ record_of w ++ (journal_of more ++ rest)
     same kept e = cancel (journal_of kept) behind (record_of w ++ (journal_of more ++ rest)) e
@@ -162,7 +163,7 @@ what-is-left saved works safe left is node count read good loaded behind =
     let rest : List ℕ = journal_of kept ++ is.behind in
     let whole : left ≡ save ++ rest = is.whole ∙ append_assoc save (journal_of kept) is.behind in
     let at : (node_seen node ≡ node_from saved) × (saved_of node ≡ Some saved) × (count ≡ length save) =
-        saved-is-loaded saved rest node count (subst (λ l. IsLoaded l node count) whole loaded) in
+    saved-is-loaded saved rest node count (subst (λ l. IsLoaded l node count) whole loaded) in
     let cut : drop count left ≡ rest = ap (drop count) whole ∙ drop_at save rest count (sym at.2) in
     let its : AreReadFrom rest read good = subst (λ l. AreReadFrom l read good) cut behind in
     let begun : StartsWith read kept = what-stands-before-is-read kept read is.behind good its in

@@ -19,7 +19,7 @@ abbrev pub AllWritten : NodeName → Node → List NodeWork → Type 0
 AllWritten name node [] = Unit {0}
 AllWritten name node (given ∷ works) =
     (keeps name (work_at node given) ≡ true) × (may_take node given ≡ true) × AllWritten name
-        (after_work node given).0 works
+    (after_work node given).0 works
 
 -- a node after these works, where what it can't be given changes nothing
 abbrev pub node_next : Node → NodeWork → Node

@@ -1,5 +1,5 @@
 -- The log goes on: what the code does to the old head and to freed segments is done to the log.
-use Rattle.std.proofs.Common.{◌≡◌, ℕ, zero, suc, ◌+◌, ◌-◌, ◌<◌, true, false, ◌&&◌, not, eqb, List, [], ◌∷◌, ◌++◌, length, get_or, set, take}
+use Rattle.std.proofs.Common.{◌≡◌, ℕ, ◌+◌, ◌-◌, ◌<◌, true, false, ◌&&◌, not, eqb, List, [], ◌∷◌, ◌++◌, length, get_or, set, take}
 use Rattle.std.proofs.Common.{refl, ap, sym, ◌∙◌, arith, Bool, filter}
 use Rattle.std.specs.List.{list_any}
 use Rattle.std.proofs.Math.Seq.{take-length}
@@ -7,14 +7,14 @@ use Rattle.std.proofs.lemmas.Bool.{cond-true, cond-false, and_parts, ltb-true, f
 use Rattle.std.proofs.lemmas.List.{take_more}
 use Rattle.std.proofs.lemmas.List.Elements.{filter-append}
 use Rattle.rc_model.specs.Model.{Phase, Opening, Closing, Writing, Segment, no_segment, is_all_closed, is_ready, has_unclosed}
-use Rattle.rc_model.specs.Model.{with_closes_sent, put, Log, head_of, old_head_of, has_old_head, has_segment, with_segment, is_opening}
-use Rattle.rc_model.specs.Model.{is_closing, is_writing, shuts, with_shut, may_start, may_write, starts, writes_on, left_out, with_freed}
+use Rattle.rc_model.specs.Model.{with_closes_sent, Log, head_of, old_head_of, has_old_head, has_segment, with_segment, is_opening}
+use Rattle.rc_model.specs.Model.{is_closing, is_writing, shuts, with_shut, may_start, may_write, starts, left_out, with_freed}
 use Rattle.rc_model.specs.Model.{close_is_due, close_marked}
 use Rattle.rc_segment.specs.Lists.{segment_at}
 use Rattle.rc_headroll.specs.LogData.{LogData, log_of}
 use Rattle.rc_headroll.specs.Soundness.{IsSound}
 use Rattle.rc_segment.proofs.SegmentTables.{segment_at-zero, put_each}
-use Rattle.rc_headroll.proofs.SoundLogs.{sound-put, sound-shut, sound-writes}
+use Rattle.rc_headroll.proofs.SoundLogs.{sound-shut, sound-writes}
 use Rattle.rc_headroll.proofs.LogChanges.{log_of-change, seg_place}
 
 -- What the tests say

@@ -1,13 +1,12 @@
 -- Whatever is done with a log, it goes back to the same.
-use Rattle.std.proofs.Common.{◌≡◌, ℕ, suc, ◌+◌, ◌-◌, ◌<◌, ◌≤◌, Bool, true, None, List, [], ◌∷◌, ◌++◌, length, get_or}
+use Rattle.std.proofs.Common.{◌≡◌, ℕ, ◌+◌, ◌-◌, ◌<◌, ◌≤◌, Bool, true, None, List, [], ◌∷◌, ◌++◌, length, get_or}
 use Rattle.std.proofs.Common.{set, take, refl, ap, sym, ◌∙◌, subst, arith}
-use Rattle.std.specs.List.{All}
 use Rattle.std.proofs.lemmas.List.{take-append-le, length_push, length-set}
-use Rattle.rc_model.specs.Model.{Entry, Phase, Writing, put, Segment, with_entry, has_segment, append_fault}
+use Rattle.rc_model.specs.Model.{Entry, Phase, Segment, with_entry, has_segment, append_fault}
 use Rattle.rc_segment.specs.Lists.{segment_at}
 use Rattle.rc_headroll.specs.LogData.{LogData, log_of, before_of}
 use Rattle.rc_headroll.specs.Soundness.{IsSound, IsSoundLog}
-use Rattle.rc_headroll.specs.Before.{Mark, segments_before, IsKept, CanGoBack}
+use Rattle.rc_headroll.specs.Before.{segments_before, IsKept, CanGoBack}
 use Rattle.rc_segment.proofs.SegmentTables.{segment_at-set, segment_at-read, segment_at-push, segment_at-past}
 use Rattle.rc_headroll.proofs.BeforeLemmas.{Extends, before-put, before-new, back-put}
 use Rattle.rc_headroll.proofs.LogChanges.{Keeps, seg_place, sound-written, sound-pushed, append-possible}

@@ -204,7 +204,11 @@ impl LogHead {
             list_any (nat_eq (slice_index_or (old_head_of (log_of self.now)).digest index 0))
             (head_of (log_of self.now)).digest ≡ true }
     {
-        stands_at(self.newest().digest(), place, self.previous().digest()[index])
+        stands_at(
+            self.newest().digest(),
+            place,
+            self.previous().digest()[index],
+        )
     }
 
     /// Frees the segment at this place of the old head's digest, if the head's digest leaves it out.

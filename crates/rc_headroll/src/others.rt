@@ -29,7 +29,7 @@ impl Model for Others {
     ghost view = { λ o. record { kept = o.kept.items; room = length o.places.items } };
 
     ghost invariant = { λ o. ArePlaced o.places.items o.kept.items
-      × (length o.places.items ≤ vec_capacity o.kept) };
+        × (length o.places.items ≤ vec_capacity o.kept) };
 }
 
 impl Others {

@@ -18,14 +18,7 @@ use std::alloc::Global;
 impl LogHead {
     /// Notes what a server has told of a segment, as `Config::stored` does, and says whether it did.
     /// An unknown segment changes nothing. It takes no memory.
-    pub fn stored(
-        &mut self,
-        seg: u16,
-        from: ServerId,
-        epoch: u16,
-        len: usize,
-        closed: bool,
-    ) -> bool
+    pub fn stored(&mut self, seg: u16, from: ServerId, epoch: u16, len: usize, closed: bool) -> bool
         ensures notes { result ≡ notes_stored (log_of self.old) seg from epoch }
         ensures noted { log_of self.new ≡ stored seg from epoch len closed (log_of self.old) }
         ensures before { before_of self.new ≡ before_of self.old }

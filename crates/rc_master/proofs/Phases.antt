@@ -7,8 +7,8 @@ use Rattle.std.proofs.lemmas.Bool.{and_parts}
 use Rattle.rc_model.specs.Model.{Phase, Opening, Closing, Writing, Message, Free, Config, Segment, has_unclosed, is_ready, all_placed}
 use Rattle.rc_model.specs.Model.{Log, head_of, old_head_of, has_old_head, with_segment, is_opening, is_closing, shuts, with_shut}
 use Rattle.rc_model.specs.Model.{may_start, may_close, may_write, left_out, with_freed, starts, closes_old, writes_on, Master}
-use Rattle.rc_model.specs.Model.{with_log, to_ids, ids_of, not_lost, to_unlost, frees_segments, close_is_due, when, or_rule, follows_start, follows_placed}
-use Rattle.rc_model.specs.Model.{follows_closing, follows_shut, follow_up, marks_shut}
+use Rattle.rc_model.specs.Model.{with_log, to_ids, ids_of, not_lost, to_unlost, frees_segments, close_is_due, when, or_rule}
+use Rattle.rc_model.specs.Model.{follows_closing, follow_up, marks_shut}
 use Rattle.rc_model.proofs.Tests.{either, true_false}
 use Rattle.rc_model.proofs.LogParts.{marked, with_freed-marked, marked-alone}
 use Rattle.rc_headroll.specs.Advancing.{next_phase, advanced, advances}

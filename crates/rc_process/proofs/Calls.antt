@@ -187,21 +187,21 @@ leaves-simulated setup old new name messages has is sim =
     let runs : IsRunning setup name r p sim.all.done = sim.running name has in
     let one : Held = (is.leaves.rests, messages) in
     let stood : In one r.process.held =
-        subst (In one) (sym is.leaves.stood) (In-right one is.leaves.before (one ∷ is.leaves.later) (inl refl)) in
+    subst (In one) (sym is.leaves.stood) (In-right one is.leaves.before (one ∷ is.leaves.later) (inl refl)) in
     let waits : Waits name (length runs.before) runs.saved runs.works p.life.journal sim.all.done one = runs.held one stood in
     let early : place (length runs.before) runs.saved runs.works waits.deed.rests ≤ is.leaves.rests = waits.rests in
     let ready : is.leaves.rests ≤ r.process.safe = is.leaves.safe in
     let known : r.process.safe ≤ r.safe = runs.known in
     let far : Enough (length runs.before) runs.saved runs.works r.safe p.safe waits.deed.rests (length p.life.journal) =
-        enough (length runs.before) runs.saved runs.works r.safe p.safe waits.deed.rests (length p.life.journal)
-        (goes.well name).safe waits.within runs.safe (omega arith) in
+    enough (length runs.before) runs.saved runs.works r.safe p.safe waits.deed.rests (length p.life.journal)
+    (goes.well name).safe waits.within runs.safe (omega arith) in
     let next : Process = record { life = p.life; safe = far.count } in
     let synced : Processes = after setup sim.all (Syncs name far.count) in
     let reached : Reached setup synced =
-        reach setup sim.all (Syncs name far.count) sim.reached (record { no_less = far.above; no_more = far.within }) in
+    reach setup sim.all (Syncs name far.count) sim.reached (record { no_less = far.above; no_more = far.within }) in
     let safe_now : waits.deed.rests ≤ safe_at synced waits.deed.node =
-        subst (λ (n : NodeName). waits.deed.rests ≤ (with_process sim.all.at name next n).safe) (sym waits.node)
-        (subst (λ (q : Process). waits.deed.rests ≤ q.safe) (sym (with-at sim.all.at name next)) far.enough) in
+    subst (λ (n : NodeName). waits.deed.rests ≤ (with_process sim.all.at name next n).safe) (sym waits.node)
+    (subst (λ (q : Process). waits.deed.rests ≤ q.safe) (sym (with-at sim.all.at name next)) far.enough) in
     subst (Simulated setup) (sym is.is) (record {
       all = with_left synced messages;
       reached =
@@ -240,8 +240,8 @@ saving-simulated setup old new name has is sim =
     let goes : Goes setup sim.all = goes-reached setup sim.all sim.reached in
     let runs : IsRunning setup name r p sim.all.done = sim.running name has in
     let made : SameNode (node_after (new_node setup name) p.life.journal) (node_seen is.node) =
-        subst (SameNode (node_after (new_node setup name) p.life.journal)) (sym (is.its ∙ runs.node))
-        (journals-make setup sim.all goes name) in
+    subst (SameNode (node_after (new_node setup name) p.life.journal)) (sym (is.its ∙ runs.node))
+    (journals-make setup sim.all goes name) in
     let saving : Saving = record { cut = r.process.written; size = length is.save } in
     let second : HasSecond setup name is.save p.life.journal runs.saved (length runs.before) runs.works saving = record {
       save = is.saved.saved;
@@ -275,7 +275,7 @@ saving-simulated setup old new name has is sim =
         held = runs.held;
         second = λ other e.
             subst (HasSecond setup name is.save p.life.journal runs.saved (length runs.before) runs.works) (some_is saving other e)
-                second;
+            second;
       }) sim.running;
     })
 
@@ -295,8 +295,8 @@ moved-from saving (h ∷ held) one (inr at) =
 
 moved-runs : (setup : Setup) (name : NodeName) (r : Running) (p : Process) (done : List Deed) (saving : Saving)
     (runs : IsRunning setup name r p done) → length r.second ≤ LARGEST → HasSecond setup name r.second p.life.journal runs.saved
-        (length runs.before) runs.works
-        saving →
+    (length runs.before) runs.works
+    saving →
     IsRunning setup name (record {
       process = moved_by r.process (Some saving);
       file = r.second;
@@ -313,9 +313,9 @@ moved-runs setup name r p done saving runs short has = record {
   named = runs.named;
   written =
       let whole : length (file_of runs.saved runs.works) ≡ length (file_of runs.saved has.earlier) + length (journal_of has.later) =
-          ap (λ l. length (file_of runs.saved l)) has.parts ∙ file-length runs.saved has.earlier has.later in
+      ap (λ l. length (file_of runs.saved l)) has.parts ∙ file-length runs.saved has.earlier has.later in
       let second : length r.second ≡ length (save_of has.save) + length (journal_of has.later) =
-          ap length has.bytes ∙ length-append (save_of has.save) (journal_of has.later) in
+      ap length has.bytes ∙ length-append (save_of has.save) (journal_of has.later) in
       let its : r.process.written ≡ length (file_of runs.saved runs.works) = runs.written ∙ ap length runs.bytes in
       let cut : saving.cut ≡ length (file_of runs.saved has.earlier) = has.cut in
       let size : saving.size ≡ length (save_of has.save) = has.size in
@@ -327,7 +327,7 @@ moved-runs setup name r p done saving runs short has = record {
   known =
       let k : r.process.safe ≤ r.safe = runs.known in
       let m : min (moved_place saving r.process.safe) LARGEST ≤ moved_place saving r.process.safe =
-          min-le_left (moved_place saving r.process.safe) LARGEST in
+      min-le_left (moved_place saving r.process.safe) LARGEST in
       omega arith;
   held = λ held at.
       let found : IsMovedFrom saving r.process.held held = moved-from saving r.process.held held at in
@@ -347,13 +347,14 @@ moved-runs setup name r p done saving runs short has = record {
         place (length has.all) has.save has.later count ≤ moved_place saving mark
     far count mark h =
         place-moved (length runs.before) (length has.all) runs.saved has.save has.earlier has.later saving has.sum has.cut has.size count
-            mark
+        mark
         (subst (λ l. place (length runs.before) runs.saved l count ≤ mark) has.parts h)
+
     there : (count mark : ℕ) → place (length runs.before) runs.saved runs.works count ≤ mark →
         place (length has.all) has.save has.later count ≤ move_mark saving mark
     there count mark h =
         let within : place (length has.all) has.save has.later count ≤ length (file_of has.save has.later) =
-            place-within (length has.all) has.save has.later count in
+        place-within (length has.all) has.save has.later count in
         let size : length (file_of has.save has.later) ≡ length r.second = ap length (sym has.bytes) in
         le-min (far count mark h) (omega (arith, within, size, short))
 
@@ -397,9 +398,9 @@ asks-simulated setup old new to body is sim =
     let well : Well setup TheOutside p (own TheOutside sim.all.done) = goes.well TheOutside in
     let works : List Work = works_of (own TheOutside sim.all.done) in
     let outside : p.life.node ≡ node.TheOutside =
-        is-outside p.life.node (ap (λ (l : Life). name_of l.node) well.life ∙ name-life TheOutside (new_life setup TheOutside) works) in
+    is-outside p.life.node (ap (λ (l : Life). name_of l.node) well.life ∙ name-life TheOutside (new_life setup TheOutside) works) in
     let empty : p.life.journal ≡ [] =
-        ap (λ (l : Life). l.journal) well.life ∙ (life_journal TheOutside (new_life setup TheOutside) works ∙ none-kept works) in
+    ap (λ (l : Life). l.journal) well.life ∙ (life_journal TheOutside (new_life setup TheOutside) works ∙ none-kept works) in
     let none : length p.life.journal ≡ 0 = ap length empty in
     let deed : Deed = deed_of TheOutside p.life w in
     let given : Processes = after setup sim.all (Takes TheOutside w) in
@@ -410,8 +411,8 @@ asks-simulated setup old new to body is sim =
     } in
     let reached : Reached setup given = reach setup sim.all (Takes TheOutside w) sim.reached may in
     let rests : deed.rests ≡ 0 =
-        ap (λ (n : Node). rests_on TheOutside (record { node = n; journal = p.life.journal; started = p.life.started }) w) outside
-            ∙ none in
+    ap (λ (n : Node). rests_on TheOutside (record { node = n; journal = p.life.journal; started = p.life.started }) w) outside
+    ∙ none in
     let sends : deed.sent ≡ outside_sends w = ap (λ (n : Node). (node_step n w).1) outside in
     let among : In deed given.done = In-right deed sim.all.done (deed ∷ []) (inl refl) in
     subst (Simulated setup) (sym is.is) (record {
@@ -427,10 +428,10 @@ asks-simulated setup old new to body is sim =
   where
     others : (name : NodeName) → HasJournal name →
         IsRunning setup name (old.at name) (sim.all.at name)
-            (sim.all.done ++ deed_of TheOutside (sim.all.at TheOutside).life (Ask to body) ∷ []) →
+        (sim.all.done ++ deed_of TheOutside (sim.all.at TheOutside).life (Ask to body) ∷ []) →
         IsRunning setup name (old.at name)
         (with_process sim.all.at TheOutside
-            (record { life = life_next TheOutside (sim.all.at TheOutside).life (Ask to body); safe = (sim.all.at TheOutside).safe }) name)
+        (record { life = life_next TheOutside (sim.all.at TheOutside).life (Ask to body); safe = (sim.all.at TheOutside).safe }) name)
         (sim.all.done ++ deed_of TheOutside (sim.all.at TheOutside).life (Ask to body) ∷ [])
     others TheOutside has it = absurd has
     others TheCoordinator has it = it

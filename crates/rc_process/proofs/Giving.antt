@@ -82,8 +82,10 @@ next_with r given bytes = record {
     started = started_next r.process given (r.process.written + length bytes);
     safe = r.process.safe;
     held = r.process.held
-        ++ (cond (is_masters r.process.node (work_at r.process.node given)) r.process.started (r.process.written + length bytes),
-        (after_work r.process.node given).1) ∷ [];
+        ++ (
+          cond (is_masters r.process.node (work_at r.process.node given)) r.process.started (r.process.written + length bytes),
+          (after_work r.process.node given).1,
+        ) ∷ [];
     saving = r.process.saving;
   };
   file = r.file ++ bytes;
@@ -111,7 +113,7 @@ held-next name before saved works more journal longer done deed holding one size
         let w : Waits name before saved works journal done held = old held h in
         let within : w.deed.rests ≤ length journal = w.within in
         let same : place before saved (works ++ more) w.deed.rests ≡ place before saved works w.deed.rests =
-            place-push before saved works more w.deed.rests (omega arith) in
+        place-push before saved works more w.deed.rests (omega arith) in
         let rests : place before saved works w.deed.rests ≤ held.0 = w.rests in
         record {
           deed = w.deed;
@@ -158,7 +160,7 @@ Next setup name r p done given w bytes journal rests =
 
 given-kept : (setup : Setup) (name : NodeName) (r : Running) (p : Process) (done : List Deed) (given : NodeWork) (w : Work) →
     IsRunning setup name r p done → p.safe ≤ length p.life.journal →
-        SameNode (node_after (new_node setup name) p.life.journal) p.life.node →
+    SameNode (node_after (new_node setup name) p.life.journal) p.life.node →
     may_take p.life.node given ≡ true → work_at r.process.node given ≡ w → work_at p.life.node given ≡ w → keeps name w ≡ true →
     Next setup name r p done given w (record_of given) (p.life.journal ++ w ∷ []) (length p.life.journal + 1)
 given-kept setup name r p done given w is within same may here at kept =
@@ -169,23 +171,23 @@ given-kept setup name r p done given w is within same may here at kept =
     let kept_at : keeps name (work_at p.life.node given) ≡ true = ap (keeps name) at ∙ kept in
     let longer : length (r.file ++ record_of given) ≡ length r.file + length (record_of given) = length-append r.file (record_of given) in
     let bytes : r.file ++ record_of given ≡ file_of is.saved works =
-        ap (λ l. l ++ record_of given) is.bytes ∙ sym (file-push is.saved is.works given) in
+    ap (λ l. l ++ record_of given) is.bytes ∙ sym (file-push is.saved is.works given) in
     let total : length (file_of is.saved works) ≡ length r.file + length (record_of given) = ap length (sym bytes) ∙ longer in
     let its : r.process.written ≡ length r.file = is.written in
     let begun : p.life.started ≤ length journal = is.early in
     let pushed : place n is.saved works p.life.started ≡ place n is.saved is.works p.life.started =
-        place-push n is.saved is.works (given ∷ []) p.life.started (omega arith) in
+    place-push n is.saved is.works (given ∷ []) p.life.started (omega arith) in
     let old : place n is.saved is.works p.life.started ≤ r.process.started = is.started in
     let kept_safe : place n is.saved works p.safe ≡ place n is.saved is.works p.safe =
-        place-push n is.saved is.works (given ∷ []) p.safe (omega arith) in
+    place-push n is.saved is.works (given ∷ []) p.safe (omega arith) in
     let was_safe : place n is.saved is.works p.safe ≤ r.safe = is.safe in
     let more : length (journal ++ w ∷ []) ≡ length journal + 1 = length-append journal (w ∷ []) in
     let whole : place n is.saved works (length journal + 1) ≤ length (file_of is.saved works) =
-        place-within n is.saved works (length journal + 1) in
+    place-within n is.saved works (length journal + 1) in
     let stepped : (node_step r.process.node (work_at r.process.node given)) ≡ (node_step p.life.node w) =
-        ap (λ (x : Work). node_step r.process.node x) here ∙ ap (λ (x : Node). node_step x w) is.node in
+    ap (λ (x : Work). node_step r.process.node x) here ∙ ap (λ (x : Node). node_step x w) is.node in
     let masters : is_masters r.process.node (work_at r.process.node given) ≡ false =
-        ap (λ (x : Work). is_masters r.process.node x) here ∙ kept-not name r.process.node w (ap name_of is.node ∙ is.named) kept in
+    ap (λ (x : Work). is_masters r.process.node x) here ∙ kept-not name r.process.node w (ap name_of is.node ∙ is.named) kept in
     record {
       saved = is.saved;
       before = is.before;
@@ -199,9 +201,9 @@ given-kept setup name r p done given w is within same may here at kept =
       written = omega arith;
       started =
           subst (λ x. place n is.saved works (lives.started_next p.life x) ≤ started_next r.process given
-              (r.process.written + length (record_of given)))
+          (r.process.written + length (record_of given)))
           here (started-place n is.saved works p.life r.process.node given r.process (r.process.written + length (record_of given))
-              (omega arith) (omega arith));
+          (omega arith) (omega arith));
       early =
           subst (λ b. lives.started_next p.life w ≤ length (cond b (journal ++ w ∷ []) journal)) kept
           (started-next name p.life.node p.life w is.named (subst (λ x. node_can p.life.node x ≡ true) at may) is.early);
@@ -216,7 +218,7 @@ given-kept setup name r p done given w is within same may here at kept =
             sent = ap (λ (x : Node × List Message). x.1) (sym stepped);
             rests =
                 subst (λ b. place n is.saved works (length journal + 1) ≤ cond b r.process.started
-                    (r.process.written + length (record_of given)))
+                (r.process.written + length (record_of given)))
                 (sym masters) (omega arith);
             within = omega arith;
           });
@@ -238,13 +240,13 @@ given-not setup name r p done given w is within may here at kept =
     let long : length (file_of is.saved is.works) ≡ length r.file = ap length (sym is.bytes) in
     let its : r.process.written ≡ length r.file = is.written in
     let whole : place n is.saved is.works (length journal) ≤ length (file_of is.saved is.works) =
-        place-within n is.saved is.works (length journal) in
+    place-within n is.saved is.works (length journal) in
     let old : place n is.saved is.works p.life.started ≤ r.process.started = is.started in
     let early : p.life.started ≤ length journal = is.early in
     let stepped : (node_step r.process.node (work_at r.process.node given)) ≡ (node_step p.life.node w) =
-        ap (λ (x : Work). node_step r.process.node x) here ∙ ap (λ (x : Node). node_step x w) is.node in
+    ap (λ (x : Work). node_step r.process.node x) here ∙ ap (λ (x : Node). node_step x w) is.node in
     let masters : is_masters r.process.node (work_at r.process.node given) ≡ is_masters p.life.node w =
-        ap (λ (x : Work). is_masters r.process.node x) here ∙ ap (λ (x : Node). is_masters x w) is.node in
+    ap (λ (x : Work). is_masters r.process.node x) here ∙ ap (λ (x : Node). is_masters x w) is.node in
     let nothing : is.works ++ [] ≡ is.works = append-nil is.works in
     record {
       saved = is.saved;
@@ -265,7 +267,7 @@ given-not setup name r p done given w is within may here at kept =
       known = is.known;
       held =
           subst (λ l. (held : Held) → In held (r.process.held ++ _ ∷ []) →
-              Waits name n is.saved l journal (done ++ deed_with name p.life w rests ∷ []) held) nothing
+          Waits name n is.saved l journal (done ++ deed_with name p.life w rests ∷ []) held) nothing
           (held-next name n is.saved is.works [] journal journal done
           (deed_with name p.life w rests) r.process.held _ (omega arith) (omega arith) is.held (record {
             deed = deed_with name p.life w rests;
@@ -284,9 +286,10 @@ given-not setup name r p done given w is within may here at kept =
     by : (b : Bool) → place (length is.before) is.saved is.works p.life.started ≤ r.process.started →
         place (length is.before) is.saved is.works (length p.life.journal) ≤ r.process.written + 0 →
         place (length is.before) is.saved is.works (cond b p.life.started (length p.life.journal)) ≤ cond b r.process.started
-            (r.process.written + 0)
+        (r.process.written + 0)
     by true one two = one
     by false one two = two
+
     less : (b : Bool) → p.life.started ≤ length p.life.journal → cond b p.life.started (length p.life.journal) ≤ length p.life.journal
     less true h = h
     less false h = omega arith
@@ -294,7 +297,7 @@ given-not setup name r p done given w is within may here at kept =
 -- the process goes on with the life
 pub given-runs : (setup : Setup) (name : NodeName) (r : Running) (p : Process) (done : List Deed) (given : NodeWork) →
     IsRunning setup name r p done → p.safe ≤ length p.life.journal →
-        SameNode (node_after (new_node setup name) p.life.journal) p.life.node →
+    SameNode (node_after (new_node setup name) p.life.journal) p.life.node →
     may_take r.process.node given ≡ true →
     IsRunning setup name (next_with r given (written_down r.process.node given))
     (record { life = life_next name p.life (work_at r.process.node given); safe = p.safe })
@@ -307,11 +310,12 @@ given-runs setup name r p done given is within same may =
   where
     at : work_at p.life.node given ≡ work_at r.process.node given
     at = ap (λ (n : Node). work_at n given) (sym is.node)
+
     by : (b : Bool) → keeps name (work_at r.process.node given) ≡ b →
         Next setup name r p done given (work_at r.process.node given) (cond b (record_of given) [])
         (cond b (p.life.journal ++ work_at r.process.node given ∷ []) p.life.journal)
         (cond b (length p.life.journal + 1)
-            (cond (is_masters p.life.node (work_at r.process.node given)) p.life.started (length p.life.journal)))
+        (cond (is_masters p.life.node (work_at r.process.node given)) p.life.started (length p.life.journal)))
     by true e =
         given-kept setup name r p done given (work_at r.process.node given) is within same
         (subst (λ (n : Node). may_take n given ≡ true) is.node may) refl at e

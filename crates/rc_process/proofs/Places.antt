@@ -48,11 +48,11 @@ pub file-length : (saved : Saved) (one two : List NodeWork) →
 file-length saved one two =
     let parts : journal_of (one ++ two) ≡ journal_of one ++ journal_of two = journal-append one two in
     let whole : length (save_of saved ++ journal_of (one ++ two)) ≡ length (save_of saved) + length (journal_of (one ++ two)) =
-        length-append (save_of saved) (journal_of (one ++ two)) in
+    length-append (save_of saved) (journal_of (one ++ two)) in
     let first : length (save_of saved ++ journal_of one) ≡ length (save_of saved) + length (journal_of one) =
-        length-append (save_of saved) (journal_of one) in
+    length-append (save_of saved) (journal_of one) in
     let both : length (journal_of (one ++ two)) ≡ length (journal_of one) + length (journal_of two) =
-        ap length parts ∙ length-append (journal_of one) (journal_of two) in
+    ap length parts ∙ length-append (journal_of one) (journal_of two) in
     omega arith
 
 pub file-push : (saved : Saved) (works : List NodeWork) (w : NodeWork) → file_of saved (works ++ w ∷ [])
@@ -63,10 +63,10 @@ file-push saved works w =
 pub file-within : (saved : Saved) (works : List NodeWork) (k : ℕ) → length (file_of saved (take k works)) ≤ length (file_of saved works)
 file-within saved works k =
     let parts : length (file_of saved (take k works ++ drop k works))
-        ≡ length (file_of saved (take k works)) + length (journal_of (drop k works)) =
-        file-length saved (take k works) (drop k works) in
+    ≡ length (file_of saved (take k works)) + length (journal_of (drop k works)) =
+    file-length saved (take k works) (drop k works) in
     let same : length (file_of saved (take k works ++ drop k works)) ≡ length (file_of saved works) =
-        ap (λ l. length (file_of saved l)) (take-append-drop k works) in
+    ap (λ l. length (file_of saved l)) (take-append-drop k works) in
     omega arith
 
 pub place-within : (before : ℕ) (saved : Saved) (works : List NodeWork) (count : ℕ) →
@@ -96,18 +96,18 @@ place-moved before all saved save earlier later saving sum cut size count mark e
     by (inr h) =
         let e : place all save later count ≡ length (file_of save (take (count - all) later)) = place-above all save later count h in
         let f : place before saved (earlier ++ later) count ≡ length (file_of saved (take (count - before) (earlier ++ later))) =
-            place-above before saved (earlier ++ later) count (omega arith) in
+        place-above before saved (earlier ++ later) count (omega arith) in
         let n : count - before ≡ length earlier + (count - all) = omega arith in
         let g : take (count - before) (earlier ++ later) ≡ earlier ++ take (count - all) later =
-            ap (λ k. take k (earlier ++ later)) n ∙ take-append-add earlier later (count - all) in
+        ap (λ k. take k (earlier ++ later)) n ∙ take-append-add earlier later (count - all) in
         let one : length (file_of saved (earlier ++ take (count - all) later))
-            ≡ length (file_of saved earlier) + length (journal_of (take (count - all) later)) =
-            file-length saved earlier (take (count - all) later) in
+        ≡ length (file_of saved earlier) + length (journal_of (take (count - all) later)) =
+        file-length saved earlier (take (count - all) later) in
         let same : length (file_of saved (take (count - before) (earlier ++ later)))
-            ≡ length (file_of saved (earlier ++ take (count - all) later)) = ap (λ l. length (file_of saved l)) g in
+        ≡ length (file_of saved (earlier ++ take (count - all) later)) = ap (λ l. length (file_of saved l)) g in
         let two : length (save_of save ++ journal_of (take (count - all) later))
-            ≡ length (save_of save) + length (journal_of (take (count - all) later)) =
-            length-append (save_of save) (journal_of (take (count - all) later)) in
+        ≡ length (save_of save) + length (journal_of (take (count - all) later)) =
+        length-append (save_of save) (journal_of (take (count - all) later)) in
         omega arith
 
 length-works : (n : Node) (works : List NodeWork) → length (works_at n works) ≡ length works

@@ -94,7 +94,7 @@ stop-can : (name : NodeName) (host : HostNode) (journal : List Work) → runs ho
 stop-can name host journal e =
     let life : Life = record { node = node.TheHost host; journal = journal; started = 0 } in
     let lived : IsLived name life (stop_deeds name life (Stop (server_of host) ∷ [])) =
-        subst (λ b. IsLived name life (stop_deeds name life (cond b (Stop (server_of host) ∷ []) []))) e (stop-lived name life) in
+    subst (λ b. IsLived name life (stop_deeds name life (cond b (Stop (server_of host) ∷ []) []))) e (stop-lived name life) in
     lived.0.can
 
 idle-same : (one other : HostNode) → SameButMaster one other → runs one ≡ false → node.TheHost one ≡ node.TheHost other
@@ -134,7 +134,7 @@ host-ends : (setup : Setup) (name : NodeName) (one other : HostNode) (saved : Sa
 host-ends setup name one other saved before journal works file written safe known done same named stands made bytes long early within true
     e =
     let base : IsRunning setup name (bare_at (node.TheHost other) written file safe) (bare_life (node.TheHost other) journal known) done =
-        bare-runs setup name (node.TheHost other) saved before journal works file written safe known done named stands bytes long early in
+    bare-runs setup name (node.TheHost other) saved before journal works file written safe known done named stands bytes long early in
     subst (λ (q : ProcessView). IsRunning setup name (record {
       process = q;
       file = file ++ written_down (node.TheHost one) work.Stop;
@@ -142,7 +142,7 @@ host-ends setup name one other saved before journal works file written safe know
       safe = safe;
     }) (record { life = life_next name (bare_life (node.TheHost other) journal known).life (Stop (server_of other)); safe = known })
     (done ++ deed_of name (bare_life (node.TheHost other) journal known).life (Stop (server_of other)) ∷ []))
-        (stop-given one other written same)
+    (stop-given one other written same)
     (any-second setup name (given (bare (node.TheHost other) written) work.Stop) (file ++ written_down (node.TheHost other) work.Stop)
     ([] ++ written_down (node.TheHost other) work.Stop) [] safe
     (record { life = life_next name (bare_life (node.TheHost other) journal known).life (Stop (server_of other)); safe = known })
@@ -152,10 +152,10 @@ host-ends setup name one other saved before journal works file written safe know
 host-ends setup name one other saved before journal works file written safe known done same named stands made bytes long early within
     false e =
     subst (λ (n : Node). IsRunning setup name (bare_at n written (file ++ []) safe) (bare_life (node.TheHost other) journal known)
-        (done ++ []))
+    (done ++ []))
     (sym (idle-same one other same e))
     (subst (λ l. IsRunning setup name (bare_at (node.TheHost other) written l safe) (bare_life (node.TheHost other) journal known)
-        (done ++ []))
+    (done ++ []))
     (sym (append-nil file))
     (subst (λ d. IsRunning setup name (bare_at (node.TheHost other) written file safe) (bare_life (node.TheHost other) journal known) d)
     (sym (append-nil done))
@@ -182,17 +182,17 @@ ends setup name (node.TheHost one) (node.TheHost other) saved before journal wor
     bytes long early within =
     subst (λ c. HostEnds setup name one other journal file written safe known done (runs one) c) same.runs
     (host-ends setup name one other saved before journal works file written safe known done same named stands made bytes long early within
-        (runs one) refl)
+    (runs one) refl)
 ends setup name (node.TheCoordinator c) (node.TheCoordinator d) saved before journal works file written safe known done has same named
     stands made bytes long early within =
     subst (λ (n : Node). IsRunning setup name (bare_at n written (file ++ []) safe) (bare_life (node.TheCoordinator d) journal known)
-        (done ++ []))
+    (done ++ []))
     (sym (ap node.TheCoordinator same))
     (subst (λ l. IsRunning setup name (bare_at (node.TheCoordinator d) written l safe) (bare_life (node.TheCoordinator d) journal known)
-        (done ++ []))
+    (done ++ []))
     (sym (append-nil file))
     (subst (λ l. IsRunning setup name (bare_at (node.TheCoordinator d) written file safe)
-        (bare_life (node.TheCoordinator d) journal known) l)
+    (bare_life (node.TheCoordinator d) journal known) l)
     (sym (append-nil done))
     (bare-runs setup name (node.TheCoordinator d) saved before journal works file written safe known done named stands bytes long early)))
 ends setup name node.TheOutside node.TheOutside saved before journal works file written safe known done has same named stands made bytes
@@ -230,13 +230,13 @@ safe-kept before saved works known safe count within early less = by (le_or_lt k
     by (inl h) = omega arith
     by (inr h) =
         let e : place before saved works known
-            ≡ length (file_of saved (take (known - before) works)) = place-above before saved works known h in
+        ≡ length (file_of saved (take (known - before) works)) = place-above before saved works known h in
         let l : known - before ≤ count = less (known - before) (omega arith) (omega arith) in
         omega arith
 
 returns-from : (setup : Setup) (name : NodeName) (all : Processes) (saved : Saved) (before : List Work) (works : List NodeWork)
     (safe known : ℕ) (left out : List ℕ) (process : ProcessView) (is : IsLeft saved works safe left)
-        (back : IsBack left known process out) →
+    (back : IsBack left known process out) →
     Goes setup all → HasJournal name → StandsFor setup name saved before works (all.at name).life.journal →
     place (length before) saved works (all.at name).safe ≤ safe →
     Returns setup name all (record {
@@ -254,7 +254,7 @@ returns-from setup name all saved before works safe known left out process is ba
     let kept : List Work = take count journal in
     let size : length journal ≡ length before + length works = journal-size setup name saved before works journal stands in
     let gives : GivesBack saved kept_works replay.loaded replay.count replay.read replay.good =
-        what-is-left saved works safe left is replay.loaded replay.count replay.read replay.good replay.begins replay.behind in
+    what-is-left saved works safe left is replay.loaded replay.count replay.read replay.good replay.begins replay.behind in
     let no_more : is.count ≤ length works = is.no_more in
     let within : p.safe ≤ length journal = (goes.well name).safe in
     let enough : p.safe ≤ count = safe-kept (length before) saved works p.safe safe is.count (omega arith) early is.no_less in
@@ -262,32 +262,32 @@ returns-from setup name all saved before works safe known left out process is ba
     let one : Node = node_given (node_seen replay.loaded) replay.read in
     let written : ℕ = replay.count + replay.good in
     let same : SameNode one (node_after (new_node setup name) kept) =
-        subst (λ (n : Node). SameNode (node_given n replay.read) (node_after (new_node setup name) kept)) (sym gives.loaded)
-        (subst (λ l. SameNode (node_given (node_from saved) l) (node_after (new_node setup name) kept)) (sym gives.same)
-        (files-make-anew setup name saved before works journal is.count stands no_more)) in
+    subst (λ (n : Node). SameNode (node_given n replay.read) (node_after (new_node setup name) kept)) (sym gives.loaded)
+    (subst (λ l. SameNode (node_given (node_from saved) l) (node_after (new_node setup name) kept)) (sym gives.same)
+    (files-make-anew setup name saved before works journal is.count stands no_more)) in
     let fewer : StandsFor setup name saved before kept_works kept = fewer-stand setup name saved before works journal is.count stands
-        no_more in
+    no_more in
     let file : List ℕ = take written left in
     let bytes : file ≡ file_of saved kept_works =
-        ap (take written) is.whole ∙ take_at (file_of saved kept_works) is.behind written (sym gives.bytes) in
+    ap (take written) is.whole ∙ take_at (file_of saved kept_works) is.behind written (sym gives.bytes) in
     let kept_long : length kept_works ≡ is.count = length-take-le is.count works no_more in
     let long : written ≡ length file = gives.bytes ∙ sym (ap length bytes) in
     let whole : place (length before) saved kept_works p.safe ≤ length (file_of saved kept_works) =
-        place-within (length before) saved kept_works p.safe in
+    place-within (length before) saved kept_works p.safe in
     let pushed : place (length before) saved (kept_works ++ drop is.count works) p.safe ≡ place (length before) saved kept_works p.safe =
-        place-push (length before) saved kept_works (drop is.count works) p.safe (omega arith) in
+    place-push (length before) saved kept_works (drop is.count works) p.safe (omega arith) in
     let all_works : place (length before) saved (kept_works ++ drop is.count works) p.safe ≡ place (length before) saved works p.safe =
-        ap (λ l. place (length before) saved l p.safe) (take-append-drop is.count works) in
+    ap (λ l. place (length before) saved l p.safe) (take-append-drop is.count works) in
     let its : written ≡ length (file_of saved kept_works) = gives.bytes in
     let still : place (length before) saved kept_works p.safe ≤ min safe written = le-min (omega arith) (omega arith) in
     let next : Process = record { life = remade setup name kept; safe = p.safe } in
     let deeds : List Deed = (fallen setup name count all).done in
     let kept_size : length kept ≡ count = length-take-le count journal (omega arith) in
     let at_end : Ends setup name one (node_after (new_node setup name) kept) kept file written (min safe written) p.safe
-        (filter (is_left name count) all.done) =
-        ends setup name one (node_after (new_node setup name) kept) saved before kept kept_works file written (min safe written) p.safe
-        (filter (is_left name count) all.done) has same named fewer
-        (same-itself (node_after (new_node setup name) kept)) bytes long still (omega arith) in
+    (filter (is_left name count) all.done) =
+    ends setup name one (node_after (new_node setup name) kept) saved before kept kept_works file written (min safe written) p.safe
+    (filter (is_left name count) all.done) has same named fewer
+    (same-itself (node_after (new_node setup name) kept)) bytes long still (omega arith) in
     record {
       count = count;
       may = record { no_less = enough; no_more = omega arith };
@@ -316,7 +316,7 @@ stays-fallen : (name : NodeName) (count : ℕ) (done more : List Deed) (other : 
     Stay other done (filter (is_left name count) done ++ more)
 stays-fallen name count done more other differ deed its at =
     In-left deed (filter (is_left name count) done) more
-        (filter-In (is_left name count) deed done at (by (same_node deed.node name) refl))
+    (filter-In (is_left name count) deed done at (by (same_node deed.node name) refl))
   where
     by : (b : Bool) → same_node deed.node name ≡ b → cond b (nat_le deed.rests count) true ≡ true
     by true e =
@@ -339,7 +339,7 @@ stood setup name all r left out safe known process (First e may) back goes has r
     (subst (λ s. place (length runs.before) runs.saved runs.works (all.at name).safe ≤ s) (sym e) runs.safe)
 stood setup name all r left out safe known process (Second saving begun e may) back goes has runs =
     let second : HasSecond setup name r.second (all.at name).life.journal runs.saved (length runs.before) runs.works saving =
-        runs.second saving begun in
+    runs.second saving begun in
     returns-from setup name all second.save second.all second.later safe known left out process
     (may second.save second.later second.bytes) back goes has second.stands
     (subst (λ s. place (length second.all) second.save second.later (all.at name).safe ≤ s) (sym e)
@@ -357,7 +357,7 @@ returns-simulated setup old new name left has is sim =
       second = [];
       safe = min is.safe is.back.again.written;
     }) = stood setup name sim.all (old.at name) left is.out is.safe is.known is.process is.stands is.back goes has
-        (sim.running name has) in
+    (sim.running name has) in
     subst (Simulated setup) (sym is.is) (record {
       all = after setup sim.all (Falls name back.count);
       reached = reach setup sim.all (Falls name back.count) sim.reached back.may;

@@ -66,7 +66,7 @@ Stay name done more = (deed : Deed) → deed.node ≡ name → In deed done → 
 
 waits-more : (name : NodeName) (before : ℕ) (saved : Saved) (works : List NodeWork) (journal : List Work) (done more : List Deed)
     (held : Held) → Stay name done more → Waits name before saved works journal done held →
-        Waits name before saved works journal more held
+    Waits name before saved works journal more held
 waits-more name before saved works journal done more held stay w = record {
   deed = w.deed;
   among = stay w.deed w.node w.among;

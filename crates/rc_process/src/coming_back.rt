@@ -110,10 +110,7 @@ fn replayed<A: Allocator + Clone>(
 }
 
 /// Stops a host that runs, and adds the record of that.
-fn stop<A: Allocator + Clone>(
-    process: &mut Process<A>,
-    out: &mut Vec<u8>,
-) -> Result<(), StepFault>
+fn stop<A: Allocator + Clone>(process: &mut Process<A>, out: &mut Vec<u8>) -> Result<(), StepFault>
     ensures ended { OnOk result (process_seen process.new ≡ ended (process_seen process.old)) }
     ensures written { OnOk result (out.new.items ≡ out.old.items ++ end_written (process_seen process.old)) }
 {

@@ -15,7 +15,10 @@ pub(crate) struct Held {
 
 impl Drop for Held {
     fn drop(self) {
-        let Held { rests: _, messages: _ } = self;
+        let Held {
+            rests: _,
+            messages: _,
+        } = self;
     }
 }
 

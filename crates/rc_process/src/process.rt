@@ -54,12 +54,12 @@ impl<A: Allocator> Model for Process<A> {
     ghost Value = { ProcessData };
 
     ghost view = { λ p. record {
-        node = p.node;
-        written = p.written;
-        started = p.started;
-        safe = p.safe;
-        held = p.held.items;
-        saving = p.saving;
+      node = p.node;
+      written = p.written;
+      started = p.started;
+      safe = p.safe;
+      held = p.held.items;
+      saving = p.saving;
     } };
 }
 
@@ -187,7 +187,11 @@ impl<A: Allocator + Clone> Process<A> {
         requires { written ≡ written_next (process_seen self.now) work.now }
         ensures { result ≡ rests_on (process_seen self.now) work.now }
     {
-        if self.is_masters(work) { self.started } else { written }
+        if self.is_masters(work) {
+            self.started
+        } else {
+            written
+        }
     }
 
     /// Whether the work is one for the master that runs, and for nothing else of the node.
@@ -243,9 +247,7 @@ impl<A: Allocator + Clone> Process<A> {
         ensures none { IfNone result (process_seen self.new ≡ process_seen self.old) }
     {
         match first_ready(self.held.as_slice(), self.safe) {
-            Some(index) => {
-                Some(self.held.remove(index).into_messages())
-            }
+            Some(index) => { Some(self.held.remove(index).into_messages()) }
             None => None,
         }
     }

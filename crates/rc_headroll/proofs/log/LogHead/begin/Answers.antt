@@ -11,7 +11,8 @@ invariant_of-self c =
     let is = c.begin.ensures.mark ∙
     ap (λ (segments : List Segment). mark_of segments c.self.inside.phase c.self.inside.durable c.self.inside.passed
     c.self.inside.passed_entries) c.as_slice.ensures.value in (
-      sound-begin (the_view c.self.inside) c.self.inside.passed c.self.inside.passed_entries c.begin.new.self.mark c.self.invariant.0.now is,
+      sound-begin (the_view c.self.inside) c.self.inside.passed c.self.inside.passed_entries c.begin.new.self.mark
+          c.self.invariant.0.now is,
       watched-begins (the_view c.self.inside) c.begin.new.self.mark c.self.invariant.1
           (before_of-begin (the_view c.self.inside) c.self.inside.passed c.self.inside.passed_entries c.begin.new.self.mark is),
       omega (arith, c.self.invariant.2, c.begin.ensures.room),
@@ -22,7 +23,8 @@ returns-clause-before c =
     let is = c.begin.ensures.mark ∙
     ap (λ (segments : List Segment). mark_of segments c.self.inside.phase c.self.inside.durable c.self.inside.passed
     c.self.inside.passed_entries) c.as_slice.ensures.value in
-    rw (← c.self.view_is) (before_of-begin (the_view c.self.inside) c.self.inside.passed c.self.inside.passed_entries c.begin.new.self.mark is)
+    rw (← c.self.view_is) (before_of-begin (the_view c.self.inside) c.self.inside.passed c.self.inside.passed_entries
+        c.begin.new.self.mark is)
 
 pub begin-requires : goal.begin-requires
 begin-requires c = omega (arith, c.self.invariant.2, ap length c.as_slice.ensures.value)

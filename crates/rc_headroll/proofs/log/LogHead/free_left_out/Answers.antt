@@ -1,7 +1,7 @@
-use Rattle.std.proofs.Common.{◌≡◌, ◌<◌, ℕ, length, sym, ap, ◌∙◌, arith, refl}
+use Rattle.std.proofs.Common.{◌<◌, length, ap, ◌∙◌, arith}
 use Rattle.rc_model.specs.Model.{Log, old_head_of}
 use Rattle.rc_headroll.specs.LogData.{log_of}
-use Rattle.rc_headroll.proofs.LogSteps.{left_to, freed-heads, freed-previous, freed-more, freed-not, freed-all}
+use Rattle.rc_headroll.proofs.LogSteps.{left_to, freed-heads, freed-previous, freed-more, freed-not}
 use Rattle.rc_headroll.proofs.log.LogHead.free_left_out.Goals as goal
 use Rattle.rc_headroll.proofs.log.LogHead.free_left_out.Goals.{then-stands, else-stands}
 
@@ -39,17 +39,17 @@ loop-index-preserved c =
     omega (arith, c.loop-index.invariant.all, c.loop-index-test.true) in
     elim c.if-stands.branch [
       | then-stands w ↦ record {
-          freed = ap log_of w.self-is ∙ freed-not log now c.loop-index.index c.loop-index.invariant.freed inside
-              (c.stands.ensures.among w.if-stands.true);
-          before = rw w.self-is c.loop-index.invariant.before;
-          all = c.loop-index.invariant.all;
-          place = omega (arith, w.place-is, c.loop-index.invariant.place);
-        }
+        freed = ap log_of w.self-is ∙ freed-not log now c.loop-index.index c.loop-index.invariant.freed inside
+            (c.stands.ensures.among w.if-stands.true);
+        before = rw w.self-is c.loop-index.invariant.before;
+        all = c.loop-index.invariant.all;
+        place = omega (arith, w.place-is, c.loop-index.invariant.place);
+      }
       | else-stands w ↦ record {
-          freed = ap log_of w.self-is ∙ freed-more log now (log_of w.free_if_left_out.new.self) c.loop-index.index
-              c.loop-index.invariant.freed inside w.free_if_left_out.ensures.freed;
-          before = rw w.self-is (w.free_if_left_out.ensures.before ∙ c.loop-index.invariant.before);
-          all = c.loop-index.invariant.all;
-          place = omega (arith, w.place-is, c.loop-index.invariant.place);
-        }
+        freed = ap log_of w.self-is ∙ freed-more log now (log_of w.free_if_left_out.new.self) c.loop-index.index
+            c.loop-index.invariant.freed inside w.free_if_left_out.ensures.freed;
+        before = rw w.self-is (w.free_if_left_out.ensures.before ∙ c.loop-index.invariant.before);
+        all = c.loop-index.invariant.all;
+        place = omega (arith, w.place-is, c.loop-index.invariant.place);
+      }
     ]

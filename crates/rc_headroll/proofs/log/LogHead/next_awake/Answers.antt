@@ -1,8 +1,7 @@
-use Rattle.std.proofs.Common.{◌≡◌, ◌<◌, ◌≤◌, ℕ, false, length, arith}
+use Rattle.std.proofs.Common.{◌≡◌, false, length, arith}
 use Rattle.rc_model.specs.Log.{has_segment}
 use Rattle.rc_segment.specs.Lists.{segment_at}
 use Rattle.rc_headroll.specs.LogData.{log_of}
-use Rattle.rc_headroll.specs.Watching.{is_awake}
 use Rattle.rc_headroll.specs.contracts.log.LogHead.{the_view}
 use Rattle.rc_headroll.proofs.WatchLemmas.{asleep-nothing, not-has-past}
 use Rattle.rc_headroll.proofs.log.LogHead.next_awake.Goals as goal

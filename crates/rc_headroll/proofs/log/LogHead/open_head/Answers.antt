@@ -21,7 +21,8 @@ invariant_of-self-2 c =
     let pushed : c.push.new.self.items ≡ c.self.inside.segments.items ++ c.new-head.result ∷ [] =
     pushed-within c.push.result c.push.new.self.items c.reserve.new.self.items c.self.inside.segments.items c.new-head.result
     (c.push.ensures.succeeds (omega (arith, c.in_ok-reserve.ensures.ok))) c.push.ensures.items c.reserve.ensures.items in (
-      rw c.make_room.ensures.mark (sound-watch (record (the_view c.self.inside) { segments = c.push.new.self.items; phase = Opening }) c.self.inside.passed
+      rw c.make_room.ensures.mark (sound-watch (record (the_view c.self.inside) { segments = c.push.new.self.items; phase =
+          Opening }) c.self.inside.passed
           c.self.inside.passed_entries c.wake.new.self
           (sound_log-from (the_view c.self.inside) c.push.new.self.items Opening c.self.inside.durable c.self.inside.passed
           c.self.inside.passed_entries c.self.inside.passed c.self.inside.passed_entries
@@ -32,13 +33,20 @@ invariant_of-self-2 c =
           c.args.ids.now c.new-head.result c.push.new.self.items (c.head-seg.result + 1)
           c.self.invariant.0.now (rw (← c.self.view_is) at room) (rw (← c.self.view_is) at shut)
           (rw (← c.self.view_is) at known) seg c.new-head.ensures pushed))),
-      rw c.make_room.ensures.mark (watched-opened (the_view c.self.inside) c.new-head.result c.push.new.self.items Opening (c.head-seg.result + 1)
+      rw c.make_room.ensures.mark (watched-opened (the_view c.self.inside) c.new-head.result c.push.new.self.items Opening
+          (c.head-seg.result + 1)
           c.wake.new.self c.self.invariant.1
           (more-awake c.self.inside.watch c.wake.new.self c.wake.ensures.filed c.wake.ensures.others) seg c.in_ok-wake.ensures.awake pushed
           (before_of-same (the_view c.self.inside) c.push.new.self.items
           (opened-before (the_view c.self.inside) c.new-head.result c.push.new.self.items c.self.invariant.0.back pushed))),
-      omega (arith, seg, ap length pushed, length_push c.self.inside.segments.items c.new-head.result,
-          c.in_ok-make_room.ensures.made, c.from.ensures),
+      omega (
+        arith,
+        seg,
+        ap length pushed,
+        length_push c.self.inside.segments.items c.new-head.result,
+        c.in_ok-make_room.ensures.made,
+        c.from.ensures,
+      ),
     )
 
 pub returns-clause-ok : goal.returns-clause-ok

@@ -18,7 +18,8 @@ invariant_of-self c =
     let all = with_items_is c.truncate.new.self c.put_back.new.segments (len ∙ sym c.truncate.new.self.ok.0) in (
       restored-sound (the_view c.self.inside) c.truncate.new.self.items c.put_back.new.segments _
           c.phase-self-inside.result c.durable-self-inside.result
-          c.passed-self-inside.result c.passed_entries-self-inside.result c.begin.new.self.mark c.self.invariant.0.back.known cut len table all
+          c.passed-self-inside.result c.passed_entries-self-inside.result c.begin.new.self.mark c.self.invariant.0.back.known cut
+          len table all
           c.phase-self-inside.ensures c.durable-self-inside.ensures c.passed-self-inside.ensures c.passed_entries-self-inside.ensures
           c.self.inside.passed c.self.inside.passed_entries c.self.invariant.0
           (c.begin.ensures.mark ∙ ap (λ (ss : List Segment). mark_of ss c.phase-self-inside.result c.durable-self-inside.result
@@ -27,17 +28,27 @@ invariant_of-self c =
       watched-restored (the_view c.self.inside) _ c.self.invariant.1 refl
           (restored-log (the_view c.self.inside) c.truncate.new.self.items c.put_back.new.segments _
           c.phase-self-inside.result c.durable-self-inside.result
-          c.passed-self-inside.result c.passed_entries-self-inside.result c.begin.new.self.mark c.self.invariant.0.back.known cut len table all
+          c.passed-self-inside.result c.passed_entries-self-inside.result c.begin.new.self.mark c.self.invariant.0.back.known cut
+          len table all
           c.phase-self-inside.ensures c.durable-self-inside.ensures c.passed-self-inside.ensures c.passed_entries-self-inside.ensures)
           (restored-before (the_view c.self.inside) c.truncate.new.self.items c.put_back.new.segments _
           c.phase-self-inside.result c.durable-self-inside.result
-          c.passed-self-inside.result c.passed_entries-self-inside.result c.begin.new.self.mark c.self.invariant.0.back.known cut len table all
+          c.passed-self-inside.result c.passed_entries-self-inside.result c.begin.new.self.mark c.self.invariant.0.back.known cut
+          len table all
           c.phase-self-inside.ensures c.durable-self-inside.ensures c.passed-self-inside.ensures c.passed_entries-self-inside.ensures
           (c.begin.ensures.mark ∙ ap (λ (ss : List Segment). mark_of ss c.phase-self-inside.result c.durable-self-inside.result
           c.passed-self-inside.result c.passed_entries-self-inside.result)
           c.as_slice.ensures.value)),
-      omega (arith, c.self.invariant.2, len, ap length cut, length-take c.self.inside.before.mark.head c.self.inside.segments.items,
-          ap length all, c.begin.ensures.room, c.put_back.ensures.room),
+      omega (
+        arith,
+        c.self.invariant.2,
+        len,
+        ap length cut,
+        length-take c.self.inside.before.mark.head c.self.inside.segments.items,
+        ap length all,
+        c.begin.ensures.room,
+        c.put_back.ensures.room,
+      ),
     )
 
 pub returns-clause-log : goal.returns-clause-log
@@ -77,5 +88,13 @@ begin-requires c =
     let len : length c.put_back.new.segments ≡ length c.truncate.new.self.items =
     c.put_back.auto.segments ∙ ap length c.as_mut_slice.ensures.value in
     let all = with_items_is c.truncate.new.self c.put_back.new.segments (len ∙ sym c.truncate.new.self.ok.0) in
-    omega (arith, c.self.invariant.2, len, ap length cut, length-take c.self.inside.before.mark.head c.self.inside.segments.items,
-    ap length all, ap length c.as_slice.ensures.value, c.put_back.ensures.room)
+    omega (
+      arith,
+      c.self.invariant.2,
+      len,
+      ap length cut,
+      length-take c.self.inside.before.mark.head c.self.inside.segments.items,
+      ap length all,
+      ap length c.as_slice.ensures.value,
+      c.put_back.ensures.room,
+    )

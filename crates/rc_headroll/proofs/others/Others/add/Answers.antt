@@ -1,6 +1,6 @@
-use Rattle.std.proofs.Common.{◌≡◌, ◌<◌, ◌∷◌, ◌++◌, [], ℕ, None, length, set, ap, ◌∙◌, arith}
+use Rattle.std.proofs.Common.{◌≡◌, ◌<◌, ◌∷◌, ◌++◌, [], None, length, ◌∙◌, arith}
 use Rattle.std.proofs.lemmas.List.{length-set}
-use Rattle.rc_headroll.specs.Before.{other_of, ArePlaced}
+use Rattle.rc_headroll.specs.Before.{other_of}
 use Rattle.rc_headroll.proofs.OthersLemmas.{placed-push, room-left, pushed-ok}
 use Rattle.rc_headroll.proofs.others.Others.add.Goals as goal
 
@@ -25,6 +25,10 @@ invariant_of-self c =
       rw (pushed, place, c.from.ensures)
           (placed-push c.self.inside.places.items c.self.inside.kept.items c.self.invariant.0 c.args.seg c.args.state
           (rw (← c.self.view_is) at none) (rw (← c.self.view_is) at inside)),
-      omega (arith, c.self.invariant.1, c.push.ensures.capacity,
-          length-set c.self.inside.places.items c.from.result c.len.result),
+      omega (
+        arith,
+        c.self.invariant.1,
+        c.push.ensures.capacity,
+        length-set c.self.inside.places.items c.from.result c.len.result,
+      ),
     )

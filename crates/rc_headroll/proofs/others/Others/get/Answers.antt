@@ -7,7 +7,7 @@ pub returns-in_default : goal.returns-in_default
 returns-in_default c =
     rw (← c.self.view_is)
     (none-noted c.self.inside.places.items c.deref.result.now c.self.inside.kept.items c.self.invariant.0 c.args.seg c.from.result
-    c.deref.ensures.value c.from.ensures 
+    c.deref.ensures.value c.from.ensures
     (sym (slice_get_past c.deref.result.now c.from.result c.in_default.ensures.lookup.3)))
 
 pub returns-in_default-get : goal.returns-in_default-get
@@ -18,7 +18,7 @@ returns-in_default-get c =
     (sym (slice_get_read c.deref.result.now (length c.deref.result.now) c.from.result c.in-Some.place.now refl
     c.in-Some.ensures.lookup.3.0 c.in-Some.ensures.lookup.1))
     c.deref-2.result.now
-    c.deref-2.ensures.value 
+    c.deref-2.ensures.value
     (sym (slice_get_past c.deref-2.result.now c.in-Some.place.now c.in_default-get.ensures.lookup.3)))
 
 pub returns-then-number-seg : goal.returns-then-number-seg

@@ -1,4 +1,4 @@
-use Rattle.std.proofs.Common.{◌≡◌, ◌∙◌, Bool, false, true, List, ◌++◌, ap, sym}
+use Rattle.std.proofs.Common.{◌∙◌, List, ◌++◌, ap, sym}
 use Rattle.std.proofs.lemmas.List.{append-nil}
 use Rattle.rc_model.specs.Model.{Phase, Log, Message, with_log}
 use Rattle.rc_headroll.specs.LogData.{log_of}
