@@ -1,17 +1,16 @@
 -- All calls, one after another.
-use Rattle.std.proofs.Common.{◌≡◌, ◌≤◌, ◌+◌, ℕ, List, [], ◌∷◌, ◌++◌, length, Option, Some, None, refl, sym, ap, ◌∙◌, subst, arith}
+use Rattle.std.proofs.Common.{◌≡◌, ◌≤◌, List, [], ◌∷◌, ◌++◌, refl, sym, ap, ◌∙◌, subst, arith}
 use Rattle.std.proofs.lemmas.List.{append-nil}
 use Rattle.rc_types.specs.declared.events.Setup.{Setup}
 use Rattle.rc_model.specs.World.{NodeName}
-use Rattle.rc_history.specs.Nodes.{Node, new_node, name_of}
-use Rattle.rc_world.specs.NodeView.{node_seen}
+use Rattle.rc_history.specs.Nodes.{new_node}
 use Rattle.rc_lives.specs.Lives.{SameNode}
 use Rattle.rc_lives.specs.Processes.{Processes, new_process, new_processes}
 use Rattle.rc_lives.proofs.Global.{name-new}
 use Rattle.rc_saves.specs.Saved.{save_of}
 use Rattle.rc_files.proofs.Anew.{saves-stand, same-itself}
 use Rattle.rc_process.specs.View.{ProcessView}
-use Rattle.rc_process.specs.Running.{Running, Machine, HasJournal, IsFirst, IsNew, Call, Asks, Gives, Syncs, Leave, BeginsSave, EndsSave}
+use Rattle.rc_process.specs.Running.{Running, Machine, IsFirst, IsNew, Call, Asks, Gives, Syncs, Leave, BeginsSave, EndsSave}
 use Rattle.rc_process.specs.Running.{ComesBack}
 use Rattle.rc_process.specs.Running.{Called, AllCalled, CallsAreLives}
 use Rattle.rc_process.proofs.Places.{place, place-none}

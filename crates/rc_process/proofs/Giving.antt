@@ -1,6 +1,5 @@
 -- A process that is given a work.
-use Rattle.std.proofs.Common.{◌≡◌, ◌≤◌, ◌+◌, ℕ, Bool, true, false, cond, not, ◌&&◌, ◌⊎◌, inl, inr, List, [], ◌∷◌, ◌++◌, length, Option}
-use Rattle.std.proofs.Common.{Some, None}
+use Rattle.std.proofs.Common.{◌≡◌, ◌≤◌, ◌+◌, ℕ, Bool, true, false, cond, not, ◌&&◌, ◌⊎◌, inl, inr, List, [], ◌∷◌, ◌++◌, length}
 use Rattle.std.proofs.Common.{refl, sym, ap, ◌∙◌, subst, arith, append_assoc, length-append}
 use Rattle.std.proofs.lemmas.List.{append-nil}
 use Rattle.rc_types.specs.declared.events.Setup.{Setup}
@@ -11,7 +10,7 @@ use Rattle.rc_types.specs.declared.messages.Message.{Message}
 use Rattle.rc_model.specs.Model.{is_for_backup, Fetch}
 use Rattle.rc_model.specs.Headline.{In}
 use Rattle.rc_model.specs.Nodes.{Work, Ask, Take, Tick, Stop, Start, Suspect, Decide, Create, Split, is_running_at}
-use Rattle.rc_model.specs.World.{NodeName, TheOutside, TheCoordinator, TheHost}
+use Rattle.rc_model.specs.World.{NodeName}
 use Rattle.rc_model.proofs.Tests.{true_false}
 use Rattle.rc_model.proofs.Members.{In-left, In-right, In-append}
 use Rattle.rc_history.specs.Nodes.{Node, new_node, name_of, node_can, node_step}

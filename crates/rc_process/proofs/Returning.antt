@@ -1,38 +1,35 @@
 -- A process that has ended, and comes back.
-use Rattle.std.proofs.Common.{◌≡◌, ◌≤◌, ◌<◌, ◌+◌, ◌-◌, ℕ, Bool, true, false, cond, min, nat_le, List, [], ◌∷◌, ◌++◌, length, map, filter}
+use Rattle.std.proofs.Common.{◌≡◌, ◌≤◌, ◌<◌, ◌+◌, ◌-◌, ℕ, Bool, true, false, cond, min, nat_le, List, [], ◌∷◌, ◌++◌, length, filter}
 use Rattle.std.proofs.Common.{take, drop}
-use Rattle.std.proofs.Common.{refl, sym, ap, ◌∙◌, subst, arith, append_assoc, length-append, Option, Some, None, ◌⊎◌, inl, inr}
-use Rattle.std.proofs.Math.Nat.{le-min, min-le_left}
-use Rattle.std.proofs.lemmas.List.{append-nil, take_at, length-take-le, take-append-le, take-append-drop}
+use Rattle.std.proofs.Common.{refl, sym, ap, ◌∙◌, subst, arith, Some, None, ◌⊎◌, inl, inr}
+use Rattle.std.proofs.Math.Nat.{le-min}
+use Rattle.std.proofs.lemmas.List.{append-nil, take_at, length-take-le, take-append-drop}
 use Rattle.rc_types.specs.declared.events.Setup.{Setup}
 use Rattle.rc_types.specs.declared.events.NodeWork.{NodeWork}
 use Rattle.rc_types.specs.declared.events.NodeWork.TheVariants as work
-use Rattle.rc_model.specs.Headline.{In}
 use Rattle.rc_model.specs.Nodes.{Work, Stop, HostNode, runs, server_of, host_can}
-use Rattle.rc_model.specs.World.{NodeName, TheOutside, TheCoordinator, TheHost, same_node}
+use Rattle.rc_model.specs.World.{NodeName, TheOutside, same_node}
 use Rattle.rc_model.proofs.Tests.{true_false}
 use Rattle.rc_model.proofs.Ids.{same_node-true, same_node-refl}
 use Rattle.rc_model.proofs.Members.{In-left, filter-In}
 use Rattle.rc_history.specs.Nodes.{Node, new_node, name_of}
 use Rattle.rc_history.specs.Nodes as node
-use Rattle.rc_history.specs.Remade.{SameButMaster, stopped}
-use Rattle.rc_world.specs.NodeView.{NodeData, node_seen, node_runs, after_work}
-use Rattle.rc_lives.specs.Lives.{Life, life_next, life_after, node_after, stops, replayed, remade, SameNode}
+use Rattle.rc_history.specs.Remade.{SameButMaster}
+use Rattle.rc_world.specs.NodeView.{node_seen}
+use Rattle.rc_lives.specs.Lives.{Life, life_next, life_after, node_after, stops, remade, SameNode}
 use Rattle.rc_lives.specs.Processes.{Deed, deed_of, Process, Processes, Falls, MayBeLeft, after, fallen, stop_deeds, is_left}
-use Rattle.rc_lives.specs.Processes.{with_process}
 use Rattle.rc_lives.proofs.Own.{IsLived}
 use Rattle.rc_lives.proofs.Remaking.{stop-lived}
 use Rattle.rc_lives.proofs.Global.{Goes}
-use Rattle.rc_saves.specs.Saved.{Saved, node_from, save_of}
+use Rattle.rc_saves.specs.Saved.{Saved, node_from}
 use Rattle.rc_files.specs.Files.{file_of, IsLeft, GivesBack}
 use Rattle.rc_files.specs.Standing.{StandsFor, node_given}
 use Rattle.rc_files.proofs.Anew.{files-make-anew, fewer-stand, stops-make-equal, same-itself, name-after, name-new}
 use Rattle.rc_files.proofs.Back.{what-is-left}
-use Rattle.rc_process.specs.declared.saving.Saving.{Saving}
 use Rattle.rc_process.specs.View.{ProcessView, written_down, given, ended, end_written, IsReplayed, IsBack}
 use Rattle.rc_process.specs.Running.{Running, Machine, HasJournal, MayStand, First, Second, HasComeBack}
 use Rattle.rc_process.proofs.Places.{place, place-within, place-push, place-above, place-none, place-moved, le_or_lt, journal-size}
-use Rattle.rc_process.proofs.Simulated.{HasSecond, IsRunning, Stay, Reached, reach, goes-reached, Simulated, put-one}
+use Rattle.rc_process.proofs.Simulated.{HasSecond, IsRunning, Stay, reach, goes-reached, Simulated, put-one}
 use Rattle.rc_process.proofs.Giving.{given-runs}
 
 -- a process of which nothing is held back, and nothing safe

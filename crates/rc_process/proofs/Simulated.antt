@@ -1,6 +1,6 @@
 -- A process of the code on its disk is a process of the definitions, and all of them are lives.
-use Rattle.std.proofs.Common.{◌≡◌, ◌≤◌, ◌+◌, ℕ, Bool, true, false, cond, List, [], ◌∷◌, ◌++◌, length, Option, Some, None}
-use Rattle.std.proofs.Common.{refl, sym, ap, ◌∙◌, subst, arith}
+use Rattle.std.proofs.Common.{◌≡◌, ◌≤◌, ◌+◌, ℕ, Bool, true, false, cond, List, [], ◌∷◌, ◌++◌, length, Some}
+use Rattle.std.proofs.Common.{refl, sym, ap, ◌∙◌, subst}
 use Rattle.rc_types.specs.declared.events.Setup.{Setup}
 use Rattle.rc_types.specs.declared.events.NodeWork.{NodeWork}
 use Rattle.rc_types.specs.declared.messages.Message.{Message}
@@ -8,14 +8,14 @@ use Rattle.rc_model.specs.Headline.{In}
 use Rattle.rc_model.specs.Nodes.{Work}
 use Rattle.rc_model.specs.World.{NodeName, same_node}
 use Rattle.rc_model.proofs.Ids.{same_node-true}
-use Rattle.rc_history.specs.Nodes.{Node, name_of}
+use Rattle.rc_history.specs.Nodes.{name_of}
 use Rattle.rc_saves.specs.Saved.{Saved, save_of}
 use Rattle.rc_lives.specs.Processes.{Deed, Process, Processes, Happening, new_processes, with_process, after, after_all, May, MayAll}
 use Rattle.rc_lives.proofs.Global.{Goes, goes-all, goes-new}
 use Rattle.rc_files.specs.Files.{file_of}
 use Rattle.rc_files.specs.Standing.{StandsFor}
 use Rattle.rc_process.specs.declared.saving.Saving.{Saving}
-use Rattle.rc_process.specs.View.{Held, ProcessView}
+use Rattle.rc_process.specs.View.{Held}
 use Rattle.rc_process.specs.Running.{Running, Machine, with_running, HasJournal}
 use Rattle.rc_process.proofs.Places.{place}
 

@@ -1,6 +1,6 @@
 -- All that is held back has to wait, and moves.
-use Rattle.std.proofs.Common.{◌≡◌, ℕ, zero, suc, ◌+◌, ◌<◌, ◌≤◌, ◌⊎◌, inl, inr, List, [], ◌∷◌, ◌++◌, length, slice_index_or, refl, sym, ap}
-use Rattle.std.proofs.Common.{◌∙◌, subst, arith}
+use Rattle.std.proofs.Common.{ℕ, suc, ◌<◌, inl, inr, List, [], ◌∷◌, length, slice_index_or, sym}
+use Rattle.std.proofs.Common.{subst, arith}
 use Rattle.rc_model.specs.Headline.{In}
 use Rattle.rc_process.specs.View.{Held}
 

@@ -1,7 +1,6 @@
 -- Processes of this type on their disks, and calls of them: what a server does that keeps its duties.
-use Rattle.std.specs.Prelude.{◌≡◌, ◌≤◌, ℕ, true, if◌then◌else◌, List, [], ◌∷◌, ◌++◌, length, take, max, min, Option}
+use Rattle.std.specs.Prelude.{◌≡◌, ◌≤◌, ℕ, true, if◌then◌else◌, List, [], ◌∷◌, ◌++◌, length, take, max, min}
 use Rattle.std.specs.Prelude.{Some, None}
-use Rattle.rc_types.specs.declared.ids.Addr.TheVariants.{Outside}
 use Rattle.rc_types.specs.declared.ids.ServerId.{ServerId}
 use Rattle.rc_types.specs.declared.events.NodeWork.{NodeWork}
 use Rattle.rc_types.specs.declared.events.NodeWork.TheVariants as work
@@ -10,8 +9,8 @@ use Rattle.rc_types.specs.declared.messages.Body.{Body}
 use Rattle.rc_types.specs.declared.messages.Message.{Message}
 use Rattle.rc_model.specs.Headline.{In}
 use Rattle.rc_model.specs.Nodes.{Ask, outside_can, outside_sends}
-use Rattle.rc_model.specs.World.{NodeName, TheOutside, TheCoordinator, TheHost, same_node, node_of}
-use Rattle.rc_history.specs.Nodes.{new_node, name_of}
+use Rattle.rc_model.specs.World.{NodeName, TheOutside, same_node, node_of}
+use Rattle.rc_history.specs.Nodes.{new_node}
 use Rattle.rc_world.specs.NodeView.{NodeData, node_seen, may_take}
 use Rattle.rc_saves.specs.Claims.{IsSaved}
 use Rattle.rc_saves.specs.Saved.{Saved}

@@ -5,22 +5,22 @@ use rc_codec::DecodeFault;
 use rc_saves::{SaveFault, load, save_into};
 use rc_types::{Addr, Body, Entry, Fault, Message, NodeWork, Seq, ServerId, Setup};
 use rc_world::{HostHead, NodeState};
-use std::alloc::Global;
+use std::alloc::{AllocError, Global};
 use std::process::Abort;
 use std::test::Fail;
 
 /// The save of the example: a host that has fenced one master, of which it keeps that one segment was freed.
 const EXAMPLE: [u8; 61] = [
     0x31, 0, 0, 0, 0, 0, 0, 0, 0x64, 0x3d, 0x32, 0x24, 1, 9, 2, 2, 4, 0, 1, 1, 0, 0, 0, 1, 2, 1, 0,
-    0, 0, 1, 0, 0, 0, 0, 0, 0, 0, 0, 1, 0, 0, 0, 1, 0, 0, 0, 0, 0, 0, 0, 0, 1, 0, 0, 0, 0, 0, 0, 0, 3,
-    0,
+    0, 0, 1, 0, 0, 0, 0, 0, 0, 0, 0, 1, 0, 0, 0, 1, 0, 0, 0, 0, 0, 0, 0, 0, 1, 0, 0, 0, 0, 0, 0, 0,
+    3, 0,
 ];
 
 /// The save of the coordinator before anything has happened.
 const NEW_COORDINATOR: [u8; 78] = [
-    0x42, 0, 0, 0, 0, 0, 0, 0, 0x6a, 0x13, 0xfb, 0x6f, 1, 0xa, 0, 0, 0, 0, 0, 0, 0, 0, 0, 0, 0,
-    0, 0, 0, 0, 0, 0, 0, 0, 0, 0, 0, 0, 0, 0, 0, 0, 0, 0, 0, 0, 0, 0, 0, 0, 0, 0, 0, 0, 0, 0, 0,
-    0, 0, 0, 0, 0, 0, 0, 0, 0, 0, 0, 0, 0, 0, 0, 0, 0, 0, 0, 0, 0, 0,
+    0x42, 0, 0, 0, 0, 0, 0, 0, 0x6a, 0x13, 0xfb, 0x6f, 1, 0xa, 0, 0, 0, 0, 0, 0, 0, 0, 0, 0, 0, 0,
+    0, 0, 0, 0, 0, 0, 0, 0, 0, 0, 0, 0, 0, 0, 0, 0, 0, 0, 0, 0, 0, 0, 0, 0, 0, 0, 0, 0, 0, 0, 0, 0,
+    0, 0, 0, 0, 0, 0, 0, 0, 0, 0, 0, 0, 0, 0, 0, 0, 0, 0, 0, 0,
 ];
 
 const OWN: ServerId = ServerId {
@@ -45,7 +45,10 @@ fn to_own(sender: Addr, body: Body) -> Message {
 /// The server of this host's first start tells the coordinator that it is there.
 fn enlist(index: u8) -> NodeWork {
     NodeWork::Deliver(Message {
-        from: Addr::Server(ServerId { index, generation: 1 }),
+        from: Addr::Server(ServerId {
+            index,
+            generation: 1,
+        }),
         to: Addr::Coordinator,
         body: Body::Enlist,
     })
@@ -92,7 +95,10 @@ fn entry(version: u64) -> Entry {
 fn example(alloc: Global) -> Result<NodeState<Global>, Fault> {
     let mut backup = Backup::new(alloc, OWN);
     let mut sent = Vec::new(alloc);
-    backup.step_into(&to_own(Addr::Server(MASTER), Body::Free { seg: 3 }), &mut sent)?;
+    backup.step_into(
+        &to_own(Addr::Server(MASTER), Body::Free { seg: 3 }),
+        &mut sent,
+    )?;
     let gather = Body::Gather {
         attempt: 1,
         master: MASTER,
@@ -132,29 +138,80 @@ fn is_refused(alloc: Global, bytes: &[u8]) -> bool {
     matches!(load(alloc, alloc, bytes), Err(DecodeFault::Malformed))
 }
 
+/// Whether the node's save is these bytes.
+fn has_save<R: AllocGlobal + Abort>(rt: &R, node: &NodeState<Global>, bytes: &[u8]) -> bool {
+    saved(rt, node).as_slice() == bytes
+}
+
+/// Whether these bytes are refused where one of them is another, and where they end before it.
+fn are_refused_without(alloc: Global, whole: &[u8], place: usize) -> Result<bool, AllocError> {
+    let mut bytes = Vec::from_slice(alloc, whole)?;
+    if let Some(byte) = bytes.as_mut_slice().get_mut(place) {
+        *byte ^= 1;
+    }
+    let flipped = is_refused(alloc, bytes.as_slice());
+    Ok(flipped && is_refused(alloc, whole.get(..place).unwrap_or(&[])))
+}
+
+/// Each byte of these counts.
+fn all_count<R: AllocGlobal + Abort>(rt: &R, whole: &[u8]) -> Result<(), AllocError> {
+    for place in 0..whole.len() {
+        assert!(rt;
+            are_refused_without(rt.alloc(), whole, place)?,
+            "at {place}"
+        );
+    }
+    Ok(())
+}
+
+/// The node of these bytes, which its own save is.
+fn loaded<R: AllocGlobal + Abort>(rt: &R, bytes: &[u8]) -> Result<NodeState<Global>, DecodeFault> {
+    let (node, count) = load(rt.alloc(), rt.alloc(), bytes)?;
+    assert_eq!(rt; count, bytes.len());
+    assert!(rt; has_save(rt, &node, bytes));
+    Ok(node)
+}
+
+/// The node takes this work; how many messages it sends.
+fn take<R: Abort>(rt: &R, node: &mut NodeState<Global>, work: &NodeWork) -> Result<usize, Fault> {
+    assert!(rt; node.has_room());
+    Ok(node.step(work)?.len())
+}
+
+/// Both nodes take this work, and send as many messages.
+fn take_both<R: Abort>(
+    rt: &R,
+    node: &mut NodeState<Global>,
+    other: &mut NodeState<Global>,
+    work: NodeWork,
+) -> Result<(), Fault> {
+    let sent = take(rt, node, &work)?;
+    assert_eq!(rt; take(rt, other, &work)?, sent);
+    Ok(())
+}
+
 #[test]
 fn the_example_is_saved_and_loaded(rt: std::rt::HostRuntime) -> Result<(), Fail> {
     let node = example(rt.alloc())?;
-    let mut bytes = saved(&rt, &node);
-    assert!(rt; bytes.as_slice() == EXAMPLE.as_slice());
+    assert!(rt; has_save(&rt, &node, EXAMPLE.as_slice()));
+    loaded(&rt, EXAMPLE.as_slice())?;
+    Ok(())
+}
+
+/// What follows a save is not read.
+#[test]
+fn a_save_knows_its_end(rt: std::rt::HostRuntime) -> Result<(), Fail> {
+    let mut bytes = Vec::from_slice(rt.alloc(), EXAMPLE.as_slice())?;
     bytes.push(7)?;
-    let (again, count) = load(rt.alloc(), rt.alloc(), bytes.as_slice())?;
-    assert!(rt; count == 61);
-    assert!(rt; saved(&rt, &again).as_slice() == EXAMPLE.as_slice());
+    let (_, count) = load(rt.alloc(), rt.alloc(), bytes.as_slice())?;
+    assert_eq!(rt; count, EXAMPLE.len());
     Ok(())
 }
 
 #[test]
 fn cut_and_flipped_saves_are_refused(rt: std::rt::HostRuntime) -> Result<(), Fail> {
-    for place in 0..EXAMPLE.len() {
-        let mut bytes = Vec::from_slice(rt.alloc(), EXAMPLE.as_slice())?;
-        if let Some(byte) = bytes.get_mut(place) {
-            *byte ^= 1;
-        }
-        assert!(rt; is_refused(rt.alloc(), bytes.as_slice()));
-        bytes.truncate(place);
-        assert!(rt; is_refused(rt.alloc(), bytes.as_slice()));
-    }
+    all_count(&rt, EXAMPLE.as_slice())?;
+    all_count(&rt, NEW_COORDINATOR.as_slice())?;
     Ok(())
 }
 
@@ -162,18 +219,21 @@ fn cut_and_flipped_saves_are_refused(rt: std::rt::HostRuntime) -> Result<(), Fai
 fn a_loaded_host_goes_on(rt: std::rt::HostRuntime) -> Result<(), Fail> {
     let alloc = rt.alloc();
     let mut host = new_host(alloc);
-    host.step(&NodeWork::Start { kept: Seq::new(alloc) })?;
-    host.step(&place(alloc, 1, true)?)?;
-    host.step(&place(alloc, 2, false)?)?;
-    let bytes = saved(&rt, &host);
-    let (mut loaded, _) = load(alloc, alloc, bytes.as_slice())?;
-    assert!(rt; loaded.server() == OWN);
-    for work in [place(alloc, 3, false)?, append(alloc, 2)?, NodeWork::Stop] {
-        host.step(&work)?;
-        loaded.step(&work)?;
-    }
-    assert!(rt; saved(&rt, &host).as_slice() == saved(&rt, &loaded).as_slice());
-    assert!(rt; saved(&rt, &host).len() > bytes.len());
+    take(
+        &rt,
+        &mut host,
+        &NodeWork::Start {
+            kept: Seq::new(alloc),
+        },
+    )?;
+    take(&rt, &mut host, &place(alloc, 1, true)?)?;
+    take(&rt, &mut host, &place(alloc, 2, false)?)?;
+    let mut other = loaded(&rt, saved(&rt, &host).as_slice())?;
+    assert!(rt; other.server() == OWN);
+    take_both(&rt, &mut host, &mut other, place(alloc, 3, false)?)?;
+    take_both(&rt, &mut host, &mut other, append(alloc, 2)?)?;
+    take_both(&rt, &mut host, &mut other, NodeWork::Stop)?;
+    assert!(rt; has_save(&rt, &host, saved(&rt, &other).as_slice()));
     Ok(())
 }
 
@@ -181,7 +241,12 @@ fn a_loaded_host_goes_on(rt: std::rt::HostRuntime) -> Result<(), Fail> {
 fn the_outside_has_no_save(rt: std::rt::HostRuntime) -> Result<(), Fail> {
     let node: NodeState<Global> = NodeState::outside(rt.alloc());
     let mut bytes = Vec::new(rt.alloc());
-    assert!(rt; matches!(save_into(rt.alloc(), &node, &mut bytes), Err(SaveFault::Outside)));
+    assert!(rt;
+        matches!(
+            save_into(rt.alloc(), &node, &mut bytes),
+            Err(SaveFault::Outside)
+        )
+    );
     assert!(rt; bytes.is_empty());
     Ok(())
 }
@@ -189,11 +254,8 @@ fn the_outside_has_no_save(rt: std::rt::HostRuntime) -> Result<(), Fail> {
 #[test]
 fn a_new_coordinator_is_saved_and_loaded(rt: std::rt::HostRuntime) -> Result<(), Fail> {
     let node = NodeState::coordinator(rt.alloc(), rt.alloc());
-    let bytes = saved(&rt, &node);
-    assert!(rt; bytes.as_slice() == NEW_COORDINATOR.as_slice());
-    let (again, count) = load(rt.alloc(), rt.alloc(), bytes.as_slice())?;
-    assert!(rt; count == NEW_COORDINATOR.len());
-    assert!(rt; saved(&rt, &again).as_slice() == NEW_COORDINATOR.as_slice());
+    assert!(rt; has_save(&rt, &node, NEW_COORDINATOR.as_slice()));
+    loaded(&rt, NEW_COORDINATOR.as_slice())?;
     Ok(())
 }
 
@@ -202,32 +264,21 @@ fn a_loaded_coordinator_goes_on(rt: std::rt::HostRuntime) -> Result<(), Fail> {
     let alloc = rt.alloc();
     let mut node = NodeState::coordinator(alloc, alloc);
     for index in 0..3 {
-        node.step(&enlist(index))?;
+        take(&rt, &mut node, &enlist(index))?;
     }
-    node.step(&NodeWork::Create { table: 7, owner: MASTER })?;
-    node.step(&NodeWork::Suspect(MASTER))?;
-    let bytes = saved(&rt, &node);
-    let (mut loaded, _) = load(alloc, alloc, bytes.as_slice())?;
-    for work in [NodeWork::Suspect(OWN), enlist(4), NodeWork::Tick] {
-        let sent = node.step(&work)?;
-        let same = loaded.step(&work)?;
-        assert!(rt; sent.len() == same.len());
-    }
-    assert!(rt; saved(&rt, &node).as_slice() == saved(&rt, &loaded).as_slice());
-    assert!(rt; saved(&rt, &node).len() > bytes.len());
-    Ok(())
-}
-
-#[test]
-fn a_cut_coordinator_is_refused(rt: std::rt::HostRuntime) -> Result<(), Fail> {
-    for place in 0..NEW_COORDINATOR.len() {
-        let mut bytes = Vec::from_slice(rt.alloc(), NEW_COORDINATOR.as_slice())?;
-        if let Some(byte) = bytes.get_mut(place) {
-            *byte ^= 1;
-        }
-        assert!(rt; is_refused(rt.alloc(), bytes.as_slice()));
-        bytes.truncate(place);
-        assert!(rt; is_refused(rt.alloc(), bytes.as_slice()));
-    }
+    take(
+        &rt,
+        &mut node,
+        &NodeWork::Create {
+            table: 7,
+            owner: MASTER,
+        },
+    )?;
+    take(&rt, &mut node, &NodeWork::Suspect(MASTER))?;
+    let mut other = loaded(&rt, saved(&rt, &node).as_slice())?;
+    take_both(&rt, &mut node, &mut other, NodeWork::Suspect(OWN))?;
+    take_both(&rt, &mut node, &mut other, enlist(4))?;
+    take_both(&rt, &mut node, &mut other, NodeWork::Tick)?;
+    assert!(rt; has_save(&rt, &node, saved(&rt, &other).as_slice()));
     Ok(())
 }
