@@ -46,8 +46,8 @@ fn take_step<N: Naming, R: Wait, A: Around>(
 ///
 /// # Errors
 ///
-/// `BadEvent` (F18): the node can't do this where it is, or 200,000 events have happened. `OutOfMemory` (F1): memory was
-/// refused. The seat may have seen more, and its step may be pending or committed.
+/// `BadEvent` (F18): the node can't do this where it is, or 200,000 events have happened. `OutOfMemory` (F1): memory
+/// was refused. The seat may have seen more, and its step may be pending or committed.
 pub fn do_next<N: Naming, R: Wait, A: Around>(
     rt: &R,
     alloc: Global,
