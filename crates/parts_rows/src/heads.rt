@@ -109,19 +109,10 @@ fn write_state(log: &LogHead, page: &mut Page) {
     page.size(", durable ", log.durable());
 }
 
-fn stored(
-    log: &mut LogHead,
-    seg: u16,
-    from: ServerId,
-    numbers: &mut Numbers,
-    page: &mut Page,
-) {
+fn stored(log: &mut LogHead, seg: u16, from: ServerId, numbers: &mut Numbers, page: &mut Page) {
     let epoch = numbers.short();
     let len = numbers.size();
-    page.yes(
-        " noted ",
-        log.stored(seg, from, epoch, len, numbers.mark()),
-    );
+    page.yes(" noted ", log.stored(seg, from, epoch, len, numbers.mark()));
 }
 
 fn commit(log: &mut LogHead, numbers: &mut Numbers, page: &mut Page) {

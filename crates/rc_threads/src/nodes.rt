@@ -112,7 +112,7 @@ fn run_on<N: Naming + Send + Sync, R: Threads + Wait + Sync, G: Gate>(
                 × GrowAll seats.items result.0.items
                 × IfErr result.1 (λ fault. (fault ≡ OutOfMemory) ⊎ (fault ≡ BadEvent))
                 × IfErr result.1 (λ fault. fault ≡ BadEvent →
-                    SomeCannotGoOn N.wire.setup seats.items steps.entry.now result.0.items) }
+                SomeCannotGoOn N.wire.setup seats.items steps.entry.now result.0.items) }
         {
             let mut seats = seats;
             let outcome = run_in(scope, rt, alloc, wire, board, &mut seats, steps, gate);

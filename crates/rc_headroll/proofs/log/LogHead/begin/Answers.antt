@@ -24,7 +24,7 @@ returns-clause-before c =
     ap (λ (segments : List Segment). mark_of segments c.self.inside.phase c.self.inside.durable c.self.inside.passed
     c.self.inside.passed_entries) c.as_slice.ensures.value in
     rw (← c.self.view_is) (before_of-begin (the_view c.self.inside) c.self.inside.passed c.self.inside.passed_entries
-        c.begin.new.self.mark is)
+    c.begin.new.self.mark is)
 
 pub begin-requires : goal.begin-requires
 begin-requires c = omega (arith, c.self.invariant.2, ap length c.as_slice.ensures.value)

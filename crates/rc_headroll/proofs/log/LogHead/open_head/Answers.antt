@@ -21,8 +21,11 @@ invariant_of-self-2 c =
     let pushed : c.push.new.self.items ≡ c.self.inside.segments.items ++ c.new-head.result ∷ [] =
     pushed-within c.push.result c.push.new.self.items c.reserve.new.self.items c.self.inside.segments.items c.new-head.result
     (c.push.ensures.succeeds (omega (arith, c.in_ok-reserve.ensures.ok))) c.push.ensures.items c.reserve.ensures.items in (
-      rw c.make_room.ensures.mark (sound-watch (record (the_view c.self.inside) { segments = c.push.new.self.items; phase =
-          Opening }) c.self.inside.passed
+      rw c.make_room.ensures.mark (sound-watch (record (the_view c.self.inside) {
+        segments = c.push.new.self.items;
+        phase =
+            Opening;
+      }) c.self.inside.passed
           c.self.inside.passed_entries c.wake.new.self
           (sound_log-from (the_view c.self.inside) c.push.new.self.items Opening c.self.inside.durable c.self.inside.passed
           c.self.inside.passed_entries c.self.inside.passed c.self.inside.passed_entries
