@@ -1,13 +1,10 @@
 //! The world that the steps of the command `threads` lead to.
 
-ghost use Rattle.std.specs.Prelude.{◌≡◌, ◌≤◌, ◌+◌, true, All, IfOk, IfErr};
-ghost use Rattle.rc_types.specs.declared.faults.Fault.TheVariants.{OutOfMemory};
+ghost use Rattle.std.specs.Prelude.{◌≡◌, ◌≤◌, ◌+◌, true, IfOk};
 ghost use Rattle.rc_types.specs.declared.limits.TheConstants.{MAX_HOSTS};
 ghost use Rattle.rc_world.specs.HostView.{IsWithinLimits};
 ghost use Rattle.rc_threads.specs.Runs.{none_fetched};
-ghost use Rattle.rc_wire.specs.Calls.{Covers};
-ghost use Rattle.rc_threads.specs.Worked.{AllHaveWorked};
-ghost use Rattle.rc_threads.specs.Workload.{threads_setup, workload};
+ghost use Rattle.rc_threads.specs.Workload.{threads_setup};
 
 use crate::gate::Gate;
 use crate::nodes::run_nodes;
@@ -32,23 +29,19 @@ impl Gate for Free {
 }
 
 /// Runs the nodes of so many hosts, each on a thread of its own, with so many writes; and gives the world in which
-/// all has happened that they did, and whether all was done. If it was, each node has taken its works of the workload
-/// in order, and else deliveries; if not, some node could not take its next one (F18).
+/// all has happened that they did.
 ///
 /// # Errors
 ///
-/// `OutOfMemory` (F1): memory or a thread was refused.
+/// `OutOfMemory` (F1): memory or a thread was refused. `BadEvent` (F18): a step could not be done.
 pub fn world_of_threads<R: Threads + Wait + Sync>(
     rt: &R,
     alloc: Global,
     hosts: u8,
     writes: u32,
-) -> Result<(World<Global>, bool), Fault>
+) -> Result<World<Global>, Fault>
     requires { hosts ≤ MAX_HOSTS }
-    ensures setup { IfOk result (λ made. made.0.setup ≡ threads_setup) }
-    ensures works { IfOk result (λ made. made.1 ≡ true →
-        AllHaveWorked threads_setup made.0.events (workload hosts writes) (hosts + 2)) }
-    ensures no_memory { IfErr result (λ fault. fault ≡ OutOfMemory) }
+    ensures { IfOk result (λ world. world.setup ≡ threads_setup) }
 {
     let steps = steps(alloc, hosts, writes)?;
     let opening = opened(alloc, hosts)?;
@@ -60,7 +53,6 @@ fn opened(alloc: Global, hosts: u8) -> Result<Opening, Fault>
     ensures limits { IfOk result (λ opening. IsWithinLimits opening.setup) }
     ensures setup { IfOk result (λ opening. opening.setup ≡ threads_setup) }
     ensures nodes { IfOk result (λ opening. opening.nodes ≡ hosts + 2) }
-    ensures no_memory { IfErr result (λ fault. fault ≡ OutOfMemory) }
 {
     let setup = Setup {
         factor: 2,
@@ -77,21 +69,17 @@ fn run<N: Naming + Send + Sync, R: Threads + Wait + Sync>(
     alloc: Global,
     opening: Opening,
     steps: &[Step],
-) -> Result<(World<Global>, bool), Fault>
+) -> Result<World<Global>, Fault>
     requires name { opening ≡ N.wire }
     requires limits { IsWithinLimits opening.setup }
     requires few { opening.nodes ≤ MAX_HOSTS + 2 }
     requires works { none_fetched steps.now ≡ true }
-    ensures setup { IfOk result (λ made. made.0.setup ≡ opening.setup) }
-    ensures works { IfOk result (λ made. made.1 ≡ true →
-        AllHaveWorked opening.setup made.0.events steps.now opening.nodes) }
-    ensures no_memory { IfErr result (λ fault. fault ≡ OutOfMemory) }
+    ensures { IfOk result (λ world. world.setup ≡ opening.setup) }
 {
     let (wire, seats) = Wire::<N>::open(alloc, opening)?;
     match run_nodes(rt, alloc, &wire, seats, steps, &Free) {
-        Ok(seats) => Ok((closed(alloc, wire, seats)?, true)),
-        Err((seats, Fault::BadEvent)) => Ok((closed(alloc, wire, seats)?, false)),
-        Err(_) => Err(Fault::OutOfMemory),
+        Ok(seats) => closed(alloc, wire, seats),
+        Err((_, fault)) => Err(fault),
     }
 }
 
@@ -101,9 +89,7 @@ fn closed<N: Naming>(
     wire: Wire<N>,
     seats: Vec<Seat<N>>,
 ) -> Result<World<Global>, Fault>
-    ensures setup { IfOk result (λ world. world.setup ≡ N.wire.setup) }
-    ensures seats { IfOk result (λ world. All (Covers N.wire.setup world.events) seats.items) }
-    ensures no_memory { IfErr result (λ fault. fault ≡ OutOfMemory) }
+    ensures { IfOk result (λ world. world.setup ≡ N.wire.setup) }
 {
     match wire.close(alloc, seats) {
         Ok(world) => Ok(world),
