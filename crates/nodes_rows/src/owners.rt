@@ -35,7 +35,7 @@ pub fn take(
         "data" => put_data(alloc, owner, numbers, page)?,
         "replay" => replay(alloc, owner, page)?,
         "durable" => durable(owner, numbers.size(), page),
-        "complete" => complete(owner, page)?,
+        "complete" => complete(owner, page),
         "awaiting" => awaiting(alloc, owner, page)?,
         "grant" => {
             let range = numbers.range();
@@ -124,12 +124,11 @@ fn durable(owner: &mut Ownership, count: usize, page: &mut Page) {
 }
 
 /// The part whose end is to be told.
-fn complete(owner: &mut Ownership, page: &mut Page) -> Result<(), Fault> {
-    match owner.complete()? {
+fn complete(owner: &mut Ownership, page: &mut Page) {
+    match owner.complete() {
         Some(term) => page.number("\n    term ", u64::from(term)),
         None => page.put("\n    none"),
     }
-    Ok(())
 }
 
 /// The parts whose end was told, and that were not granted.

@@ -107,10 +107,12 @@ fn write_tablets(tablets: &[Tablet], page: &mut Page) {
     }
 }
 
-/// Creates the tables from the first to the last, and writes after each how deep the tree is.
+/// Creates the tables from the first to the last, and writes after each how deep the tree is. One that is refused
+/// memory is created again at once, where the tree is as deep as before.
 fn tables(tree: &mut Tree, numbers: &mut Numbers, page: &mut Page) -> Result<(), Fault> {
     for table in numbers.long()..=numbers.long() {
-        if tree.find(table, 0).is_none() {
+        let before = tree.depth();
+        if tree.create(table, OWNER, 1).is_err() && tree.depth() == before {
             tree.create(table, OWNER, 1)?;
         }
         page.size(" ", tree.depth());

@@ -1,5 +1,11 @@
 -- Linearizability, in the usual words: operation, invocation, response, the order of time, linearization. A history is
 -- a list of messages, as they were sent one after another; the moment of a message is its number, its place there.
+--
+-- Beside the usual definition: there are no processes, each operation stands for itself. The object is one register for
+-- each key, which begins with nothing; a write of nothing deletes. The complete operations are IsWrite and IsRead. A
+-- pending write takes part where a read has shown it (WasAskedFor), pending reads do not. The linearization is no list
+-- but the order StandsBefore, by which any finitely many operations can be sorted. IsLinearized says that this order
+-- keeps the order of time and is legal for a register. The sentence itself stands at the end: Linearizable.
 use Rattle.std.specs.Prelude.{◌≡◌, ◌≢◌, ◌⊎◌, ℕ, ◌<◌, List, take, Option, Some, None, slice_get}
 use Rattle.rc_types.specs.declared.ids.ServerId.{ServerId}
 use Rattle.rc_types.specs.declared.ids.Addr.TheVariants.{Server, Outside}
@@ -55,8 +61,9 @@ pub record IsWrite (sent : List Message) (op : Operation) : Type 0 where
       (record { term = term; table = op.table; key = op.key; version = op.version; value = op.value })
   pub fresh : HasSentFor (take op.invocation sent) op.master seg offset → ⊥
 
--- A read that was answered, and confirmed. Which Read it answers is left open: its invocation is any number below its
--- response, and so that of the Read that it was.
+-- A read that was answered, and confirmed: its master has acknowledged a write of any key, for whose place it had sent
+-- nothing before this answer. Which Read it answers is left open: its invocation is any number below its response, and
+-- so that of the Read that it was. The later an invocation, the more is answered before it: so this says more of reads.
 pub record IsRead (sent : List Message) (op : Operation) : Type 0 where
   pub kind : op.kind ≡ ARead
   pub response : IsResponse sent op.response op.master (ReadOk op.table op.key op.version op.value)
@@ -90,7 +97,8 @@ abbrev pub OrderIsStrict : Type 0
 OrderIsStrict = IsStrictOrder StandsBefore
 
 -- The write of an operation's version: a client had asked a master for it, and whatever was answered before it was
--- asked for has a lower version. It may be pending: a write without a response.
+-- asked for has a lower version. It may be pending: a write without a response. So it has a place in the order, too:
+-- behind all lower versions, and before all that has its version or a greater one.
 pub record WasAskedFor (sent : List Message) (op : Operation) : Type 0 where
   pub master : ServerId
   pub invocation : ℕ

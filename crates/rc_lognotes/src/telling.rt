@@ -27,7 +27,7 @@ pub fn tell_part(
     ensures before { ownership.new.before ≡ ownership.old.before }
     ensures no_memory { IfErr result (λ fault. fault ≡ OutOfMemory) }
 {
-    let Some(term) = ownership.complete()? else {
+    let Some(term) = ownership.complete() else {
         return Ok(false);
     };
     sent.push(recovered(own, ownership, tasks, term))?;

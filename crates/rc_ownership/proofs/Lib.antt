@@ -5,9 +5,11 @@ pub mod Marking
 pub mod NoteTables
 pub mod PartRows
 pub mod PartTables
+pub mod PieceLists
 pub mod Places
 pub mod Reading
 pub mod RecordHighs
+pub mod Room
 pub mod RowOrder
 pub mod RowsAgain
 pub mod Saying

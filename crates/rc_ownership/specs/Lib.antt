@@ -4,6 +4,7 @@ pub mod Grants
 pub mod Highs
 pub mod Owner
 pub mod Parts
+pub mod Pieces
 pub mod Replay
 pub mod Rows
 pub mod Slots

@@ -1,6 +1,6 @@
 -- The table of parts as it is kept, and how changes of it are undone.
-use Rattle.std.specs.Prelude.{◌≡◌, ℕ, ◌≤◌, nat_eq, false, not, ◌&&◌, if◌then◌else◌, List, [], ◌∷◌, length, map, filter}
-use Rattle.std.specs.Prelude.{take}
+use Rattle.std.specs.Prelude.{◌≡◌, ℕ, ◌+◌, ◌≤◌, nat_eq, false, not, ◌&&◌, if◌then◌else◌, List, [], ◌∷◌, length, map}
+use Rattle.std.specs.Prelude.{filter, take}
 use Rattle.rc_types.specs.declared.entries.Entry.{Entry}
 use Rattle.rc_types.specs.declared.kept.GrantedRange.{GrantedRange}
 use Rattle.rc_model.specs.Ownership.{Ownership, PartState, is_complete, owns_term}
@@ -76,6 +76,21 @@ pub record IsPartTable (entries : List (ℕ × PartState)) (changes : List (ℕ 
   pub places_before :
       HoldUnfinished grants (take kept_places places) (parts_in (undone changes (take kept entries)))
   pub places_within : kept_places ≤ length places
+
+-- a part whose end wasn't told counts as one
+abbrev pub untold : PartState → ℕ
+untold state = if state.answered then 0 else 1
+
+-- how many parts there are whose end wasn't told
+abbrev pub count_untold : List PartState → ℕ
+count_untold [] = 0
+count_untold (state ∷ states) = untold state + count_untold states
+
+-- such a table, and for its changes room: also to note of each part whose end wasn't told that it is
+pub record AreParts (entries : List (ℕ × PartState)) (changes : List (ℕ × Before)) (kept : ℕ)
+    (grants : List GrantedRange) (places : List ℕ) (kept_places room : ℕ) : Type 0 where
+  pub table : IsPartTable entries changes kept grants places kept_places
+  pub room_to_tell : length changes + count_untold (parts_in entries) ≤ room
 
 -- the terms of the complete parts that aren't granted yet
 abbrev pub awaiting_grant : List Entry → Ownership → List PartState → List ℕ

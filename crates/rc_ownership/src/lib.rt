@@ -12,6 +12,7 @@ mod notes;
 mod ownership;
 mod part;
 mod parts;
+mod pieces;
 mod replay;
 mod rows;
 mod shared;

@@ -399,20 +399,14 @@ impl Ownership {
 
     /// The term of the first begun part that is complete and whose end wasn't told: its rows have all
     /// come, and as many of its own entries are durable as they held. Its own are those that `next_replay` handed out
-    /// and that were noted next. Its end counts as told from now on.
-    ///
-    /// # Errors
-    ///
-    /// - `OutOfMemory` (F1): memory was refused; nothing has changed.
-    pub fn complete(&mut self) -> Result<Option<u32>, Fault>
-        ensures term { IfOk result (λ term. term ≡ owning.to_answer (replayed_of self.old) self.old.own) }
-        ensures answered { OnOk result
-            (self.new ≡ record self.old { own = owning.after_answer (replayed_of self.old) self.old.own }) }
-        ensures err { OnErr result (self.new ≡ self.old) }
-        ensures no_memory { IfErr result (λ fault. fault ≡ OutOfMemory) }
+    /// and that were noted next. Its end counts as told from now on. It takes no memory: `begin_part` and `put_data`
+    /// have taken what `restore` needs.
+    pub fn complete(&mut self) -> Option<u32>
+        ensures term { result ≡ owning.to_answer (replayed_of self.old) self.old.own }
+        ensures answered { self.new ≡ record self.old
+            { own = owning.after_answer (replayed_of self.old) self.old.own } }
     {
-        let term = self.parts.complete(&self.notes)?;
-        Ok(term)
+        self.parts.complete(&self.notes)
     }
 
     /// The terms of the complete parts that aren't granted yet, in the order in which the parts were

@@ -10,8 +10,8 @@ ghost use Rattle.rc_ownership.specs.Parts.{part_before};
 ghost use Rattle.rc_ownership.specs.declared.part.Before.TheVariants.{Awaited};
 
 use crate::notes::Notes;
+use crate::pieces::Pieces;
 use crate::rows::{self, FetchedRow};
-use crate::shared::shared_copies;
 use rc_types::{Entry, Fault, Part, ServerId};
 use std::alloc::{AllocError, Global};
 use std::collections::VecDeque;
@@ -107,7 +107,7 @@ impl FetchedPart {
         let Some(place) = rows::awaited_place(&self.rows, seg, from) else {
             unreachable!();
         };
-        let came = shared_copies(alloc, entries)?;
+        let came = Pieces::from_entries(alloc, entries)?;
         let Some(count) = self.count.checked_add(entries.len()) else {
             return Err(Fault::OutOfMemory);
         };

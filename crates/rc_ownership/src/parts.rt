@@ -23,7 +23,8 @@ use std::marker::Model;
 /// The parts by term, in the order in which they were begun, and the entries that wait; what changed
 /// since `begin` was called, and how many parts there were then. Beside them what was granted, the places
 /// of those parts that may be unfinished, how many of these places there were, and whether a part may have
-/// been finished since places were last let go.
+/// been finished since places were last let go. For the changes there is room: also to note of each part whose
+/// end wasn't told that it is.
 #[derive(Drop)]
 pub(crate) struct Parts {
     pub(crate) begun: IndexMap<u32, FetchedPart>,
@@ -38,7 +39,8 @@ pub(crate) struct Parts {
 
 impl Model for Parts {
     ghost use Rattle.std.specs.Prelude.{take};
-    ghost use Rattle.rc_ownership.specs.Parts.{Fetched, parts_in, undone, IsPartTable};
+    ghost use Rattle.std.specs.Prelude.{vec_capacity};
+    ghost use Rattle.rc_ownership.specs.Parts.{Fetched, parts_in, undone, AreParts};
 
     ghost Value = { Fetched };
 
@@ -51,8 +53,8 @@ impl Model for Parts {
           s.replay.before;
     } };
 
-    ghost invariant = { λ s. IsPartTable s.begun.entries s.touched.items s.kept s.grants
-        s.unfinished.items s.kept_unfinished };
+    ghost invariant = { λ s. AreParts s.begun.entries s.touched.items s.kept s.grants
+        s.unfinished.items s.kept_unfinished (vec_capacity s.touched) };
 }
 
 impl Parts {
@@ -139,6 +141,7 @@ impl Parts {
     {
         let begun = FetchedPart::new(alloc, part, rows)?;
         self.unfinished.reserve(1)?;
+        self.touched.reserve(self.unfinished.len() + 1)?;
         let place = self.begun.len();
         self.begun.insert(part.term, begun)?;
         self.unfinished.push(place).unwrap();
@@ -173,7 +176,7 @@ impl Parts {
         ensures err { OnErr result (self.new ≡ self.old) }
         ensures no_memory { IfErr result (λ fault. fault ≡ OutOfMemory) }
     {
-        self.touched.reserve(1)?;
+        self.touched.reserve(self.unfinished.len() + 1)?;
         let Some(part) = self.begun.get_mut(&term) else {
             unreachable!();
         };
@@ -229,28 +232,25 @@ impl Parts {
         }
     }
 
-    /// The same term; the part's end counts as told from now on.
-    pub(crate) fn complete(&mut self, notes: &Notes) -> Result<Option<u32>, AllocError>
-        ensures term { IfOk result (λ term. term ≡ owning.to_answer (replayed_in notes.now)
-            (who_fetched self.old)) }
-        ensures answered { OnOk result
-            (self.new ≡ record self.old {
-              parts = owning.answered_in (replayed_in notes.now)
-                  self.old.parts;
-            }) }
-        ensures err { OnErr result (self.new ≡ self.old) }
+    /// The same term; the part's end counts as told from now on. It takes no memory: room to note the change
+    /// was taken when the part was begun.
+    pub(crate) fn complete(&mut self, notes: &Notes) -> Option<u32>
+        ensures term { result ≡ owning.to_answer (replayed_in notes.now) (who_fetched self.old) }
+        ensures answered { self.new ≡ record self.old {
+          parts = owning.answered_in (replayed_in notes.now)
+              self.old.parts;
+        } }
     {
         let Some(term) = self.to_answer(notes) else {
-            return Ok(None);
+            return None;
         };
-        self.touched.reserve(1)?;
         let Some(part) = self.begun.get_mut(&term) else {
             unreachable!();
         };
         part.answer();
         self.touched.push((term, Before::Unanswered)).unwrap();
         self.may_finish = true;
-        Ok(Some(term))
+        Some(term)
     }
 
     /// The terms of the complete parts that aren't granted yet, in the order in which the parts were

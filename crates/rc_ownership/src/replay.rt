@@ -15,7 +15,7 @@ use std::alloc::{AllocError, Global};
 use std::collections::VecDeque;
 use std::marker::Model;
 
-/// The entries of a row, and the term that they get.
+/// A piece of the entries of a row, and the term that they get.
 #[derive(Drop)]
 pub(crate) struct JoinedRow {
     term: u32,
@@ -54,8 +54,8 @@ impl JoinedRow {
     }
 }
 
-/// The rows of parts that joined: how many there were when `begin` was called, the place in the first
-/// of them from which on they waited then, and the row and its place from which on they wait now.
+/// The pieces of the rows of parts that joined: how many there were when `begin` was called, the place in the
+/// first of them from which on they waited then, and the piece and its place from which on they wait now.
 #[derive(Drop)]
 pub(crate) struct Replay {
     pub(crate) rows: VecDeque<JoinedRow>,
@@ -93,7 +93,7 @@ impl Replay {
         }
     }
 
-    /// From here on `restore` goes back to now. The rows that were replayed are let go.
+    /// From here on `restore` goes back to now. The pieces that were replayed are let go.
     pub(crate) fn begin(&mut self)
         ensures { self.new ≡ record self.old { before = self.old.entries } }
     {
@@ -212,17 +212,52 @@ fn joined_rows(
     Ok(joined)
 }
 
-/// What came of a row goes last, if it has an entry.
+/// What came of a row goes last, piece by piece.
 fn push_row(joined: &mut VecDeque<JoinedRow>, term: u32, row: &FetchedRow) -> Result<(), AllocError>
     ensures entries { OnOk result (all_waiting joined.new.items ≡ all_waiting joined.old.items ++
         map (under_term term) (came_entries row.now.came)) }
     ensures none_empty { NoneIsEmpty joined.old.items → NoneIsEmpty joined.new.items }
 {
-    let Some(entries) = row.share_came()? else {
+    let Some(came) = row.came() else {
         return Ok(());
     };
-    if entries.len() > 0 {
+    let (first, others) = came.parts();
+    push_piece(joined, term, first)?;
+    push_pieces(joined, term, others)?;
+    Ok(())
+}
+
+/// A piece goes last, shared and under a term, if it has an entry.
+fn push_piece(
+    joined: &mut VecDeque<JoinedRow>,
+    term: u32,
+    piece: &Shared<Entry>,
+) -> Result<(), AllocError>
+    ensures entries { OnOk result (all_waiting joined.new.items ≡ all_waiting joined.old.items ++
+        map (under_term term) piece.now) }
+    ensures none_empty { NoneIsEmpty joined.old.items → NoneIsEmpty joined.new.items }
+{
+    if piece.len() > 0 {
+        let entries = piece.share()?;
         joined.push_back(JoinedRow { term, entries })?;
+    }
+    Ok(())
+}
+
+/// These pieces go last.
+fn push_pieces(
+    joined: &mut VecDeque<JoinedRow>,
+    term: u32,
+    pieces: &[Shared<Entry>],
+) -> Result<(), AllocError>
+    ensures entries { OnOk result (all_waiting joined.new.items ≡ all_waiting joined.old.items ++
+        map (under_term term) (all_waiting pieces.now)) }
+    ensures none_empty { NoneIsEmpty joined.old.items → NoneIsEmpty joined.new.items }
+{
+    let mut rest = pieces;
+    while let Some((piece, later)) = rest.split_first() {
+        push_piece(joined, term, piece)?;
+        rest = later;
     }
     Ok(())
 }

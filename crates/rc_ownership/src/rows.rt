@@ -2,10 +2,12 @@
 
 ghost use Rattle.std.specs.Prelude.{◌≡◌, nat_lt, not, position, map, Some, None, IfOk, OnOk};
 ghost use Rattle.std.specs.List.{position_or_len};
+ghost use Rattle.std.specs.Option.{option_copied};
 ghost use Rattle.rc_model.specs.Ownership.{PartRow, awaited_row, is_awaited, insert_row, rows_in_order};
 ghost use Rattle.rc_ownership.specs.Rows.{AreInOrder};
 
-use rc_types::{Entry, ServerId, Shared};
+use crate::pieces::Pieces;
+use rc_types::ServerId;
 use std::alloc::{AllocError, Global};
 use std::collections::VecDeque;
 use std::marker::Model;
@@ -15,7 +17,7 @@ use std::marker::Model;
 pub(crate) struct FetchedRow {
     seg: u16,
     holder: ServerId,
-    came: Option<Shared<Entry>>,
+    came: Option<Pieces>,
 }
 
 impl Model for FetchedRow {
@@ -53,24 +55,21 @@ impl FetchedRow {
     }
 
     /// Its entries have come.
-    pub(crate) fn fill(&mut self, came: Shared<Entry>)
+    pub(crate) fn fill(&mut self, came: Pieces)
         ensures { self.new ≡ record self.old { came = Some came } }
     {
         self.came = Some(came);
     }
 
-    /// What came of it, shared.
-    pub(crate) fn share_came(&self) -> Result<Option<Shared<Entry>>, AllocError>
-        ensures { IfOk result (λ came. came ≡ self.now.came) }
+    /// What came of it.
+    pub(crate) fn came(&self) -> Option<&Pieces>
+        ensures { option_copied result ≡ self.now.came }
     {
-        match &self.came {
-            Some(came) => Ok(Some(came.share()?)),
-            None => Ok(None),
-        }
+        self.came.as_ref()
     }
 
     /// It has not come; the answer is what came of it, if it had.
-    pub(crate) fn empty(&mut self) -> Option<Shared<Entry>>
+    pub(crate) fn empty(&mut self) -> Option<Pieces>
         ensures row { self.new ≡ record self.old { came = None } }
         ensures came { result ≡ self.old.came }
     {

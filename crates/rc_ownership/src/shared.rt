@@ -1,5 +1,4 @@
-//! Copies of entries that have come, in lists that the row of a part and the replay both own: so a part
-//! joins the replay, and goes back to an earlier moment, without a further copy.
+//! Copies of entries that have come, in lists that the row of a part and the replay both own.
 
 ghost use Rattle.std.specs.Prelude.{◌≡◌, IfOk, IfErr};
 ghost use Rattle.rc_types.specs.declared.faults.Fault.TheVariants.{OutOfMemory};

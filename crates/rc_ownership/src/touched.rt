@@ -1,6 +1,6 @@
 //! Going back: the parts that changed since `begin` was called are undone, the newest change first.
 
-ghost use Rattle.std.specs.Prelude.{◌≡◌, []};
+ghost use Rattle.std.specs.Prelude.{◌≡◌, [], vec_capacity};
 ghost use Rattle.rc_ownership.specs.Parts.{undone};
 
 use crate::part::{Before, FetchedPart};
@@ -10,6 +10,7 @@ use indexmap::IndexMap;
 pub(crate) fn undo(begun: &mut IndexMap<u32, FetchedPart>, touched: &mut Vec<(u32, Before)>)
     ensures entries { begun.new.entries ≡ undone touched.old.items begun.old.entries }
     ensures none { touched.new.items ≡ [] }
+    ensures room { vec_capacity touched.new ≡ vec_capacity touched.old }
 {
     while let Some((term, before)) = touched.pop() {
         if let Some(part) = begun.get_mut(&term) {

@@ -22,6 +22,7 @@ mod json;
 mod json_standing;
 mod kinds;
 mod logs;
+mod page_drawing;
 mod page_parts;
 mod pages;
 mod passages;

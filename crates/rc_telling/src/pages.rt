@@ -1,7 +1,8 @@
 //! The story as a page for a browser.
 
 use crate::json::put_story;
-use crate::page_parts::{DRAWING, ENDING, HEAD, MIDDLE, MOVING};
+use crate::page_drawing::{DRAWING, ENDING, MOVING};
+use crate::page_parts::{HEAD, MARKS, MIDDLE};
 use crate::story::Story;
 use rc_pen::{Pen, Spelling};
 use std::alloc::{AllocError, Global};
@@ -16,6 +17,7 @@ pub fn page(alloc: Global, story: &Story<'_>) -> Result<String, AllocError> {
     pen.put(HEAD);
     put_story(alloc, &mut pen, story);
     pen.put(MIDDLE);
+    pen.put(MARKS);
     pen.put(DRAWING);
     pen.put(MOVING);
     pen.put(ENDING);

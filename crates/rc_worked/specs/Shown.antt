@@ -145,6 +145,26 @@ NoDataBeforeClosedReports =
     ++ codes "refused 3 from 0.1 to out\n"
     ++ codes "messages 57\nacknowledged 2\nrefused 2\nplans 0\ngrants 1\naudit clean\n"
 
+-- nor while the old head is closed on all members of an epoch that is not committed: both members are told closed under
+-- epoch 2, of which one had its closed replica from before it was lost; a write that comes before the commit is refused
+abbrev pub no_data_before_committed : List Line
+no_data_before_committed =
+    start 0 ∷ start 1 ∷ start 2 ∷ start 3 ∷ start 4 ∷ settle ∷ create 7 (id 0 1) ∷ settle ∷
+    write (id 0 1) 7 1 (codes "a") ∷ settle ∷ suspect (id 3 1) ∷ stop (id 3 1) ∷ settle ∷
+    write (id 0 1) 7 2 (codes "a") ∷ deliver 56 ∷ deliver 57 ∷ deliver 58 ∷ deliver 60 ∷ deliver 61 ∷ deliver 62 ∷
+    deliver 63 ∷ deliver 65 ∷ start 3 ∷ deliver 66 ∷ deliver 67 ∷ stop (id 1 1) ∷ suspect (id 1 1) ∷ deliver 72 ∷
+    start 1 ∷ deliver 78 ∷ deliver 79 ∷ stop (id 3 2) ∷ suspect (id 3 2) ∷ deliver 84 ∷ deliver 88 ∷ deliver 89 ∷
+    deliver 90 ∷ deliver 91 ∷ write (id 0 1) 7 3 (codes "a") ∷ deliver 93 ∷ []
+
+abbrev pub NoDataBeforeCommittedReports : Type 0
+NoDataBeforeCommittedReports =
+    report_of of_one no_data_before_committed
+    ≡ own_line
+    ++ codes "ack 0.1 seg 1 at 0 term 1 table 7 key 1 version 1\n"
+    ++ codes "refused 3 from 0.1 to out\n"
+    ++ codes "refused 3 from 0.1 to out\n"
+    ++ codes "messages 95\nacknowledged 1\nrefused 2\nplans 0\ngrants 1\naudit clean\n"
+
 -- to whom messages of this kind go, in order
 abbrev pub sent_to : (Message → Bool) → List Message → List Addr
 sent_to is_such sent = map (λ message. message.to) (filter is_such sent)

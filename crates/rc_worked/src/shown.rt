@@ -3,7 +3,8 @@
 ghost use Rattle.rc_worked.specs.Shown.{TwoWritesOfOneKeyReports, ReadAtSecondOwnerReports, ReadAtSecondOwnerAnswers};
 ghost use Rattle.rc_worked.specs.Shown.{ReadBeforeStoredReports, NewerGenerationReports, SecondAttemptReports};
 ghost use Rattle.rc_worked.specs.Shown.{RecoveredWhenStoredReports, FreedWhenWritingReports};
-ghost use Rattle.rc_worked.specs.Shown.{NoDataBeforeClosedReports, CloseToANewMemberReports, CloseToANewMemberGoes};
+ghost use Rattle.rc_worked.specs.Shown.{NoDataBeforeClosedReports, NoDataBeforeCommittedReports};
+ghost use Rattle.rc_worked.specs.Shown.{CloseToANewMemberReports, CloseToANewMemberGoes};
 ghost use Rattle.rc_worked.specs.Shown.{PlaceToALostMemberReports, PlaceToALostMemberGoes};
 
 /// The second write of a key has version 2.
@@ -45,6 +46,11 @@ pub fn freed_when_writing()
 /// The new head takes nothing before the old one is closed.
 pub fn no_data_before_closed()
     ensures { NoDataBeforeClosedReports }
+{}
+
+/// Nor before the epoch is committed under which it is closed on all members.
+pub fn no_data_before_committed()
+    ensures { NoDataBeforeCommittedReports }
 {}
 
 /// A member that has taken a lost one's place in the closed old head is sent a Close too.

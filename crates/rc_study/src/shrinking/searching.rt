@@ -9,6 +9,12 @@ use rc_reading::{Scenario, ScenarioEvent};
 use rc_types::{Event, Fault};
 use std::alloc::{AllocError, Global};
 
+/// Pieces of this size and below are many, so they are passed over where larger ones could not go either.
+const SMALL: usize = 4;
+
+/// After how many sizes in turn of which no piece could go.
+const MOST_VAIN: usize = 2;
+
 /// A scenario with as few of this one's events that its report still has a line that begins with the text, and none of
 /// them can be left out; `None`, where the report of the scenario itself has no such line.
 ///
@@ -51,17 +57,21 @@ fn messages_of(alloc: Global, events: &[ScenarioEvent]) -> Result<Vec<usize>, Al
     Ok(messages)
 }
 
-/// Leaves out as much as it can: halves of what is left, then quarters and so on; and at the end single events, until
-/// none can be left out.
+/// Leaves out as much as it can: halves of what is left, then quarters and so on, but no small pieces where of two
+/// larger sizes in turn no piece could go; and at the end single events, until none can be left out.
 fn searched(alloc: Global, task: Task<'_>, first: Course) -> Result<Course, Fault>
     requires { IsWithinLimits task.setup.now }
 {
     let mut course = first;
     let mut size = course.len();
+    let mut vain = 0usize;
     for _ in 0..usize::BITS {
         size /= 2;
-        if size > 1 {
+        if size > SMALL || (size > 1 && vain < MOST_VAIN) {
+            let before = course.len();
             course = thinned(alloc, task, course, size)?;
+            let is_vain = course.len() == before;
+            vain = if is_vain { vain.saturating_add(1) } else { 0 };
         }
     }
     for _ in 0..=course.len() {
@@ -97,8 +107,8 @@ fn thinned(alloc: Global, task: Task<'_>, first: Course, size: usize) -> Result<
     Ok(course)
 }
 
-/// What is left after this cut, or, of a single event, after one after which deliveries keep their numbers, if the
-/// report still has such a line.
+/// What is left after this cut, or, of a single event before a delivery, after one after which deliveries keep their
+/// numbers, if the report still has such a line.
 fn shorter(
     alloc: Global,
     task: Task<'_>,
@@ -112,16 +122,27 @@ fn shorter(
     }
     match without(alloc, task, course, cut)? {
         Some(next) => Ok(Some(next)),
-        None if cut.to == cut.from.saturating_add(1) => without(
-            alloc,
-            task,
-            course,
-            Cut {
-                from: cut.from,
-                to: cut.to,
-                moves: false,
-            },
-        ),
+        None if cut.to == cut.from.saturating_add(1) && delivers_after(task, course, cut.to) =>
+            without(
+                alloc,
+                task,
+                course,
+                Cut {
+                    from: cut.from,
+                    to: cut.to,
+                    moves: false,
+                },
+            ),
         None => Ok(None),
     }
+}
+
+/// Whether a delivery is left from this place on.
+fn delivers_after(task: Task<'_>, course: &Course, from: usize) -> bool {
+    for item in course.items.iter().skip(from) {
+        if let Some(ScenarioEvent::Core(Event::Deliver(_))) = task.events.get(item.left.place) {
+            return true;
+        }
+    }
+    false
 }

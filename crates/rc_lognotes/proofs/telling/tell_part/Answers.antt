@@ -4,5 +4,5 @@ use Rattle.rc_lognotes.proofs.telling.tell_part.Goals as goal
 
 pub recovered-requires : goal.recovered-requires
 recovered-requires c =
-    rw c.in_ok-term.ensures.answered
+    rw c.complete.ensures.answered
     (tasks-answered (replayed_of c.args.ownership.now) c.args.ownership.now.own.parts c.args.tasks.now c.requires)

@@ -15,6 +15,6 @@ returns c =
     subst (λ list. IfOk c.awaiting_terms.result (λ terms. terms.items ≡ list))
     (ap (filter_map (awaiting_at durable grants entries)) c.as_slice-places.ensures.value
     ∙ terms-awaiting grants durable entries 0 c.self.inside.unfinished.items entries (stand-all entries)
-    c.self.invariant.places_now
+    c.self.invariant.table.places_now
     ∙ ap (λ fetched. awaiting_grant durable (who_fetched fetched) fetched.parts) c.self.view_is)
     c.awaiting_terms.ensures

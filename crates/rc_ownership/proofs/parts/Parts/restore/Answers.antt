@@ -1,16 +1,27 @@
-use Rattle.std.proofs.Common.{◌≡◌, take, ap, ◌∙◌, arith}
+use Rattle.std.proofs.Common.{◌≡◌, take, vec_capacity, ap, ◌∙◌, arith}
 use Rattle.std.proofs.lemmas.Grind.{common_steps}
 use Rattle.rc_ownership.specs.Parts.{parts_in, undone}
+use Rattle.rc_ownership.proofs.Room.{room-restored}
 use Rattle.rc_ownership.proofs.Undone.{same_fetched, table-restored, undone-restored, undone-take}
 use Rattle.rc_ownership.proofs.parts.Parts.restore.Goals as goal
 
 pub invariant_of-self : goal.invariant_of-self
 invariant_of-self c =
-    table-restored c.self.inside.begun.entries c.self.inside.touched.items c.truncate.new.self.entries
-    c.undo.new.touched.items c.self.inside.kept c.self.inside.grants c.self.inside.unfinished.items c.truncate-2.new.self.items
-    c.self.inside.kept_unfinished c.self.invariant
-    (c.truncate.ensures.entries ∙ ap (take c.self.inside.kept) c.undo.ensures.entries) c.undo.ensures.none
-    (grind (arith, common_steps))
+    let entries = c.self.inside.begun.entries in
+    let touched = c.self.inside.touched.items in
+    let now : c.truncate.new.self.entries ≡ take c.self.inside.kept (undone touched entries) =
+    c.truncate.ensures.entries ∙ ap (take c.self.inside.kept) c.undo.ensures.entries in
+    record {
+      table = table-restored entries touched c.truncate.new.self.entries c.undo.new.touched.items c.self.inside.kept
+          c.self.inside.grants c.self.inside.unfinished.items c.truncate-2.new.self.items c.self.inside.kept_unfinished
+          c.self.invariant.table now c.undo.ensures.none (grind (arith, common_steps));
+      room_to_tell = omega (
+        arith,
+        room-restored entries c.truncate.new.self.entries touched c.undo.new.touched.items c.self.inside.kept
+            (vec_capacity c.self.inside.touched) c.self.invariant.room_to_tell now c.undo.ensures.none,
+        c.undo.ensures.room,
+      );
+    }
 
 pub returns : goal.returns
 returns c =

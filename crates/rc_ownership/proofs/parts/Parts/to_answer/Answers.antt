@@ -14,7 +14,7 @@ returns-in_default c =
     let places = c.self.inside.unfinished.items in
     sym (ap (λ found. option_map_or (λ place. option_map (λ entry. entry.1.part.term) (slice_get entries place)) found None)
     c.in_default.is)
-    ∙ term-due c.self.inside.grants durable entries places c.first_due.result c.self.invariant.places_now
+    ∙ term-due c.self.inside.grants durable entries places c.first_due.result c.self.invariant.table.places_now
     (c.first_due.ensures ∙ ap (find (is_due durable entries)) c.as_slice-places.ensures.value)
     ∙ ap (λ fetched. option_map (λ state. state.part.term) (find (is_to_answer durable) fetched.parts)) c.self.view_is
 
@@ -27,7 +27,7 @@ returns-in-Some-get_index c =
     ∙ ap (option_map (λ entry. entry.1.part.term)) c.in-Some-get_index.ensures.entry
     ∙ sym (ap (λ found. option_map_or (λ place. option_map (λ entry. entry.1.part.term) (slice_get entries place)) found None)
     c.in-Some.is)
-    ∙ term-due c.self.inside.grants durable entries places c.first_due.result c.self.invariant.places_now
+    ∙ term-due c.self.inside.grants durable entries places c.first_due.result c.self.invariant.table.places_now
     (c.first_due.ensures ∙ ap (find (is_due durable entries)) c.as_slice-places.ensures.value)
     ∙ ap (λ fetched. option_map (λ state. state.part.term) (find (is_to_answer durable) fetched.parts)) c.self.view_is
 
@@ -39,6 +39,6 @@ returns-in-None c =
     ap (option_map (λ entry. entry.1.part.term)) c.in-None.ensures.entry
     ∙ sym (ap (λ found. option_map_or (λ place. option_map (λ entry. entry.1.part.term) (slice_get entries place)) found None)
     c.in-Some.is)
-    ∙ term-due c.self.inside.grants durable entries places c.first_due.result c.self.invariant.places_now
+    ∙ term-due c.self.inside.grants durable entries places c.first_due.result c.self.invariant.table.places_now
     (c.first_due.ensures ∙ ap (find (is_due durable entries)) c.as_slice-places.ensures.value)
     ∙ ap (λ fetched. option_map (λ state. state.part.term) (find (is_to_answer durable) fetched.parts)) c.self.view_is

@@ -12,6 +12,6 @@ returns c =
     let parts = ap (λ fetched. fetched.parts) c.self.view_is in
     subst (HoldOthers (IsDone own) 0 c.as_slice.result.now) parts
     (subst (λ ps. HoldOthers (IsDone own) 0 ps (parts_in entries)) (sym c.as_slice.ensures.value)
-    (places-done own entries 0 places entries c.self.invariant.under_terms (sym parts) (stand-all entries)
+    (places-done own entries 0 places entries c.self.invariant.table.under_terms (sym parts) (stand-all entries)
     (subst (λ grants. HoldUnfinished grants places (parts_in entries)) (ap (λ fetched. fetched.grants) c.self.view_is)
-    c.self.invariant.places_now)))
+    c.self.invariant.table.places_now)))

@@ -1,0 +1,15 @@
+//! The runbook: what is to be done for a cluster that does not come back by itself. `docs/EMBEDDING.md`, "The runbook",
+//! has it in words.
+//!
+//! The coordinator never acts by itself: it is told whom to believe dead, and when to decide. `dues` says what it is to
+//! be told, and which server is to be stopped and started, by what it knows and by what was seen of the servers. It
+//! decides nothing, and changes nothing; who asks it too often loses no data, since each Suspect, each Decide and each
+//! restart is safe at any time.
+#![tactic(auto)]
+
+mod asking;
+mod attempts;
+mod seen;
+
+pub use asking::{Due, dues};
+pub use seen::Seen;

@@ -1,0 +1,582 @@
+//! The constant parts of the page, further: what draws, what moves about, and how things stand at the end.
+
+/// What draws the rows that can be seen, and the legend.
+pub(crate) const DRAWING: &str = r##"
+// Each server's phases as bands: from where one begins to the next one, or to its end.
+const bands = story.phases.map((phase) => ({ id: phase.id, phase: phase.phase, from: phase.event,
+  until: stops.get(phase.id) }));
+const latest = new Map();
+for (const band of bands) {
+  if (latest.has(band.id)) {
+    latest.get(band.id).until = band.from;
+  }
+  latest.set(band.id, band);
+}
+
+// Each replica as bars, one after another, in a lane of its host; a start ends those that it does not name.
+const bars = [], standing = new Map();
+function barOf(copy) {
+  const host = hostOf(copy.at), key = `${host} ${copy.of} ${copy.seg}`, before = standing.get(key);
+  if (before) {
+    before.until = copy.event;
+  }
+  if (copy.gone) {
+    standing.delete(key);
+    return;
+  }
+  const taken = new Set([...standing.values()].filter((bar) => bar.host === host).map((bar) => bar.lane));
+  let lane = before ? before.lane : 0;
+  while (!before && taken.has(lane)) {
+    lane += 1;
+  }
+  const bar = { ...copy, host, lane, from: copy.event, until: events.length };
+  standing.set(key, bar);
+  bars.push(bar);
+}
+let nextCopy = 0;
+for (const event of events) {
+  const here = new Set();
+  for (; nextCopy < story.copies.length && story.copies[nextCopy].event === event.n; nextCopy += 1) {
+    barOf(story.copies[nextCopy]);
+    here.add(`${hostOf(story.copies[nextCopy].at)} ${story.copies[nextCopy].of} ${story.copies[nextCopy].seg}`);
+  }
+  if (event.kind === "start") {
+    for (const [key, bar] of [...standing].filter(([key, bar]) => bar.host === hostOf(event.at) && !here.has(key))) {
+      bar.until = event.n;
+      standing.delete(key);
+    }
+  }
+}
+const PATTERNS = '<defs><pattern id="hatched" width="4" height="4" patternUnits="userSpaceOnUse" ' +
+  'patternTransform="rotate(45)"><rect width="2" height="4" fill="var(--copy)"/></pattern>' +
+  '<pattern id="doubtful" width="9" height="9" patternUnits="userSpaceOnUse" patternTransform="rotate(45)">' +
+  '<rect width="4" height="9" fill="var(--doubt)"/></pattern></defs>';
+
+// The picture. Only the rows that can be seen are drawn.
+const view = byId("view"), picture = byId("picture"), space = byId("space");
+const ROW = 28, TOP = 30, RIGHT = 36, NARROWEST = 76, FOLD = 22;
+let left = 84, width = 0, full = 0, scrolled = 0, places = new Map();
+const x = (name) => places.get(name);
+const yOf = (row) => TOP + ROW * (row + 0.5) - scrolled;
+const y = (event) => yOf(rowOf[event]);
+
+// Where each column stands: one of a server that does not run while these events happen is folded.
+function spread(firstEvent, lastEvent) {
+  const isAway = (name) => starts.has(name) && (starts.get(name) > lastEvent || stops.get(name) < firstEvent);
+  const away = columns.filter(isAway).length;
+  left = view.clientWidth < 600 ? 58 : 84;
+  width = Math.max(NARROWEST, (view.clientWidth - left - RIGHT - FOLD * away) / Math.max(1, columns.length - away));
+  places = new Map();
+  full = left;
+  for (const name of columns) {
+    const wide = isAway(name) ? FOLD : width;
+    places.set(name, full + wide / 2);
+    full += wide;
+  }
+  full += RIGHT;
+  return isAway;
+}
+
+function head(fromX, fromY, toX, toY, hollow) {
+  const length = Math.hypot(toX - fromX, toY - fromY) || 1;
+  const across = (toX - fromX) / length, down = (toY - fromY) / length;
+  const point = (back, side) =>
+    `${(toX - back * across + side * down).toFixed(1)} ${(toY - back * down - side * across).toFixed(1)}`;
+  return `<path class="head${hollow ? " hollow" : ""}" d="M${point(0, 0)}L${point(9, 4)}L${point(9, -4)}Z"/>`;
+}
+
+function shaped(message, shape) {
+  const tones = `message ${toneOf(message)}${message.lost ? " lost" : ""}` +
+    (chosen.message === message.n ? " chosen" : "");
+  return `<g class="${tones}" data-message="${message.n}" tabindex="0" role="button" ` +
+    `aria-label="${escaped(messageLine(message))}">${shape}</g>`;
+}
+
+// The words lie above all arrows. Of several messages that begin alike only the first that is shown has words.
+function words(message, atX, atY, isRight, again) {
+  const first = message.alike ? message.alike.filter(isShown) : [message];
+  const more = (again ? " again" : "") + (first.length > 1 ? ` +${first.length - 1}` : "");
+  if (first[0] !== message) {
+    return "";
+  }
+  const text = `${message.n} ${message.kind}${message.shows || ""}${message.misses ? " stale" : ""}${more}`;
+  const wide = text.length * 6;
+  return `<rect class="under" x="${isRight ? atX - 1 : atX - wide}" y="${atY - 10}" width="${wide}" height="13"/>` +
+    `<text class="words ${toneOf(message)}" x="${atX}" y="${atY}" ` +
+    `text-anchor="${isRight ? "start" : "end"}">${escaped(text)}</text>`;
+}
+
+function arrow(message, from, to, hollow, again, layers) {
+  const step = Math.sign(x(message.to) - x(message.from));
+  const fromX = x(message.from), toX = x(message.to) - step * 5;
+  const fromY = y(from) + message.slot * 4, toY = y(to) + message.slot * 4;
+  const way = `M${fromX} ${fromY}L${toX} ${toY}`;
+  const shape = `<path class="touch" d="${way}"/><path class="way" d="${way}"/>`;
+  layers.arrows.push(shaped(message, shape + head(fromX, fromY, toX, toY, hollow)));
+  // beyond the addressee's line, where its answers seldom go; the outside has no room there
+  layers.words.push(message.outward ? words(message, toX + 12, toY + 13, true, again) :
+    words(message, x(message.to) + (step < 0 ? -9 : 9), toY + 4, step >= 0, again));
+}
+
+function lostArrow(message, layers) {
+  const fromX = x(message.from), fromY = y(message.sent);
+  const step = Math.sign(x(message.to) - fromX) || 1;
+  const toX = fromX + step * Math.min(Math.abs(x(message.to) - fromX) * 0.6, width * 0.8);
+  const toY = fromY + 9 + message.slot * 5;
+  const way = `M${fromX} ${fromY}L${toX} ${toY}`;
+  const cross = `M${toX - 4} ${toY - 4}L${toX + 4} ${toY + 4}M${toX - 4} ${toY + 4}L${toX + 4} ${toY - 4}`;
+  const shape = `<path class="touch" d="${way}"/><path class="way" d="${way}"/><path d="${cross}"/>`;
+  layers.arrows.push(shaped(message, shape));
+  layers.words.push(words(message, toX + step * 8, toY + 4, step > 0, false));
+}
+
+// Of an arrow both ends of which lie in the folded row nothing is drawn.
+function arrows(first, last, layers) {
+  for (const message of messages) {
+    const from = rowOf[message.sent];
+    if (from > last) {
+      break;
+    }
+    if (!isShown(message)) {
+      continue;
+    }
+    if (message.lost || message.outward) {
+      if (from >= first && !isFolded(from)) {
+        if (message.lost) {
+          lostArrow(message, layers);
+        } else {
+          arrow(message, message.sent, message.sent, false, false, layers);
+        }
+      }
+      continue;
+    }
+    message.delivered.forEach((event, place) => {
+      if (rowOf[event] >= first && !(isFolded(from) && isFolded(rowOf[event]))) {
+        arrow(message, message.sent, event, events[event].why !== undefined, place > 0, layers);
+      }
+    });
+  }
+}
+
+function note(event) {
+  const words = ["suspect", "decide"].includes(event.kind) ? event.text : event.kind;
+  const wide = words.length * 6.2 + 12, middle = x(event.at), height = y(event.n);
+  return `<g class="note"><rect x="${middle - wide / 2}" y="${height - 9}" width="${wide}" height="18" rx="5"/>` +
+    `<text x="${middle}" y="${height + 4}">${escaped(words)}</text></g>`;
+}
+
+function fold(row, until) {
+  const words = `set-up: events 0 to ${until}`;
+  const wide = full - left - RIGHT;
+  return `<g class="fold"><rect x="${left}" y="${yOf(row) - 10}" width="${wide}" height="20" rx="5"/>` +
+    `<text x="${left + 8}" y="${yOf(row) + 4}">${words}; a click unfolds it</text></g>`;
+}
+
+function rows(first, last, parts) {
+  for (let row = first; row <= last; row += 1) {
+    const event = events[shown[row].event], before = row > 0 && !isFolded(row - 1) ? shown[row - 1].event : -1;
+    if (isFolded(row)) {
+      parts.push(fold(row, shown[row].until));
+      continue;
+    }
+    parts.push(`<text class="number" x="${left - 8}" y="${yOf(row) + 4}">${event.n}</text>`);
+    if (before < 0 || events[before].place !== event.place) {
+      parts.push(`<text class="place" x="6" y="${yOf(row) + 4}">${event.place}</text>`);
+    }
+    if (event.kind !== "deliver" && places.has(event.at)) {
+      parts.push(note(event));
+    }
+  }
+}
+
+// A span of events at a node, as far as it is seen; nothing where it is not.
+function spanned(id, from, until, height) {
+  const top = Math.max(y(from), 0), bottom = Math.min(y(until), height);
+  return bottom > top && places.has(id) ? { top, tall: bottom - top } : null;
+}
+
+function lifelines(height, parts) {
+  for (const doubt of doubts) {
+    const span = spanned(doubt.id, doubt.from, doubt.until, height);
+    if (span) {
+      parts.push(`<rect class="doubt" x="${x(doubt.id) - width * 0.42}" y="${span.top}" width="${width * 0.84}" ` +
+        `height="${span.tall}"><title>${doubt.id} is suspected</title></rect>`);
+    }
+  }
+  for (const name of columns) {
+    parts.push(`<line class="life" x1="${x(name)}" x2="${x(name)}" y1="${TOP}" y2="${height}"/>`);
+  }
+  for (const band of bands) {
+    const span = spanned(band.id, band.from, band.until, height);
+    if (span) {
+      parts.push(`<rect class="band ${band.phase}" x="${x(band.id) - 5}" y="${span.top}" width="10" ` +
+        `height="${span.tall}"><title>${band.id} ${band.phase}</title></rect>`);
+    }
+  }
+}
+
+// The ranges that a server owns, on the left of its line; a former owner's bar goes on, hollow.
+function ownings(height, parts) {
+  for (const owner of owners) {
+    const aside = 12 + owner.lane * 6, keys = owner.lo === 0n && owner.hi === 18446744073709551615n ? "all keys" :
+      `keys ${owner.lo} to ${owner.hi}`;
+    for (const [from, until, former] of [[owner.from, owner.until, ""], [owner.until, owner.former, " former"]]) {
+      const span = aside < width * 0.42 && spanned(owner.id, from, until, height);
+      if (span) {
+        parts.push(`<rect class="owner${former}" x="${x(owner.id) - aside}" y="${span.top}" width="4" ` +
+          `height="${span.tall}"><title>${owner.id}${former ? " owned" : " owns"} ${keys} of table ${owner.table}, ` +
+          `term ${owner.term}</title></rect>`);
+      }
+    }
+  }
+}
+
+const lockAt = (atX, atY, text) => `<g class="lock"><path d="M${atX - 3} ${atY - 1}v-3a3 3 0 0 1 6 0v3"/>` +
+  `<rect x="${atX - 5}" y="${atY - 1}" width="10" height="7" rx="1"/><title>${escaped(text)}</title></g>`;
+
+// What becomes of a server at an event: it is suspected, replaced, deposed; it fences another one.
+function becomings(first, last, parts) {
+  for (const lock of locks) {
+    if (rowOf[lock.event] >= first && rowOf[lock.event] <= last && places.has(lock.id)) {
+      parts.push(lockAt(x(lock.id), y(lock.event), lock.text));
+    }
+  }
+  for (const tag of tags) {
+    if (rowOf[tag.event] >= first && rowOf[tag.event] <= last && places.has(tag.id)) {
+      const wide = tag.text.length * 6.4, height = y(tag.event);
+      parts.push(`<rect class="under" x="${x(tag.id) - wide / 2}" y="${height - 7}" width="${wide}" height="14"/>` +
+        `<text class="tag" x="${x(tag.id)}" y="${height + 4}">${tag.text}</text>`);
+    }
+  }
+}
+
+// The replicas of a host beside its line, as far as there is room.
+function copies(height, parts) {
+  for (const bar of bars) {
+    const aside = 8 + bar.lane * 6, span = aside < width * 0.42 && spanned(bar.at, bar.from, bar.until, height);
+    if (span) {
+      const state = (bar.closed ? " closed" : "") + (bar.fenced ? " fenced" : "");
+      parts.push(`<rect class="copy${state}" x="${x(bar.at) + aside}" y="${span.top}" width="4" ` +
+        `height="${span.tall}"><title>${copyText(bar)}</title></rect>`);
+    }
+  }
+}
+
+function copyText(bar) {
+  return `replica of ${bar.of} segment ${bar.seg}: epoch ${bar.epoch}, ${bar.len} entries, ` +
+    (bar.closed ? "closed" : "open") + (bar.fenced ? ", fenced" : "");
+}
+
+function heads(isAway, parts) {
+  parts.push(`<rect class="ground" width="${full}" height="${TOP}"/><text class="place" x="6" y="19">at</text>`);
+  parts.push(`<text class="number" x="${left - 8}" y="19">event</text>`);
+  for (const name of columns) {
+    const text = isAway(name) ? "·" : title(name);
+    parts.push(`<text class="name" x="${x(name)}" y="19">${text}<title>${title(name)}</title></text>`);
+  }
+}
+
+function draw() {
+  const height = view.clientHeight;
+  scrolled = view.scrollTop;
+  const first = Math.max(0, Math.floor((scrolled - TOP) / ROW) - 1);
+  const last = Math.min(shown.length - 1, Math.ceil((scrolled + height) / ROW) + 1);
+  const isAway = spread(shown.length ? shown[Math.min(first, last)].event : 0, shown.length ? shown[last].event : 0);
+  const focused = document.activeElement && document.activeElement.dataset.message;
+  const parts = [], layers = { arrows: [], words: [] };
+  parts.push(PATTERNS);
+  lifelines(height, parts);
+  const row = rowOf[chosen.event];
+  if (chosen.event >= 0 && row >= first && row <= last) {
+    parts.push(`<rect class="row" width="${full}" height="${ROW}" y="${yOf(row) - ROW / 2}"/>`);
+  }
+  copies(height, parts);
+  ownings(height, parts);
+  arrows(first, last, layers);
+  parts.push(...layers.arrows);
+  rows(first, last, parts);
+  parts.push(...layers.words);
+  becomings(first, last, parts);
+  heads(isAway, parts);
+  space.style.height = `${Math.max(TOP + ROW * (shown.length + 1), height)}px`;
+  space.style.width = `${full}px`;
+  picture.setAttribute("width", full);
+  picture.setAttribute("height", height);
+  picture.innerHTML = parts.join("");
+  const again = focused && picture.querySelector(`[data-message="${focused}"]`);
+  if (again) {
+    again.focus({ preventScroll: true });
+  }
+}
+
+// One legend for all marks.
+function mark(shape, text) {
+  return `<span><svg width="22" height="14" aria-hidden="true">${shape}</svg>${text}</span>`;
+}
+const line = (tone, more, end) => `<g class="message ${tone}${more}"><path class="way" d="M1 7L14 7"/>${end}</g>`;
+const tip = (hollow) => `<path class="head${hollow}" d="M21 7L13 11L13 3Z"/>`;
+byId("legend").innerHTML = [["opening", "opening"], ["closing", "closing"], ["", "writing"],
+  ["deposed", "deposed"]].map(([name, text]) =>
+  mark(`<rect class="band ${name}" x="6" width="10" height="14"/>`, text)).join("") +
+  mark('<rect class="doubt" width="22" height="14"/>', "suspected") +
+  mark(lockAt(11, 7, ""), "fences") +
+  mark('<rect class="owner" x="9" width="4" height="14"/>', "owns a range") +
+  mark('<rect class="owner former" x="9" y="1" width="4" height="12"/>', "was replaced") +
+  mark('<rect class="copy" x="9" y="1" width="4" height="12"/>', "open replica") +
+  mark('<rect class="copy closed" x="9" y="1" width="4" height="12"/>', "closed") +
+  mark('<rect class="copy fenced" x="9" y="1" width="4" height="12"/>', "of a fenced master") +
+  mark(line("good", "", tip("")), "acknowledged, read") + mark(line("stale", "", tip("")), "stale read") +
+  mark(line("bad", "", tip("")), "refused") + mark(line("grant", "", tip("")), "granted") +
+  mark(line("", "", tip(" hollow")), "no effect") +
+  mark(line("", " lost", '<path d="M15 3L21 11M15 11L21 3"/>'), "never delivered");
+"##;
+
+/// What moves about in them: steps, the search, the filters, links, and what is pointed at.
+pub(crate) const MOVING: &str = r##"
+// Moving about: steps, the search, the filters, and what is pointed at.
+let isDue = false;
+function redraw() {
+  if (!isDue) {
+    isDue = true;
+    requestAnimationFrame(() => {
+      isDue = false;
+      draw();
+    });
+  }
+}
+
+function show(event) {
+  const at = TOP + ROW * rowOf[event], seen = view.clientHeight;
+  if (at < view.scrollTop + 2 * ROW || at > view.scrollTop + seen - 3 * ROW) {
+    view.scrollTop = Math.max(0, at - seen / 2);
+  }
+}
+
+function showColumn(name) {
+  const at = x(name);
+  if (at < view.scrollLeft + left || at > view.scrollLeft + view.clientWidth - RIGHT) {
+    view.scrollLeft = Math.max(0, at - view.clientWidth / 2);
+  }
+}
+
+// Shows all rows again where the one that is asked for is not among them.
+function unfold(event) {
+  const row = shown[rowOf[event]];
+  if (row === undefined || row.event !== event || isFolded(rowOf[event])) {
+    chosen.folds = byId("folds").checked = chosen.folds && event >= setUp;
+    chosen.host = byId("host").value = takesPart(events[event]) ? chosen.host : "";
+    lay();
+  }
+}
+
+function chooseEvent(event) {
+  if (events.length > 0) {
+    chosen.event = Math.min(Math.max(event, 0), events.length - 1);
+    chosen.message = -1;
+    unfold(chosen.event);
+    const happened = events[chosen.event];
+    byId("details").textContent = eventText(happened);
+    show(chosen.event);
+    showColumn(happened.kind === "deliver" ? messages[happened.message].to : happened.at);
+    link(`event-${chosen.event}`);
+    redraw();
+  }
+}
+
+// One row further, or back.
+function step(by) {
+  const row = chosen.event < 0 ? (by > 0 ? 0 : shown.length - 1) : rowOf[chosen.event] + by;
+  if (shown[row]) {
+    chooseEvent(isFolded(row) ? shown[row + 1].event : shown[row].event);
+  }
+}
+
+// The address of what is chosen, for a link to it.
+function link(place) {
+  history.replaceState(null, "", `#${place}`);
+}
+
+function follow() {
+  const [, kind, number] = location.hash.match(/^#(event|message)-(\d+)$/) || [];
+  if (kind === "event") {
+    chooseEvent(Number(number));
+  } else if (kind === "message") {
+    chooseMessage(Number(number));
+  }
+}
+
+// A number is a message, e and a number an event; else the next message that has all the words.
+function search(text) {
+  const [, isEvent, number] = text.trim().match(/^(e(?:vent)?\s*)?(\d+)$/i) || [];
+  const words = text.trim().toLowerCase().split(/\s+/);
+  if (isEvent) {
+    chooseEvent(Number(number));
+  } else if (number) {
+    chooseMessage(Number(number));
+  } else if (words[0] !== "") {
+    const fits = (message) => words.every((word) => messageLine(message).toLowerCase().includes(word));
+    const found = messages.find((message) => message.n > chosen.message && fits(message)) || messages.find(fits);
+    if (found) {
+      chooseMessage(found.n);
+    } else {
+      byId("details").textContent = `No message has all of: ${text.trim()}`;
+    }
+  }
+}
+
+function tell(element) {
+  const group = element.closest && element.closest("[data-message]");
+  if (group) {
+    byId("details").textContent = messageText(messages[Number(group.dataset.message)]);
+  }
+  return group;
+}
+
+function chooseMessage(number) {
+  const message = messages[number];
+  if (message) {
+    chosen.message = number;
+    chosen.event = message.sent;
+    unfold(message.sent);
+    byId("details").textContent = messageText(message);
+    show(message.sent);
+    showColumn(message.from);
+    link(`message-${number}`);
+    redraw();
+  } else {
+    byId("details").textContent = `There is no message ${number}.`;
+  }
+}
+
+view.addEventListener("scroll", redraw);
+addEventListener("resize", redraw);
+view.addEventListener("pointerover", (happening) => tell(happening.target));
+view.addEventListener("focusin", (happening) => tell(happening.target));
+view.addEventListener("click", (happening) => {
+  const group = tell(happening.target);
+  if (group) {
+    chooseMessage(Number(group.dataset.message));
+  } else {
+    const down = happening.clientY - view.getBoundingClientRect().top + view.scrollTop;
+    const row = Math.floor((down - TOP) / ROW);
+    if (isFolded(row)) {
+      byId("folds").click();
+    } else if (shown[row]) {
+      chooseEvent(shown[row].event);
+    }
+  }
+});
+byId("next").addEventListener("click", () => step(1));
+byId("previous").addEventListener("click", () => step(-1));
+byId("search").addEventListener("keydown", (happening) => {
+  if (happening.key === "Enter") {
+    search(happening.target.value);
+  }
+});
+byId("folds").addEventListener("change", (happening) => {
+  chosen.folds = happening.target.checked;
+  lay();
+  redraw();
+});
+const KEYS = { j: () => step(1), ArrowDown: () => step(1), k: () => step(-1), ArrowUp: () => step(-1),
+  Home: () => chooseEvent(0), End: () => chooseEvent(events.length - 1) };
+addEventListener("keydown", (happening) => {
+  if (happening.target.closest("input, select") || happening.ctrlKey || happening.metaKey || happening.altKey) {
+    return;
+  }
+  const group = happening.target.closest("[data-message]");
+  const isOpened = group && (happening.key === "Enter" || happening.key === " ");
+  const isScrolled = happening.target.id === "details";
+  const act = isOpened ? () => chooseMessage(Number(group.dataset.message)) : !isScrolled && KEYS[happening.key];
+  if (act) {
+    happening.preventDefault();
+    act();
+  }
+});
+addEventListener("hashchange", follow);
+
+function fill(id, values, label) {
+  const list = byId(id);
+  for (const value of values) {
+    list.add(new Option(label(value), value));
+  }
+  list.addEventListener("change", () => {
+    chosen[id] = list.value;
+    lay();
+    redraw();
+  });
+}
+fill("host", [...new Set(names.map(hostOf))], title);
+fill("kind", [...new Set(messages.map((message) => message.kind))].sort(), (kind) => kind);
+"##;
+
+/// What tells how things stand at the end, and the end of the page.
+pub(crate) const ENDING: &str = r##"
+// How things stand at the end.
+function table(caption, heads, lines) {
+  const long = (cell) => String(cell).length > 30 ? ' class="long"' : "";
+  const cells = (tag, line) => line.map((cell) => `<${tag}${long(cell)}>${escaped(cell)}</${tag}>`).join("");
+  const body = lines.map((line) => `<tr>${cells("td", line)}</tr>`).join("");
+  const whole = lines.length === 0 ? "<p>none</p>" :
+    `<table><thead><tr>${cells("th", heads)}</tr></thead><tbody>${body}</tbody></table>`;
+  byId("ending").insertAdjacentHTML("beforeend", `<section><h2>${escaped(caption)}</h2>${whole}</section>`);
+}
+
+// Whether no later term has taken a key of this range.
+function stands(range) {
+  return !story.ranges.some((other) => other.table === range.table && other.term > range.term &&
+    BigInt(other.lo) <= BigInt(range.hi) && BigInt(range.lo) <= BigInt(other.hi));
+}
+
+function ownerText(owner) {
+  const server = story.servers.find((server) => server.id === owner);
+  return server && server.suspected !== null ? "suspected" : "";
+}
+
+function keysOf(range) {
+  const last = "18446744073709551615";
+  if (range.hi === last) {
+    return range.lo === "0" ? "all" : `from ${range.lo} on`;
+  }
+  return `${range.lo} to ${range.hi}`;
+}
+
+function memberText(member) {
+  const told = member.told === null ? "nothing" : member.told + (member.closed ? " closed" : "");
+  return `${member.id} ${member.lost ? "lost" : told}`;
+}
+
+table("Owners, by the last grant of each range", ["Table", "Keys", "Term", "Owner", ""],
+  story.ranges.map((range) => [range.table, keysOf(range), range.term, range.owner,
+    stands(range) ? ownerText(range.owner) : "passed on"]));
+table("Last acknowledged version of each key", ["Table", "Key", "Version", "Term", "By"],
+  story.keys.map((key) => [key.table, key.key, key.version, key.term, key.by]));
+table("Writes delivered and not acknowledged", ["Message", "", "Delivered", "What became of it"],
+  story.unacknowledged.map((write) => [write.message,
+    `to ${messages[write.message].to} ${messages[write.message].text}`, `event ${write.event}`, write.fate]));
+table("Servers", ["Server", "Started", "Stopped", "Suspected", "Acknowledged"],
+  story.servers.map((server) => [server.id, `event ${server.started}`,
+    server.stopped === null ? "runs" : `event ${server.stopped}`,
+    server.suspected === null ? "" : `event ${server.suspected}`, server.acknowledged]));
+table("Masters", ["Server", "Phase", "Head", "Durable places", "Waits"],
+  story.masters.map((master) => [master.id, master.phase, master.head, master.durable, master.waits || ""]));
+table("Segments", ["Segment", "Epoch", "Entries", "", "Members, and what they have told"],
+  story.masters.flatMap((master) => master.segments.map((segment) => [`${master.id} ${segment.seg}`,
+    segment.epoch + (segment.committed ? "" : ", not committed"), segment.len, segment.shut ? "shut" : "open",
+    segment.members.map(memberText).join(", ")])));
+table("Replicas", ["At", "Of", "Segment", "Epoch", "Entries", ""],
+  story.replicas.map((replica) => [replica.at, replica.of, replica.seg, replica.epoch, replica.len,
+    (replica.closed ? "closed" : "open") + (replica.fenced ? ", fenced" : "")]));
+table("Never delivered", ["Kind", "To", "Messages"],
+  story.lost.map((group) => [group.kind, group.to, messages.filter((message) => message.lost &&
+    message.kind === group.kind && message.to === group.to).map((message) => message.n).join(" ")]));
+byId("summary").textContent = `${events.length} events, ${messages.length} messages, ` +
+  `${story.servers.length} servers` +
+  (story.stopped ? `; stopped ${story.stopped.code} at event ${story.stopped.place} of the scenario` : "");
+lay();
+draw();
+follow();
+</script>
+</body>
+</html>
+"##;
