@@ -7,7 +7,7 @@ use crate::recoveries::{Recoveries, tell_recoveries};
 use crate::tables::Table;
 use rc_pen::{Pen, Piece, Spelling};
 use rc_types::limits::MAX_HOSTS;
-use rc_types::{Addr, Event, Message, Setup};
+use rc_types::{Addr, Body, Event, Message, Setup};
 use std::alloc::{AllocError, Global};
 
 /// How many kinds of waiting messages are told one by one.
@@ -67,6 +67,7 @@ fn tell_hints(
     pen.take(course.begin(messages.len()));
     course.take_all(events);
     tell_waiting(&course, alloc, pen, messages);
+    tell_lost_own(&course, pen, messages);
     tell_unheard(&course, pen);
     tell_unstarted(&course, pen);
     tell_few(&course, pen, factors);
@@ -99,6 +100,30 @@ fn count_waiting(
         }
     }
     Ok(())
+}
+
+/// The first table whose owner was not told that it has it.
+fn tell_lost_own(course: &Course, pen: &mut Pen, messages: &[Message]) {
+    for (number, message) in messages.iter().enumerate() {
+        if let (
+            Body::Own {
+                table,
+                attempt: 0,
+                ..
+            },
+            Addr::Server(id),
+        ) = (&message.body, message.to)
+        {
+            if course.waits(number, message) {
+                pen.say_all(
+                    "hint: the Own of table % has not reached %, and nothing sends it again: where it is lost, stop % and \
+                     start its host, and decide\n",
+                    &[Piece::U32(*table), Piece::Id(id), Piece::Id(id)],
+                );
+                return;
+            }
+        }
+    }
 }
 
 /// Requests that nobody heard.

@@ -323,11 +323,16 @@ fn tell_stage(pen: &mut Pen, master: ServerId, stage: Stage, course: &Course) {
     }
 }
 
-/// A server that has stopped, and of which the coordinator was not told.
+/// A server that has stopped, and of which the coordinator was not told; or else one that was suspected and runs.
 fn tell_unsuspected(pen: &mut Pen, course: &Course) {
     if let Some(id) = course.unsuspected() {
         pen.say_all(
             "; % has stopped and was not suspected, so its place is not filled",
+            &[Piece::Id(id)],
+        );
+    } else if let Some(id) = course.zombie() {
+        pen.say_all(
+            "; % was suspected and runs: once it is stopped and its host is started, that can be one",
             &[Piece::Id(id)],
         );
     }
