@@ -55,22 +55,12 @@ impl Drop for Healed {
 }
 
 /// What was found: nothing is claimed of it.
+#[derive(Drop)]
 struct Found {
     course: Course,
     deeds: Vec<Deed>,
     rounds: u8,
     state: State,
-}
-
-impl Drop for Found {
-    fn drop(self) {
-        let Found {
-            course: _,
-            deeds: _,
-            rounds: _,
-            state: _,
-        } = self;
-    }
 }
 
 /// What has become of the tablets.
@@ -140,9 +130,9 @@ fn healed(alloc: Global, setup: &Setup, events: &[Event], power: bool) -> Result
         events: trial,
         served,
     } = trial;
-    let is_so = are_shown(tried.sent(), world.sent().len(), served.as_slice())
-        && are_all_drops(world.events(), gone.as_slice());
-    if !is_so {
+    let have_shown = are_shown(tried.sent(), world.sent().len(), served.as_slice());
+    let have_dropped = are_all_drops(world.events(), gone.as_slice());
+    if !have_shown || !have_dropped {
         return Err(Fault::BadEvent);
     }
     Ok(Healed {

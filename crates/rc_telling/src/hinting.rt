@@ -78,7 +78,11 @@ fn tell_hints(
 fn tell_unrecovered(course: &Course, alloc: Global, pen: &mut Pen, messages: &[Message]) {
     let mut recoveries = Recoveries::new(alloc);
     pen.take(recoveries.note_all(messages, course.delivered.as_slice()));
-    tell_recoveries(pen, &recoveries, course);
+    let waits = messages
+        .iter()
+        .enumerate()
+        .any(|(number, message)| course.waits(number, message));
+    tell_recoveries(pen, &recoveries, course, waits);
 }
 
 /// Messages that wait.
