@@ -235,7 +235,8 @@ by_command P run trace audit fuzz stops threads explore log picture explain shri
     ⊎_elim (λ it. subst P it.1 shrink) (λ k.
     ⊎_elim (λ it. subst P it.1 heal) (λ l.
     ⊎_elim (λ it. subst P it.1 help) (λ no_help. other word (no_name a b c d e f g h i j k l) no_help)
-    (text_tells (codes "help") word)) (text_tells (codes "heal") word)) (text_tells (codes "shrink") word)) (text_tells (codes "explain") word))
+    (text_tells (codes "help") word)) (text_tells (codes "heal") word)) (text_tells (codes "shrink") word))
+    (text_tells (codes "explain") word))
     (text_tells (codes "picture") word))
     (text_tells (codes "log") word))
     (text_tells (codes "explore") word))

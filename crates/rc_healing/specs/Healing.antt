@@ -1,5 +1,5 @@
 -- What is claimed of a world that was healed.
-use Rattle.std.specs.Prelude.{ℕ, Bool, true, false, nat_eq, ◌&&◌, List, [], ◌∷◌, Option, Some, None, drop, slice_get, not}
+use Rattle.std.specs.Prelude.{ℕ, Bool, false, nat_eq, ◌&&◌, List, Option, Some, drop, slice_get, not}
 use Rattle.std.specs.List.{list_all, list_any}
 use Rattle.rc_types.specs.declared.ids.Addr.{Addr}
 use Rattle.rc_types.specs.declared.ids.ServerId.{ServerId}

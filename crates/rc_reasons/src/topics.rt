@@ -33,8 +33,8 @@ pub static TOPICS: [Topic; 21] = [
         when: "A master, to a write or a read: another server has the range, or the Own message that grants it \
             has not been delivered yet.",
         remedy: "Ask the server of the last `own` line whose table and range hold the key; settle after `create`, \
-            `decide` and the like, so that the Own arrives. Nothing repeats the Own of a create that was lost: stop that \
-            server and start its host, and decide.",
+            `decide` and the like, so that the Own arrives. Nothing repeats the Own of a create that was lost: \
+            stop that server and start its host, and decide.",
     },
     Topic {
         number: 3,
@@ -88,10 +88,10 @@ pub static TOPICS: [Topic; 21] = [
         when: "The coordinator, to a decide: none of the answers to its Gather has an open replica of that master \
             that counts. The attempt goes on gathering.",
         remedy: "Settle, so that more backups answer; or start a host again that had the head, with its replicas \
-            `kept`, then tick the coordinator (`\"id\":\"c\"`), which asks again, settle, and decide once more. Where it \
-            is refused after the newest server of each host has answered, a segment is gone: it was on all its backups, \
-            and each of their hosts has since been started without its open replica. That is proved; `heal` names these \
-            starts. Whether something acknowledged was in it, nobody can know.",
+            `kept`, then tick the coordinator (`\"id\":\"c\"`), which asks again, settle, and decide once more. Where \
+            it is refused after the newest server of each host has answered, a segment is gone: it was on all its \
+            backups, and each of their hosts has since been started without its open replica. That is proved; `heal` \
+            names these starts. Whether something acknowledged was in it, nobody can know.",
     },
     Topic {
         number: 9,
@@ -100,8 +100,8 @@ pub static TOPICS: [Topic; 21] = [
         when: "The coordinator, to a decide: the head's digest names a segment of which no answer to its Gather \
             has a replica that counts. The attempt goes on gathering.",
         remedy: "As for F8: let more backups answer, or start those again that had the segment; tick the \
-            coordinator, settle, and decide once more. After the newest server of each host has answered, it means that \
-            a segment is gone, as F8 does.",
+            coordinator, settle, and decide once more. After the newest server of each host has answered, it means \
+            that a segment is gone, as F8 does.",
     },
     Topic {
         number: 10,

@@ -10,8 +10,8 @@ use Rattle.rc_sim.specs.declared.verdicts.Verdict.{Verdict}
 use Rattle.rc_sim.specs.declared.verdicts.Verdict.TheVariants.{Clean, Breach, Bad, Stopped, NoLine, Wrong}
 use Rattle.rc_sim.specs.declared.verdicts.SimFault.{SimFault}
 use Rattle.rc_sim.specs.declared.verdicts.SimFault.TheVariants.{Memory, Read, Write}
-use Rattle.rc_sim.specs.Verdicts.{Played, Narrated, Judged, Drawn, PowerCut, Threaded, Explored, Surveyed, Shrunk, Healed}
-use Rattle.rc_sim.specs.Verdicts.{Told}
+use Rattle.rc_sim.specs.Verdicts.{Played, Narrated, Judged, Drawn, PowerCut, Threaded, Explored, Surveyed}
+use Rattle.rc_sim.specs.Verdicts.{Shrunk, Healed, Told}
 use Rattle.rc_sim.specs.Written.{IsWritten, IsBegun}
 
 abbrev pub verdict_status : Verdict → ℕ

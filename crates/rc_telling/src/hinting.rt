@@ -120,8 +120,8 @@ fn tell_lost_own(course: &Course, pen: &mut Pen, messages: &[Message]) {
         {
             if course.waits(number, message) {
                 pen.say_all(
-                    "hint: the Own of table % has not reached %, and nothing sends it again: where it is lost, stop % and \
-                     start its host, and decide\n",
+                    "hint: the Own of table % has not reached %, and nothing sends it again: where it is lost, stop % \
+                     and start its host, and decide\n",
                     &[Piece::U32(*table), Piece::Id(id), Piece::Id(id)],
                 );
                 return;
