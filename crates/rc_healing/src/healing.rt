@@ -11,7 +11,7 @@ use crate::course::Course;
 use crate::deeds::{Deed, Gone, Served};
 use crate::losses::gone;
 use crate::rounds::Healer;
-use crate::trying::{Trial, copies, try_tablets};
+use crate::trying::{Trial, copies, is_among, try_tablets};
 use rc_types::{Event, Fault, ServerId, Setup, Tablet, TryClone};
 use rc_world::{World, run};
 use std::alloc::Global;
@@ -238,8 +238,7 @@ impl State {
 
     /// Whether the tablet of this place is neither served nor gone.
     fn is_open(&self, tablet: &Tablet) -> bool {
-        let is_served = self.trial.served.iter().any(|served| served.tablet.table == tablet.table
-            && served.tablet.lo == tablet.lo);
+        let is_served = is_among(self.trial.served.as_slice(), tablet);
         let is_gone = tablet.crashed && self.gone.iter().any(|gone| gone.master == tablet.owner);
         !is_served && !is_gone
     }

@@ -7,7 +7,10 @@ use crate::course::Course;
 use crate::deeds::Served;
 use crate::views::settle;
 use rc_types::{Addr, Body, Event, Fault, Message, Setup, Shared, Tablet, TryClone};
-use std::alloc::Global;
+use std::alloc::{AllocError, Global};
+
+/// How often a tablet is written that does not acknowledge it: a master that rolls its head refuses the first write.
+const MOST_WRITES: usize = 3;
 
 /// A trial: what was done in it, and what it has shown.
 #[derive(Drop)]
@@ -41,18 +44,48 @@ pub(crate) fn try_tablets(
     let from = course.world().sent().len();
     let value = format!(in alloc; "{from}")?.into_bytes();
     let shared = Shared::from_vec(alloc, value.clone()?)?;
-    for tablet in tablets {
-        write(alloc, &mut course, tablet, &shared)?;
+    let mut shown = Vec::new(alloc);
+    for _ in 0..MOST_WRITES {
+        let open = open_tablets(alloc, tablets, shown.as_slice())?;
+        for tablet in &open {
+            write(alloc, &mut course, tablet, &shared)?;
+        }
+        settle(alloc, &mut course)?;
+        for tablet in &open {
+            read(alloc, &mut course, tablet)?;
+        }
+        course.deliver(alloc)?;
+        shown = served(
+            alloc,
+            course.world().sent(),
+            from,
+            tablets,
+            value.as_slice(),
+        )?;
     }
-    settle(alloc, &mut course)?;
-    for tablet in tablets {
-        read(alloc, &mut course, tablet)?;
-    }
-    course.deliver(alloc)?;
-    let world = course.world();
-    let served = served(alloc, world.sent(), from, tablets, value.as_slice())?;
-    let events = copies(alloc, world.events(), events.len())?;
-    Ok(Trial { events, served })
+    let events = copies(alloc, course.world().events(), events.len())?;
+    Ok(Trial {
+        events,
+        served: shown,
+    })
+}
+
+/// Those of these tablets that have not crashed and are none of those that are served.
+fn open_tablets(
+    alloc: Global,
+    tablets: &[Tablet],
+    served: &[Served],
+) -> Result<Vec<Tablet>, AllocError> {
+    tablets
+        .iter()
+        .copied()
+        .filter(|tablet| !tablet.crashed && !is_among(served, tablet))
+        .collect(alloc)
+}
+
+/// Whether the tablet is one of those that are served.
+pub(crate) fn is_among(served: &[Served], tablet: &Tablet) -> bool {
+    served.iter().any(|one| one.tablet.table == tablet.table && one.tablet.lo == tablet.lo)
 }
 
 /// Copies of these events, without so many of the first.
@@ -64,16 +97,13 @@ pub(crate) fn copies(alloc: Global, events: &[Event], first: usize) -> Result<Ve
     Ok(copies)
 }
 
-/// The owner of a tablet is asked to write its first key, unless it has crashed.
+/// The owner of a tablet is asked to write its first key.
 fn write(
     alloc: Global,
     course: &mut Course,
     tablet: &Tablet,
     value: &Shared<u8>,
 ) -> Result<(), Fault> {
-    if tablet.crashed {
-        return Ok(());
-    }
     let body = Body::Write {
         table: tablet.table,
         key: tablet.lo,
@@ -83,11 +113,8 @@ fn write(
     course.take(alloc, &Event::Ask { to, body })
 }
 
-/// The owner of a tablet is asked to read its first key, unless it has crashed.
+/// The owner of a tablet is asked to read its first key.
 fn read(alloc: Global, course: &mut Course, tablet: &Tablet) -> Result<(), Fault> {
-    if tablet.crashed {
-        return Ok(());
-    }
     let body = Body::Read {
         table: tablet.table,
         key: tablet.lo,
