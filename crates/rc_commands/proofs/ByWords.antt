@@ -16,7 +16,7 @@ use Rattle.clap.proofs.OnLiterals.{clap_on_literals}
 use Rattle.clap.proofs.WalkLemmas.{both}
 use Rattle.rc_commands.specs.declared.asking.Asked.{Asked}
 use Rattle.rc_commands.specs.declared.asking.Asked.TheVariants as asked
-use Rattle.rc_commands.specs.Asking.{Tells, as_command, asked_in, asks_for_text, begins_with_help, command_in, explain_in}
+use Rattle.rc_commands.specs.Asking.{Tells, as_command, asked_in, asks_for_text, begins_with_help, command_in, explain_in, heal_in}
 use Rattle.rc_commands.specs.Asking.{explore_by, explore_in, exploring, fuzz_in, log_in, picture_in, seeds_given, shrink_in}
 use Rattle.rc_commands.specs.Asking.{is_alone, is_command, is_end, is_help, is_option, is_plain, is_request, is_text}
 use Rattle.rc_commands.specs.Asking.{is_version, run_in, stops_in, threads_in, where_taken, heap_line, option_zip_with}
@@ -24,13 +24,13 @@ use Rattle.rc_commands.specs.Asking as line_of
 use Rattle.rc_commands.specs.Commands as command
 use Rattle.rc_commands.specs.Commands.{ramseg}
 use Rattle.rc_commands.proofs.Words.{IsLevel, asks, audit_is, explore_is, fuzz_is, leaf, line_told, run_is, same, stops_is, log_is}
-use Rattle.rc_commands.proofs.Words.{picture_is, shrink_is, tells, tells_first, text_tells, threads_is, trace_is}
+use Rattle.rc_commands.proofs.Words.{heal_is, picture_is, shrink_is, tells, tells_first, text_tells, threads_is, trace_is}
 use Rattle.rc_commands.specs.Numbers.{decimal_in}
 use Rattle.rc_commands.proofs.Heap.{heap_given, none_first}
 use Rattle.rc_commands.proofs.Lines.{audit_found, audit_line, by_command, empty_told, explain_found, explain_line, explore_found}
 use Rattle.rc_commands.proofs.Lines.{explore_line, faults_at, fuzz_found, fuzz_line, no_option, run_found, run_line, stops_found}
 use Rattle.rc_commands.proofs.Lines.{stops_line, log_found, log_line, picture_found, picture_line, shrink_found, shrink_line}
-use Rattle.rc_commands.proofs.Lines.{threads_found, threads_line, told, trace_found, trace_line}
+use Rattle.rc_commands.proofs.Lines.{heal_found, heal_line, threads_found, threads_line, told, trace_found, trace_line}
 
 -- no error comes exactly where a command stands alone; else each is a request exactly where a text is asked for
 abbrev agrees : Bool → Bool → Kinds → Bool
@@ -158,6 +158,15 @@ unfolding clap_on_literals
 shrink_ended [] = refl
 shrink_ended (next ∷ rest) = refl
 
+heal_alone : After command.heal.top []
+unfolding clap_on_literals
+heal_alone = refl
+
+heal_ended : (rest : List Text) → After command.heal.top (codes "--" ∷ rest)
+unfolding clap_on_literals
+heal_ended [] = refl
+heal_ended (next ∷ rest) = refl
+
 explain_alone : After command.explain.top []
 unfolding clap_on_literals
 explain_alone = refl
@@ -226,6 +235,9 @@ line word rest plain = by_command (λ w. is_plain (w ∷ rest) ≡ true → Agre
     (λ e. ap (agrees (is_end rest) (begins_with_help rest)) (shrink_line rest)
     ∙ after command.shrink.top (codes "keep" ∷ []) shrink_is shrink_alone shrink_ended rest
     (plain_after (codes "keep" ∷ []) rest (codes "shrink") (λ w more h. not_true _ h) e))
+    (λ e. ap (agrees (is_end rest) (begins_with_help rest)) (heal_line rest)
+    ∙ after command.heal.top (codes "power-cycle" ∷ []) heal_is heal_alone heal_ended rest
+    (plain_after (codes "power-cycle" ∷ []) rest (codes "heal") (λ w more h. not_true _ h) e))
     (λ e. absurd (true≢false (sym e ∙ about rest)))
     (λ w none no_help e.
     ap (λ b. agrees (b && is_end rest) (if b then begins_with_help rest else (is_help w || is_version w)) (fault_of ramseg (w ∷ rest))) none
@@ -309,6 +321,10 @@ asked_explain rest = ap₂ asked_by (explain_line rest) (explain_found rest)
 asked_shrink : (rest : List Text) → asked_in (codes "shrink" ∷ rest) ≡ where_taken (faults_at command.shrink.top rest)
     (shrink_in (rows_at (leaf command.shrink.top) rest).1)
 asked_shrink rest = ap₂ asked_by (shrink_line rest) (shrink_found rest)
+
+asked_heal : (rest : List Text) → asked_in (codes "heal" ∷ rest) ≡ where_taken (faults_at command.heal.top rest)
+    (heal_in (rows_at (leaf command.heal.top) rest).1)
+asked_heal rest = ap₂ asked_by (heal_line rest) (heal_found rest)
 
 -- of which command an answer is not
 module _ (T : Option Asked → Bool) (none : T None ≡ false) where
@@ -430,6 +446,10 @@ module _ (T : Option Asked → Bool) (none : T None ≡ false) where
       T (asked_in (codes "picture" ∷ rest)) ≡ false
   no_picture each rest = ap T (asked_picture rest) ∙ never _ _ (each _)
 
+  pub no_heal : ((power_cycle : Bool) → T (Some (asked.Heal power_cycle)) ≡ false) → (rest : List Text) →
+      T (asked_in (codes "heal" ∷ rest)) ≡ false
+  no_heal each rest = ap T (asked_heal rest) ∙ never _ _ (each _)
+
   pub no_explain : ((code : Option ℕ) → T (Some (asked.Explain code)) ≡ false) → (rest : List Text) →
       T (asked_in (codes "explain" ∷ rest)) ≡ false
   no_explain each rest = ap T (asked_explain rest) ∙ never _ _ (go _)
@@ -480,6 +500,7 @@ trace_only (word ∷ rest) h = by_command (λ w. is_trace (asked_in (w ∷ rest)
     (λ e. absurd (true≢false (sym e ∙ no_picture is_trace refl (λ mermaid. refl) rest)))
     (λ e. absurd (true≢false (sym e ∙ no_explain is_trace refl (λ code. refl) rest)))
     (λ e. absurd (true≢false (sym e ∙ no_shrink is_trace refl (λ keep. refl) rest)))
+    (λ e. absurd (true≢false (sym e ∙ no_heal is_trace refl (λ power_cycle. refl) rest)))
     (λ e. absurd (true≢false (sym e ∙ no_help is_trace refl rest)))
     (λ w no_name no_about e. absurd (true≢false (sym e ∙ no_other is_trace refl rest w no_name no_about))) word h
 
@@ -527,6 +548,7 @@ run_only (word ∷ rest) h = by_command (λ w. is_bare_run (asked_in (w ∷ rest
     (λ e. absurd (true≢false (sym e ∙ no_picture is_bare_run refl (λ mermaid. refl) rest)))
     (λ e. absurd (true≢false (sym e ∙ no_explain is_bare_run refl (λ code. refl) rest)))
     (λ e. absurd (true≢false (sym e ∙ no_shrink is_bare_run refl (λ keep. refl) rest)))
+    (λ e. absurd (true≢false (sym e ∙ no_heal is_bare_run refl (λ power_cycle. refl) rest)))
     (λ e. absurd (true≢false (sym e ∙ no_help is_bare_run refl rest)))
     (λ w no_name no_about e. absurd (true≢false (sym e ∙ no_other is_bare_run refl rest w no_name no_about))) word h
 
@@ -547,6 +569,7 @@ audit_only (word ∷ rest) h = by_command (λ w. is_audit (asked_in (w ∷ rest)
     (λ e. absurd (true≢false (sym e ∙ no_picture is_audit refl (λ mermaid. refl) rest)))
     (λ e. absurd (true≢false (sym e ∙ no_explain is_audit refl (λ code. refl) rest)))
     (λ e. absurd (true≢false (sym e ∙ no_shrink is_audit refl (λ keep. refl) rest)))
+    (λ e. absurd (true≢false (sym e ∙ no_heal is_audit refl (λ power_cycle. refl) rest)))
     (λ e. absurd (true≢false (sym e ∙ no_help is_audit refl rest)))
     (λ w no_name no_about e. absurd (true≢false (sym e ∙ no_other is_audit refl rest w no_name no_about))) word h
 
@@ -600,6 +623,10 @@ log_gives = alone_gives (codes "log") (asked.Log false) refl refl
 pub picture_gives : (words : List Text) → is_alone (codes "picture") words ≡ true → asked_in words ≡ Some (asked.Picture false)
 unfolding clap_on_literals
 picture_gives = alone_gives (codes "picture") (asked.Picture false) refl refl
+
+pub heal_gives : (words : List Text) → is_alone (codes "heal") words ≡ true → asked_in words ≡ Some (asked.Heal false)
+unfolding clap_on_literals
+heal_gives = alone_gives (codes "heal") (asked.Heal false) refl refl
 
 pub explain_gives : (words : List Text) → is_alone (codes "explain") words ≡ true → asked_in words ≡ Some (asked.Explain None)
 unfolding clap_on_literals
@@ -667,6 +694,7 @@ is_answer a b e = go a e
     go (asked.Shrink keep) e = ap (λ o. unwrap_or o b) e
     go (asked.Log json) e = ap (λ o. unwrap_or o b) e
     go (asked.Picture mermaid) e = ap (λ o. unwrap_or o b) e
+    go (asked.Heal power_cycle) e = ap (λ o. unwrap_or o b) e
     go (asked.Explain code) e = ap (λ o. unwrap_or o b) e
 
 module _ (words : List Text) (a : Asked) (asks : as_command a ≡ asked_in words) where
@@ -700,6 +728,9 @@ module _ (words : List Text) (a : Asked) (asks : as_command a ≡ asked_in words
 
   pub picture_told : is_alone (codes "picture") words ≡ true → a ≡ asked.Picture false
   picture_told h = is_answer a (asked.Picture false) (asks ∙ picture_gives words h)
+
+  pub heal_told : is_alone (codes "heal") words ≡ true → a ≡ asked.Heal false
+  heal_told h = is_answer a (asked.Heal false) (asks ∙ heal_gives words h)
 
   pub explain_told : is_alone (codes "explain") words ≡ true → a ≡ asked.Explain None
   explain_told h = is_answer a (asked.Explain None) (asks ∙ explain_gives words h)

@@ -162,6 +162,15 @@ picture_is = record {
   positional = refl;
 }
 
+pub heal_is : IsLevel (leaf command.heal.top) false (codes "power-cycle" ∷ [])
+unfolding clap_on_literals
+heal_is = record {
+  long = λ name e. passed (bytes_eq (codes "power-cycle") name) _ _ (or_parts _ _ e).0;
+  short = λ x. refl;
+  strays = refl;
+  positional = refl;
+}
+
 pub shrink_is : IsLevel (leaf command.shrink.top) false (codes "keep" ∷ [])
 unfolding clap_on_literals
 shrink_is = record {

@@ -142,6 +142,9 @@ log_in rows = Some (asked.Log (has_flag (codes "json") rows))
 abbrev pub picture_in : List Row → Option Asked
 picture_in rows = Some (asked.Picture (has_flag (codes "mermaid") rows))
 
+abbrev pub heal_in : List Row → Option Asked
+heal_in rows = Some (asked.Heal (has_flag (codes "power-cycle") rows))
+
 -- the number of a code that is written as F and decimal digits
 abbrev pub code_in : Text → Option ℕ
 code_in [] = None
@@ -171,7 +174,8 @@ named_in name rows =
     else (if bytes_eq name (codes "audit") then Some asked.Audit
     else (if bytes_eq name (codes "log") then log_in rows
     else (if bytes_eq name (codes "picture") then picture_in rows
-    else unread_in name rows))))
+    else (if bytes_eq name (codes "heal") then heal_in rows
+    else unread_in name rows)))))
 
 abbrev pub command_in : Text → List Row → Option Asked
 command_in name rows = if bytes_eq name (codes "shrink") then shrink_in rows else named_in name rows
@@ -214,7 +218,7 @@ is_alone name (word ∷ rest) = bytes_eq name word && is_end rest
 
 abbrev pub names : List Text
 names = codes "run" ∷ codes "trace" ∷ codes "audit" ∷ codes "fuzz" ∷ codes "stops" ∷ codes "threads" ∷ codes "explore"
-    ∷ codes "log" ∷ codes "picture" ∷ codes "explain" ∷ codes "shrink" ∷ []
+    ∷ codes "log" ∷ codes "picture" ∷ codes "explain" ∷ codes "shrink" ∷ codes "heal" ∷ []
 
 abbrev pub is_command : Text → Bool
 is_command word = list_any (λ name. bytes_eq name word) names
@@ -255,7 +259,8 @@ options_of name =
     else (if bytes_eq (codes "explore") name then exploring
     else (if bytes_eq (codes "log") name then codes "json" ∷ []
     else (if bytes_eq (codes "picture") name then codes "mermaid" ∷ []
-    else (if bytes_eq (codes "shrink") name then codes "keep" ∷ [] else [])))))))
+    else (if bytes_eq (codes "shrink") name then codes "keep" ∷ []
+    else (if bytes_eq (codes "heal") name then codes "power-cycle" ∷ [] else []))))))))
 
 -- `--NAME` or `--NAME=VALUE`, for one of these options
 abbrev pub is_option : List Text → Text → Bool

@@ -62,6 +62,9 @@ log = with_rule (new_app (codes "log")) (flag (codes "json"))
 abbrev pub picture : App
 picture = with_rule (new_app (codes "picture")) (flag (codes "mermaid"))
 
+abbrev pub heal : App
+heal = with_rule (new_app (codes "heal")) (flag (codes "power-cycle"))
+
 abbrev pub explain : App
 explain = with_rule (new_app (codes "explain")) (word (codes "code"))
 
@@ -78,7 +81,8 @@ abbrev pub running : App
 running = with_subcommand (with_subcommand (with_subcommand reading fuzz.top) stops.top) threads.top
 
 abbrev pub ramseg : App
-ramseg = with_subcommand (with_subcommand (with_subcommand running explore.top) shrink.top) explain.top
+ramseg = with_subcommand (with_subcommand (with_subcommand (with_subcommand running explore.top) shrink.top) heal.top)
+    explain.top
 
 -- a command that is built so, and has no option for its subcommands
 abbrev pub IsBuiltAs : App → Command → Type 0

@@ -81,6 +81,11 @@ pub enum Asked {
     Picture {
         mermaid: bool,
     },
+    /// Add to a scenario the events that bring its tablets back; after all servers were stopped and all hosts started,
+    /// where `power_cycle` says so.
+    Heal {
+        power_cycle: bool,
+    },
     /// Say what the code of this number means, or what all codes mean.
     Explain {
         code: Option<u8>,
@@ -117,6 +122,8 @@ pub fn asked_for(alloc: Global, words: &[String]) -> Result<Asked, Fault>
         (λ a. is_alone (codes "log") (map string_bytes words.now) ≡ true → a ≡ Asked.Log false) }
     ensures picture { IfOk result
         (λ a. is_alone (codes "picture") (map string_bytes words.now) ≡ true → a ≡ Asked.Picture false) }
+    ensures heal { IfOk result
+        (λ a. is_alone (codes "heal") (map string_bytes words.now) ≡ true → a ≡ Asked.Heal false) }
     ensures explain { IfOk result
         (λ a. is_alone (codes "explain") (map string_bytes words.now) ≡ true → a ≡ Asked.Explain None) }
     ensures texts { IfOk result (λ a. is_plain (map string_bytes words.now) ≡ true
@@ -209,6 +216,9 @@ fn command_named<'a>(name: &str, given: &ArgMatches<'a>) -> Result<Asked, BadWor
         }),
         "picture" => Ok(Asked::Picture {
             mermaid: has_flag(given, "mermaid"),
+        }),
+        "heal" => Ok(Asked::Heal {
+            power_cycle: has_flag(given, "power-cycle"),
         }),
         _ => unread_named(name, given),
     }

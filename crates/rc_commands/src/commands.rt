@@ -15,7 +15,8 @@ pub fn program<'a>(alloc: Global) -> Result<Command<'a>, AllocError>
     let running = running(alloc)?;
     let exploring = with(running, explore(alloc))?;
     let shrinking = with(exploring, shrink(alloc))?;
-    with(shrinking, explain(alloc))
+    let healing = with(shrinking, heal(alloc))?;
+    with(healing, explain(alloc))
 }
 
 /// The program with the commands up to `threads`.
@@ -292,6 +293,23 @@ fn picture<'a>(alloc: Global) -> Result<Command<'a>, AllocError>
         alloc,
         "mermaid",
         "Draws a sequence diagram as text for Mermaid in place of the page",
+    ))
+}
+
+/// `heal` with its flag.
+fn heal<'a>(alloc: Global) -> Result<Command<'a>, AllocError>
+    ensures { IfOk result (IsBuiltAs spec.heal) }
+{
+    command(
+        alloc,
+        "heal",
+        "Prints a scenario with the events that bring each of its tablets back, and tells what it did and why",
+        "Example: ramseg heal < examples/stuck/own-lost.json > healed.json",
+    )
+    .arg(flag(
+        alloc,
+        "power-cycle",
+        "Stops all servers first, and starts all hosts",
     ))
 }
 

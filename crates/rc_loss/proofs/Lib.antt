@@ -16,3 +16,4 @@ pub mod Answers
 pub mod Refusals
 pub mod Few
 pub mod Decided
+pub mod Fetches

@@ -1,2 +1,3 @@
 pub mod Loss
 pub mod LossClaims
+pub mod FetchClaims

@@ -33,7 +33,8 @@ pub static TOPICS: [Topic; 21] = [
         when: "A master, to a write or a read: another server has the range, or the Own message that grants it \
             has not been delivered yet.",
         remedy: "Ask the server of the last `own` line whose table and range hold the key; settle after `create`, \
-            `decide` and the like, so that the Own arrives.",
+            `decide` and the like, so that the Own arrives. Nothing repeats the Own of a create that was lost: \
+            stop that server and start its host, and decide.",
     },
     Topic {
         number: 3,
@@ -52,7 +53,8 @@ pub static TOPICS: [Topic; 21] = [
         when: "Where the members of a segment are chosen. A master's own host is none of them, so factor 2 wants \
             two other hosts that the master's list shows as up. A write at a full head is refused with it; a \
             master without a first head, or with a lost backup, waits and says nothing.",
-        remedy: "Start another host and settle, or let `factor` be lower.",
+        remedy: "Start another host and settle, or let `factor` be lower. To write it takes one host more than the \
+            factor, and to lose one and write on, two more.",
     },
     Topic {
         number: 5,
@@ -61,15 +63,16 @@ pub static TOPICS: [Topic; 21] = [
         when: "The coordinator, to a Ready, Commit or Recovered of a server that is not up; and from then on that \
             master itself, to writes and reads. So it is how a zombie learns what it is.",
         remedy: "Ask the new owner: the last `own` line that holds the key. A new start of the host is a new \
-            server, with the next generation.",
+            server, with the next generation. A server that sends none of these never learns of it, and takes no part \
+            in anything: stop each that runs and is listed as crashed, and start its host.",
     },
     Topic {
         number: 6,
         name: "LogFull",
         short: "the last segment is full",
         when: "A master, to a write, when its head is segment 65,535 and full: there is no next one.",
-        remedy: "Have the master recovered (suspect, settle, decide): the new owners write to logs of their own. \
-            Longer segments (`segment`) fill later.",
+        remedy: "Have the master recovered (stop it, start its host, settle, decide): the new owners write to logs of \
+            their own. Longer segments (`segment`) fill later.",
     },
     Topic {
         number: 7,
@@ -85,7 +88,10 @@ pub static TOPICS: [Topic; 21] = [
         when: "The coordinator, to a decide: none of the answers to its Gather has an open replica of that master \
             that counts. The attempt goes on gathering.",
         remedy: "Settle, so that more backups answer; or start a host again that had the head, with its replicas \
-            `kept`, then tick the coordinator (`\"id\":\"c\"`), which asks again, settle, and decide once more.",
+            `kept`, then tick the coordinator (`\"id\":\"c\"`), which asks again, settle, and decide once more. Where \
+            it is refused after the newest server of each host has answered, a segment is gone: it was on all its \
+            backups, and each of their hosts has since been started without its open replica. That is proved; `heal` \
+            names these starts. Whether something acknowledged was in it, nobody can know.",
     },
     Topic {
         number: 9,
@@ -94,7 +100,8 @@ pub static TOPICS: [Topic; 21] = [
         when: "The coordinator, to a decide: the head's digest names a segment of which no answer to its Gather \
             has a replica that counts. The attempt goes on gathering.",
         remedy: "As for F8: let more backups answer, or start those again that had the segment; tick the \
-            coordinator, settle, and decide once more.",
+            coordinator, settle, and decide once more. After the newest server of each host has answered, it means \
+            that a segment is gone, as F8 does.",
     },
     Topic {
         number: 10,
@@ -103,7 +110,8 @@ pub static TOPICS: [Topic; 21] = [
         when: "The coordinator, to a decide: no recovery of that server is gathering. It was never suspected, owns \
             no tablet, or its recovery is decided already. Also to a Recovered of an attempt that was \
             replaced, or of a term that is not the sender's.",
-        remedy: "Suspect the server first, settle, and decide once. A second suspicion begins the recovery anew.",
+        remedy: "Suspect the server first, settle, and decide once. A second suspicion begins the recovery anew: it \
+            helps only where a server that the plan needs is gone.",
     },
     Topic {
         number: 11,
@@ -112,14 +120,15 @@ pub static TOPICS: [Topic; 21] = [
         when: "The coordinator: to a create, whose owner is not up or has no head yet; to a decide, when no server \
             is up that has one.",
         remedy: "Start enough hosts for the factor (see F4) and settle, so that each opens its first segment and \
-            says Ready. An id is [host, generation], and the first generation is 1.",
+            says Ready; decide again after each Ready. An id is [host, generation], and the first generation is 1.",
     },
     Topic {
         number: 12,
         name: "TableExists",
         short: "the table is there already",
         when: "The coordinator, to a create.",
-        remedy: "Take another number, or leave the create out: a table keeps its number after a recovery.",
+        remedy: "Take another number, or leave the create out: a table keeps its number after a recovery. If its owner \
+            refuses it with F2, see there.",
     },
     Topic {
         number: 13,
@@ -177,7 +186,7 @@ pub static TOPICS: [Topic; 21] = [
         short: "the last epoch of a segment is in use",
         when: "A master that should replace lost backups of an open segment for the 65,536th time. It sends \
             nothing, and the segment stays as it is.",
-        remedy: "Have the master recovered: suspect, settle, decide.",
+        remedy: "Have the master recovered: stop it, start its host, settle, decide.",
     },
     Topic {
         number: 20,
@@ -192,6 +201,6 @@ pub static TOPICS: [Topic; 21] = [
         short: "this server can not be enlisted any more",
         when: "The coordinator, to an Enlist: the server was taken for crashed, or a newer one of its host is \
             known.",
-        remedy: "Start the host again: the next generation is a new server.",
+        remedy: "Stop that server and start its host: the next generation is a new server. By itself it never learns.",
     },
 ];

@@ -14,7 +14,8 @@ use Rattle.rc_sim.specs.declared.verdicts.SimFault.{SimFault}
 use Rattle.rc_sim.specs.declared.verdicts.Output.{Output}
 use Rattle.rc_sim.specs.declared.verdicts.Output.TheVariants.{Report, Trace}
 use Rattle.rc_sim.specs.declared.answers.Answer.{Answer}
-use Rattle.rc_sim.specs.Verdicts.{audited, verdict_of, unless_stopped, Comes, Storied, Explored, ShrunkOf, Threaded}
+use Rattle.rc_sim.specs.Verdicts.{audited, verdict_of, unless_stopped, Comes, Storied, Explored, HealedOf, ShrunkOf}
+use Rattle.rc_sim.specs.Verdicts.{Threaded}
 
 is_breach : Verdict → Bool
 is_breach Breach = true
@@ -108,3 +109,8 @@ pub shrunk_is_none : (read : Result Scenario ℕ) (verdict : Verdict) (text : Li
 shrunk_is_none (Ok scenario) verdict text (inl clean) = clean_is_none verdict clean
 shrunk_is_none (Ok scenario) verdict text (inr nothing) = no_line_is_none verdict nothing.0
 shrunk_is_none (Err place) verdict text h = bad_is_none verdict place h.0
+
+pub healed_is_none : (read : Result Scenario ℕ) (verdict : Verdict) (text : List ℕ) → HealedOf read verdict text → verdict ≢ Breach
+healed_is_none (Ok scenario) verdict text (inl clean) = clean_is_none verdict clean
+healed_is_none (Ok scenario) verdict text (inr nothing) = nothing.0
+healed_is_none (Err place) verdict text h = bad_is_none verdict place h.0

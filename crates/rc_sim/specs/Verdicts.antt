@@ -137,6 +137,19 @@ ShrunkOf (Err place) verdict text = (verdict ≡ Bad place) × (text ≡ error_l
 abbrev pub Shrunk : List ℕ → Verdict → List ℕ → Type 0
 Shrunk bytes verdict text = ShrunkOf (reading bytes) verdict text
 
+-- a scenario, or nothing
+abbrev pub IsHealed : Verdict → List ℕ → Type 0
+IsHealed verdict text = (verdict ≡ Clean) ⊎ ((verdict ≢ Breach) × (text ≡ []))
+
+-- of what was read as a scenario
+abbrev pub HealedOf : Result Scenario ℕ → Verdict → List ℕ → Type 0
+HealedOf (Ok scenario) verdict text = IsHealed verdict text
+HealedOf (Err place) verdict text = (verdict ≡ Bad place) × (text ≡ error_line place)
+
+-- of these bytes as a scenario
+abbrev pub Healed : List ℕ → Verdict → List ℕ → Type 0
+Healed bytes verdict text = HealedOf (reading bytes) verdict text
+
 -- the report of a world that has the setup of nodes on threads
 abbrev pub Reported : Verdict → List ℕ → Type 0
 Reported verdict text = (world : Happened) × (world.setup ≡ threads_setup) ×

@@ -10,12 +10,13 @@ ghost use Rattle.rc_sim.specs.declared.verdicts.SimFault.TheVariants.{Memory, Re
 ghost use Rattle.rc_sim.specs.declared.verdicts.Verdict.TheVariants.{Breach, Wrong};
 ghost use Rattle.rc_sim.specs.Failures.{OneFailed, failed_reads, failed_writes};
 ghost use Rattle.rc_sim.specs.Statuses.{fault_status, outcome_status, Answered, ComesOf, Does};
-ghost use Rattle.rc_sim.specs.Verdicts.{Played, Narrated, Judged, Shrunk, Told};
+ghost use Rattle.rc_sim.specs.Verdicts.{Played, Narrated, Healed, Judged, Shrunk, Told};
 ghost use Rattle.rc_sim.specs.Written.{IsWritten, IsBegun};
 
 use crate::counted::Counted;
 use crate::drawing::{cut_powers, fuzz};
 use crate::exploring::explore;
+use crate::healing::heal;
 use crate::narrating::{Telling, narrate};
 use crate::outlets::write_all;
 use crate::playing::{Kept, play, weigh};
@@ -146,6 +147,7 @@ fn done<H: thread::Threads + Wait + Sync, R: Read, W: Write, E: Write>(
         Asked::Picture { mermaid } => {
             narrated(alloc, Telling::of_picture(mermaid), reader, writer, errors)
         }
+        Asked::Heal { power_cycle } => healed(alloc, power_cycle, reader, writer, errors),
         Asked::Explain { code } => explained(alloc, code, writer),
         Asked::Tell(text) => tell(text.as_str(), writer),
         Asked::Wrong(text) => Ok(refused(text.as_str(), errors)),
@@ -252,6 +254,26 @@ fn shrunk<R: Read, W: Write, E: Write>(
     let mut kept = Kept::new(alloc);
     let keep = str::from_utf8(keep).unwrap_or("");
     let outcome = shrink(alloc, reader, writer, keep, &mut kept);
+    tell_why(alloc, Dialect::Scenario, &outcome, &kept, errors);
+    outcome
+}
+
+/// Heals the scenario that the reader gives, and tells what it did, or what is wrong with it.
+fn healed<R: Read, W: Write, E: Write>(
+    alloc: Global,
+    power_cycle: bool,
+    reader: &mut Counted<R>,
+    writer: &mut Counted<W>,
+    errors: &mut Counted<E>,
+) -> Result<Verdict, SimFault>
+    ensures answered { Answered Healed result (R.remaining reader.old.inner) (W.contents writer.old.inner)
+        (W.contents writer.new.inner) }
+    ensures reads { reader.new.failures ≡ failed_reads result reader.old.failures }
+    ensures writes { writer.new.failures ≡ failed_writes result writer.old.failures }
+    ensures no_breach { result ≢ Ok Breach }
+{
+    let mut kept = Kept::new(alloc);
+    let outcome = heal(alloc, power_cycle, reader, writer, errors, &mut kept);
     tell_why(alloc, Dialect::Scenario, &outcome, &kept, errors);
     outcome
 }

@@ -7,6 +7,7 @@ mod commanding;
 mod counted;
 mod drawing;
 mod exploring;
+mod healing;
 mod narrating;
 mod outlets;
 mod playing;
