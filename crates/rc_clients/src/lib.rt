@@ -31,19 +31,3 @@ pub use operations::{Kind, Operation, operation_at};
 pub use reading::{HistoryFault, ReadHistory, read_history};
 pub use telling::judgement_text;
 pub use writing::history_text;
-
-#[cfg(test)]
-mod tests {
-    use super::*;
-    use std::test::Fail;
-
-    #[test]
-    fn reads(rt: HostRuntime) -> Result<(), Fail> {
-        let text = b"{\"process\":0,\"type\":\"invoke\",\"f\":\"write\",\"key\":\"7/5\",\"value\":\"61\"}\n{\"process\":0,\"type\":\"ok\",\"f\":\"write\",\"key\":\"7/5\",\"value\":\"61\",\"version\":1}\n{\"process\":0,\"type\":\"invoke\",\"f\":\"read\",\"key\":\"7/5\"}\n{\"process\":0,\"type\":\"ok\",\"f\":\"read\",\"key\":\"7/5\",\"value\":null,\"version\":0}\n";
-        let history = read_history(rt.alloc(), text).expect(&rt, "read");
-        let found = check(rt.alloc(), history.events.as_slice())?;
-        let text = judgement_text(rt.alloc(), &history, found)?;
-        assert_eq!(rt; text.as_str(), "operations 2\n");
-        Ok(())
-    }
-}

@@ -41,23 +41,23 @@ fn add_violation(
             add_operation(text, history, first)?;
             text.push_str(" was answered before the invocation of ")?;
             add_operation(text, history, later)?;
-            text.push_str(", which has no greater version\n")?;
+            text.push('\n')?;
         }
         Violation::NotNothing(one) => {
             add_operation(text, history, one)?;
-            text.push_str(" has version 0, which is that of no write\n")?;
+            text.push_str(" stands before the first write, and is one, or shows a value\n")?;
         }
         Violation::TwoWrites(first, later) => {
             add_operation(text, history, first)?;
-            text.push_str(" has the version of ")?;
+            text.push_str(" and ")?;
             add_operation(text, history, later)?;
-            text.push('\n')?;
+            text.push_str(" are two writes of one version\n")?;
         }
         Violation::TwoValues(first, later) => {
             add_operation(text, history, first)?;
-            text.push_str(" has another value than ")?;
+            text.push_str(" and ")?;
             add_operation(text, history, later)?;
-            text.push('\n')?;
+            text.push_str(" have two values of one version\n")?;
         }
         Violation::NeverWritten(one) => {
             add_operation(text, history, one)?;
@@ -85,7 +85,7 @@ fn add_operation(
     let told = history.lines.get(operation.response).copied().unwrap_or(0);
     write!(
         text,
-        "the {kind} of {table}/{key} in lines {asked} and {told}, version {version},"
+        "the {kind} of {table}/{key} in lines {asked} and {told} with version {version}"
     )?;
     Ok(())
 }

@@ -15,7 +15,9 @@ pub fn program<'a>(alloc: Global) -> Result<Command<'a>, AllocError>
     let running = running(alloc)?;
     let exploring = with(running, explore(alloc))?;
     let shrinking = with(exploring, shrink(alloc))?;
-    with(shrinking, explain(alloc))
+    let explaining = with(shrinking, explain(alloc))?;
+    let telling = with(explaining, Ok(history(alloc)))?;
+    with(telling, Ok(check(alloc)))
 }
 
 /// The program with the commands up to `threads`.
@@ -114,6 +116,30 @@ fn audit<'a>(alloc: Global) -> Command<'a>
         "audit",
         "Judges a trace that it reads from standard input",
         "Example: ramseg audit < examples/first-write.trace",
+    )
+}
+
+/// `history`.
+fn history<'a>(alloc: Global) -> Command<'a>
+    ensures { IsBuiltAs spec.history result }
+{
+    command(
+        alloc,
+        "history",
+        "Replays a scenario that it reads from standard input, and prints what its clients saw as JSON lines",
+        "Example: ramseg history < examples/first-write.json",
+    )
+}
+
+/// `check`.
+fn check<'a>(alloc: Global) -> Command<'a>
+    ensures { IsBuiltAs spec.check result }
+{
+    command(
+        alloc,
+        "check",
+        "Judges whether a history that it reads from standard input is linearizable",
+        "Example: ramseg history < examples/first-write.json | ramseg check",
     )
 }
 

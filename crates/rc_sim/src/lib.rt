@@ -1,4 +1,4 @@
-//! What the program `ramseg` does: a scenario is run, a trace is judged, events are drawn, or nodes are run on threads;
+//! What the program `ramseg` does: a scenario is run, a trace or a history is judged, events are drawn, or nodes are run on threads;
 //! and what came of it is written.
 #![tactic(auto)]
 
@@ -7,6 +7,7 @@ mod commanding;
 mod counted;
 mod drawing;
 mod exploring;
+mod histories;
 mod narrating;
 mod outlets;
 mod playing;
