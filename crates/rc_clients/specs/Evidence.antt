@@ -1,12 +1,12 @@
 -- What the judge keeps of a history, up to a moment.
 use Rattle.std.specs.Prelude.{◌≡◌, ◌≢◌, ◌<◌, ◌≤◌, ℕ, List, length, Option, Some, None, Result, Ok, Err}
-use Rattle.std.specs.Prelude.{Bool, false, nat_le, slice_get, option_and_then}
+use Rattle.std.specs.Prelude.{Bool, true, false, nat_le, slice_get, option_and_then}
 use Rattle.std.specs.declared.cmp.Ordering.{Ordering}
 use Rattle.std.specs.Ordering.{nat_cmp, ordering_then}
 use Rattle.std.specs.BTreeMap.{BTreeMap, get}
+use Rattle.std.specs.BTreeSet.{BTreeSet, contains}
 use Rattle.rc_clients.specs.declared.events.ClientEvent.{ClientEvent}
-use Rattle.rc_clients.specs.declared.events.ClientEvent.TheVariants.{Invoked}
-use Rattle.rc_clients.specs.declared.events.Request.{Request}
+use Rattle.rc_clients.specs.declared.events.ClientEvent.TheVariants.{Invoked, Written, Shown, Failed}
 use Rattle.rc_clients.specs.declared.operations.Kind.{Kind}
 use Rattle.rc_clients.specs.declared.operations.Kind.TheVariants.{Write, Read}
 use Rattle.rc_clients.specs.declared.operations.Operation.{Operation}
@@ -15,7 +15,7 @@ use Rattle.rc_clients.specs.declared.bars.Top.{Top}
 use Rattle.rc_clients.specs.declared.doubled.VersionName.{VersionName}
 use Rattle.rc_clients.specs.declared.judging.Violation.{Violation}
 use Rattle.rc_clients.specs.Operations.{operation_at, IsOperation, value_of}
-use Rattle.rc_clients.specs.Linearizable.{AreOnKey, Answers, Breaks, Precedes, StandsBefore, WasWritten}
+use Rattle.rc_clients.specs.Linearizable.{AreOnKey, IsUnanswered, answered_at, Breaks, Precedes, StandsBefore, WasWritten}
 
 -- The greatest version
 
@@ -48,17 +48,30 @@ key_order a b = ordering_then (nat_cmp a.table b.table) (nat_cmp a.key b.key)
 pub record AreTops (history : List ClientEvent) (moment : ℕ) (tops : BTreeMap KeyName Top) : Type 0 where
   pub each : (q : KeyName) → IsTop history q.table q.key moment (get key_order tops q)
 
--- of an invocation at this moment
+-- the key of an invocation
+abbrev pub key_in : ClientEvent → Option KeyName
+key_in (Invoked table key request) = Some (record { table = table; key = key })
+key_in (Written invocation version) = None
+key_in (Shown invocation version value) = None
+key_in (Failed invocation) = None
+
+unfoldable pub key_at : List ClientEvent → ℕ → Option KeyName
+key_at history moment = option_and_then key_in (slice_get history moment)
+
+abbrev pub key_of : Operation → KeyName
+key_of op = record { table = op.table; key = op.key }
+
+-- of the invocation at this moment, if one stands there
 abbrev pub IsBar : List ClientEvent → ℕ → Option Top → Type 0
-IsBar history moment bar = (table key : ℕ) (request : Request) → slice_get history moment ≡ Some (Invoked table key request) →
-    IsTop history table key moment bar
+IsBar history moment bar = (q : KeyName) → key_at history moment ≡ Some q → IsTop history q.table q.key moment bar
 
 -- what is kept of each event
-abbrev pub bar_at : List (Option Top) → ℕ → Option Top
+unfoldable pub bar_at : List (Option Top) → ℕ → Option Top
 bar_at bars moment = option_and_then (λ bar. bar) (slice_get bars moment)
 
-pub record AreBars (history : List ClientEvent) (bars : List (Option Top)) : Type 0 where
-  pub each : (moment : ℕ) → moment < length history → IsBar history moment (bar_at bars moment)
+pub record AreBars (history : List ClientEvent) (moment : ℕ) (bars : List (Option Top)) : Type 0 where
+  pub many : length bars ≡ moment
+  pub each : (i : ℕ) → i < moment → IsBar history i (bar_at bars i)
 
 -- The versions
 
@@ -95,25 +108,45 @@ pub record AreFirsts (history : List ClientEvent) (moment : ℕ) (firsts : BTree
 
 -- Writes without a response
 
-pub record IsUnanswered (history : List ClientEvent) (moment : ℕ) : Type 0 where
-  pub none : (n : ℕ) (event : ClientEvent) → slice_get history n ≡ Some event → Answers moment event → ⊥
+-- the invocations that are answered before this moment
+pub record AreAnswered (history : List ClientEvent) (moment : ℕ) (answered : BTreeSet ℕ) : Type 0 where
+  pub found : (i : ℕ) → contains nat_cmp answered i ≡ true → IsUnanswered history i → ⊥
+  pub kept : (n i : ℕ) → n < moment → answered_at history n ≡ Some i → contains nat_cmp answered i ≡ true
 
 -- What is found
 
--- each operation stands behind those that were answered before it was invoked
-pub record IsTimely (history : List ClientEvent) : Type 0 where
-  pub each : (a b : Operation) → IsOperation history a → IsOperation history b → AreOnKey a b → Precedes a b →
-      StandsBefore a b
+-- the operation that is answered at this moment stands behind those that were answered before it was invoked
+pub record IsTimelyAt (history : List ClientEvent) (moment : ℕ) : Type 0 where
+  pub each : (a b : Operation) → IsOperation history a → operation_at history moment ≡ Some b → AreOnKey a b →
+      Precedes a b → StandsBefore a b
 
-pub record IsBegun (history : List ClientEvent) : Type 0 where
-  pub each : (a : Operation) → IsOperation history a → a.version ≡ 0 → (a.kind ≡ Read) × (value_of history a ≡ None)
+-- a read stands behind an operation of its own version, too
+abbrev pub behind_by : Kind → ℕ → ℕ → Type 0
+behind_by Write version own = version < own
+behind_by Read version own = version ≤ own
+
+abbrev pub IsBehind : ℕ → Operation → Type 0
+IsBehind version op = behind_by op.kind version op.version
+
+abbrev pub ShowsNothing : List ClientEvent → Operation → Type 0
+ShowsNothing history op = (op.kind ≡ Read) × (value_of history op ≡ None)
+
+-- if its version is 0, it is a read that shows nothing
+pub record IsBegunAt (history : List ClientEvent) (moment : ℕ) : Type 0 where
+  pub each : (a : Operation) → operation_at history moment ≡ Some a → a.version ≡ 0 →
+      ShowsNothing history a
+
+-- else its version was written
+pub record IsWrittenAt (history : List ClientEvent) (moment : ℕ) : Type 0 where
+  pub each : (a : Operation) → operation_at history moment ≡ Some a → a.version ≢ 0 → WasWritten history a
+
+-- so it is at each moment
+pub record Always (history : List ClientEvent) (P : ℕ → Type 0) : Type 0 where
+  pub each : (moment : ℕ) → moment < length history → P moment
 
 pub record IsOneValue (history : List ClientEvent) : Type 0 where
   pub each : (a b : Operation) → IsOperation history a → IsOperation history b → AreOnKey a b →
       a.version ≡ b.version → value_of history a ≡ value_of history b
-
-pub record IsAllWritten (history : List ClientEvent) : Type 0 where
-  pub each : (a : Operation) → IsOperation history a → a.version ≢ 0 → WasWritten history a
 
 -- this holds of the history, or what was found breaks it
 abbrev pub Else : List ClientEvent → Type 0 → Option Violation → Type 0

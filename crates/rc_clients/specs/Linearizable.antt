@@ -4,7 +4,7 @@
 -- The store names with each answer a version of the key. So which linearization is meant need not be looked for: it is
 -- the order of versions, a read behind the write of its version. A history is linearizable by versions where this order
 -- keeps the order of time and is legal for a register that begins with nothing. Each key is judged for itself.
-use Rattle.std.specs.Prelude.{◌≡◌, ◌≢◌, ◌⊎◌, ℕ, ◌<◌, List, Option, Some, None, slice_get}
+use Rattle.std.specs.Prelude.{◌≡◌, ◌≢◌, ◌⊎◌, ℕ, ◌<◌, List, Option, Some, None, slice_get, option_and_then}
 use Rattle.rc_clients.specs.declared.events.ClientEvent.{ClientEvent}
 use Rattle.rc_clients.specs.declared.events.ClientEvent.TheVariants.{Invoked, Written, Shown, Failed}
 use Rattle.rc_clients.specs.declared.events.Request.TheVariants as request
@@ -28,18 +28,25 @@ abbrev pub StandsBefore : Operation → Operation → Type 0
 StandsBefore a b = (a.version < b.version)
     ⊎ ((a.version ≡ b.version) × (b.kind ≡ Read) × ((a.kind ≡ Write) ⊎ (a.response < b.response)))
 
--- the response to the invocation at this moment
-abbrev pub Answers : ℕ → ClientEvent → Type 0
-Answers moment (Invoked table key request) = ⊥
-Answers moment (Written invocation version) = invocation ≡ moment
-Answers moment (Shown invocation version value) = invocation ≡ moment
-Answers moment (Failed invocation) = invocation ≡ moment
+-- the invocation that an event answers
+abbrev pub answered_in : ClientEvent → Option ℕ
+answered_in (Invoked table key request) = None
+answered_in (Written invocation version) = Some invocation
+answered_in (Shown invocation version value) = Some invocation
+answered_in (Failed invocation) = Some invocation
+
+abbrev pub answered_at : List ClientEvent → ℕ → Option ℕ
+answered_at history moment = option_and_then answered_in (slice_get history moment)
+
+-- no response names the invocation at this moment
+pub record IsUnanswered (history : List ClientEvent) (moment : ℕ) : Type 0 where
+  pub none : (n : ℕ) → answered_at history n ≡ Some moment → ⊥
 
 -- A write that was invoked at this moment and never answered can have this operation's version: it wrote the same, and
 -- whatever was answered before it was invoked has a lower version.
 pub record IsPendingWrite (history : List ClientEvent) (op : Operation) (moment : ℕ) : Type 0 where
   pub invoked : slice_get history moment ≡ Some (Invoked op.table op.key (request.Write (value_of history op)))
-  pub unanswered : (n : ℕ) (event : ClientEvent) → slice_get history n ≡ Some event → Answers moment event → ⊥
+  pub unanswered : IsUnanswered history moment
   pub in_time : (a : Operation) → IsOperation history a → AreOnKey a op → a.response < moment → a.version < op.version
 
 -- a write of its version that was answered

@@ -1,10 +1,10 @@
 //! What was answered of a key before a moment.
 
-ghost use Rattle.std.specs.Prelude.{◌≡◌, ◌+◌, IfOk, OnOk};
-ghost use Rattle.rc_clients.specs.Evidence.{AreBars, AreTops, IsBar, bar_at, is_at_least};
+ghost use Rattle.std.specs.Prelude.{◌≡◌, ◌+◌, length, IfOk, OnOk};
+ghost use Rattle.rc_clients.specs.Evidence.{AreBars, AreTops, IsBar, bar_at, is_at_least, key_at, key_of};
 
 use crate::events::ClientEvent;
-use crate::operations::operation_at;
+use crate::operations::{Operation, operation_at};
 use std::alloc::{AllocError, Global};
 use std::collections::BTreeMap;
 
@@ -34,7 +34,7 @@ pub(crate) fn bars_in(
     alloc: Global,
     history: &[ClientEvent],
 ) -> Result<Vec<Option<Top>>, AllocError>
-    ensures { IfOk result (λ bars. AreBars history.now bars.items) }
+    ensures { IfOk result (λ bars. AreBars history.now (length history.now) bars.items) }
 {
     let mut tops = BTreeMap::new(alloc);
     let mut bars = Vec::new(alloc);
@@ -55,39 +55,39 @@ pub(crate) fn bar_at(bars: &[Option<Top>], moment: usize) -> Option<Top>
     }
 }
 
+/// The key of the invocation at this moment, if one stands there.
+fn key_at(history: &[ClientEvent], moment: usize) -> Option<KeyName>
+    ensures { result ≡ key_at history.now moment }
+{
+    match history.get(moment)? {
+        ClientEvent::Invoked { table, key, .. } => Some(KeyName {
+            table: *table,
+            key: *key,
+        }),
+        _ => None,
+    }
+}
+
 /// What was answered before the event at this moment, if it is an invocation.
 fn newest_bar(history: &[ClientEvent], tops: &Tops, moment: usize) -> Option<Top>
     requires { AreTops history.now moment tops.now }
     ensures { IsBar history.now moment result }
 {
-    match history.get(moment)? {
-        ClientEvent::Invoked { table, key, .. } => {
-            let name = KeyName {
-                table: *table,
-                key: *key,
-            };
-            tops.get(&name).copied()
-        }
-        _ => None,
+    match key_at(history, moment) {
+        Some(name) => tops.get(&name).copied(),
+        None => None,
     }
 }
 
 /// Notes the operation that is answered at this moment, if one is.
-fn note_top(
-    history: &[ClientEvent],
-    tops: &mut Tops,
-    moment: usize,
-) -> Result<(), AllocError>
+fn note_top(history: &[ClientEvent], tops: &mut Tops, moment: usize) -> Result<(), AllocError>
     requires { AreTops history.now moment tops.old }
     ensures { OnOk result (AreTops history.now (moment + 1) tops.new) }
 {
     let Some(operation) = operation_at(history, moment) else {
         return Ok(());
     };
-    let name = KeyName {
-        table: operation.table,
-        key: operation.key,
-    };
+    let name = key_name(&operation);
     if is_at_least(tops.get(&name).copied(), operation.version) {
         return Ok(());
     }
@@ -97,6 +97,16 @@ fn note_top(
     };
     tops.insert(name, top)?;
     Ok(())
+}
+
+/// The key of an operation.
+fn key_name(operation: &Operation) -> KeyName
+    ensures { result ≡ key_of operation.now }
+{
+    KeyName {
+        table: operation.table,
+        key: operation.key,
+    }
 }
 
 /// Whether there is an operation, of no lower version than this.

@@ -1,5 +1,6 @@
 //! The writes of a run: each is born where its entry is first sent.
 
+use crate::operations::bytes_of;
 use rc_types::{Entry, ServerId, Shared};
 use std::alloc::{AllocError, Global};
 use std::collections::BTreeMap;
@@ -73,14 +74,6 @@ pub(crate) struct Births<'a> {
     firsts: BTreeMap<Spot, First>,
     begun: BTreeMap<ServerId, usize>,
     all: Vec<Birth<'a>>,
-}
-
-/// The bytes of a value.
-fn bytes_of(value: &Option<Shared<u8>>) -> Option<&[u8]> {
-    match value {
-        Some(value) => Some(value.as_slice()),
-        None => None,
-    }
 }
 
 impl<'a> Births<'a> {

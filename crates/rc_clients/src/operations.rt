@@ -136,7 +136,7 @@ fn value_in(event: &ClientEvent) -> Option<&[u8]>
 }
 
 /// The bytes of a value.
-fn bytes_of(value: &Option<Shared<u8>>) -> Option<&[u8]>
+pub(crate) fn bytes_of(value: &Option<Shared<u8>>) -> Option<&[u8]>
     ensures { option_map (λ s. s.now) result ≡ value.now }
 {
     match value {

@@ -1,7 +1,9 @@
 //! Versions that were shown and that no write can have got.
 
-ghost use Rattle.std.specs.Prelude.{◌≡◌, length, IfOk};
-ghost use Rattle.rc_clients.specs.Evidence.{AreBars, AreWrites, Else, IsAllWritten};
+ghost use Rattle.std.specs.Prelude.{◌≡◌, ℕ, not, length, IfOk, MatchBool};
+ghost use Rattle.rc_clients.specs.Linearizable.{IsPendingWrite};
+ghost use Rattle.rc_clients.specs.Evidence.{Always, AreBars, AreWrites, Else, IsWrittenAt, is_at_least};
+ghost use Rattle.rc_clients.specs.Pending.{ArePending};
 
 use crate::bars::{Top, bar_at};
 use crate::doubled::{ByVersion, version_name};
@@ -18,23 +20,41 @@ pub(crate) fn unwritten_read(
     bars: &[Option<Top>],
     writes: &ByVersion,
 ) -> Result<Option<Violation>, AllocError>
-    requires bars { AreBars history.now bars.now }
+    requires bars { AreBars history.now (length history.now) bars.now }
     requires writes { AreWrites history.now (length history.now) writes.now }
-    ensures { IfOk result (Else history.now (IsAllWritten history.now)) }
+    ensures { IfOk result (Else history.now (Always history.now (IsWrittenAt history.now))) }
 {
     let pending = pending_in(alloc, history)?;
     for moment in 0..history.len() {
-        let Some(operation) = operation_at(history, moment) else {
-            continue;
-        };
-        if operation.version == 0 || writes.get(&version_name(&operation)).is_some() {
-            continue;
-        }
-        if !can_be_pending(history, bars, &pending, &operation) {
-            return Ok(Some(Violation::NeverWritten(moment)));
+        let unwritten = unwritten_at(history, bars, writes, &pending, moment);
+        if unwritten.is_some() {
+            return Ok(unwritten);
         }
     }
     Ok(None)
+}
+
+/// The same of the operation that is answered at this moment.
+fn unwritten_at<'a>(
+    history: &'a [ClientEvent],
+    bars: &[Option<Top>],
+    writes: &ByVersion,
+    pending: &Pending<'a>,
+    moment: usize,
+) -> Option<Violation>
+    requires bars { AreBars history.now (length history.now) bars.now }
+    requires writes { AreWrites history.now (length history.now) writes.now }
+    requires pending { ArePending history.now (length history.now) pending.now }
+    ensures { Else history.now (IsWrittenAt history.now moment) result }
+{
+    let operation = operation_at(history, moment)?;
+    if operation.version == 0
+        || writes.contains_key(&version_name(&operation))
+        || can_be_pending(history, bars, pending, &operation)
+    {
+        return None;
+    }
+    Some(Violation::NeverWritten(moment))
 }
 
 /// Whether a write without a response can have got the version of this operation.
@@ -43,17 +63,29 @@ fn can_be_pending<'a>(
     bars: &[Option<Top>],
     pending: &Pending<'a>,
     operation: &Operation,
-) -> bool {
+) -> bool
+    requires bars { AreBars history.now (length history.now) bars.now }
+    requires pending { ArePending history.now (length history.now) pending.now }
+    ensures { MatchBool result ((moment : ℕ) × IsPendingWrite history.now operation.now moment)
+        ((moment : ℕ) → IsPendingWrite history.now operation.now moment → ⊥) }
+{
     let name = ValueName {
         table: operation.table,
         key: operation.key,
         value: value_of(history, operation),
     };
-    let Some(moment) = pending.get(&name).copied() else {
-        return false;
-    };
-    match bar_at(bars, moment) {
-        Some(top) => top.version < operation.version,
+    match pending.get(&name).copied() {
+        Some(moment) => is_below(bar_at(bars, moment), operation.version),
+        None => false,
+    }
+}
+
+/// Whether what was answered before has no version as great as this.
+fn is_below(top: Option<Top>, version: u64) -> bool
+    ensures { result ≡ not (is_at_least top version) }
+{
+    match top {
+        Some(top) => top.version < version,
         None => true,
     }
 }
