@@ -1,6 +1,9 @@
 -- What an operation of a history is.
 use Rattle.std.proofs.Common.{◌≡◌, ◌⊎◌, ◌∙◌, ℕ, ◌+◌, ◌<◌, Bool, true, false, cond, List, length, Option, Some, None, unwrap_or}
-use Rattle.std.proofs.Common.{refl, sym, ap, subst, inl, inr, arith}
+use Rattle.std.proofs.Common.{[], ◌∷◌, ◌++◌, zero, suc, refl, sym, ap, subst, inl, inr, absurd, arith}
+use Rattle.std.specs.declared.cmp.Ordering.{Ordering}
+use Rattle.std.specs.Map.{lookup}
+use Rattle.std.specs.BTreeMap.{BTreeMap, get, is_at}
 use Rattle.std.specs.Prelude.{nat_lt, slice_get, option_and_then}
 use Rattle.std.specs.Option.{option_map_or}
 use Rattle.std.proofs.lemmas.Bool.Decides.{nat_tests}
@@ -109,3 +112,24 @@ answered_below history moment a is before = by (below a.response moment before)
     by : (a.response < moment) ⊎ (a.response ≡ moment) → (a.response < moment) ⊎ (operation_at history moment ≡ Some a)
     by (inl h) = inl h
     by (inr e) = inr (subst (λ m. operation_at history m ≡ Some a) e is)
+
+-- Tables and lists
+
+pub get_empty : {K V : Type 0} (R : K → K → Ordering) (m : BTreeMap K V) (q : K) → m.entries ≡ [] → get R m q ≡ None
+get_empty R m q e = ap (lookup (is_at (R q))) e
+
+-- a list with one element more: those before it, and itself
+pub get_front : {A : Type 0} (xs : List A) (x : A) (i : ℕ) → i < length xs → slice_get (xs ++ x ∷ []) i ≡ slice_get xs i
+get_front [] x i h = absurd (no i h)
+  where
+    no : (n : ℕ) → n < 0 → ⊥
+    no n h = omega (arith, h)
+get_front (y ∷ xs) x zero h = refl
+get_front (y ∷ xs) x (suc i) h = get_front xs x i (omega (arith, h))
+
+pub get_last : {A : Type 0} (xs : List A) (x : A) (i : ℕ) → i ≡ length xs → slice_get (xs ++ x ∷ []) i ≡ Some x
+get_last {A} xs x i e = ap (slice_get (xs ++ x ∷ [])) e ∙ at_end xs
+  where
+    at_end : (ys : List A) → slice_get (ys ++ x ∷ []) (length ys) ≡ Some x
+    at_end [] = refl
+    at_end (y ∷ ys) = at_end ys

@@ -10,7 +10,8 @@ use Rattle.rc_clients.specs.declared.bars.KeyName.{KeyName}
 use Rattle.rc_clients.specs.declared.bars.Top.{Top}
 use Rattle.rc_clients.specs.Operations.{operation_at, IsOperation}
 use Rattle.rc_clients.specs.Evidence.{AreBars, AreTops, IsBar, IsGreatest, IsTop, IsUntold, bar_at, is_at_least, key_at, key_of, key_order}
-use Rattle.rc_clients.proofs.Facts.{answered_below, is_operation, one_at, told}
+use Rattle.std.proofs.lemmas.List.{length_push}
+use Rattle.rc_clients.proofs.Facts.{answered_below, below, get_empty, get_front, get_last, is_operation, one_at, told}
 
 -- a key by its parts
 pub key_from : (a b : KeyName) → a.table ≡ b.table → a.key ≡ b.key → a ≡ b
@@ -67,31 +68,40 @@ tops_none history moment tops none was = record {
     no a e = cc
 
 -- an operation with no greater version is
-pub tops_low : (history : List ClientEvent) (moment : ℕ) (tops : BTreeMap KeyName Top) (op : Operation) →
-    operation_at history moment ≡ Some op → is_at_least (get key_order tops (key_of op)) op.version ≡ true →
+pub tops_low : (history : List ClientEvent) (moment : ℕ) (tops : BTreeMap KeyName Top) (op : Operation) (name : KeyName) →
+    operation_at history moment ≡ Some op → name ≡ key_of op → is_at_least (get key_order tops name) op.version ≡ true →
     AreTops history moment tops → AreTops history (moment + 1) tops
-tops_low history moment tops op is low was = record {
+tops_low history moment tops op name is named under was = record {
   each = λ q. top_kept history q.table q.key moment (get key_order tops q) (now q) (was.each q);
 }
   where
+    low : is_at_least (get key_order tops (key_of op)) op.version ≡ true
+    low = subst (λ k. is_at_least (get key_order tops k) op.version ≡ true) named under
+
     now : (q : KeyName) (a : Operation) → operation_at history moment ≡ Some a → a.table ≡ q.table → a.key ≡ q.key →
         is_at_least (get key_order tops q) a.version ≡ true
     now q a at ta ka =
         let same : op ≡ a = one_at history moment op a is at in
-        let name : key_of op ≡ q = ap key_of same ∙ key_from (key_of a) q ta ka in
+        let here : key_of op ≡ q = ap key_of same ∙ key_from (key_of a) q ta ka in
         subst (λ v. is_at_least (get key_order tops q) v ≡ true) (ap (λ o. o.version) same)
-        (subst (λ k. is_at_least (get key_order tops k) op.version ≡ true) name low)
+        (subst (λ k. is_at_least (get key_order tops k) op.version ≡ true) here low)
 
 -- one with a greater version is
-pub tops_more : (history : List ClientEvent) (moment : ℕ) (old new : BTreeMap KeyName Top) (op : Operation) (top : Top) →
-    operation_at history moment ≡ Some op → top.response ≡ moment → top.version ≡ op.version →
-    is_at_least (get key_order old (key_of op)) op.version ≡ false → AreTops history moment old →
-    ((q : KeyName) → get key_order new q ≡ cond (is_at (key_order (key_of op)) q) (Some top) (get key_order old q)) →
+pub tops_more : (history : List ClientEvent) (moment : ℕ) (old new : BTreeMap KeyName Top) (op : Operation) (top : Top)
+    (name : KeyName) → operation_at history moment ≡ Some op → name ≡ key_of op → top.response ≡ moment →
+    top.version ≡ op.version → is_at_least (get key_order old name) op.version ≡ false → AreTops history moment old →
+    ((q : KeyName) → get key_order new q ≡ cond (is_at (key_order name) q) (Some top) (get key_order old q)) →
     AreTops history (moment + 1) new
-tops_more history moment old new op top is response version high was updates = record {
+tops_more history moment old new op top name is named response version low was more = record {
   each = λ q. subst (λ o. IsTop history q.table q.key (moment + 1) o) (sym (updates q)) (by q (is_at (key_order (key_of op)) q) refl);
 }
   where
+    high : is_at_least (get key_order old (key_of op)) op.version ≡ false
+    high = subst (λ k. is_at_least (get key_order old k) op.version ≡ false) named low
+
+    updates : (q : KeyName) → get key_order new q ≡ cond (is_at (key_order (key_of op)) q) (Some top) (get key_order old q)
+    updates q = subst (λ k. get key_order new q ≡ cond (is_at (key_order k) q) (Some top) (get key_order old q)) named (more q)
+
     lower : (o : Option Top) → is_at_least o op.version ≡ false → (a : Operation) → IsOperation history a →
         a.table ≡ op.table → a.key ≡ op.key → a.response < moment → IsTop history op.table op.key moment o →
         a.version ≤ op.version
@@ -125,8 +135,8 @@ tops_more history moment old new op top is response version high was updates = r
         is_at_least (get key_order old q) a.version ≡ true
     elsewhere q other a at ta ka =
         let same : op ≡ a = one_at history moment op a is at in
-        let name : key_of op ≡ q = ap key_of same ∙ key_from (key_of a) q ta ka in
-        absurd (true≢false (sym (subst (λ k. is_at (key_order (key_of op)) k ≡ true) name (key_itself (key_of op))) ∙ other))
+        let here : key_of op ≡ q = ap key_of same ∙ key_from (key_of a) q ta ka in
+        absurd (true≢false (sym (subst (λ k. is_at (key_order (key_of op)) k ≡ true) here (key_itself (key_of op))) ∙ other))
 
     by : (q : KeyName) (at : Bool) → is_at (key_order (key_of op)) q ≡ at →
         IsTop history q.table q.key (moment + 1) (cond at (Some top) (get key_order old q))
@@ -152,3 +162,36 @@ bar_none history moment bar none q key = absurd (no (sym none ∙ key))
   where
     no : ◌≡◌ {A = Option KeyName} None (Some q) → ⊥
     no e = cc
+
+pub tops_begin : (history : List ClientEvent) (tops : BTreeMap KeyName Top) → tops.entries ≡ [] → AreTops history 0 tops
+tops_begin history tops e = record {
+  each = λ q. subst (λ o. IsTop history q.table q.key 0 o) (sym (get_empty key_order tops q e))
+      (record { none = λ a is ta ka before. no a.response before });
+}
+  where
+    no : (n : ℕ) → n < 0 → ⊥
+    no n h = omega (arith, h)
+
+pub bars_begin : (history : List ClientEvent) (bars : List (Option Top)) → bars ≡ [] → AreBars history 0 bars
+bars_begin history bars e = record { many = ap length e; each = λ i h. absurd (no i h) }
+  where
+    no : (n : ℕ) → n < 0 → ⊥
+    no n h = omega (arith, h)
+
+-- one more bar
+pub bars_more : (history : List ClientEvent) (moment : ℕ) (old new : List (Option Top)) (bar : Option Top) →
+    new ≡ old ++ bar ∷ [] → IsBar history moment bar → AreBars history moment old → AreBars history (moment + 1) new
+unfolding bar_at
+bars_more history moment old new bar is here was = record {
+  many = ap length is ∙ (let n = length_push old bar in let m = was.many in omega (arith, n, m));
+  each = λ i h. subst (λ bars. IsBar history i (bar_at bars i)) (sym is) (by i (below i moment h));
+}
+  where
+    got : (i : ℕ) (x : Option Top) → slice_get (old ++ bar ∷ []) i ≡ Some x → bar_at (old ++ bar ∷ []) i ≡ x
+    got i x e = ap (option_and_then (λ b. b)) e
+
+    by : (i : ℕ) → (i < moment) ⊎ (i ≡ moment) → IsBar history i (bar_at (old ++ bar ∷ []) i)
+    by i (inl h) = subst (λ (o : Option (Option Top)). IsBar history i (option_and_then (λ b. b) o))
+        (sym (get_front old bar i (let m = was.many in omega (arith, m, h)))) (was.each i h)
+    by i (inr e) = subst (λ (o : Option (Option Top)). IsBar history i (option_and_then (λ b. b) o))
+        (sym (get_last old bar i (let m = was.many in omega (arith, m, e)))) (subst (λ m. IsBar history m bar) (sym e) here)

@@ -56,10 +56,15 @@ pub record IsAnsweredWrite (history : List ClientEvent) (op write : Operation) :
   pub kind : write.kind ≡ Write
   pub version_is : write.version ≡ op.version
 
+abbrev pub HasWrite : List ClientEvent → Operation → Type 0
+HasWrite history op = (write : Operation) × IsAnsweredWrite history op write
+
+abbrev pub HasPending : List ClientEvent → Operation → Type 0
+HasPending history op = (moment : ℕ) × IsPendingWrite history op moment
+
 -- the operation's version was written
 abbrev pub WasWritten : List ClientEvent → Operation → Type 0
-WasWritten history op = ((write : Operation) × IsAnsweredWrite history op write)
-    ⊎ ((moment : ℕ) × IsPendingWrite history op moment)
+WasWritten history op = HasWrite history op ⊎ HasPending history op
 
 pub record IsLinearizable (history : List ClientEvent) : Type 0 where
   -- the order of versions keeps the order of time,

@@ -27,6 +27,6 @@ value_order a b = ordering_then (nat_cmp a.table b.table) (ordering_then (nat_cm
 
 -- of each value the first of those that were invoked before this moment
 pub record ArePending (history : List ClientEvent) (moment : ℕ) (pending : BTreeMap ValueName ℕ) : Type 0 where
-  pub found : (q : ValueName) (i : ℕ) → get value_order pending q ≡ Some i → IsPendingOf history q i
+  pub found : (q : ValueName) (i : ℕ) → get value_order pending q ≡ Some i → IsPendingOf history q i × (i < moment)
   pub kept : (q : ValueName) (i : ℕ) → i < moment → IsPendingOf history q i →
       (j : ℕ) × (get value_order pending q ≡ Some j) × (j ≤ i)

@@ -46,6 +46,7 @@ pub(crate) fn bars_in(
 }
 
 /// The operation that is kept of the event at this moment.
+#[tactic(auto, unfolding(crate::specs::Evidence::bar_at))]
 pub(crate) fn bar_at(bars: &[Option<Top>], moment: usize) -> Option<Top>
     ensures { result ≡ bar_at bars.now moment }
 {
@@ -56,6 +57,7 @@ pub(crate) fn bar_at(bars: &[Option<Top>], moment: usize) -> Option<Top>
 }
 
 /// The key of the invocation at this moment, if one stands there.
+#[tactic(auto, unfolding(crate::specs::Evidence::key_at))]
 fn key_at(history: &[ClientEvent], moment: usize) -> Option<KeyName>
     ensures { result ≡ key_at history.now moment }
 {

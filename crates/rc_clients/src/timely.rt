@@ -27,8 +27,12 @@ fn late_at(history: &[ClientEvent], bars: &[Option<Top>], moment: usize) -> Opti
     requires { AreBars history.now (length history.now) bars.now }
     ensures { Else history.now (IsTimelyAt history.now moment) result }
 {
-    let operation = operation_at(history, moment)?;
-    let top = bar_at(bars, operation.invocation)?;
+    let Some(operation) = operation_at(history, moment) else {
+        return None;
+    };
+    let Some(top) = bar_at(bars, operation.invocation) else {
+        return None;
+    };
     if stands_behind(&operation, top) {
         return None;
     }
@@ -62,8 +66,13 @@ pub(crate) fn wrong_beginning(history: &[ClientEvent]) -> Option<Violation>
 fn wrong_at(history: &[ClientEvent], moment: usize) -> Option<Violation>
     ensures { Else history.now (IsBegunAt history.now moment) result }
 {
-    let operation = operation_at(history, moment)?;
-    if operation.version != 0 || shows_nothing(history, &operation) {
+    let Some(operation) = operation_at(history, moment) else {
+        return None;
+    };
+    if operation.version != 0 {
+        return None;
+    }
+    if shows_nothing(history, &operation) {
         return None;
     }
     Some(Violation::NotNothing(moment))

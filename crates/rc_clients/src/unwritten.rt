@@ -1,7 +1,7 @@
 //! Versions that were shown and that no write can have got.
 
-ghost use Rattle.std.specs.Prelude.{◌≡◌, ℕ, not, length, IfOk, MatchBool};
-ghost use Rattle.rc_clients.specs.Linearizable.{IsPendingWrite};
+ghost use Rattle.std.specs.Prelude.{◌≡◌, not, length, IfOk, MatchBool};
+ghost use Rattle.rc_clients.specs.Linearizable.{HasPending, HasWrite};
 ghost use Rattle.rc_clients.specs.Evidence.{Always, AreBars, AreWrites, Else, IsWrittenAt, is_at_least};
 ghost use Rattle.rc_clients.specs.Pending.{ArePending};
 
@@ -47,14 +47,31 @@ fn unwritten_at<'a>(
     requires pending { ArePending history.now (length history.now) pending.now }
     ensures { Else history.now (IsWrittenAt history.now moment) result }
 {
-    let operation = operation_at(history, moment)?;
-    if operation.version == 0
-        || writes.contains_key(&version_name(&operation))
-        || can_be_pending(history, bars, pending, &operation)
-    {
+    let Some(operation) = operation_at(history, moment) else {
+        return None;
+    };
+    if operation.version == 0 {
+        return None;
+    }
+    if has_write(history, writes, &operation) {
+        return None;
+    }
+    if can_be_pending(history, bars, pending, &operation) {
         return None;
     }
     Some(Violation::NeverWritten(moment))
+}
+
+/// Whether a write of the operation's version was answered.
+fn has_write(history: &[ClientEvent], writes: &ByVersion, operation: &Operation) -> bool
+    requires { AreWrites history.now (length history.now) writes.now }
+    ensures { MatchBool result (HasWrite history.now operation.now) (HasWrite history.now operation.now → ⊥) }
+{
+    let _history = history;
+    match writes.get(&version_name(operation)).copied() {
+        Some(_) => true,
+        None => false,
+    }
 }
 
 /// Whether a write without a response can have got the version of this operation.
@@ -66,8 +83,7 @@ fn can_be_pending<'a>(
 ) -> bool
     requires bars { AreBars history.now (length history.now) bars.now }
     requires pending { ArePending history.now (length history.now) pending.now }
-    ensures { MatchBool result ((moment : ℕ) × IsPendingWrite history.now operation.now moment)
-        ((moment : ℕ) → IsPendingWrite history.now operation.now moment → ⊥) }
+    ensures { MatchBool result (HasPending history.now operation.now) (HasPending history.now operation.now → ⊥) }
 {
     let name = ValueName {
         table: operation.table,
