@@ -120,6 +120,14 @@ pub trace_is : IsLevel (leaf command.trace.top) false []
 unfolding clap_on_literals
 trace_is = record { long = λ name _. refl; short = λ x. refl; strays = refl; positional = refl }
 
+pub history_is : IsLevel (leaf command.history.top) false []
+unfolding clap_on_literals
+history_is = record { long = λ name _. refl; short = λ x. refl; strays = refl; positional = refl }
+
+pub check_is : IsLevel (leaf command.check.top) false []
+unfolding clap_on_literals
+check_is = record { long = λ name _. refl; short = λ x. refl; strays = refl; positional = refl }
+
 pub audit_is : IsLevel (leaf command.audit.top) false []
 unfolding clap_on_literals
 audit_is = record { long = λ name _. refl; short = λ x. refl; strays = refl; positional = refl }

@@ -172,10 +172,12 @@ named_in name rows =
     if bytes_eq name (codes "run") then run_in rows
     else (if bytes_eq name (codes "trace") then Some asked.Trace
     else (if bytes_eq name (codes "audit") then Some asked.Audit
+    else (if bytes_eq name (codes "history") then Some asked.History
+    else (if bytes_eq name (codes "check") then Some asked.Check
     else (if bytes_eq name (codes "log") then log_in rows
     else (if bytes_eq name (codes "picture") then picture_in rows
     else (if bytes_eq name (codes "heal") then heal_in rows
-    else unread_in name rows)))))
+    else unread_in name rows)))))))
 
 abbrev pub command_in : Text → List Row → Option Asked
 command_in name rows = if bytes_eq name (codes "shrink") then shrink_in rows else named_in name rows
@@ -218,7 +220,8 @@ is_alone name (word ∷ rest) = bytes_eq name word && is_end rest
 
 abbrev pub names : List Text
 names = codes "run" ∷ codes "trace" ∷ codes "audit" ∷ codes "fuzz" ∷ codes "stops" ∷ codes "threads" ∷ codes "explore"
-    ∷ codes "log" ∷ codes "picture" ∷ codes "explain" ∷ codes "shrink" ∷ codes "heal" ∷ []
+    ∷ codes "log" ∷ codes "picture" ∷ codes "explain" ∷ codes "shrink" ∷ codes "heal" ∷ codes "history"
+    ∷ codes "check" ∷ []
 
 abbrev pub is_command : Text → Bool
 is_command word = list_any (λ name. bytes_eq name word) names

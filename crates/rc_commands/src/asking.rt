@@ -31,6 +31,10 @@ pub enum Asked {
     Trace,
     /// Judge a trace.
     Audit,
+    /// Replay a scenario, and write what its clients saw.
+    History,
+    /// Judge a history of clients.
+    Check,
     /// Run events that are drawn from a seed, with freed segments where `free` says so.
     Fuzz {
         seed: u64,
@@ -126,6 +130,10 @@ pub fn asked_for(alloc: Global, words: &[String]) -> Result<Asked, Fault>
         (λ a. is_alone (codes "heal") (map string_bytes words.now) ≡ true → a ≡ Asked.Heal false) }
     ensures explain { IfOk result
         (λ a. is_alone (codes "explain") (map string_bytes words.now) ≡ true → a ≡ Asked.Explain None) }
+    ensures history { IfOk result
+        (λ a. is_alone (codes "history") (map string_bytes words.now) ≡ true → a ≡ Asked.History) }
+    ensures check { IfOk result
+        (λ a. is_alone (codes "check") (map string_bytes words.now) ≡ true → a ≡ Asked.Check) }
     ensures texts { IfOk result (λ a. is_plain (map string_bytes words.now) ≡ true
         → is_text a ≡ asks_for_text (map string_bytes words.now)) }
 
@@ -211,6 +219,8 @@ fn command_named<'a>(name: &str, given: &ArgMatches<'a>) -> Result<Asked, BadWor
         "run" => run_of(given),
         "trace" => Ok(Asked::Trace),
         "audit" => Ok(Asked::Audit),
+        "history" => Ok(Asked::History),
+        "check" => Ok(Asked::Check),
         "log" => Ok(Asked::Log {
             json: has_flag(given, "json"),
         }),

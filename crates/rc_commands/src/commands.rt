@@ -16,7 +16,9 @@ pub fn program<'a>(alloc: Global) -> Result<Command<'a>, AllocError>
     let exploring = with(running, explore(alloc))?;
     let shrinking = with(exploring, shrink(alloc))?;
     let healing = with(shrinking, heal(alloc))?;
-    with(healing, explain(alloc))
+    let explaining = with(healing, explain(alloc))?;
+    let telling = with(explaining, Ok(history(alloc)))?;
+    with(telling, Ok(check(alloc)))
 }
 
 /// The program with the commands up to `threads`.
@@ -115,6 +117,30 @@ fn audit<'a>(alloc: Global) -> Command<'a>
         "audit",
         "Judges a trace that it reads from standard input",
         "Example: ramseg audit < examples/first-write.trace",
+    )
+}
+
+/// `history`.
+fn history<'a>(alloc: Global) -> Command<'a>
+    ensures { IsBuiltAs spec.history result }
+{
+    command(
+        alloc,
+        "history",
+        "Replays a scenario that it reads from standard input, and prints what its clients saw as JSON lines",
+        "Example: ramseg history < examples/first-write.json",
+    )
+}
+
+/// `check`.
+fn check<'a>(alloc: Global) -> Command<'a>
+    ensures { IsBuiltAs spec.check result }
+{
+    command(
+        alloc,
+        "check",
+        "Judges whether a history that it reads from standard input is linearizable",
+        "Example: ramseg history < examples/first-write.json | ramseg check",
     )
 }
 

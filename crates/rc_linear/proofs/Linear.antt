@@ -31,7 +31,7 @@ use Rattle.rc_linear.specs.Confirmed.{HasSentFor, MissesNothing}
 use Rattle.rc_linear.specs.Linearizable.{Kind, OrderIsStrict, AWrite, ARead, Operation, IsRequest}
 use Rattle.rc_linear.specs.Linearizable.{IsWrite, IsRead, Precedes, StandsBefore, WasAskedFor}
 use Rattle.rc_linear.specs.Linearizable.{IsLinearizable, HasReplicas, Linearizable, LinearizableApart}
-use Rattle.rc_linear.specs.Linearizable.{IsResponseOf, EachWriteIsAnOperation}
+use Rattle.rc_linear.specs.Linearizable.{IsResponseOf, EachWriteIsAnOperation, EachWriteIsAnOperationApart}
 use Rattle.rc_linear.proofs.NoneLater.{confirmed-reads-miss-nothing}
 use Rattle.rc_linear.proofs.Stood.{Stood, IsShowing, shown-stood}
 use Rattle.rc_linear.proofs.Zero.{shows-none}
@@ -506,3 +506,8 @@ each-write setup events m ack some p = by (oks-of m (counted_places ((replay set
             (places_to-are ((replay setup events).masters m).log.segments ((replay setup events).masters m).log.head
             counted.0 place counted.2) in
             cc
+
+pub each-write-apart : EachWriteIsAnOperationApart
+each-write-apart setup steps m ack apart some =
+    subst (λ (sent : List Message). (p : HasAcknowledged sent m ack) → IsResponseOf sent m ack p.message) (sent-apart setup steps apart)
+    (λ p. each-write setup (events_by steps) m ack some p)

@@ -1,11 +1,24 @@
 -- Linearizability, in the usual words: operation, invocation, response, the order of time, linearization. A history is
 -- a list of messages, as they were sent one after another; the moment of a message is its number, its place there.
 --
--- Beside the usual definition: there are no processes, each operation stands for itself. The object is one register for
--- each key, which begins with nothing; a write of nothing deletes. The complete operations are IsWrite and IsRead. A
--- pending write takes part where a read has shown it (WasAskedFor), pending reads do not. The linearization is no list
--- but the order StandsBefore, by which any finitely many operations can be sorted. IsLinearized says that this order
--- keeps the order of time and is legal for a register. The sentence itself stands at the end: Linearizable.
+-- What differs from the usual definition:
+--
+-- - The object is one register for each key of a table. It begins with nothing; a write of nothing deletes.
+-- - There are no processes: each operation stands for itself, as if each had a client of its own.
+-- - An operation is a write that was acknowledged (IsWrite) or a read that was answered and confirmed (IsRead). Its
+--   invocation is the client's request, a Write or a Read, when that was sent, and its response the master's WriteOk or
+--   ReadOk, when that was sent. So a message on its way makes an operation longer, and never shorter.
+-- - A read that is not confirmed is no operation, and shows what it may. Nor is a request that was refused: a Refused
+--   names no request, so a write that was refused counts as pending.
+-- - An answer names no request. A write may have come of each Write with its key and value that its master was sent
+--   before anything was sent for its place: what follows is said of each choice. One Write that is delivered twice may
+--   be the request of two writes. Each delivery is an operation then, with one invocation.
+-- - A pending write, one without a response, takes part where a read has shown it (WasAskedFor), and else nowhere.
+--   Pending reads do not take part.
+-- - The linearization is no list but the order StandsBefore, by which any finitely many operations can be sorted.
+--
+-- IsLinearized says that this order keeps the order of time and is legal for a register. The sentence itself stands at
+-- the end: Linearizable.
 use Rattle.std.specs.Prelude.{◌≡◌, ◌≢◌, ◌⊎◌, ℕ, ◌<◌, List, take, Option, Some, None, slice_get}
 use Rattle.rc_types.specs.declared.ids.ServerId.{ServerId}
 use Rattle.rc_types.specs.declared.ids.Addr.TheVariants.{Server, Outside}
@@ -128,7 +141,7 @@ IsLinearizable sent = (table key : ℕ) → IsLinearized sent table key
 abbrev pub HasReplicas : Setup → Type 0
 HasReplicas setup = (host : ℕ) → factor_of setup host ≢ 0
 
--- of every world
+-- of every world, whatever happens in it
 abbrev pub Linearizable : Type 0
 Linearizable = (setup : Setup) (events : List Event) → HasReplicas setup → IsLinearizable (sent_after setup events)
 
@@ -153,3 +166,8 @@ abbrev pub EachWriteIsAnOperation : Type 0
 EachWriteIsAnOperation = (setup : Setup) (events : List Event) (m : ServerId) (ack : Ack) → HasReplicas setup →
     (acknowledged : HasAcknowledged (sent_after setup events) m ack) →
     IsResponseOf (sent_after setup events) m ack acknowledged.message
+
+abbrev pub EachWriteIsAnOperationApart : Type 0
+EachWriteIsAnOperationApart = (setup : Setup) (steps : List Step) (m : ServerId) (ack : Ack) → TakenApart setup steps →
+    HasReplicas setup → (acknowledged : HasAcknowledged (sent_by steps) m ack) →
+    IsResponseOf (sent_by steps) m ack acknowledged.message

@@ -1,7 +1,7 @@
 //! Linearizable.
 
 ghost use Rattle.rc_linear.specs.Linearizable.{OrderIsStrict, Linearizable, LinearizableApart};
-ghost use Rattle.rc_linear.specs.Linearizable.{EachWriteIsAnOperation};
+ghost use Rattle.rc_linear.specs.Linearizable.{EachWriteIsAnOperation, EachWriteIsAnOperationApart};
 
 /// The store is linearizable. For each key the writes that were acknowledged and the reads that were confirmed, ordered
 /// by their versions, each read behind the write of its version, are a linearization: an operation that was answered
@@ -15,4 +15,5 @@ pub fn linearizable()
     ensures worlds { Linearizable }
     ensures apart { LinearizableApart }
     ensures writes { EachWriteIsAnOperation }
+    ensures writes_apart { EachWriteIsAnOperationApart }
 {}

@@ -12,6 +12,7 @@ use Rattle.rc_sim.specs.declared.verdicts.SimFault.{SimFault}
 use Rattle.rc_sim.specs.declared.verdicts.SimFault.TheVariants.{Memory, Read, Write}
 use Rattle.rc_sim.specs.Verdicts.{Played, Narrated, Judged, Drawn, PowerCut, Threaded, Explored, Surveyed}
 use Rattle.rc_sim.specs.Verdicts.{Shrunk, Healed, Told}
+use Rattle.rc_sim.specs.Histories.{Checked}
 use Rattle.rc_sim.specs.Written.{IsWritten, IsBegun}
 
 abbrev pub verdict_status : Verdict → ℕ
@@ -51,6 +52,8 @@ abbrev pub ComesOf : Asked → List ℕ → Verdict → List ℕ → Type 0
 ComesOf (asked.Run heap) bytes verdict text = Played Report bytes verdict text
 ComesOf asked.Trace bytes verdict text = Played Trace bytes verdict text
 ComesOf asked.Audit bytes verdict text = Judged bytes verdict text
+ComesOf asked.History bytes verdict text = Narrated bytes verdict text
+ComesOf asked.Check bytes verdict text = Checked bytes verdict text
 ComesOf (asked.Fuzz seed steps free) bytes verdict text = Drawn seed steps free verdict text
 ComesOf (asked.Stops seed steps) bytes verdict text = PowerCut seed steps verdict text
 ComesOf (asked.Threads hosts writes) bytes verdict text = Threaded verdict text

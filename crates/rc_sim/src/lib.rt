@@ -1,4 +1,4 @@
-//! What the program `ramseg` does: a scenario is run, a trace is judged, events are drawn, or nodes are run on threads;
+//! What the program `ramseg` does: a scenario is run, a trace or a history is judged, events are drawn, or nodes are run on threads;
 //! and what came of it is written.
 #![tactic(auto)]
 
@@ -8,6 +8,7 @@ mod counted;
 mod drawing;
 mod exploring;
 mod healing;
+mod histories;
 mod narrating;
 mod outlets;
 mod playing;

@@ -1,0 +1,4 @@
+pub mod Facts
+pub mod TopLemmas
+pub mod VersionLemmas
+pub mod TimeLemmas
