@@ -91,7 +91,7 @@ pub fn heal(alloc: Global, setup: &Setup, events: &[Event], power: bool) -> Resu
     ensures gone { IfOk result (λ healed. are_all_drops healed.world.events healed.gone.items ≡ true) }
     ensures fault { IfErr result (λ fault. (fault ≡ OutOfMemory) ⊎ (fault ≡ BadEvent)) }
 {
-    match healed(alloc, setup, events, power) {
+    match heal_or_fail(alloc, setup, events, power) {
         Ok(healed) => Ok(healed),
         Err(Fault::OutOfMemory) => Err(Fault::OutOfMemory),
         Err(_) => Err(Fault::BadEvent),
@@ -99,7 +99,12 @@ pub fn heal(alloc: Global, setup: &Setup, events: &[Event], power: bool) -> Resu
 }
 
 /// The same, with any fault.
-fn healed(alloc: Global, setup: &Setup, events: &[Event], power: bool) -> Result<Healed, Fault>
+fn heal_or_fail(
+    alloc: Global,
+    setup: &Setup,
+    events: &[Event],
+    power: bool,
+) -> Result<Healed, Fault>
     requires { IsWithinLimits setup.now }
     ensures world { IfOk result (λ healed.
         healed.world ≡ with_events (with_events (opened setup.now) events.now) healed.events.items) }
@@ -115,7 +120,7 @@ fn healed(alloc: Global, setup: &Setup, events: &[Event], power: bool) -> Result
         deeds,
         rounds,
         state,
-    } = found(alloc, setup, events, power)?;
+    } = look_for(alloc, setup, events, power)?;
     let State {
         tablets,
         trial,
@@ -175,7 +180,7 @@ fn tried(
 }
 
 /// What heals the world in which these events have happened.
-fn found(alloc: Global, setup: &Setup, events: &[Event], power: bool) -> Result<Found, Fault>
+fn look_for(alloc: Global, setup: &Setup, events: &[Event], power: bool) -> Result<Found, Fault>
     requires { IsWithinLimits setup.now }
     ensures rounds { IfOk result (λ found. found.rounds ≤ 3) }
 {

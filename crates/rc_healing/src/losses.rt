@@ -125,6 +125,9 @@ impl Watch {
         let Some(master) = world.master(self.master.index) else {
             return Ok(());
         };
+        if master.id() != self.master {
+            return Ok(());
+        }
         let log = master.log();
         self.placed.retain(|placed| !is_shut(log, placed.seg));
         for seg in log.head().saturating_sub(1)..=log.head() {

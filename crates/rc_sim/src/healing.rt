@@ -66,14 +66,14 @@ fn healed_of<E: Write>(
     ensures fault { IfErr result (λ fault. fault ≡ Memory) }
 {
     match read_scenario(alloc, bytes) {
-        Ok(scenario) => healed(alloc, scenario, power_cycle, errors),
+        Ok(scenario) => answer_of(alloc, scenario, power_cycle, errors),
         Err(ReadFault::OutOfMemory) => Err(SimFault::Memory),
         Err(ReadFault::BadScenario(place)) => bad(alloc, place),
     }
 }
 
 /// What is written of a scenario.
-fn healed<E: Write>(
+fn answer_of<E: Write>(
     alloc: Global,
     scenario: Scenario,
     power_cycle: bool,

@@ -1,5 +1,5 @@
 use Rattle.std.specs.Prelude.{◌≤◌}
-use Rattle.rc_healing.proofs.healing.found.Given as goal
+use Rattle.rc_healing.proofs.healing.look_for.Given as goal
 
 -- there were at most three rounds
 abbrev pub invariant-loop-round : goal.invariant-loop-round
