@@ -25,7 +25,7 @@ pub record IsTold (history : List ClientEvent) (moment : ℕ) (op : Operation) :
 some_same : (x y : Operation) → ◌≡◌ {A = Option Operation} (Some x) (Some y) → x ≡ y
 some_same x y e = ap (λ o. unwrap_or o x) e
 
-key_asked : (history : List ClientEvent) (moment : ℕ) (event : ClientEvent) → slice_get history moment ≡ Some event →
+pub key_asked : (history : List ClientEvent) (moment : ℕ) (event : ClientEvent) → slice_get history moment ≡ Some event →
     key_at history moment ≡ key_in event
 unfolding key_at
 key_asked history moment event is = ap (option_and_then key_in) is

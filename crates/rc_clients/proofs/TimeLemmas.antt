@@ -11,7 +11,7 @@ use Rattle.rc_clients.specs.declared.bars.Top.{Top}
 use Rattle.rc_clients.specs.declared.judging.Violation.{Violation}
 use Rattle.rc_clients.specs.declared.judging.Violation.TheVariants as violation
 use Rattle.rc_clients.specs.Operations.{operation_at, value_of, IsOperation}
-use Rattle.rc_clients.specs.Linearizable.{AreOnKey, Breaks, Precedes, StandsBefore, IsLinearizable, WasWritten}
+use Rattle.rc_clients.specs.Linearizable.{AreOnKey, Breaks, HasPending, HasWrite, Precedes, StandsBefore, IsLinearizable, WasWritten}
 use Rattle.rc_clients.specs.Evidence.{Always, AreBars, Else, IsBegunAt, IsBehind, IsTimelyAt, IsTop, IsWrittenAt, IsOneValue}
 use Rattle.rc_clients.specs.Evidence.{ShowsNothing, bar_at, behind_by, key_of}
 use Rattle.rc_clients.proofs.Facts.{below, one_at, told, within}
@@ -170,3 +170,15 @@ pub written_so : (history : List ClientEvent) (moment : ℕ) (op : Operation) �
 written_so history moment op is written = record {
   each = λ a at later. subst (WasWritten history) (one_at history moment op a is at) written;
 }
+
+pub not_begun : (history : List ClientEvent) (moment : ℕ) (op : Operation) → operation_at history moment ≡ Some op →
+    op.version ≡ 0 → (ShowsNothing history op → ⊥) → Breaks history (violation.NotNothing moment)
+not_begun history moment op is zero no = (op, is, zero, no)
+
+pub not_written : (history : List ClientEvent) (moment : ℕ) (op : Operation) → operation_at history moment ≡ Some op →
+    op.version ≢ 0 → (HasWrite history op → ⊥) → (HasPending history op → ⊥) → Breaks history (violation.NeverWritten moment)
+not_written history moment op is later no_write no_pending = (op, is, later, none)
+  where
+    none : WasWritten history op → ⊥
+    none (inl h) = no_write h
+    none (inr h) = no_pending h

@@ -39,21 +39,18 @@ pub fn check(alloc: Global, history: &[ClientEvent]) -> Result<Option<Violation>
     ensures { IfOk result (Judged history.now) }
 {
     let bars = bars_in(alloc, history)?;
-    let late = late_operation(history, bars.as_slice());
-    if late.is_some() {
-        return Ok(late);
+    if let Some(late) = late_operation(history, bars.as_slice()) {
+        return Ok(Some(late));
     }
-    let wrong = wrong_beginning(history);
-    if wrong.is_some() {
-        return Ok(wrong);
+    if let Some(wrong) = wrong_beginning(history) {
+        return Ok(Some(wrong));
     }
     let writes = match writes_in(alloc, history)? {
         Ok(writes) => writes,
         Err(doubled) => return Ok(Some(doubled)),
     };
-    let differing = differing_value(alloc, history)?;
-    if differing.is_some() {
-        return Ok(differing);
+    if let Some(differing) = differing_value(alloc, history)? {
+        return Ok(Some(differing));
     }
     unwritten_read(alloc, history, bars.as_slice(), &writes)
 }

@@ -14,9 +14,8 @@ pub(crate) fn late_operation(history: &[ClientEvent], bars: &[Option<Top>]) -> O
     ensures { Else history.now (Always history.now (IsTimelyAt history.now)) result }
 {
     for moment in 0..history.len() {
-        let late = late_at(history, bars, moment);
-        if late.is_some() {
-            return late;
+        if let Some(late) = late_at(history, bars, moment) {
+            return Some(late);
         }
     }
     None
@@ -54,9 +53,8 @@ pub(crate) fn wrong_beginning(history: &[ClientEvent]) -> Option<Violation>
     ensures { Else history.now (Always history.now (IsBegunAt history.now)) result }
 {
     for moment in 0..history.len() {
-        let wrong = wrong_at(history, moment);
-        if wrong.is_some() {
-            return wrong;
+        if let Some(wrong) = wrong_at(history, moment) {
+            return Some(wrong);
         }
     }
     None

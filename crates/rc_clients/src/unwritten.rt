@@ -26,9 +26,8 @@ pub(crate) fn unwritten_read(
 {
     let pending = pending_in(alloc, history)?;
     for moment in 0..history.len() {
-        let unwritten = unwritten_at(history, bars, writes, &pending, moment);
-        if unwritten.is_some() {
-            return Ok(unwritten);
+        if let Some(unwritten) = unwritten_at(history, bars, writes, &pending, moment) {
+            return Ok(Some(unwritten));
         }
     }
     Ok(None)
