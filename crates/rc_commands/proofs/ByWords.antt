@@ -354,10 +354,12 @@ asked_heal : (rest : List Text) → asked_in (codes "heal" ∷ rest) ≡ where_t
     (heal_in (rows_at (leaf command.heal.top) rest).1)
 asked_heal rest = ap₂ asked_by (heal_line rest) (heal_found rest)
 
-asked_history : (rest : List Text) → asked_in (codes "history" ∷ rest) ≡ where_taken (faults_at command.history.top rest) (Some asked.History)
+asked_history : (rest : List Text) → asked_in (codes "history" ∷ rest) ≡ where_taken (faults_at command.history.top rest)
+    (Some asked.History)
 asked_history rest = ap₂ asked_by (history_line rest) (history_found rest)
 
-asked_check : (rest : List Text) → asked_in (codes "check" ∷ rest) ≡ where_taken (faults_at command.check.top rest) (Some asked.Check)
+asked_check : (rest : List Text) → asked_in (codes "check" ∷ rest) ≡ where_taken (faults_at command.check.top rest)
+    (Some asked.Check)
 asked_check rest = ap₂ asked_by (check_line rest) (check_found rest)
 
 -- of which command an answer is not
