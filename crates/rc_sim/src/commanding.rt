@@ -37,9 +37,9 @@ use std::sync::Wait;
 use std::thread;
 
 /// Does what the words after the program's name ask for, and gives the exit status: 0 where all is
-/// well, 1 where an audit found a breach or a history is not linearizable, 2 for a wrong command line, scenario, trace
-/// or history, for an event that was not possible, and where `shrink` finds no line to keep, 3 where memory was refused,
-/// 4 where a read or a write failed.
+/// well, 1 where an audit found a breach or a history is not linearizable, 2 for a wrong command line, scenario,
+/// trace or history, for an event that was not possible, and where `shrink` finds no line to keep, 3 where memory was
+/// refused, 4 where a read or a write failed.
 ///
 /// `run` and `trace` run the scenario that the reader gives (see [`simulate`](crate::simulate)), `log` and `picture`
 /// tell its story, `history` what its clients saw, `heal` adds what brings its tablets back, `shrink` leaves out of it
