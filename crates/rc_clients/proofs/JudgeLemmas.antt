@@ -1,5 +1,5 @@
 -- What the judge answers is so, and never both.
-use Rattle.std.proofs.Common.{◌≡◌, ◌≢◌, ◌∙◌, ◌×◌, ℕ, List, length, Option, Some, None, sym, ap, subst}
+use Rattle.std.proofs.Common.{◌≡◌, ◌≢◌, ◌∙◌, ℕ, List, length, Option, Some, None, sym, ap, subst}
 use Rattle.std.specs.BTreeMap.{BTreeMap}
 use Rattle.rc_clients.specs.declared.events.ClientEvent.{ClientEvent}
 use Rattle.rc_clients.specs.declared.operations.Operation.{Operation}

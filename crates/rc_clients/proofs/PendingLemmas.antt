@@ -1,13 +1,14 @@
 -- Writes without a response, by what they are to write.
-use Rattle.std.proofs.Common.{◌≡◌, ◌≢◌, ◌⊎◌, ◌∙◌, ◌×◌, ℕ, ◌+◌, ◌<◌, ◌≤◌, Bool, true, false, not, cond, List, [], ◌∷◌, length}
+use Rattle.std.proofs.Common.{◌≡◌, ◌≢◌, ◌⊎◌, ◌∙◌, ℕ, ◌+◌, ◌<◌, ◌≤◌, Bool, true, false, not, cond, List, [], ◌∷◌, length}
 use Rattle.std.proofs.Common.{Option, Some, None, MatchBool, MatchOption, Bor, is_some, unwrap_or, option_map, refl, sym, ap, subst, inl, inr}
-use Rattle.std.proofs.Common.{absurd, true≢false, arith}
+use Rattle.std.proofs.Common.{true≢false, arith}
 use Rattle.std.specs.Prelude.{slice_get, option_and_then}
 use Rattle.std.specs.declared.cmp.Ordering.{Ordering}
-use Rattle.std.specs.declared.cmp.Ordering.TheVariants.{Less, Equal, Greater}
+use Rattle.std.specs.declared.cmp.Ordering.TheVariants.{Equal}
 use Rattle.std.specs.Ordering.{nat_cmp, ordering_then, is_eq}
 use Rattle.std.specs.Option.{option_cmp}
 use Rattle.std.specs.Cmp.Lexicographic.{slice_cmp}
+use Rattle.std.specs.List.{list_any}
 use Rattle.std.specs.Map.{lookup}
 use Rattle.std.specs.BTreeMap.{BTreeMap, get, is_at}
 use Rattle.std.specs.BTreeSet.{BTreeSet, contains}
@@ -23,7 +24,7 @@ use Rattle.rc_clients.specs.Operations.{operation_at, value_of, IsOperation}
 use Rattle.rc_clients.specs.Linearizable.{AreOnKey, HasPending, IsPendingWrite, IsUnanswered, answered_at, answered_in}
 use Rattle.rc_clients.specs.Evidence.{AreAnswered, AreBars, IsTop, bar_at, is_at_least, key_at, key_in}
 use Rattle.rc_clients.specs.Pending.{ArePending, IsPendingOf, IsWriteOf, value_order}
-use Rattle.rc_clients.proofs.Facts.{below, get_empty, is_operation, key_asked, told}
+use Rattle.rc_clients.proofs.Facts.{below, get_empty, is_operation, key_asked, number_itself, numbers_same, then_equal, told}
 
 no_some : {A : Type 0} (o : Option A) (x : A) → o ≡ None → o ≡ Some x → ⊥
 no_some o x none some = cc
@@ -69,14 +70,6 @@ get_alike : (m : BTreeMap ValueName ℕ) (a b : ValueName) → AreAlike a b → 
 get_alike m a b h =
     lookup_alike m.entries (is_at (value_order a)) (is_at (value_order b)) (λ q. ap is_eq (alike_orders a b h q))
 
-then_equal : (o p : Ordering) → is_eq (ordering_then o p) ≡ true → (is_eq o ≡ true) × (is_eq p ≡ true)
-then_equal Less p e = absurd (true≢false (sym e))
-then_equal Equal p e = (refl, e)
-then_equal Greater p e = absurd (true≢false (sym e))
-
-numbers_same : (a b : ℕ) → is_eq (nat_cmp a b) ≡ true → a ≡ b
-numbers_same a b e = grind (arith, nat_tests)
-
 lists_same : (xs ys : List ℕ) → is_eq (slice_cmp nat_cmp xs ys) ≡ true → xs ≡ ys
 lists_same [] [] e = refl
 lists_same [] (y ∷ ys) e = absurd (true≢false (sym e))
@@ -103,14 +96,6 @@ same_value a b e =
       value_is = values_same (bytes a.value) (bytes b.value) two.1;
     }
 
-number_itself : (a : ℕ) → nat_cmp a a ≡ Equal
-number_itself a = equal (nat_cmp a a) (grind (arith, nat_tests))
-  where
-    equal : (o : Ordering) → is_eq o ≡ true → o ≡ Equal
-    equal Less e = absurd (true≢false (sym e))
-    equal Equal e = refl
-    equal Greater e = absurd (true≢false (sym e))
-
 list_itself : (xs : List ℕ) → slice_cmp nat_cmp xs xs ≡ Equal
 list_itself [] = refl
 list_itself (x ∷ xs) = ap (λ o. ordering_then o (slice_cmp nat_cmp xs xs)) (number_itself x) ∙ list_itself xs
@@ -134,13 +119,10 @@ alike_at a b h = ap is_eq (alike_orders a b h b) ∙ name_itself b
 pub answered_begin : (history : List ClientEvent) (answered : BTreeSet ℕ) → answered.keys ≡ [] →
     AreAnswered history 0 answered
 answered_begin history answered e = record {
-  found = λ i has. absurd (true≢false (sym has ∙ ap (λ keys. empty keys i) e));
+  found = λ i has. absurd (true≢false (sym has ∙ ap (list_any (is_at (nat_cmp i))) e));
   kept = λ n i h at. absurd (no n h);
 }
   where
-    empty : List ℕ → ℕ → Bool
-    empty keys i = contains nat_cmp (record { keys = keys }) i
-
     no : (n : ℕ) → n < 0 → ⊥
     no n h = omega (arith, h)
 

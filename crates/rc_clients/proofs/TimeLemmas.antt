@@ -1,6 +1,6 @@
 -- The order of time, and what comes before the first write.
-use Rattle.std.proofs.Common.{◌≡◌, ◌≢◌, ◌⊎◌, ◌∙◌, ◌×◌, ℕ, ◌+◌, ◌<◌, ◌≤◌, Bool, true, false, List, length}
-use Rattle.std.proofs.Common.{Option, Some, None, refl, sym, ap, subst, inl, inr, absurd, arith, is_some}
+use Rattle.std.proofs.Common.{◌≡◌, ◌≢◌, ◌⊎◌, ◌∙◌, ℕ, ◌+◌, ◌<◌, ◌≤◌, Bool, true, false, List, length}
+use Rattle.std.proofs.Common.{Option, Some, None, refl, sym, ap, subst, inl, inr, arith, is_some}
 use Rattle.std.specs.Prelude.{nat_lt}
 use Rattle.std.proofs.lemmas.Bool.Decides.{nat_tests}
 use Rattle.rc_clients.specs.declared.events.ClientEvent.{ClientEvent}

@@ -1,8 +1,8 @@
 -- The writes and the values of each version, with one event more.
-use Rattle.std.proofs.Common.{◌≡◌, ◌≢◌, ◌⊎◌, ◌∙◌, ◌×◌, ℕ, ◌+◌, ◌<◌, Bool, true, false, cond, List, [], ◌∷◌, length}
-use Rattle.std.proofs.Common.{Option, Some, None, unwrap_or, refl, sym, ap, subst, inl, inr, absurd, true≢false, arith}
+use Rattle.std.proofs.Common.{◌≡◌, ◌≢◌, ◌⊎◌, ◌∙◌, ℕ, ◌+◌, ◌<◌, Bool, true, false, cond, List, [], ◌∷◌, length}
+use Rattle.std.proofs.Common.{Option, Some, None, unwrap_or, refl, sym, ap, subst, inl, inr, true≢false, arith}
 use Rattle.std.specs.Prelude.{option_and_then}
-use Rattle.std.specs.Ordering.{nat_cmp}
+use Rattle.std.specs.Ordering.{nat_cmp, ordering_then, is_eq}
 use Rattle.std.specs.BTreeMap.{BTreeMap, get, is_at}
 use Rattle.std.proofs.lemmas.Bool.Decides.{nat_tests}
 use Rattle.rc_clients.specs.declared.events.ClientEvent.{ClientEvent}
@@ -14,7 +14,7 @@ use Rattle.rc_clients.specs.declared.judging.Violation.TheVariants as violation
 use Rattle.rc_clients.specs.Operations.{operation_at, value_of, IsOperation}
 use Rattle.rc_clients.specs.Linearizable.{AreOnKey, Breaks, IsAnsweredWrite, HasWrite}
 use Rattle.rc_clients.specs.Evidence.{AreFirsts, AreWrites, IsOneValue, if_write, version_of, version_order, write_at}
-use Rattle.rc_clients.proofs.Facts.{answered_below, get_empty, is_operation, one_at, told, within}
+use Rattle.rc_clients.proofs.Facts.{answered_below, get_empty, is_operation, number_itself, numbers_same, one_at, then_equal, told, within}
 
 -- a version by its parts
 version_from : (a b : VersionName) → a.table ≡ b.table → a.key ≡ b.key → a.version ≡ b.version → a ≡ b
@@ -24,12 +24,14 @@ version_from a b table key version =
 
 same_version : (a b : VersionName) → is_at (version_order a) b ≡ true → a ≡ b
 same_version a b e =
-    let table : a.table ≡ b.table = grind (arith, nat_tests) in
-    let key : a.key ≡ b.key = grind (arith, nat_tests) in
-    let version : a.version ≡ b.version = grind (arith, nat_tests) in version_from a b table key version
+    let one = then_equal (nat_cmp a.table b.table) (ordering_then (nat_cmp a.key b.key) (nat_cmp a.version b.version)) e in
+    let two = then_equal (nat_cmp a.key b.key) (nat_cmp a.version b.version) one.1 in
+    version_from a b (numbers_same a.table b.table one.0) (numbers_same a.key b.key two.0)
+    (numbers_same a.version b.version two.1)
 
 version_itself : (a : VersionName) → is_at (version_order a) a ≡ true
-version_itself a = grind (arith, nat_tests)
+version_itself a = ap is_eq (ap (λ o. ordering_then o (ordering_then (nat_cmp a.key a.key) (nat_cmp a.version a.version)))
+    (number_itself a.table) ∙ ap (λ o. ordering_then o (nat_cmp a.version a.version)) (number_itself a.key) ∙ number_itself a.version)
 
 some_number : (x y : ℕ) → ◌≡◌ {A = Option ℕ} (Some x) (Some y) → x ≡ y
 some_number x y e = ap (λ o. unwrap_or o x) e

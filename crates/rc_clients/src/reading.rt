@@ -26,7 +26,7 @@ pub enum HistoryFault {
 }
 
 impl From<AllocError> for HistoryFault {
-    ghost from_gives = { λ _ _. ⊤ };
+    ghost from_gives = { λ _ _. Unit {0} };
 
     fn from(_: AllocError) -> HistoryFault {
         HistoryFault::OutOfMemory
@@ -34,7 +34,7 @@ impl From<AllocError> for HistoryFault {
 }
 
 impl<T: Drop> From<AllocFailed<T>> for HistoryFault {
-    ghost from_gives = { λ _ _. ⊤ };
+    ghost from_gives = { λ _ _. Unit {0} };
 
     fn from(_: AllocFailed<T>) -> HistoryFault {
         HistoryFault::OutOfMemory

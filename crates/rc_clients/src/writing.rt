@@ -17,8 +17,8 @@ struct Told {
     is_answered: bool,
 }
 
-/// The history as JSON lines. "History" in `docs/FORMATS.md` has the members. A write that was never answered has a line
-/// `info` at the end.
+/// The history as JSON lines. "Histories of clients" in `docs/FORMATS.md` has the members. A write that was never
+/// answered has a line `info` at the end.
 ///
 /// # Errors
 ///

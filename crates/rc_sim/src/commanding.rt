@@ -36,14 +36,14 @@ use std::sync::Wait;
 use std::thread;
 
 /// Does what the words after the program's name ask for, and gives the exit status: 0 where all is
-/// well, 1 where an audit found a breach or a history is not linearizable, 2 for a wrong command line, scenario, trace
-/// or history, for an event that
-/// was not possible, and where `shrink` finds no line to keep, 3 where memory was refused, 4 where a read
-/// or a write failed.
+/// well, 1 where an audit found a breach or a history is not linearizable, 2 for a wrong command line, scenario,
+/// trace or history, for an event that was not possible, and where `shrink` finds no line to keep, 3 where memory was
+/// refused, 4 where a read or a write failed.
 ///
 /// `run` and `trace` run the scenario that the reader gives (see [`simulate`](crate::simulate)), `log` and `picture`
 /// tell its story, `history` what its clients saw, `shrink` leaves out of it what it can, `audit` judges the trace that
-/// it gives ([`judge`](crate::judge)), `check` the history; `fuzz`, `stops`, `threads`, `explore` and `explain` read nothing.
+/// it gives ([`judge`](crate::judge)), `check` the history; `fuzz`, `stops`, `threads`, `explore` and `explain` read
+/// nothing.
 /// Help and the version go to the writer. What is wrong with the command line, the line of a
 /// fault (`memory`, `read`, `write N`), and why a scenario or a trace was refused, go to `errors`; where that can not
 /// be written, the status alone tells. Only `threads` starts threads and waits.
@@ -66,7 +66,8 @@ pub fn command<H: thread::Threads + Wait + Sync, R: Read, W: Write, E: Write>(
     ensures unfailed { result ≢ 4
         → (reader.new.failures ≡ reader.old.failures) × (writer.new.failures ≡ writer.old.failures) }
 
-    // a breach is told of a trace or a history alone that was given: no run has one, no drawing, and no nodes on threads
+    // a breach is told of a trace or a history alone that was given: no run has one, no drawing, and no nodes on
+    // threads
     ensures no_breach { asked_in (map string_bytes words.now) ≢ Some Audit →
         asked_in (map string_bytes words.now) ≢ Some Check → result ≢ 1 }
 {
