@@ -142,14 +142,14 @@ pub answered_more : (history : List ClientEvent) (moment invocation : ℕ) (old 
     ((q : ℕ) → contains nat_cmp new q ≡ cond (is_at (nat_cmp invocation) q) true (contains nat_cmp old q)) →
     AreAnswered history (moment + 1) new
 answered_more history moment invocation old new is was updates = record {
-  found = λ i has open. found i (is_at (nat_cmp invocation) i) refl (sym (updates i) ∙ has) open;
+  found = λ i has unmet. found i (is_at (nat_cmp invocation) i) refl (sym (updates i) ∙ has) unmet;
   kept = λ n i h at. updates i ∙ kept n i at (is_at (nat_cmp invocation) i) refl (below n moment h);
 }
   where
     found : (i : ℕ) (b : Bool) → is_at (nat_cmp invocation) i ≡ b → cond b true (contains nat_cmp old i) ≡ true →
         IsUnanswered history i → ⊥
-    found i true e has open = open.none moment (is ∙ ap Some (numbers_same invocation i e))
-    found i false e has open = was.found i has open
+    found i true e has unmet = unmet.none moment (is ∙ ap Some (numbers_same invocation i e))
+    found i false e has unmet = was.found i has unmet
 
     some_number : (x y : ℕ) → ◌≡◌ {A = Option ℕ} (Some x) (Some y) → x ≡ y
     some_number x y e = ap (λ o. unwrap_or o x) e
@@ -178,8 +178,8 @@ unanswered history moment answered are not_there = record { none = λ n at. no n
 pub pending_of : (history : List ClientEvent) (moment : ℕ) (found : Option ValueName) → IsUnanswered history moment →
     MatchOption found ((q : ValueName) → IsWriteOf history q moment → ⊥) (λ name. IsWriteOf history name moment) →
     MatchOption found ((q : ValueName) → IsPendingOf history q moment → ⊥) (λ name. IsPendingOf history name moment)
-pending_of history moment None open h = λ q p. h q p.invoked
-pending_of history moment (Some name) open h = record { invoked = h; unanswered = open }
+pending_of history moment None unmet h = λ q p. h q p.invoked
+pending_of history moment (Some name) unmet h = record { invoked = h; unanswered = unmet }
 
 -- one that was is none
 pub pending_not : (history : List ClientEvent) (moment : ℕ) (answered : BTreeSet ℕ) →

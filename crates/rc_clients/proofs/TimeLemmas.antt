@@ -173,7 +173,7 @@ written_so history moment op is written = record {
 
 pub not_begun : (history : List ClientEvent) (moment : ℕ) (op : Operation) → operation_at history moment ≡ Some op →
     op.version ≡ 0 → (ShowsNothing history op → ⊥) → Breaks history (violation.NotNothing moment)
-not_begun history moment op is zero no = (op, is, zero, no)
+not_begun history moment op is zero wrong = (op, is, zero, wrong)
 
 pub not_written : (history : List ClientEvent) (moment : ℕ) (op : Operation) → operation_at history moment ≡ Some op →
     op.version ≢ 0 → (HasWrite history op → ⊥) → (HasPending history op → ⊥) → Breaks history (violation.NeverWritten moment)

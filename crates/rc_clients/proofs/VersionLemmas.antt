@@ -97,6 +97,7 @@ writes_more history moment old new op name is named none was updates = record {
       (answered_below history moment a at before);
 }
   where
+    here : (operation_at history moment ≡ Some op) × (op.kind ≡ Write)
     here = write_told history moment op is
 
     found : (q : VersionName) (r : ℕ) (b : Bool) → is_at (version_order name) q ≡ b →

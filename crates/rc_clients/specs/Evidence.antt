@@ -158,3 +158,7 @@ Else history holds (Some found) = Breaks history found
 abbrev pub ElseTwoWrites : List ClientEvent → Result (BTreeMap VersionName ℕ) Violation → Type 0
 ElseTwoWrites history (Ok writes) = AreWrites history (length history) writes
 ElseTwoWrites history (Err found) = Breaks history found
+
+abbrev pub ElseTwoValues : List ClientEvent → Result (BTreeMap VersionName Operation) Violation → Type 0
+ElseTwoValues history (Ok firsts) = AreFirsts history (length history) firsts
+ElseTwoValues history (Err found) = Breaks history found
