@@ -13,8 +13,8 @@ loop-moment-preserved-then-is_like c = firsts_same c.args.history.now c.loop-mom
     c.version_name-name.result (sym c.in-Some.ensures) c.version_name-name.ensures
     (sym (c.in-Some-copied.ensures ∙ c.get.ensures.value)) c.if-is_like.ensures c.loop-moment.invariant
 
-pub returns-else-is_like : goal.returns-else-is_like
-returns-else-is_like c = two_values c.args.history.now c.loop-moment.moment c.loop-moment.firsts c.in-Some.operation c.in-Some-copied.first
+pub returns-in-Some-copied : goal.returns-in-Some-copied
+returns-in-Some-copied c = two_values c.args.history.now c.loop-moment.moment c.loop-moment.firsts c.in-Some.operation c.in-Some-copied.first
     c.version_name-name.result (sym c.in-Some.ensures) c.version_name-name.ensures
     (sym (c.in-Some-copied.ensures ∙ c.get.ensures.value)) c.if-is_like.ensures c.loop-moment.invariant
 
