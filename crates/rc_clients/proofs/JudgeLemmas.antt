@@ -30,10 +30,12 @@ pub breaks_refute : BreaksRefute
 breaks_refute history (violation.OutOfTime one other) (a, b, pair, before, wrong) good =
     wrong (good.in_time a b (is_operation history one a pair.first) (is_operation history other b pair.second) pair.on_key before)
 breaks_refute history (violation.NotNothing one) (a, is, zero, wrong) good = wrong (good.begins a (is_operation history one a is) zero)
-breaks_refute history (violation.NeverWritten one) (a, is, later, wrong) good = wrong (good.written a (is_operation history one a is) later)
+breaks_refute history (violation.NeverWritten one) (a, is, later, wrong) good = wrong
+    (good.written a (is_operation history one a is) later)
 breaks_refute history (violation.TwoWrites one other) (a, b, pair, version, kind_a, kind_b, differ) good =
     differ (sym (told history one a pair.first).response_is
-    ∙ good.one_write a b (is_operation history one a pair.first) (is_operation history other b pair.second) pair.on_key version kind_a kind_b
+    ∙ good.one_write a b (is_operation history one a pair.first) (is_operation history other b pair.second)
+    pair.on_key version kind_a kind_b
     ∙ (told history other b pair.second).response_is)
 breaks_refute history (violation.TwoValues one other) (a, b, pair, version, differ) good =
     differ (good.one_value a b (is_operation history one a pair.first) (is_operation history other b pair.second) pair.on_key version)

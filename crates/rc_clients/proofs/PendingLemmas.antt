@@ -1,6 +1,7 @@
 -- Writes without a response, by what they are to write.
 use Rattle.std.proofs.Common.{◌≡◌, ◌≢◌, ◌⊎◌, ◌∙◌, ℕ, ◌+◌, ◌<◌, ◌≤◌, Bool, true, false, not, cond, List, [], ◌∷◌, length}
-use Rattle.std.proofs.Common.{Option, Some, None, MatchBool, MatchOption, Bor, is_some, unwrap_or, option_map, refl, sym, ap, subst, inl, inr}
+use Rattle.std.proofs.Common.{Option, Some, None, MatchBool, MatchOption, Bor, is_some, unwrap_or, option_map, refl}
+use Rattle.std.proofs.Common.{sym, ap, subst, inl, inr}
 use Rattle.std.proofs.Common.{true≢false, arith}
 use Rattle.std.specs.Prelude.{slice_get, option_and_then}
 use Rattle.std.specs.declared.cmp.Ordering.{Ordering}
@@ -236,11 +237,13 @@ pending_more history moment old new name is was updates = record {
     found q i true at e got = let h = was.found q i got in let b = h.1 in (h.0, omega (arith, b))
     found q i false false e got = let h = was.found q i got in let b = h.1 in (h.0, omega (arith, b))
     found q i false true e got =
-        let same : moment ≡ i = some_number moment i got in
-        (subst (IsPendingOf history q) same (record {
-          invoked = moved name q moment (same_value name q e) is.invoked;
-          unanswered = is.unanswered;
-        }), omega (arith, same))
+        let same : moment ≡ i = some_number moment i got in (
+          subst (IsPendingOf history q) same (record {
+            invoked = moved name q moment (same_value name q e) is.invoked;
+            unanswered = is.unanswered;
+          }),
+          omega (arith, same),
+        )
 
     same_parts : (t u k l : ℕ) (v w : Option (List ℕ)) →
         ◌≡◌ {A = Option ClientEvent} (Some (Invoked t k (request.Write v))) (Some (Invoked u l (request.Write w))) →
@@ -296,12 +299,15 @@ pub can_be : (history : List ClientEvent) (bars : List (Option Top)) (pending : 
     (name : ValueName) (i : ℕ) → AreBars history (length history) bars → ArePending history (length history) pending →
     name.table ≡ op.table → name.key ≡ op.key → bytes name.value ≡ value_of history op →
     get value_order pending name ≡ Some i → is_at_least (bar_at bars i) op.version ≡ false → HasPending history op
-can_be history bars pending op name i bar are table key value got low = (i, record {
-  invoked = at;
-  unanswered = (are.found name i got).0.unanswered;
-  in_time = λ a is on early. by a is on early (bar_at bars i) low
-      (bar_asked history bars op.table op.key i (value_of history op) bar at);
-})
+can_be history bars pending op name i bar are table key value got low = (
+  i,
+  record {
+    invoked = at;
+    unanswered = (are.found name i got).0.unanswered;
+    in_time = λ a is on early. by a is on early (bar_at bars i) low
+        (bar_asked history bars op.table op.key i (value_of history op) bar at);
+  },
+)
   where
     at : slice_get history i ≡ Some (Invoked op.table op.key (request.Write (value_of history op)))
     at = (are.found name i got).0.invoked ∙ ap (λ t. Some (Invoked t name.key (request.Write (bytes name.value)))) table

@@ -88,12 +88,17 @@ timely_behind history moment bars op top are is some behind = record {
 pub late_found : (history : List ClientEvent) (moment : ℕ) (bars : List (Option Top)) (op : Operation) (top : Top) →
     AreBars history (length history) bars → operation_at history moment ≡ Some op → bar_at bars op.invocation ≡ Some top →
     (IsBehind top.version op → ⊥) → Breaks history (violation.OutOfTime top.response moment)
-late_found history moment bars op top are is some not_behind =
-    (greatest.op, op, record {
-      first = greatest.is;
-      second = is;
-      on_key = record { table_is = greatest.table_is; key_is = greatest.key_is };
-    }, before, λ stands. not_behind (behind op.kind refl stands))
+late_found history moment bars op top are is some not_behind = (
+  greatest.op,
+  op,
+  record {
+    first = greatest.is;
+    second = is;
+    on_key = record { table_is = greatest.table_is; key_is = greatest.key_is };
+  },
+  before,
+  λ stands. not_behind (behind op.kind refl stands),
+)
   where
     greatest : IsTop history op.table op.key op.invocation (Some top)
     greatest = subst (λ o. IsTop history op.table op.key op.invocation o) some (bar_of history moment bars op are is)

@@ -123,12 +123,7 @@ impl ReadHistory {
     }
 
     /// Takes a response to the invocation at this moment; what is not known answers nothing.
-    fn answer(
-        &mut self,
-        number: usize,
-        invocation: usize,
-        said: Said,
-    ) -> Result<(), HistoryFault> {
+    fn answer(&mut self, number: usize, invocation: usize, said: Said) -> Result<(), HistoryFault> {
         let event = match said.stage {
             Stage::Invoke | Stage::Info => return Ok(()),
             Stage::Fail => ClientEvent::Failed { invocation },
@@ -160,10 +155,12 @@ impl ReadHistory {
     /// Whether the write that was invoked at this moment is one of this value.
     fn wrote(&self, invocation: usize, value: &Option<Shared<u8>>) -> bool {
         match self.events.get(invocation) {
-            Some(ClientEvent::Invoked {
-                request: Request::Write(asked),
-                ..
-            }) => asked == value,
+            Some(
+                ClientEvent::Invoked {
+                    request: Request::Write(asked),
+                    ..
+                },
+            ) => asked == value,
             _ => false,
         }
     }

@@ -338,7 +338,8 @@ asked_shrink : (rest : List Text) → asked_in (codes "shrink" ∷ rest) ≡ whe
     (shrink_in (rows_at (leaf command.shrink.top) rest).1)
 asked_shrink rest = ap₂ asked_by (shrink_line rest) (shrink_found rest)
 
-asked_history : (rest : List Text) → asked_in (codes "history" ∷ rest) ≡ where_taken (faults_at command.history.top rest) (Some asked.History)
+asked_history : (rest : List Text) → asked_in (codes "history" ∷ rest)
+    ≡ where_taken (faults_at command.history.top rest) (Some asked.History)
 asked_history rest = ap₂ asked_by (history_line rest) (history_found rest)
 
 asked_check : (rest : List Text) → asked_in (codes "check" ∷ rest) ≡ where_taken (faults_at command.check.top rest) (Some asked.Check)

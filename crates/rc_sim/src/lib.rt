@@ -1,5 +1,5 @@
-//! What the program `ramseg` does: a scenario is run, a trace or a history is judged, events are drawn, or nodes are run
-//! on threads; and what came of it is written.
+//! What the program `ramseg` does: a scenario is run, a trace or a history is judged, events are drawn, or nodes are
+//! run on threads; and what came of it is written.
 #![tactic(auto)]
 
 mod answers;

@@ -6,15 +6,18 @@ pub loop-moment-init : goal.loop-moment-init
 loop-moment-init c = firsts_begin c.args.history.now c.new-firsts.result c.new-firsts.ensures.empty
 
 pub loop-moment-preserved-in_default : goal.loop-moment-preserved-in_default
-loop-moment-preserved-in_default c = firsts_none c.args.history.now c.loop-moment.moment c.loop-moment.firsts (sym c.in_default.ensures) c.loop-moment.invariant
+loop-moment-preserved-in_default c = firsts_none c.args.history.now c.loop-moment.moment c.loop-moment.firsts
+    (sym c.in_default.ensures) c.loop-moment.invariant
 
 pub loop-moment-preserved-then-is_like : goal.loop-moment-preserved-then-is_like
-loop-moment-preserved-then-is_like c = firsts_same c.args.history.now c.loop-moment.moment c.loop-moment.firsts c.in-Some.operation c.in-Some-copied.first
+loop-moment-preserved-then-is_like c = firsts_same c.args.history.now c.loop-moment.moment c.loop-moment.firsts
+    c.in-Some.operation c.in-Some-copied.first
     c.version_name-name.result (sym c.in-Some.ensures) c.version_name-name.ensures
     (sym (c.in-Some-copied.ensures ∙ c.get.ensures.value)) c.if-is_like.ensures c.loop-moment.invariant
 
 pub returns-in-Some-copied : goal.returns-in-Some-copied
-returns-in-Some-copied c = two_values c.args.history.now c.loop-moment.moment c.loop-moment.firsts c.in-Some.operation c.in-Some-copied.first
+returns-in-Some-copied c = two_values c.args.history.now c.loop-moment.moment c.loop-moment.firsts
+    c.in-Some.operation c.in-Some-copied.first
     c.version_name-name.result (sym c.in-Some.ensures) c.version_name-name.ensures
     (sym (c.in-Some-copied.ensures ∙ c.get.ensures.value)) c.if-is_like.ensures c.loop-moment.invariant
 
