@@ -12,7 +12,8 @@ use Rattle.rc_clients.specs.declared.bars.Top.{Top}
 use Rattle.rc_clients.specs.Operations.{operation_at, IsOperation}
 use Rattle.rc_clients.specs.Evidence.{AreBars, AreTops, IsBar, IsGreatest, IsTop, IsUntold, bar_at, is_at_least, key_at, key_of, key_order}
 use Rattle.std.proofs.lemmas.List.{length_push}
-use Rattle.rc_clients.proofs.Facts.{answered_below, below, get_empty, get_front, get_last, is_operation, number_itself, numbers_same, one_at, then_equal, told}
+use Rattle.rc_clients.proofs.Facts.{answered_below, below, get_empty, get_front, get_last, is_operation}
+use Rattle.rc_clients.proofs.Facts.{number_itself, numbers_same, one_at, then_equal, told}
 
 -- a key by its parts
 pub key_from : (a b : KeyName) → a.table ≡ b.table → a.key ≡ b.key → a ≡ b

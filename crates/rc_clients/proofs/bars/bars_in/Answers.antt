@@ -3,7 +3,8 @@ use Rattle.rc_clients.proofs.bars.bars_in.Goals as goal
 
 pub loop-moment-init : goal.loop-moment-init
 loop-moment-init c =
-    (tops_begin c.args.history.now c.new-tops.result c.new-tops.ensures.empty, bars_begin c.args.history.now c.new-bars.result.items c.new-bars.ensures.items)
+    (tops_begin c.args.history.now c.new-tops.result c.new-tops.ensures.empty,
+    bars_begin c.args.history.now c.new-bars.result.items c.new-bars.ensures.items)
 
 pub newest_bar-requires : goal.newest_bar-requires
 newest_bar-requires c = c.loop-moment.invariant.0
