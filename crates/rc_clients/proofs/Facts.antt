@@ -1,7 +1,9 @@
 -- What an operation of a history is.
 use Rattle.std.proofs.Common.{◌≡◌, ◌⊎◌, ◌∙◌, ℕ, ◌+◌, ◌<◌, Bool, true, false, cond, List, length, Option, Some, None, unwrap_or}
-use Rattle.std.proofs.Common.{[], ◌∷◌, ◌++◌, zero, suc, refl, sym, ap, subst, inl, inr, absurd, arith}
+use Rattle.std.proofs.Common.{[], ◌∷◌, ◌++◌, zero, suc, refl, sym, ap, subst, inl, inr, true≢false, arith}
 use Rattle.std.specs.declared.cmp.Ordering.{Ordering}
+use Rattle.std.specs.declared.cmp.Ordering.TheVariants.{Less, Equal, Greater}
+use Rattle.std.specs.Ordering.{nat_cmp, ordering_then, is_eq}
 use Rattle.std.specs.Map.{lookup}
 use Rattle.std.specs.BTreeMap.{BTreeMap, get, is_at}
 use Rattle.std.specs.Prelude.{nat_lt, slice_get, option_and_then}
@@ -35,8 +37,8 @@ pub told : (history : List ClientEvent) (moment : ℕ) (op : Operation) → oper
 unfolding operation_at
 told history moment op e = by (slice_get history moment) e
   where
-    below : (i : ℕ) → nat_lt i moment ≡ true → i < moment
-    below i t = grind (arith, nat_tests)
+    under : (i : ℕ) → nat_lt i moment ≡ true → i < moment
+    under i t = grind (arith, nat_tests)
 
     write : (i v : ℕ) (b : Bool) → nat_lt i moment ≡ b → (asked : Option ClientEvent) → slice_get history i ≡ asked →
         cond b (option_and_then (write_by i moment v) asked) None ≡ Some op → IsTold history moment op
@@ -45,7 +47,7 @@ told history moment op e = by (slice_get history moment) e
     write i v true t (Some (Invoked table key (request.Write value))) s e =
         subst (λ o. IsTold history moment o) (some_same _ op e) (record {
           response_is = refl;
-          asked_before = below i t;
+          asked_before = under i t;
           key_is = key_asked history i (Invoked table key (request.Write value)) s;
         })
     write i v true t (Some (Invoked table key request.Read)) s e = cc
@@ -60,7 +62,7 @@ told history moment op e = by (slice_get history moment) e
     read i v true t (Some (Invoked table key request.Read)) s e =
         subst (λ o. IsTold history moment o) (some_same _ op e) (record {
           response_is = refl;
-          asked_before = below i t;
+          asked_before = under i t;
           key_is = key_asked history i (Invoked table key request.Read) s;
         })
     read i v true t (Some (Invoked table key (request.Write value))) s e = cc
@@ -127,9 +129,27 @@ get_front [] x i h = absurd (no i h)
 get_front (y ∷ xs) x zero h = refl
 get_front (y ∷ xs) x (suc i) h = get_front xs x i (omega (arith, h))
 
+at_end : {A : Type 0} (xs : List A) (x : A) → slice_get (xs ++ x ∷ []) (length xs) ≡ Some x
+at_end [] x = refl
+at_end (y ∷ xs) x = at_end xs x
+
 pub get_last : {A : Type 0} (xs : List A) (x : A) (i : ℕ) → i ≡ length xs → slice_get (xs ++ x ∷ []) i ≡ Some x
-get_last {A} xs x i e = ap (slice_get (xs ++ x ∷ [])) e ∙ at_end xs
+get_last xs x i e = ap (slice_get (xs ++ x ∷ [])) e ∙ at_end xs x
+
+-- Orders
+
+pub then_equal : (o p : Ordering) → is_eq (ordering_then o p) ≡ true → (is_eq o ≡ true) × (is_eq p ≡ true)
+then_equal Less p e = absurd (true≢false (sym e))
+then_equal Equal p e = (refl, e)
+then_equal Greater p e = absurd (true≢false (sym e))
+
+pub numbers_same : (a b : ℕ) → is_eq (nat_cmp a b) ≡ true → a ≡ b
+numbers_same a b e = grind (arith, nat_tests)
+
+pub number_itself : (a : ℕ) → nat_cmp a a ≡ Equal
+number_itself a = equal (nat_cmp a a) (grind (arith, nat_tests))
   where
-    at_end : (ys : List A) → slice_get (ys ++ x ∷ []) (length ys) ≡ Some x
-    at_end [] = refl
-    at_end (y ∷ ys) = at_end ys
+    equal : (o : Ordering) → is_eq o ≡ true → o ≡ Equal
+    equal Less e = absurd (true≢false (sym e))
+    equal Equal e = refl
+    equal Greater e = absurd (true≢false (sym e))

@@ -1,13 +1,15 @@
 -- Writes without a response, by what they are to write.
-use Rattle.std.proofs.Common.{◌≡◌, ◌≢◌, ◌⊎◌, ◌∙◌, ◌×◌, ℕ, ◌+◌, ◌<◌, ◌≤◌, Bool, true, false, not, cond, List, [], ◌∷◌, length}
-use Rattle.std.proofs.Common.{Option, Some, None, MatchBool, MatchOption, Bor, is_some, unwrap_or, option_map, refl, sym, ap, subst, inl, inr}
-use Rattle.std.proofs.Common.{absurd, true≢false, arith}
+use Rattle.std.proofs.Common.{◌≡◌, ◌≢◌, ◌⊎◌, ◌∙◌, ℕ, ◌+◌, ◌<◌, ◌≤◌, Bool, true, false, not, cond, List, [], ◌∷◌, length}
+use Rattle.std.proofs.Common.{Option, Some, None, MatchBool, MatchOption, Bor, is_some, unwrap_or, option_map, refl}
+use Rattle.std.proofs.Common.{sym, ap, subst, inl, inr}
+use Rattle.std.proofs.Common.{true≢false, arith}
 use Rattle.std.specs.Prelude.{slice_get, option_and_then}
 use Rattle.std.specs.declared.cmp.Ordering.{Ordering}
-use Rattle.std.specs.declared.cmp.Ordering.TheVariants.{Less, Equal, Greater}
+use Rattle.std.specs.declared.cmp.Ordering.TheVariants.{Equal}
 use Rattle.std.specs.Ordering.{nat_cmp, ordering_then, is_eq}
 use Rattle.std.specs.Option.{option_cmp}
 use Rattle.std.specs.Cmp.Lexicographic.{slice_cmp}
+use Rattle.std.specs.List.{list_any}
 use Rattle.std.specs.Map.{lookup}
 use Rattle.std.specs.BTreeMap.{BTreeMap, get, is_at}
 use Rattle.std.specs.BTreeSet.{BTreeSet, contains}
@@ -23,7 +25,7 @@ use Rattle.rc_clients.specs.Operations.{operation_at, value_of, IsOperation}
 use Rattle.rc_clients.specs.Linearizable.{AreOnKey, HasPending, IsPendingWrite, IsUnanswered, answered_at, answered_in}
 use Rattle.rc_clients.specs.Evidence.{AreAnswered, AreBars, IsTop, bar_at, is_at_least, key_at, key_in}
 use Rattle.rc_clients.specs.Pending.{ArePending, IsPendingOf, IsWriteOf, value_order}
-use Rattle.rc_clients.proofs.Facts.{below, get_empty, is_operation, key_asked, told}
+use Rattle.rc_clients.proofs.Facts.{below, get_empty, is_operation, key_asked, number_itself, numbers_same, then_equal, told}
 
 no_some : {A : Type 0} (o : Option A) (x : A) → o ≡ None → o ≡ Some x → ⊥
 no_some o x none some = cc
@@ -69,14 +71,6 @@ get_alike : (m : BTreeMap ValueName ℕ) (a b : ValueName) → AreAlike a b → 
 get_alike m a b h =
     lookup_alike m.entries (is_at (value_order a)) (is_at (value_order b)) (λ q. ap is_eq (alike_orders a b h q))
 
-then_equal : (o p : Ordering) → is_eq (ordering_then o p) ≡ true → (is_eq o ≡ true) × (is_eq p ≡ true)
-then_equal Less p e = absurd (true≢false (sym e))
-then_equal Equal p e = (refl, e)
-then_equal Greater p e = absurd (true≢false (sym e))
-
-numbers_same : (a b : ℕ) → is_eq (nat_cmp a b) ≡ true → a ≡ b
-numbers_same a b e = grind (arith, nat_tests)
-
 lists_same : (xs ys : List ℕ) → is_eq (slice_cmp nat_cmp xs ys) ≡ true → xs ≡ ys
 lists_same [] [] e = refl
 lists_same [] (y ∷ ys) e = absurd (true≢false (sym e))
@@ -103,14 +97,6 @@ same_value a b e =
       value_is = values_same (bytes a.value) (bytes b.value) two.1;
     }
 
-number_itself : (a : ℕ) → nat_cmp a a ≡ Equal
-number_itself a = equal (nat_cmp a a) (grind (arith, nat_tests))
-  where
-    equal : (o : Ordering) → is_eq o ≡ true → o ≡ Equal
-    equal Less e = absurd (true≢false (sym e))
-    equal Equal e = refl
-    equal Greater e = absurd (true≢false (sym e))
-
 list_itself : (xs : List ℕ) → slice_cmp nat_cmp xs xs ≡ Equal
 list_itself [] = refl
 list_itself (x ∷ xs) = ap (λ o. ordering_then o (slice_cmp nat_cmp xs xs)) (number_itself x) ∙ list_itself xs
@@ -134,13 +120,10 @@ alike_at a b h = ap is_eq (alike_orders a b h b) ∙ name_itself b
 pub answered_begin : (history : List ClientEvent) (answered : BTreeSet ℕ) → answered.keys ≡ [] →
     AreAnswered history 0 answered
 answered_begin history answered e = record {
-  found = λ i has. absurd (true≢false (sym has ∙ ap (λ keys. empty keys i) e));
+  found = λ i has. absurd (true≢false (sym has ∙ ap (list_any (is_at (nat_cmp i))) e));
   kept = λ n i h at. absurd (no n h);
 }
   where
-    empty : List ℕ → ℕ → Bool
-    empty keys i = contains nat_cmp (record { keys = keys }) i
-
     no : (n : ℕ) → n < 0 → ⊥
     no n h = omega (arith, h)
 
@@ -160,14 +143,14 @@ pub answered_more : (history : List ClientEvent) (moment invocation : ℕ) (old 
     ((q : ℕ) → contains nat_cmp new q ≡ cond (is_at (nat_cmp invocation) q) true (contains nat_cmp old q)) →
     AreAnswered history (moment + 1) new
 answered_more history moment invocation old new is was updates = record {
-  found = λ i has open. found i (is_at (nat_cmp invocation) i) refl (sym (updates i) ∙ has) open;
+  found = λ i has unmet. found i (is_at (nat_cmp invocation) i) refl (sym (updates i) ∙ has) unmet;
   kept = λ n i h at. updates i ∙ kept n i at (is_at (nat_cmp invocation) i) refl (below n moment h);
 }
   where
     found : (i : ℕ) (b : Bool) → is_at (nat_cmp invocation) i ≡ b → cond b true (contains nat_cmp old i) ≡ true →
         IsUnanswered history i → ⊥
-    found i true e has open = open.none moment (is ∙ ap Some (numbers_same invocation i e))
-    found i false e has open = was.found i has open
+    found i true e has unmet = unmet.none moment (is ∙ ap Some (numbers_same invocation i e))
+    found i false e has unmet = was.found i has unmet
 
     some_number : (x y : ℕ) → ◌≡◌ {A = Option ℕ} (Some x) (Some y) → x ≡ y
     some_number x y e = ap (λ o. unwrap_or o x) e
@@ -196,8 +179,8 @@ unanswered history moment answered are not_there = record { none = λ n at. no n
 pub pending_of : (history : List ClientEvent) (moment : ℕ) (found : Option ValueName) → IsUnanswered history moment →
     MatchOption found ((q : ValueName) → IsWriteOf history q moment → ⊥) (λ name. IsWriteOf history name moment) →
     MatchOption found ((q : ValueName) → IsPendingOf history q moment → ⊥) (λ name. IsPendingOf history name moment)
-pending_of history moment None open h = λ q p. h q p.invoked
-pending_of history moment (Some name) open h = record { invoked = h; unanswered = open }
+pending_of history moment None unmet h = λ q p. h q p.invoked
+pending_of history moment (Some name) unmet h = record { invoked = h; unanswered = unmet }
 
 -- one that was is none
 pub pending_not : (history : List ClientEvent) (moment : ℕ) (answered : BTreeSet ℕ) →
@@ -254,11 +237,13 @@ pending_more history moment old new name is was updates = record {
     found q i true at e got = let h = was.found q i got in let b = h.1 in (h.0, omega (arith, b))
     found q i false false e got = let h = was.found q i got in let b = h.1 in (h.0, omega (arith, b))
     found q i false true e got =
-        let same : moment ≡ i = some_number moment i got in
-        (subst (IsPendingOf history q) same (record {
-          invoked = moved name q moment (same_value name q e) is.invoked;
-          unanswered = is.unanswered;
-        }), omega (arith, same))
+        let same : moment ≡ i = some_number moment i got in (
+          subst (IsPendingOf history q) same (record {
+            invoked = moved name q moment (same_value name q e) is.invoked;
+            unanswered = is.unanswered;
+          }),
+          omega (arith, same),
+        )
 
     same_parts : (t u k l : ℕ) (v w : Option (List ℕ)) →
         ◌≡◌ {A = Option ClientEvent} (Some (Invoked t k (request.Write v))) (Some (Invoked u l (request.Write w))) →
@@ -314,12 +299,15 @@ pub can_be : (history : List ClientEvent) (bars : List (Option Top)) (pending : 
     (name : ValueName) (i : ℕ) → AreBars history (length history) bars → ArePending history (length history) pending →
     name.table ≡ op.table → name.key ≡ op.key → bytes name.value ≡ value_of history op →
     get value_order pending name ≡ Some i → is_at_least (bar_at bars i) op.version ≡ false → HasPending history op
-can_be history bars pending op name i bar are table key value got low = (i, record {
-  invoked = at;
-  unanswered = (are.found name i got).0.unanswered;
-  in_time = λ a is on early. by a is on early (bar_at bars i) low
-      (bar_asked history bars op.table op.key i (value_of history op) bar at);
-})
+can_be history bars pending op name i bar are table key value got low = (
+  i,
+  record {
+    invoked = at;
+    unanswered = (are.found name i got).0.unanswered;
+    in_time = λ a is on early. by a is on early (bar_at bars i) low
+        (bar_asked history bars op.table op.key i (value_of history op) bar at);
+  },
+)
   where
     at : slice_get history i ≡ Some (Invoked op.table op.key (request.Write (value_of history op)))
     at = (are.found name i got).0.invoked ∙ ap (λ t. Some (Invoked t name.key (request.Write (bytes name.value)))) table

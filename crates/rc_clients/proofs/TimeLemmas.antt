@@ -1,6 +1,6 @@
 -- The order of time, and what comes before the first write.
-use Rattle.std.proofs.Common.{◌≡◌, ◌≢◌, ◌⊎◌, ◌∙◌, ◌×◌, ℕ, ◌+◌, ◌<◌, ◌≤◌, Bool, true, false, List, length}
-use Rattle.std.proofs.Common.{Option, Some, None, refl, sym, ap, subst, inl, inr, absurd, arith, is_some}
+use Rattle.std.proofs.Common.{◌≡◌, ◌≢◌, ◌⊎◌, ◌∙◌, ℕ, ◌+◌, ◌<◌, ◌≤◌, Bool, true, false, List, length}
+use Rattle.std.proofs.Common.{Option, Some, None, refl, sym, ap, subst, inl, inr, arith, is_some}
 use Rattle.std.specs.Prelude.{nat_lt}
 use Rattle.std.proofs.lemmas.Bool.Decides.{nat_tests}
 use Rattle.rc_clients.specs.declared.events.ClientEvent.{ClientEvent}
@@ -88,12 +88,17 @@ timely_behind history moment bars op top are is some behind = record {
 pub late_found : (history : List ClientEvent) (moment : ℕ) (bars : List (Option Top)) (op : Operation) (top : Top) →
     AreBars history (length history) bars → operation_at history moment ≡ Some op → bar_at bars op.invocation ≡ Some top →
     (IsBehind top.version op → ⊥) → Breaks history (violation.OutOfTime top.response moment)
-late_found history moment bars op top are is some not_behind =
-    (greatest.op, op, record {
-      first = greatest.is;
-      second = is;
-      on_key = record { table_is = greatest.table_is; key_is = greatest.key_is };
-    }, before, λ stands. not_behind (behind op.kind refl stands))
+late_found history moment bars op top are is some not_behind = (
+  greatest.op,
+  op,
+  record {
+    first = greatest.is;
+    second = is;
+    on_key = record { table_is = greatest.table_is; key_is = greatest.key_is };
+  },
+  before,
+  λ stands. not_behind (behind op.kind refl stands),
+)
   where
     greatest : IsTop history op.table op.key op.invocation (Some top)
     greatest = subst (λ o. IsTop history op.table op.key op.invocation o) some (bar_of history moment bars op are is)
@@ -173,7 +178,7 @@ written_so history moment op is written = record {
 
 pub not_begun : (history : List ClientEvent) (moment : ℕ) (op : Operation) → operation_at history moment ≡ Some op →
     op.version ≡ 0 → (ShowsNothing history op → ⊥) → Breaks history (violation.NotNothing moment)
-not_begun history moment op is zero no = (op, is, zero, no)
+not_begun history moment op is zero wrong = (op, is, zero, wrong)
 
 pub not_written : (history : List ClientEvent) (moment : ℕ) (op : Operation) → operation_at history moment ≡ Some op →
     op.version ≢ 0 → (HasWrite history op → ⊥) → (HasPending history op → ⊥) → Breaks history (violation.NeverWritten moment)

@@ -1,7 +1,8 @@
 -- The greatest version of each key, with one event more.
-use Rattle.std.proofs.Common.{◌≡◌, ◌⊎◌, ◌∙◌, ◌×◌, ℕ, ◌+◌, ◌<◌, ◌≤◌, Bool, true, false, cond, List, [], ◌∷◌, ◌++◌, length}
-use Rattle.std.proofs.Common.{Option, Some, None, unwrap_or, refl, sym, ap, subst, inl, inr, absurd, true≢false, arith}
+use Rattle.std.proofs.Common.{◌≡◌, ◌⊎◌, ◌∙◌, ℕ, ◌+◌, ◌<◌, ◌≤◌, Bool, true, false, cond, List, [], ◌∷◌, ◌++◌, length}
+use Rattle.std.proofs.Common.{Option, Some, None, unwrap_or, refl, sym, ap, subst, inl, inr, true≢false, arith}
 use Rattle.std.specs.Prelude.{nat_le, nat_lt, slice_get, option_and_then}
+use Rattle.std.specs.Ordering.{nat_cmp, ordering_then, is_eq}
 use Rattle.std.specs.BTreeMap.{BTreeMap, get, is_at}
 use Rattle.std.proofs.lemmas.Bool.Decides.{nat_tests}
 use Rattle.rc_clients.specs.declared.events.ClientEvent.{ClientEvent}
@@ -11,7 +12,8 @@ use Rattle.rc_clients.specs.declared.bars.Top.{Top}
 use Rattle.rc_clients.specs.Operations.{operation_at, IsOperation}
 use Rattle.rc_clients.specs.Evidence.{AreBars, AreTops, IsBar, IsGreatest, IsTop, IsUntold, bar_at, is_at_least, key_at, key_of, key_order}
 use Rattle.std.proofs.lemmas.List.{length_push}
-use Rattle.rc_clients.proofs.Facts.{answered_below, below, get_empty, get_front, get_last, is_operation, one_at, told}
+use Rattle.rc_clients.proofs.Facts.{answered_below, below, get_empty, get_front, get_last, is_operation}
+use Rattle.rc_clients.proofs.Facts.{number_itself, numbers_same, one_at, then_equal, told}
 
 -- a key by its parts
 pub key_from : (a b : KeyName) → a.table ≡ b.table → a.key ≡ b.key → a ≡ b
@@ -20,11 +22,11 @@ key_from a b table key =
 
 same_key : (a b : KeyName) → is_at (key_order a) b ≡ true → a ≡ b
 same_key a b e =
-    let table : a.table ≡ b.table = grind (arith, nat_tests) in
-    let key : a.key ≡ b.key = grind (arith, nat_tests) in key_from a b table key
+    let parts = then_equal (nat_cmp a.table b.table) (nat_cmp a.key b.key) e in
+    key_from a b (numbers_same a.table b.table parts.0) (numbers_same a.key b.key parts.1)
 
 key_itself : (a : KeyName) → is_at (key_order a) a ≡ true
-key_itself a = grind (arith, nat_tests)
+key_itself a = ap is_eq (ap (λ o. ordering_then o (nat_cmp a.key a.key)) (number_itself a.table) ∙ number_itself a.key)
 
 -- no operation on the key is answered now, or one with no greater version
 pub top_kept : (history : List ClientEvent) (table key moment : ℕ) (top : Option Top) →
@@ -178,20 +180,23 @@ bars_begin history bars e = record { many = ap length e; each = λ i h. absurd (
     no : (n : ℕ) → n < 0 → ⊥
     no n h = omega (arith, h)
 
+bar_front : (bars : List (Option Top)) (bar : Option Top) (i : ℕ) → i < length bars → bar_at (bars ++ bar ∷ []) i ≡ bar_at bars i
+unfolding bar_at
+bar_front bars bar i h = ap (option_and_then (λ b. b)) (get_front bars bar i h)
+
+bar_last : (bars : List (Option Top)) (bar : Option Top) (i : ℕ) → i ≡ length bars → bar_at (bars ++ bar ∷ []) i ≡ bar
+unfolding bar_at
+bar_last bars bar i e = ap (option_and_then (λ b. b)) (get_last bars bar i e)
+
 -- one more bar
 pub bars_more : (history : List ClientEvent) (moment : ℕ) (old new : List (Option Top)) (bar : Option Top) →
     new ≡ old ++ bar ∷ [] → IsBar history moment bar → AreBars history moment old → AreBars history (moment + 1) new
-unfolding bar_at
 bars_more history moment old new bar is here was = record {
   many = ap length is ∙ (let n = length_push old bar in let m = was.many in omega (arith, n, m));
   each = λ i h. subst (λ bars. IsBar history i (bar_at bars i)) (sym is) (by i (below i moment h));
 }
   where
-    got : (i : ℕ) (x : Option Top) → slice_get (old ++ bar ∷ []) i ≡ Some x → bar_at (old ++ bar ∷ []) i ≡ x
-    got i x e = ap (option_and_then (λ b. b)) e
-
     by : (i : ℕ) → (i < moment) ⊎ (i ≡ moment) → IsBar history i (bar_at (old ++ bar ∷ []) i)
-    by i (inl h) = subst (λ (o : Option (Option Top)). IsBar history i (option_and_then (λ b. b) o))
-        (sym (get_front old bar i (let m = was.many in omega (arith, m, h)))) (was.each i h)
-    by i (inr e) = subst (λ (o : Option (Option Top)). IsBar history i (option_and_then (λ b. b) o))
-        (sym (get_last old bar i (let m = was.many in omega (arith, m, e)))) (subst (λ m. IsBar history m bar) (sym e) here)
+    by i (inl h) = subst (IsBar history i) (sym (bar_front old bar i (let m = was.many in omega (arith, m, h)))) (was.each i h)
+    by i (inr e) = subst (IsBar history i) (sym (bar_last old bar i (let m = was.many in omega (arith, m, e))))
+        (subst (λ m. IsBar history m bar) (sym e) here)

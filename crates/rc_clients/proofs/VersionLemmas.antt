@@ -1,8 +1,8 @@
 -- The writes and the values of each version, with one event more.
-use Rattle.std.proofs.Common.{◌≡◌, ◌≢◌, ◌⊎◌, ◌∙◌, ◌×◌, ℕ, ◌+◌, ◌<◌, Bool, true, false, cond, List, [], ◌∷◌, length}
-use Rattle.std.proofs.Common.{Option, Some, None, unwrap_or, refl, sym, ap, subst, inl, inr, absurd, true≢false, arith}
+use Rattle.std.proofs.Common.{◌≡◌, ◌≢◌, ◌⊎◌, ◌∙◌, ℕ, ◌+◌, ◌<◌, Bool, true, false, cond, List, [], ◌∷◌, length}
+use Rattle.std.proofs.Common.{Option, Some, None, unwrap_or, refl, sym, ap, subst, inl, inr, true≢false, arith}
 use Rattle.std.specs.Prelude.{option_and_then}
-use Rattle.std.specs.Ordering.{nat_cmp}
+use Rattle.std.specs.Ordering.{nat_cmp, ordering_then, is_eq}
 use Rattle.std.specs.BTreeMap.{BTreeMap, get, is_at}
 use Rattle.std.proofs.lemmas.Bool.Decides.{nat_tests}
 use Rattle.rc_clients.specs.declared.events.ClientEvent.{ClientEvent}
@@ -14,7 +14,7 @@ use Rattle.rc_clients.specs.declared.judging.Violation.TheVariants as violation
 use Rattle.rc_clients.specs.Operations.{operation_at, value_of, IsOperation}
 use Rattle.rc_clients.specs.Linearizable.{AreOnKey, Breaks, IsAnsweredWrite, HasWrite}
 use Rattle.rc_clients.specs.Evidence.{AreFirsts, AreWrites, IsOneValue, if_write, version_of, version_order, write_at}
-use Rattle.rc_clients.proofs.Facts.{answered_below, get_empty, is_operation, one_at, told, within}
+use Rattle.rc_clients.proofs.Facts.{answered_below, get_empty, is_operation, number_itself, numbers_same, one_at, then_equal, told, within}
 
 -- a version by its parts
 version_from : (a b : VersionName) → a.table ≡ b.table → a.key ≡ b.key → a.version ≡ b.version → a ≡ b
@@ -24,12 +24,14 @@ version_from a b table key version =
 
 same_version : (a b : VersionName) → is_at (version_order a) b ≡ true → a ≡ b
 same_version a b e =
-    let table : a.table ≡ b.table = grind (arith, nat_tests) in
-    let key : a.key ≡ b.key = grind (arith, nat_tests) in
-    let version : a.version ≡ b.version = grind (arith, nat_tests) in version_from a b table key version
+    let one = then_equal (nat_cmp a.table b.table) (ordering_then (nat_cmp a.key b.key) (nat_cmp a.version b.version)) e in
+    let two = then_equal (nat_cmp a.key b.key) (nat_cmp a.version b.version) one.1 in
+    version_from a b (numbers_same a.table b.table one.0) (numbers_same a.key b.key two.0)
+    (numbers_same a.version b.version two.1)
 
 version_itself : (a : VersionName) → is_at (version_order a) a ≡ true
-version_itself a = grind (arith, nat_tests)
+version_itself a = ap is_eq (ap (λ o. ordering_then o (ordering_then (nat_cmp a.key a.key) (nat_cmp a.version a.version)))
+    (number_itself a.table) ∙ ap (λ o. ordering_then o (nat_cmp a.version a.version)) (number_itself a.key) ∙ number_itself a.version)
 
 some_number : (x y : ℕ) → ◌≡◌ {A = Option ℕ} (Some x) (Some y) → x ≡ y
 some_number x y e = ap (λ o. unwrap_or o x) e
@@ -52,8 +54,10 @@ write_told history moment op e = by (operation_at history moment) refl e
 
     kinded : (x : Operation) (k : Kind) → x.kind ≡ k → operation_at history moment ≡ Some x → if_write k x ≡ Some op →
         (operation_at history moment ≡ Some op) × (op.kind ≡ Write)
-    kinded x Write kind at h = (subst (λ y. operation_at history moment ≡ Some y) (same x h) at,
-        subst (λ (y : Operation). y.kind ≡ Write) (same x h) kind)
+    kinded x Write kind at h = (
+      subst (λ y. operation_at history moment ≡ Some y) (same x h) at,
+      subst (λ (y : Operation). y.kind ≡ Write) (same x h) kind,
+    )
     kinded x Read kind at h = cc
 
     by : (o : Option Operation) → operation_at history moment ≡ o → option_and_then (λ x. if_write x.kind x) o ≡ Some op →
@@ -95,6 +99,7 @@ writes_more history moment old new op name is named none was updates = record {
       (answered_below history moment a at before);
 }
   where
+    here : (operation_at history moment ≡ Some op) × (op.kind ≡ Write)
     here = write_told history moment op is
 
     found : (q : VersionName) (r : ℕ) (b : Bool) → is_at (version_order name) q ≡ b →
@@ -126,12 +131,19 @@ two_writes history moment other writes op name is named got was =
     let here = write_told history moment op is in
     let there = was.found name other got in
     let same : version_of there.0 ≡ version_of op = there.2 ∙ named in
-    let before : other < moment = there.4 in
-    (there.0, op, record {
-      first = there.1;
-      second = here.0;
-      on_key = record { table_is = ap (λ (v : VersionName). v.table) same; key_is = ap (λ (v : VersionName). v.key) same };
-    }, ap (λ (v : VersionName). v.version) same, there.3, here.1, λ e. differ e before)
+    let before : other < moment = there.4 in (
+      there.0,
+      op,
+      record {
+        first = there.1;
+        second = here.0;
+        on_key = record { table_is = ap (λ (v : VersionName). v.table) same; key_is = ap (λ (v : VersionName). v.key) same };
+      },
+      ap (λ (v : VersionName). v.version) same,
+      there.3,
+      here.1,
+      λ e. differ e before,
+    )
   where
     differ : other ≡ moment → other < moment → ⊥
     differ e h = omega (arith, e, h)
@@ -150,13 +162,15 @@ pub write_there : (history : List ClientEvent) (writes : BTreeMap VersionName �
     get version_order writes name ≡ Some response → HasWrite history op
 write_there history writes op name response are named got =
     let there = are.found name response got in
-    let same : version_of there.0 ≡ version_of op = there.2 ∙ named in
-    (there.0, record {
-      is = is_operation history response there.0 there.1;
-      on_key = record { table_is = ap (λ (v : VersionName). v.table) same; key_is = ap (λ (v : VersionName). v.key) same };
-      kind = there.3;
-      version_is = ap (λ (v : VersionName). v.version) same;
-    })
+    let same : version_of there.0 ≡ version_of op = there.2 ∙ named in (
+      there.0,
+      record {
+        is = is_operation history response there.0 there.1;
+        on_key = record { table_is = ap (λ (v : VersionName). v.table) same; key_is = ap (λ (v : VersionName). v.key) same };
+        kind = there.3;
+        version_is = ap (λ (v : VersionName). v.version) same;
+      },
+    )
 
 pub write_absent : (history : List ClientEvent) (writes : BTreeMap VersionName ℕ) (op : Operation) (name : VersionName) →
     AreWrites history (length history) writes → name ≡ version_of op → get version_order writes name ≡ None →
@@ -238,9 +252,11 @@ firsts_more history moment old new op name is named none was updates = record {
         let there = was.kept a at h in
         absurd (no_some (get version_order old name) there.0 none
         (subst (λ k. get version_order old k ≡ Some there.0) (sym (same_version name (version_of a) e)) there.1))
-    kept a true e at (inr now) =
-        (op, updates (version_of a) ∙ ap (λ b. cond b (Some op) (get version_order old (version_of a))) e,
-        ap (value_of history) (one_at history moment op a is now))
+    kept a true e at (inr now) = (
+      op,
+      updates (version_of a) ∙ ap (λ b. cond b (Some op) (get version_order old (version_of a))) e,
+      ap (value_of history) (one_at history moment op a is now),
+    )
     kept a false e at (inl h) =
         let there = was.kept a at h in
         (there.0, updates (version_of a) ∙ ap (λ b. cond b (Some op) (get version_order old (version_of a))) e ∙ there.1, there.2)
@@ -256,12 +272,17 @@ pub two_values : (history : List ClientEvent) (moment : ℕ) (firsts : BTreeMap 
     AreFirsts history moment firsts → Breaks history (violation.TwoValues first.response moment)
 two_values history moment firsts op first name is named got differ was =
     let there = was.found name first got in
-    let same : version_of first ≡ version_of op = there.1 ∙ named in
-    (first, op, record {
-      first = there.0;
-      second = is;
-      on_key = record { table_is = ap (λ (v : VersionName). v.table) same; key_is = ap (λ (v : VersionName). v.key) same };
-    }, ap (λ (v : VersionName). v.version) same, differ)
+    let same : version_of first ≡ version_of op = there.1 ∙ named in (
+      first,
+      op,
+      record {
+        first = there.0;
+        second = is;
+        on_key = record { table_is = ap (λ (v : VersionName). v.table) same; key_is = ap (λ (v : VersionName). v.key) same };
+      },
+      ap (λ (v : VersionName). v.version) same,
+      differ,
+    )
 
 pub one_value : (history : List ClientEvent) (firsts : BTreeMap VersionName Operation) →
     AreFirsts history (length history) firsts → IsOneValue history

@@ -15,7 +15,8 @@ use Rattle.rc_clients.specs.declared.bars.Top.{Top}
 use Rattle.rc_clients.specs.declared.doubled.VersionName.{VersionName}
 use Rattle.rc_clients.specs.declared.judging.Violation.{Violation}
 use Rattle.rc_clients.specs.Operations.{operation_at, IsOperation, value_of}
-use Rattle.rc_clients.specs.Linearizable.{AreOnKey, IsUnanswered, answered_at, Breaks, Precedes, StandsBefore, WasWritten}
+use Rattle.rc_clients.specs.Linearizable.{AreOnKey, IsUnanswered, answered_at, Breaks, Precedes, StandsBefore}
+use Rattle.rc_clients.specs.Linearizable.{WasWritten}
 
 -- The greatest version
 
@@ -104,7 +105,8 @@ pub record AreFirsts (history : List ClientEvent) (moment : ℕ) (firsts : BTree
   pub found : (q : VersionName) (op : Operation) → get version_order firsts q ≡ Some op →
       IsOperation history op × (version_of op ≡ q) × (op.response < moment)
   pub kept : (a : Operation) → IsOperation history a → a.response < moment →
-      (op : Operation) × (get version_order firsts (version_of a) ≡ Some op) × (value_of history op ≡ value_of history a)
+      (op : Operation) × (get version_order firsts (version_of a) ≡ Some op) ×
+      (value_of history op ≡ value_of history a)
 
 -- Writes without a response
 
@@ -156,3 +158,7 @@ Else history holds (Some found) = Breaks history found
 abbrev pub ElseTwoWrites : List ClientEvent → Result (BTreeMap VersionName ℕ) Violation → Type 0
 ElseTwoWrites history (Ok writes) = AreWrites history (length history) writes
 ElseTwoWrites history (Err found) = Breaks history found
+
+abbrev pub ElseTwoValues : List ClientEvent → Result (BTreeMap VersionName Operation) Violation → Type 0
+ElseTwoValues history (Ok firsts) = AreFirsts history (length history) firsts
+ElseTwoValues history (Err found) = Breaks history found

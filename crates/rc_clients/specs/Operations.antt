@@ -11,13 +11,25 @@ use Rattle.rc_clients.specs.declared.operations.Operation.{Operation}
 -- the write of this invocation, which got this version
 abbrev pub write_by : ℕ → ℕ → ℕ → ClientEvent → Option Operation
 write_by invocation response version (Invoked table key (request.Write value)) = Some (record {
-  kind = kind.Write; table = table; key = key; version = version; invocation = invocation; response = response })
+  kind = kind.Write;
+  table = table;
+  key = key;
+  version = version;
+  invocation = invocation;
+  response = response;
+})
 write_by invocation response version _ = None
 
 -- the read of this invocation, which showed this version
 abbrev pub read_by : ℕ → ℕ → ℕ → ClientEvent → Option Operation
 read_by invocation response version (Invoked table key request.Read) = Some (record {
-  kind = kind.Read; table = table; key = key; version = version; invocation = invocation; response = response })
+  kind = kind.Read;
+  table = table;
+  key = key;
+  version = version;
+  invocation = invocation;
+  response = response;
+})
 read_by invocation response version _ = None
 
 -- the operation that the event at this moment answers: a write or a read whose invocation stands before it

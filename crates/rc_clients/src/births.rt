@@ -188,7 +188,13 @@ impl<'a> Births<'a> {
     }
 
     /// Notes an acknowledgement. It tells when the write was begun, which confirms what its master answered before.
-    pub(crate) fn acknowledge(&mut self, number: usize, master: ServerId, seg: u16, offset: usize) -> Result<(), AllocError> {
+    pub(crate) fn acknowledge(
+        &mut self,
+        number: usize,
+        master: ServerId,
+        seg: u16,
+        offset: usize,
+    ) -> Result<(), AllocError> {
         let spot = Spot {
             master,
             seg,

@@ -2,21 +2,24 @@
 
 ghost use Rattle.std.specs.Prelude.{◌≡◌, ◌≢◌, IfOk, MatchBool};
 ghost use Rattle.rc_clients.specs.Operations.{value_of as value_said};
-ghost use Rattle.rc_clients.specs.Evidence.{Else, IsOneValue};
+ghost use Rattle.rc_clients.specs.Evidence.{ElseTwoValues};
 
-use crate::doubled::version_name;
+use crate::doubled::{VersionName, version_name};
 use crate::events::ClientEvent;
 use crate::judging::Violation;
 use crate::operations::{Operation, operation_at, value_of};
 use std::alloc::{AllocError, Global};
 use std::collections::BTreeMap;
 
-/// The first operation with another value than one of its version before it.
-pub(crate) fn differing_value(
+/// Of each version the first operation.
+pub(crate) type Firsts = BTreeMap<VersionName, Operation>;
+
+/// Of each version the first operation; or the first one with another value than one of its version before it.
+pub(crate) fn firsts_in(
     alloc: Global,
     history: &[ClientEvent],
-) -> Result<Option<Violation>, AllocError>
-    ensures { IfOk result (Else history.now (IsOneValue history.now)) }
+) -> Result<Result<Firsts, Violation>, AllocError>
+    ensures { IfOk result (ElseTwoValues history.now) }
 {
     let mut firsts = BTreeMap::new(alloc);
     for moment in 0..history.len() {
@@ -24,18 +27,15 @@ pub(crate) fn differing_value(
             continue;
         };
         let name = version_name(&operation);
-        match firsts.get(&name).copied() {
-            Some(first) => {
-                if !is_like(history, &first, &operation) {
-                    return Ok(Some(Violation::TwoValues(first.response, moment)));
-                }
+        if let Some(first) = firsts.get(&name).copied() {
+            if is_like(history, &first, &operation) {
+                continue;
             }
-            None => {
-                firsts.insert(name, operation)?;
-            }
+            return Ok(Err(Violation::TwoValues(first.response, moment)));
         }
+        firsts.insert(name, operation)?;
     }
-    Ok(None)
+    Ok(Ok(firsts))
 }
 
 /// Whether both have one value.

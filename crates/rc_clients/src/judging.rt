@@ -4,7 +4,7 @@ ghost use Rattle.std.specs.Prelude.{IfOk};
 ghost use Rattle.rc_clients.specs.Linearizable.{Judged, BreaksRefute};
 
 use crate::bars::bars_in;
-use crate::differing::differing_value;
+use crate::differing::firsts_in;
 use crate::doubled::writes_in;
 use crate::events::ClientEvent;
 use crate::timely::{late_operation, wrong_beginning};
@@ -49,9 +49,10 @@ pub fn check(alloc: Global, history: &[ClientEvent]) -> Result<Option<Violation>
         Ok(writes) => writes,
         Err(doubled) => return Ok(Some(doubled)),
     };
-    if let Some(differing) = differing_value(alloc, history)? {
-        return Ok(Some(differing));
-    }
+    let _firsts = match firsts_in(alloc, history)? {
+        Ok(firsts) => firsts,
+        Err(differing) => return Ok(Some(differing)),
+    };
     unwritten_read(alloc, history, bars.as_slice(), &writes)
 }
 

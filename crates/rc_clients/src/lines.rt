@@ -82,7 +82,7 @@ impl fmt::Display for LineFault {
 }
 
 impl From<AllocError> for LineFault {
-    ghost from_gives = { λ _ _. ⊤ };
+    ghost from_gives = { λ _ _. Unit {0} };
 
     fn from(_: AllocError) -> LineFault {
         LineFault::OutOfMemory

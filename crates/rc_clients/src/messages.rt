@@ -91,11 +91,7 @@ impl History {
 }
 
 /// Adds the events of an operation.
-fn add_marks(
-    marks: &mut Vec<Mark>,
-    operation: usize,
-    found: &Found<'_>,
-) -> Result<(), AllocError> {
+fn add_marks(marks: &mut Vec<Mark>, operation: usize, found: &Found<'_>) -> Result<(), AllocError> {
     let (invocation, response) = match found {
         Found::Write(birth) => (birth.invocation, birth.response),
         Found::Read(read) => (read.invocation, Some(read.response)),
@@ -155,10 +151,7 @@ fn shared(value: &Option<Shared<u8>>) -> Result<Option<Shared<u8>>, AllocError> 
 }
 
 /// The operations in these messages.
-fn operations_in<'a>(
-    alloc: Global,
-    messages: &'a [Message],
-) -> Result<Vec<Found<'a>>, AllocError> {
+fn operations_in<'a>(alloc: Global, messages: &'a [Message]) -> Result<Vec<Found<'a>>, AllocError> {
     let mut births = Births::new(alloc);
     let mut reads = Reads::new(alloc);
     for (number, message) in messages.iter().enumerate() {
@@ -218,9 +211,7 @@ fn note_sent<'a>(
             offset,
             entries,
         } => births.send(number, from, *seg, *offset, entries.as_slice()),
-        Body::WriteOk { seg, offset, .. } => {
-            births.acknowledge(number, from, *seg, *offset)
-        }
+        Body::WriteOk { seg, offset, .. } => { births.acknowledge(number, from, *seg, *offset) }
         Body::ReadOk {
             table,
             key,

@@ -43,7 +43,9 @@ pub fn operation_at(history: &[ClientEvent], moment: usize) -> Option<Operation>
             version,
         } => write_by(history, *invocation, moment, *version),
         ClientEvent::Shown {
-            invocation, version, ..
+            invocation,
+            version,
+            ..
         } => read_by(history, *invocation, moment, *version),
         _ => None,
     }

@@ -110,8 +110,8 @@ fn note_pending<'a>(
     moment: usize,
 ) -> Result<(), AllocError>
     ensures { OnOk result ((q : ValueNameModel) → get value_order pending.new q
-        ≡ (if is_some (get value_order pending.old name) then get value_order pending.old q
-        else (if is_at (value_order name q) then Some moment else get value_order pending.old q))) }
+        ≡ (if is_some (get value_order pending.old name.entry) then get value_order pending.old q
+        else (if is_at (value_order name.entry) q then Some moment else get value_order pending.old q))) }
 {
     if pending.get(&name).is_some() {
         return Ok(());

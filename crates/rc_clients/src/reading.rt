@@ -26,7 +26,7 @@ pub enum HistoryFault {
 }
 
 impl From<AllocError> for HistoryFault {
-    ghost from_gives = { λ _ _. ⊤ };
+    ghost from_gives = { λ _ _. Unit {0} };
 
     fn from(_: AllocError) -> HistoryFault {
         HistoryFault::OutOfMemory
@@ -34,7 +34,7 @@ impl From<AllocError> for HistoryFault {
 }
 
 impl<T: Drop> From<AllocFailed<T>> for HistoryFault {
-    ghost from_gives = { λ _ _. ⊤ };
+    ghost from_gives = { λ _ _. Unit {0} };
 
     fn from(_: AllocFailed<T>) -> HistoryFault {
         HistoryFault::OutOfMemory
@@ -123,12 +123,7 @@ impl ReadHistory {
     }
 
     /// Takes a response to the invocation at this moment; what is not known answers nothing.
-    fn answer(
-        &mut self,
-        number: usize,
-        invocation: usize,
-        said: Said,
-    ) -> Result<(), HistoryFault> {
+    fn answer(&mut self, number: usize, invocation: usize, said: Said) -> Result<(), HistoryFault> {
         let event = match said.stage {
             Stage::Invoke | Stage::Info => return Ok(()),
             Stage::Fail => ClientEvent::Failed { invocation },
@@ -160,10 +155,12 @@ impl ReadHistory {
     /// Whether the write that was invoked at this moment is one of this value.
     fn wrote(&self, invocation: usize, value: &Option<Shared<u8>>) -> bool {
         match self.events.get(invocation) {
-            Some(ClientEvent::Invoked {
-                request: Request::Write(asked),
-                ..
-            }) => asked == value,
+            Some(
+                ClientEvent::Invoked {
+                    request: Request::Write(asked),
+                    ..
+                },
+            ) => asked == value,
             _ => false,
         }
     }

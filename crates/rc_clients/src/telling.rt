@@ -81,7 +81,11 @@ fn add_operation(
         Kind::Read => "read",
     };
     let (table, key, version) = (operation.table, operation.key, operation.version);
-    let asked = history.lines.get(operation.invocation).copied().unwrap_or(0);
+    let asked = history
+        .lines
+        .get(operation.invocation)
+        .copied()
+        .unwrap_or(0);
     let told = history.lines.get(operation.response).copied().unwrap_or(0);
     write!(
         text,

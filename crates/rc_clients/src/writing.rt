@@ -17,8 +17,8 @@ struct Told {
     is_answered: bool,
 }
 
-/// The history as JSON lines. "History" in `docs/FORMATS.md` has the members. A write that was never answered has a line
-/// `info` at the end.
+/// The history as JSON lines. "Histories of clients" in `docs/FORMATS.md` has the members. A write that was never
+/// answered has a line `info` at the end.
 ///
 /// # Errors
 ///
@@ -118,17 +118,22 @@ fn begin(
     kind: &str,
 ) -> Result<(), AllocError> {
     text.push_str("{\"index\":")?;
-    write!(text, "{index},\"time\":{time},\"process\":{process},\"type\":\"{kind}\"")?;
+    write!(
+        text,
+        "{index},\"time\":{time},\"process\":{process},\"type\":\"{kind}\""
+    )?;
     Ok(())
 }
 
 /// Adds what was asked, with what is to be written.
 fn add_call(text: &mut String, invoked: Option<&ClientEvent>) -> Result<(), AllocError> {
     match invoked {
-        Some(ClientEvent::Invoked {
-            request: Request::Write(value),
-            ..
-        }) => {
+        Some(
+            ClientEvent::Invoked {
+                request: Request::Write(value),
+                ..
+            },
+        ) => {
             add_key(text, invoked, "write")?;
             add_value(text, value)
         }
@@ -140,11 +145,7 @@ fn add_call(text: &mut String, invoked: Option<&ClientEvent>) -> Result<(), Allo
 }
 
 /// Adds what is done to which key.
-fn add_key(
-    text: &mut String,
-    invoked: Option<&ClientEvent>,
-    call: &str,
-) -> Result<(), AllocError> {
+fn add_key(text: &mut String, invoked: Option<&ClientEvent>, call: &str) -> Result<(), AllocError> {
     if let Some(ClientEvent::Invoked { table, key, .. }) = invoked {
         write!(text, ",\"f\":\"{call}\",\"key\":\"{table}/{key}\"")?;
     }

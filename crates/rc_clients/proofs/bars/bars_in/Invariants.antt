@@ -1,4 +1,3 @@
-use Rattle.std.proofs.Common.{◌×◌}
 use Rattle.rc_clients.specs.Evidence.{AreBars, AreTops}
 use Rattle.rc_clients.proofs.bars.bars_in.Given as goal
 

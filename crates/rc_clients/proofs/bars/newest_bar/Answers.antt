@@ -1,4 +1,4 @@
-use Rattle.std.proofs.Common.{◌∙◌, sym}
+use Rattle.std.proofs.Common.{◌∙◌, None, sym}
 use Rattle.rc_clients.proofs.TopLemmas.{bar_none, bar_noted}
 use Rattle.rc_clients.proofs.bars.newest_bar.Goals as goal
 
@@ -7,4 +7,4 @@ returns-in-Some c = bar_noted c.args.history.now c.args.moment c.args.tops.now c
     (sym c.in-Some.ensures) (c.copied.ensures ∙ c.get.ensures.value)
 
 pub returns-in-None : goal.returns-in-None
-returns-in-None c = bar_none c.args.history.now c.args.moment _ (sym c.in-None.ensures)
+returns-in-None c = bar_none c.args.history.now c.args.moment None (sym c.in-None.ensures)

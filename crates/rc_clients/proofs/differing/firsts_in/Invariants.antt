@@ -1,5 +1,5 @@
 use Rattle.rc_clients.specs.Evidence.{AreFirsts}
-use Rattle.rc_clients.proofs.differing.differing_value.Given as goal
+use Rattle.rc_clients.proofs.differing.firsts_in.Given as goal
 
 -- the first operations of each version so far
 abbrev pub invariant-loop-moment : goal.invariant-loop-moment
