@@ -74,9 +74,14 @@ impl Healer {
 
     /// Notes what is done now.
     fn note(&mut self, why: Why) -> Result<(), AllocError> {
-        let after = self.course.world().events().len();
+        let after = self.happened();
         self.deeds.push(Deed { after, why })?;
         Ok(())
+    }
+
+    /// How many events have happened.
+    fn happened(&self) -> usize {
+        self.course.world().events().len()
     }
 
     /// All servers stop, and then all hosts are started.
@@ -88,11 +93,16 @@ impl Healer {
             }
         }
         for host in 0..MAX_HOSTS {
-            if self.course.world().newest(host) > 0 {
+            if self.stands(host) {
                 self.course.start(alloc, host)?;
             }
         }
         Ok(())
+    }
+
+    /// Whether the host was ever started.
+    fn stands(&self, host: u8) -> bool {
+        self.course.world().newest(host) > 0
     }
 
     /// One round: hosts are started, all settles, and then what is due is done, until nothing is. These owners are
@@ -118,18 +128,25 @@ impl Healer {
     /// Hosts are started: each that does not run, and others until enough run.
     fn start_hosts(&mut self, alloc: Global) -> Result<(), Fault> {
         for host in 0..MAX_HOSTS {
-            if self.course.world().newest(host) > 0 && self.course.running(host).is_none() {
-                self.note(Why::Stopped(host))?;
-                self.course.start(alloc, host)?;
-            }
-        }
-        for host in 0..MAX_HOSTS {
-            if self.course.world().newest(host) == 0 && count_running(&self.course) < self.wanted {
-                self.note(Why::TooFew(host))?;
+            if let Some(why) = self.why_start(host) {
+                self.note(why)?;
                 self.course.start(alloc, host)?;
             }
         }
         Ok(())
+    }
+
+    /// Why this host is to be started, if it is.
+    fn why_start(&self, host: u8) -> Option<Why> {
+        if self.course.running(host).is_some() {
+            None
+        } else if self.stands(host) {
+            Some(Why::Stopped(host))
+        } else if count_hosts(&self.course) < self.wanted {
+            Some(Why::TooFew(host))
+        } else {
+            None
+        }
     }
 
     /// What is due now, all of the first kind that is, but no decision that was refused.
@@ -190,36 +207,42 @@ impl Healer {
 
     /// Does what is due.
     fn do_due(&mut self, alloc: Global, due: Due, stuck: &[ServerId]) -> Result<(), Fault> {
+        let why = self.why(due, stuck);
+        self.note(why)?;
         match due {
-            Due::Restart(id) => {
-                self.note(if stuck.contains(&id) {
-                    Why::Stuck(id)
-                } else {
-                    Why::Zombie(id)
-                })?;
-                self.course.restart(alloc, id)
-            }
-            Due::Suspect(id) => {
-                self.note(if self.course.coordinator().servers().is_up(id) {
-                    Why::Silent(id)
-                } else {
-                    Why::Again(id)
-                })?;
-                self.course.take(alloc, &Event::Suspect(id))
-            }
+            Due::Restart(id) => self.course.restart(alloc, id),
+            Due::Suspect(id) => self.course.take(alloc, &Event::Suspect(id)),
             Due::Decide(id) => self.decide(alloc, id),
+        }
+    }
+
+    /// Why it is due, where these owners are stuck.
+    fn why(&self, due: Due, stuck: &[ServerId]) -> Why {
+        match due {
+            Due::Restart(id) if stuck.contains(&id) => Why::Stuck(id),
+            Due::Restart(id) => Why::Zombie(id),
+            Due::Suspect(id) if self.course.coordinator().servers().is_up(id) => Why::Silent(id),
+            Due::Suspect(id) => Why::Again(id),
+            Due::Decide(id) => Why::Answered(id),
         }
     }
 
     /// Decides the recovery of a master, and notes where that was refused.
     fn decide(&mut self, alloc: Global, id: ServerId) -> Result<(), Fault> {
-        self.note(Why::Answered(id))?;
         self.course.take(alloc, &Event::Decide(id))?;
-        let refusal = refusal_of(&self.course, id);
-        if is_gathering(&self.course, id) {
+        if let Some(refusal) = self.refusal(id) {
             self.refused.push(refusal)?;
         }
         Ok(())
+    }
+
+    /// That the recovery of this master was refused, where it is not decided.
+    fn refusal(&self, master: ServerId) -> Option<Refusal> {
+        if is_gathering(&self.course, master) {
+            Some(refusal_of(&self.course, master))
+        } else {
+            None
+        }
     }
 }
 
@@ -257,10 +280,10 @@ fn is_gathering(course: &Course, master: ServerId) -> bool {
     }
 }
 
-/// How many servers run.
-fn count_running(course: &Course) -> usize {
+/// How many hosts were ever started.
+fn count_hosts(course: &Course) -> usize {
     (0..MAX_HOSTS)
-        .filter(|host| course.running(*host).is_some())
+        .filter(|host| course.world().newest(*host) > 0)
         .count()
 }
 

@@ -9,7 +9,7 @@ use crate::views::settle;
 use rc_types::{Addr, Body, Event, Fault, Message, Setup, Shared, Tablet, TryClone};
 use std::alloc::{AllocError, Global};
 
-/// How often a tablet is written that does not acknowledge it: a master that rolls its head refuses the first write.
+/// How often tablets are written of which none acknowledges it: a master that rolls its head refuses each write.
 const MOST_WRITES: usize = 3;
 
 /// A trial: what was done in it, and what it has shown.
@@ -44,9 +44,13 @@ pub(crate) fn try_tablets(
     let from = course.world().sent().len();
     let value = format!(in alloc; "{from}")?.into_bytes();
     let shared = Shared::from_vec(alloc, value.clone()?)?;
-    let mut shown = Vec::new(alloc);
-    for _ in 0..MOST_WRITES {
+    let mut shown: Vec<Served> = Vec::new(alloc);
+    let mut idle = 0;
+    for _ in 0..usize::MAX {
         let open = open_tablets(alloc, tablets, shown.as_slice())?;
+        if open.is_empty() || idle >= MOST_WRITES {
+            break;
+        }
         for tablet in &open {
             write(alloc, &mut course, tablet, &shared)?;
         }
@@ -55,13 +59,10 @@ pub(crate) fn try_tablets(
             read(alloc, &mut course, tablet)?;
         }
         course.deliver(alloc)?;
-        shown = served(
-            alloc,
-            course.world().sent(),
-            from,
-            tablets,
-            value.as_slice(),
-        )?;
+        let sent = course.world().sent();
+        let now = served(alloc, sent, from, tablets, value.as_slice())?;
+        idle = if now.len() > shown.len() { 0 } else { idle + 1 };
+        shown = now;
     }
     let events = copies(alloc, course.world().events(), events.len())?;
     Ok(Trial {
