@@ -61,9 +61,10 @@ pub(crate) fn pending_in<'a>(
     let answered = answered_in(alloc, history)?;
     let mut pending = BTreeMap::new(alloc);
     for moment in 0..history.len() {
-        if let Some(name) = pending_at(history, &answered, moment) {
-            note_pending(&mut pending, name, moment)?;
-        }
+        let Some(name) = pending_at(history, &answered, moment) else {
+            continue;
+        };
+        note_pending(&mut pending, name, moment)?;
     }
     Ok(pending)
 }

@@ -7,7 +7,7 @@
 -- - There are no processes: each operation stands for itself, as if each had a client of its own.
 -- - An operation is a write that was acknowledged (IsWrite) or a read that was answered and confirmed (IsRead). Its
 --   invocation is the client's request, a Write or a Read, when that was sent, and its response the master's WriteOk or
---   ReadOk, when that was sent. So a message on its way makes an operation longer, and never shorter.
+--   ReadOk, when that was sent. The client gets that later. So what is in order for clients is so here, too.
 -- - A read that is not confirmed is no operation, and shows what it may. Nor is a request that was refused: a Refused
 --   names no request, so a write that was refused counts as pending.
 -- - An answer names no request. A write may have come of each Write with its key and value that its master was sent
