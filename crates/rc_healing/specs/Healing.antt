@@ -1,5 +1,5 @@
 -- What is claimed of a world that was healed.
-use Rattle.std.specs.Prelude.{ℕ, Bool, false, nat_eq, ◌&&◌, List, Option, Some, drop, slice_get, not}
+use Rattle.std.specs.Prelude.{ℕ, Bool, false, nat_eq, ◌&&◌, List, Option, Some, slice_get, not}
 use Rattle.std.specs.List.{list_all, list_any}
 use Rattle.rc_types.specs.declared.ids.Addr.{Addr}
 use Rattle.rc_types.specs.declared.ids.ServerId.{ServerId}
@@ -37,14 +37,13 @@ shows_in served from _ = false
 abbrev pub shows : Served → Message → Bool
 shows served message = shows_in served message.from message.body
 
--- behind so many messages both come
-abbrev pub is_shown : List Message → ℕ → Served → Bool
-is_shown messages from served =
-    list_any (acknowledges served) (drop from messages) && list_any (shows served) (drop from messages)
+-- both are among these messages
+abbrev pub is_shown : List Message → Served → Bool
+is_shown messages served = list_any (acknowledges served) messages && list_any (shows served) messages
 
 -- so is each of these
-abbrev pub are_shown : List Message → ℕ → List Served → Bool
-are_shown messages from served = list_all (is_shown messages from) served
+abbrev pub are_shown : List Message → List Served → Bool
+are_shown messages served = list_all (is_shown messages) served
 
 abbrev pub is_named : List (ServerId × ℕ) → ServerId → ℕ → Bool
 is_named = is_kept

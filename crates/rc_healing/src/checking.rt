@@ -7,25 +7,19 @@ ghost use Rattle.rc_healing.specs.Healing as spec;
 use crate::deeds::{Dropped, Gone, Served};
 use rc_types::{Addr, Body, Event, Message, ServerId};
 
-/// Whether each of these is shown by the messages behind so many.
-pub(crate) fn are_shown(messages: &[Message], from: usize, served: &[Served]) -> bool
-    ensures { result ≡ spec.are_shown messages.now from served.now }
+/// Whether each of these is shown by these messages.
+pub(crate) fn are_shown(messages: &[Message], served: &[Served]) -> bool
+    ensures { result ≡ spec.are_shown messages.now served.now }
 {
-    served.iter().all(|one| is_shown(messages, from, one))
+    served.iter().all(|one| is_shown(messages, one))
 }
 
-/// Whether behind so many messages the owner acknowledges the write, and shows it.
-pub(crate) fn is_shown(messages: &[Message], from: usize, served: &Served) -> bool
-    ensures { result ≡ spec.is_shown messages.now from served.now }
+/// Whether among these messages the owner acknowledges the write, and shows it.
+pub(crate) fn is_shown(messages: &[Message], served: &Served) -> bool
+    ensures { result ≡ spec.is_shown messages.now served.now }
 {
-    messages
-        .iter()
-        .skip(from)
-        .any(|message| acknowledges(served, message))
-        && messages
-            .iter()
-            .skip(from)
-            .any(|message| shows(served, message))
+    messages.iter().any(|message| acknowledges(served, message))
+        && messages.iter().any(|message| shows(served, message))
 }
 
 /// Whether the tablet's owner acknowledges a write of its first key with the version.

@@ -1,6 +1,6 @@
 //! A world is healed.
 
-ghost use Rattle.std.specs.Prelude.{◌≡◌, ◌⊎◌, ◌≤◌, true, length, IfOk, IfErr};
+ghost use Rattle.std.specs.Prelude.{◌≡◌, ◌⊎◌, ◌≤◌, true, length, drop, IfOk, IfErr};
 ghost use Rattle.rc_types.specs.declared.faults.Fault.TheVariants.{OutOfMemory, BadEvent};
 ghost use Rattle.rc_world.specs.Happened.{AllHappen, opened, sent_in, with_events};
 ghost use Rattle.rc_world.specs.HostView.{IsWithinLimits};
@@ -86,8 +86,9 @@ pub fn heal(alloc: Global, setup: &Setup, events: &[Event], power: bool) -> Resu
     ensures possible { IfOk result (λ healed.
         AllHappen (with_events (opened setup.now) events.now) healed.events.items) }
     ensures rounds { IfOk result (λ healed. healed.rounds ≤ 3) }
-    ensures served { IfOk result (λ healed. are_shown (sent_in (with_events healed.world healed.trial.items))
-        (length (sent_in healed.world)) healed.served.items ≡ true) }
+    ensures served { IfOk result (λ healed. are_shown (drop (length (sent_in healed.world)) (sent_in
+        (with_events (with_events (opened setup.now) healed.world.events) healed.trial.items))) healed.served.items ≡
+        true) }
     ensures gone { IfOk result (λ healed. are_all_drops healed.world.events healed.gone.items ≡ true) }
     ensures fault { IfErr result (λ fault. (fault ≡ OutOfMemory) ⊎ (fault ≡ BadEvent)) }
 {
@@ -111,8 +112,9 @@ fn heal_or_fail(
     ensures possible { IfOk result (λ healed.
         AllHappen (with_events (opened setup.now) events.now) healed.events.items) }
     ensures rounds { IfOk result (λ healed. healed.rounds ≤ 3) }
-    ensures served { IfOk result (λ healed. are_shown (sent_in (with_events healed.world healed.trial.items))
-        (length (sent_in healed.world)) healed.served.items ≡ true) }
+    ensures served { IfOk result (λ healed. are_shown (drop (length (sent_in healed.world)) (sent_in
+        (with_events (with_events (opened setup.now) healed.world.events) healed.trial.items))) healed.served.items ≡
+        true) }
     ensures gone { IfOk result (λ healed. are_all_drops healed.world.events healed.gone.items ≡ true) }
 {
     let Found {
@@ -135,7 +137,12 @@ fn heal_or_fail(
         events: trial,
         served,
     } = trial;
-    let have_shown = are_shown(tried.sent(), world.sent().len(), served.as_slice());
+    let sent = tried.sent();
+    let from = world.sent().len();
+    if from > sent.len() {
+        return Err(Fault::BadEvent);
+    }
+    let have_shown = are_shown(&sent[from..], served.as_slice());
     let have_dropped = are_all_drops(world.events(), gone.as_slice());
     if !have_shown || !have_dropped {
         return Err(Fault::BadEvent);
@@ -170,9 +177,9 @@ fn tried(
     world: &World<Global>,
     trial: &[Event],
 ) -> Result<World<Global>, Fault>
-    requires limits { IsWithinLimits setup.now }
-    requires setup { world.now.setup ≡ setup.now }
-    ensures world { IfOk result (λ after. after ≡ with_events world.now trial.now) }
+    requires { IsWithinLimits setup.now }
+    ensures world { IfOk result (λ after.
+        after ≡ with_events (with_events (opened setup.now) world.now.events) trial.now) }
 {
     let apart = World::new(alloc, setup.try_clone(alloc)?, alloc);
     let before = play(alloc, apart, world.events())?;

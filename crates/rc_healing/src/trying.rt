@@ -59,8 +59,10 @@ pub(crate) fn try_tablets(
             read(alloc, &mut course, tablet)?;
         }
         course.deliver(alloc)?;
-        let sent = course.world().sent();
-        let now = served(alloc, sent, from, tablets, value.as_slice())?;
+        let Some(later) = course.world().sent().get(from..) else {
+            return Err(Fault::BadEvent);
+        };
+        let now = served(alloc, later, tablets, value.as_slice())?;
         idle = if now.len() > shown.len() { 0 } else { idle + 1 };
         shown = now;
     }
@@ -124,27 +126,25 @@ fn read(alloc: Global, course: &mut Course, tablet: &Tablet) -> Result<(), Fault
     course.take(alloc, &Event::Ask { to, body })
 }
 
-/// Those of these tablets whose owner has acknowledged a write of the first key behind so many messages, and shown it
-/// with this value.
+/// Those of these tablets whose owner has acknowledged a write of the first key in these messages, and shown it with this
+/// value.
 fn served(
     alloc: Global,
     messages: &[Message],
-    from: usize,
     tablets: &[Tablet],
     value: &[u8],
-) -> Result<Vec<Served>, Fault> {
+) -> Result<Vec<Served>, AllocError> {
     let mut list = Vec::new(alloc);
     for tablet in tablets {
         let shown = messages
             .iter()
-            .skip(from)
             .find_map(|message| shown_in(message, tablet, value));
         if let Some(version) = shown {
             let served = Served {
                 tablet: *tablet,
                 version,
             };
-            if is_shown(messages, from, &served) {
+            if is_shown(messages, &served) {
                 list.push(served)?;
             }
         }

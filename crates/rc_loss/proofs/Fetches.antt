@@ -2,14 +2,14 @@
 use Rattle.std.proofs.Common.{◌≡◌, ℕ, Bool, true, cond, nat_le, List, [], ◌∷◌, filter, take, length, Option, Some, None}
 use Rattle.std.proofs.Common.{refl, sym, ap, ◌∙◌, subst, arith}
 use Rattle.std.proofs.lemmas.Bool.{and_parts, le-leb}
-use Rattle.rc_model.specs.Model.{ServerId, Addr, Server, Row, PlanRow, Part, Setup, Event, Message, Body, Fetch, Data, Replicas}
-use Rattle.rc_model.specs.Model.{to_coordinator, between, Replica, Backup, Attempt, Master, World, replica_of, rows_of_replicas, is_in_part}
+use Rattle.rc_model.specs.Model.{ServerId, Server, Row, PlanRow, Part, Setup, Event, Fetch, Data, Replicas}
+use Rattle.rc_model.specs.Model.{to_coordinator, between, Replica, Attempt, Master, replica_of, rows_of_replicas, is_in_part}
 use Rattle.rc_model.specs.Model.{row_of_replica, data_of, answers_fetch, HostNode, Take, host_step, runs, server_of, is_running_at}
 use Rattle.rc_model.specs.Model.{takes_if_running, server_takes, replay, In}
 use Rattle.rc_types.specs.declared.messages.Body.TheVariants.{Plan as PlanBody}
 use Rattle.rc_types.specs.declared.ids.Addr.TheVariants.{Coordinator as AtCoordinator}
 use Rattle.rc_types.specs.declared.rows.Plan.{Plan}
-use Rattle.rc_model.specs.Ids.{is_server, same_id}
+use Rattle.rc_model.specs.Ids.{is_server}
 use Rattle.rc_model.specs.Nodes.{is_some_master}
 use Rattle.rc_model.proofs.Ids.{same_id-true}
 use Rattle.rc_model.proofs.Tests.{true_false}
