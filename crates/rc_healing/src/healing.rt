@@ -132,21 +132,16 @@ fn heal_or_fail(
     let world = World::new(alloc, setup.try_clone(alloc)?, alloc);
     let before = play(alloc, world, events)?;
     let world = play(alloc, before, more.as_slice())?;
-    let tried = tried(alloc, setup, &world, trial.events.as_slice())?;
+    if !have_shown(alloc, setup, &world, &trial)? {
+        return Err(Fault::BadEvent);
+    }
+    if !are_all_drops(world.events(), gone.as_slice()) {
+        return Err(Fault::BadEvent);
+    }
     let Trial {
         events: trial,
         served,
     } = trial;
-    let sent = tried.sent();
-    let from = world.sent().len();
-    if from > sent.len() {
-        return Err(Fault::BadEvent);
-    }
-    let have_shown = are_shown(&sent[from..], served.as_slice());
-    let have_dropped = are_all_drops(world.events(), gone.as_slice());
-    if !have_shown || !have_dropped {
-        return Err(Fault::BadEvent);
-    }
     Ok(Healed {
         world,
         events: more,
@@ -168,6 +163,27 @@ fn play(alloc: Global, world: World<Global>, events: &[Event]) -> Result<World<G
         Ok(world) => Ok(world),
         Err((_, _, fault)) => Err(fault),
     }
+}
+
+/// Whether in a trial, in a world apart, those that are said to be served have shown it.
+fn have_shown(
+    alloc: Global,
+    setup: &Setup,
+    world: &World<Global>,
+    trial: &Trial,
+) -> Result<bool, Fault>
+    requires { IsWithinLimits setup.now }
+    ensures { IfOk result (λ yes. yes ≡ are_shown (drop (length (sent_in world.now)) (sent_in
+        (with_events (with_events (opened setup.now) world.now.events) trial.now.events.items)))
+        trial.now.served.items) }
+{
+    let tried = tried(alloc, setup, world, trial.events.as_slice())?;
+    let sent = tried.sent();
+    let from = world.sent().len();
+    if from > sent.len() {
+        return Err(Fault::BadEvent);
+    }
+    Ok(are_shown(&sent[from..], trial.served.as_slice()))
 }
 
 /// A world apart, after the events of this one and those of a trial.

@@ -126,8 +126,8 @@ fn read(alloc: Global, course: &mut Course, tablet: &Tablet) -> Result<(), Fault
     course.take(alloc, &Event::Ask { to, body })
 }
 
-/// Those of these tablets whose owner has acknowledged a write of the first key in these messages, and shown it with this
-/// value.
+/// Those of these tablets whose owner has acknowledged a write of the first key in these messages, and shown it with
+/// this value.
 fn served(
     alloc: Global,
     messages: &[Message],
