@@ -1,6 +1,7 @@
 //! What is said of a world that was healed is looked at once more, in the run.
 
 ghost use Rattle.std.specs.Prelude.{◌≡◌};
+ghost use Rattle.std.specs.List.{list_any};
 ghost use Rattle.rc_model.specs.Ids.{is_server};
 ghost use Rattle.rc_healing.specs.Healing as spec;
 
@@ -18,8 +19,21 @@ pub(crate) fn are_shown(messages: &[Message], served: &[Served]) -> bool
 pub(crate) fn is_shown(messages: &[Message], served: &Served) -> bool
     ensures { result ≡ spec.is_shown messages.now served.now }
 {
+    is_acknowledged(messages, served) && is_read(messages, served)
+}
+
+/// Whether the write is acknowledged among these messages.
+fn is_acknowledged(messages: &[Message], served: &Served) -> bool
+    ensures { result ≡ list_any (spec.acknowledges served.now) messages.now }
+{
     messages.iter().any(|message| acknowledges(served, message))
-        && messages.iter().any(|message| shows(served, message))
+}
+
+/// Whether a read shows it among these messages.
+fn is_read(messages: &[Message], served: &Served) -> bool
+    ensures { result ≡ list_any (spec.shows served.now) messages.now }
+{
+    messages.iter().any(|message| shows(served, message))
 }
 
 /// Whether the tablet's owner acknowledges a write of its first key with the version.
