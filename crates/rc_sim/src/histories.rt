@@ -12,8 +12,10 @@ use crate::counted::Counted;
 use crate::outlets::{read_all, write_all};
 use crate::simulating::write_answer;
 use crate::verdicts::{SimFault, Verdict};
-use rc_clients::{HistoryFault, LineFault, ReadHistory, Violation};
-use rc_clients::{check, history_of, history_text, judgement_text, read_history};
+use rc_clients::{
+    HistoryFault, LineFault, ReadHistory, Violation, check, history_of, history_text,
+    judgement_text, read_history,
+};
 use rc_reading::limits::MOST_BYTES;
 use rc_types::Message;
 use std::alloc::{AllocError, Global};
