@@ -2,9 +2,10 @@ use Rattle.rc_clients.proofs.TopLemmas.{bars_begin, bars_more, tops_begin}
 use Rattle.rc_clients.proofs.bars.bars_in.Goals as goal
 
 pub loop-moment-init : goal.loop-moment-init
-loop-moment-init c =
-    (tops_begin c.args.history.now c.new-tops.result c.new-tops.ensures.empty,
-    bars_begin c.args.history.now c.new-bars.result.items c.new-bars.ensures.items)
+loop-moment-init c = (
+  tops_begin c.args.history.now c.new-tops.result c.new-tops.ensures.empty,
+  bars_begin c.args.history.now c.new-bars.result.items c.new-bars.ensures.items,
+)
 
 pub newest_bar-requires : goal.newest_bar-requires
 newest_bar-requires c = c.loop-moment.invariant.0
