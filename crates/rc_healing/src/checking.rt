@@ -18,8 +18,21 @@ pub(crate) fn are_shown(messages: &[Message], served: &[Served]) -> bool
 pub(crate) fn is_shown(messages: &[Message], served: &Served) -> bool
     ensures { result ≡ spec.is_shown messages.now served.now }
 {
+    is_acknowledged(messages, served) && is_read(messages, served)
+}
+
+/// Whether one of these messages acknowledges it.
+fn is_acknowledged(messages: &[Message], served: &Served) -> bool
+    ensures { result ≡ spec.is_acknowledged messages.now served.now }
+{
     messages.iter().any(|message| acknowledges(served, message))
-        && messages.iter().any(|message| shows(served, message))
+}
+
+/// Whether one of these messages shows it.
+fn is_read(messages: &[Message], served: &Served) -> bool
+    ensures { result ≡ spec.is_read messages.now served.now }
+{
+    messages.iter().any(|message| shows(served, message))
 }
 
 /// Whether the tablet's owner acknowledges a write of its first key with the version.
