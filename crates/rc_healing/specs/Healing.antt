@@ -37,9 +37,17 @@ shows_in served from _ = false
 abbrev pub shows : Served → Message → Bool
 shows served message = shows_in served message.from message.body
 
--- both are among these messages
+-- one of these messages acknowledges it
+abbrev pub is_acknowledged : List Message → Served → Bool
+is_acknowledged messages served = list_any (acknowledges served) messages
+
+-- one of them shows it
+abbrev pub is_read : List Message → Served → Bool
+is_read messages served = list_any (shows served) messages
+
+-- both
 abbrev pub is_shown : List Message → Served → Bool
-is_shown messages served = list_any (acknowledges served) messages && list_any (shows served) messages
+is_shown messages served = is_acknowledged messages served && is_read messages served
 
 -- so is each of these
 abbrev pub are_shown : List Message → List Served → Bool

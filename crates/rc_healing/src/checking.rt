@@ -1,7 +1,6 @@
 //! What is said of a world that was healed is looked at once more, in the run.
 
 ghost use Rattle.std.specs.Prelude.{◌≡◌};
-ghost use Rattle.std.specs.List.{list_any};
 ghost use Rattle.rc_model.specs.Ids.{is_server};
 ghost use Rattle.rc_healing.specs.Healing as spec;
 
@@ -22,16 +21,16 @@ pub(crate) fn is_shown(messages: &[Message], served: &Served) -> bool
     is_acknowledged(messages, served) && is_read(messages, served)
 }
 
-/// Whether the write is acknowledged among these messages.
+/// Whether one of these messages acknowledges it.
 fn is_acknowledged(messages: &[Message], served: &Served) -> bool
-    ensures { result ≡ list_any (spec.acknowledges served.now) messages.now }
+    ensures { result ≡ spec.is_acknowledged messages.now served.now }
 {
     messages.iter().any(|message| acknowledges(served, message))
 }
 
-/// Whether a read shows it among these messages.
+/// Whether one of these messages shows it.
 fn is_read(messages: &[Message], served: &Served) -> bool
-    ensures { result ≡ list_any (spec.shows served.now) messages.now }
+    ensures { result ≡ spec.is_read messages.now served.now }
 {
     messages.iter().any(|message| shows(served, message))
 }

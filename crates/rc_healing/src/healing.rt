@@ -199,7 +199,8 @@ fn tried(
 {
     let apart = World::new(alloc, setup.try_clone(alloc)?, alloc);
     let before = play(alloc, apart, world.events())?;
-    play(alloc, before, trial)
+    let after = play(alloc, before, trial)?;
+    Ok(after)
 }
 
 /// What heals the world in which these events have happened.
