@@ -430,13 +430,9 @@ module _ (T : Option Asked → Bool) (none : T None ≡ false) where
       T (asked_in (codes "picture" ∷ rest)) ≡ false
   no_picture each rest = ap T (asked_picture rest) ∙ never _ _ (each _)
 
-  pub no_explain : ((code : Option ℕ) → T (Some (asked.Explain code)) ≡ false) → (rest : List Text) →
+  pub no_explain : ((word : Option Text) → T (Some (asked.Explain word)) ≡ false) → (rest : List Text) →
       T (asked_in (codes "explain" ∷ rest)) ≡ false
-  no_explain each rest = ap T (asked_explain rest) ∙ never _ _ (go _)
-    where
-      go : (o : Option (Option ℕ)) → T (option_map asked.Explain o) ≡ false
-      go None = none
-      go (Some code) = each code
+  no_explain each rest = ap T (asked_explain rest) ∙ never _ _ (each _)
 
   pub no_help : (rest : List Text) → T (asked_in (codes "help" ∷ rest)) ≡ false
   unfolding clap_on_literals
@@ -478,7 +474,7 @@ trace_only (word ∷ rest) h = by_command (λ w. is_trace (asked_in (w ∷ rest)
     (λ first last steps hosts factor segment free progress. refl) rest)))
     (λ e. absurd (true≢false (sym e ∙ no_log is_trace refl (λ json. refl) rest)))
     (λ e. absurd (true≢false (sym e ∙ no_picture is_trace refl (λ mermaid. refl) rest)))
-    (λ e. absurd (true≢false (sym e ∙ no_explain is_trace refl (λ code. refl) rest)))
+    (λ e. absurd (true≢false (sym e ∙ no_explain is_trace refl (λ word. refl) rest)))
     (λ e. absurd (true≢false (sym e ∙ no_shrink is_trace refl (λ keep. refl) rest)))
     (λ e. absurd (true≢false (sym e ∙ no_help is_trace refl rest)))
     (λ w no_name no_about e. absurd (true≢false (sym e ∙ no_other is_trace refl rest w no_name no_about))) word h
@@ -525,7 +521,7 @@ run_only (word ∷ rest) h = by_command (λ w. is_bare_run (asked_in (w ∷ rest
     (λ first last steps hosts factor segment free progress. refl) rest)))
     (λ e. absurd (true≢false (sym e ∙ no_log is_bare_run refl (λ json. refl) rest)))
     (λ e. absurd (true≢false (sym e ∙ no_picture is_bare_run refl (λ mermaid. refl) rest)))
-    (λ e. absurd (true≢false (sym e ∙ no_explain is_bare_run refl (λ code. refl) rest)))
+    (λ e. absurd (true≢false (sym e ∙ no_explain is_bare_run refl (λ word. refl) rest)))
     (λ e. absurd (true≢false (sym e ∙ no_shrink is_bare_run refl (λ keep. refl) rest)))
     (λ e. absurd (true≢false (sym e ∙ no_help is_bare_run refl rest)))
     (λ w no_name no_about e. absurd (true≢false (sym e ∙ no_other is_bare_run refl rest w no_name no_about))) word h
@@ -545,7 +541,7 @@ audit_only (word ∷ rest) h = by_command (λ w. is_audit (asked_in (w ∷ rest)
     (λ first last steps hosts factor segment free progress. refl) rest)))
     (λ e. absurd (true≢false (sym e ∙ no_log is_audit refl (λ json. refl) rest)))
     (λ e. absurd (true≢false (sym e ∙ no_picture is_audit refl (λ mermaid. refl) rest)))
-    (λ e. absurd (true≢false (sym e ∙ no_explain is_audit refl (λ code. refl) rest)))
+    (λ e. absurd (true≢false (sym e ∙ no_explain is_audit refl (λ word. refl) rest)))
     (λ e. absurd (true≢false (sym e ∙ no_shrink is_audit refl (λ keep. refl) rest)))
     (λ e. absurd (true≢false (sym e ∙ no_help is_audit refl rest)))
     (λ w no_name no_about e. absurd (true≢false (sym e ∙ no_other is_audit refl rest w no_name no_about))) word h
@@ -667,7 +663,7 @@ is_answer a b e = go a e
     go (asked.Shrink keep) e = ap (λ o. unwrap_or o b) e
     go (asked.Log json) e = ap (λ o. unwrap_or o b) e
     go (asked.Picture mermaid) e = ap (λ o. unwrap_or o b) e
-    go (asked.Explain code) e = ap (λ o. unwrap_or o b) e
+    go (asked.Explain word) e = ap (λ o. unwrap_or o b) e
 
 module _ (words : List Text) (a : Asked) (asks : as_command a ≡ asked_in words) where
   pub trace_told : (a ≡ asked.Trace) ↔ (is_alone (codes "trace") words ≡ true)

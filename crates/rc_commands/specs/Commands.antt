@@ -63,7 +63,7 @@ abbrev pub picture : App
 picture = with_rule (new_app (codes "picture")) (flag (codes "mermaid"))
 
 abbrev pub explain : App
-explain = with_rule (new_app (codes "explain")) (word (codes "code"))
+explain = with_rule (new_app (codes "explain")) (word (codes "word"))
 
 abbrev pub alone : App
 alone = on_top (λ top. record top { has_version = true; no_binary_name = true; subcommand_required = true })

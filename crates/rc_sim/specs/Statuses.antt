@@ -11,6 +11,7 @@ use Rattle.rc_sim.specs.declared.verdicts.Verdict.TheVariants.{Clean, Breach, Ba
 use Rattle.rc_sim.specs.declared.verdicts.SimFault.{SimFault}
 use Rattle.rc_sim.specs.declared.verdicts.SimFault.TheVariants.{Memory, Read, Write}
 use Rattle.rc_sim.specs.Verdicts.{Played, Narrated, Judged, Drawn, PowerCut, Threaded, Explored, Surveyed, Shrunk, Told}
+use Rattle.rc_sim.specs.Verdicts.{Worded}
 use Rattle.rc_sim.specs.Written.{IsWritten, IsBegun}
 
 abbrev pub verdict_status : Verdict → ℕ
@@ -59,7 +60,7 @@ ComesOf (asked.Survey first last steps hosts factor segment free progress) bytes
 ComesOf (asked.Shrink keep) bytes verdict text = Shrunk bytes verdict text
 ComesOf (asked.Log json) bytes verdict text = Narrated bytes verdict text
 ComesOf (asked.Picture mermaid) bytes verdict text = Narrated bytes verdict text
-ComesOf (asked.Explain code) bytes verdict text = Told verdict text
+ComesOf (asked.Explain word) bytes verdict text = Worded verdict text
 ComesOf (asked.Tell told) bytes verdict text = Told verdict text
 ComesOf (asked.Wrong told) bytes verdict text = ⊤
 
