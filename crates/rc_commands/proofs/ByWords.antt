@@ -492,13 +492,9 @@ module _ (T : Option Asked → Bool) (none : T None ≡ false) where
       T (asked_in (codes "heal" ∷ rest)) ≡ false
   no_heal each rest = ap T (asked_heal rest) ∙ never _ _ (each _)
 
-  pub no_explain : ((code : Option ℕ) → T (Some (asked.Explain code)) ≡ false) → (rest : List Text) →
+  pub no_explain : ((word : Option Text) → T (Some (asked.Explain word)) ≡ false) → (rest : List Text) →
       T (asked_in (codes "explain" ∷ rest)) ≡ false
-  no_explain each rest = ap T (asked_explain rest) ∙ never _ _ (go _)
-    where
-      go : (o : Option (Option ℕ)) → T (option_map asked.Explain o) ≡ false
-      go None = none
-      go (Some code) = each code
+  no_explain each rest = ap T (asked_explain rest) ∙ never _ _ (each _)
 
   pub no_help : (rest : List Text) → T (asked_in (codes "help" ∷ rest)) ≡ false
   unfolding clap_on_literals
@@ -540,7 +536,7 @@ trace_only (word ∷ rest) h = by_command (λ w. is_trace (asked_in (w ∷ rest)
     (λ first last steps hosts factor segment free progress. refl) rest)))
     (λ e. absurd (true≢false (sym e ∙ no_log is_trace refl (λ json. refl) rest)))
     (λ e. absurd (true≢false (sym e ∙ no_picture is_trace refl (λ mermaid. refl) rest)))
-    (λ e. absurd (true≢false (sym e ∙ no_explain is_trace refl (λ code. refl) rest)))
+    (λ e. absurd (true≢false (sym e ∙ no_explain is_trace refl (λ word. refl) rest)))
     (λ e. absurd (true≢false (sym e ∙ no_shrink is_trace refl (λ keep. refl) rest)))
     (λ e. absurd (true≢false (sym e ∙ no_heal is_trace refl (λ power_cycle. refl) rest)))
     (λ e. absurd (true≢false (sym e ∙ no_history is_trace refl refl rest)))
@@ -590,7 +586,7 @@ run_only (word ∷ rest) h = by_command (λ w. is_bare_run (asked_in (w ∷ rest
     (λ first last steps hosts factor segment free progress. refl) rest)))
     (λ e. absurd (true≢false (sym e ∙ no_log is_bare_run refl (λ json. refl) rest)))
     (λ e. absurd (true≢false (sym e ∙ no_picture is_bare_run refl (λ mermaid. refl) rest)))
-    (λ e. absurd (true≢false (sym e ∙ no_explain is_bare_run refl (λ code. refl) rest)))
+    (λ e. absurd (true≢false (sym e ∙ no_explain is_bare_run refl (λ word. refl) rest)))
     (λ e. absurd (true≢false (sym e ∙ no_shrink is_bare_run refl (λ keep. refl) rest)))
     (λ e. absurd (true≢false (sym e ∙ no_heal is_bare_run refl (λ power_cycle. refl) rest)))
     (λ e. absurd (true≢false (sym e ∙ no_history is_bare_run refl refl rest)))
@@ -613,7 +609,7 @@ audit_only (word ∷ rest) h = by_command (λ w. is_audit (asked_in (w ∷ rest)
     (λ first last steps hosts factor segment free progress. refl) rest)))
     (λ e. absurd (true≢false (sym e ∙ no_log is_audit refl (λ json. refl) rest)))
     (λ e. absurd (true≢false (sym e ∙ no_picture is_audit refl (λ mermaid. refl) rest)))
-    (λ e. absurd (true≢false (sym e ∙ no_explain is_audit refl (λ code. refl) rest)))
+    (λ e. absurd (true≢false (sym e ∙ no_explain is_audit refl (λ word. refl) rest)))
     (λ e. absurd (true≢false (sym e ∙ no_shrink is_audit refl (λ keep. refl) rest)))
     (λ e. absurd (true≢false (sym e ∙ no_heal is_audit refl (λ power_cycle. refl) rest)))
     (λ e. absurd (true≢false (sym e ∙ no_history is_audit refl refl rest)))
@@ -751,7 +747,7 @@ is_answer a b e = go a e
     go (asked.Log json) e = ap (λ o. unwrap_or o b) e
     go (asked.Picture mermaid) e = ap (λ o. unwrap_or o b) e
     go (asked.Heal power_cycle) e = ap (λ o. unwrap_or o b) e
-    go (asked.Explain code) e = ap (λ o. unwrap_or o b) e
+    go (asked.Explain word) e = ap (λ o. unwrap_or o b) e
     go asked.History e = ap (λ o. unwrap_or o b) e
     go asked.Check e = ap (λ o. unwrap_or o b) e
 

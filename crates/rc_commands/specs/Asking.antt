@@ -47,7 +47,6 @@ IsInRange (asked.Threads hosts writes) = (3 ≤ hosts) × (hosts ≤ 16) × (wri
 IsInRange (asked.Explore seed steps hosts factor segment free save progress) = IsSized steps hosts factor segment
 IsInRange (asked.Survey first last steps hosts factor segment free progress) =
     IsFew (first, last) × IsSized steps hosts factor segment
-IsInRange (asked.Explain code) = IsWithin 1 21 code
 IsInRange _ = ⊤
 
 -- ---- the command, as `clap` reads the words
@@ -145,17 +144,9 @@ picture_in rows = Some (asked.Picture (has_flag (codes "mermaid") rows))
 abbrev pub heal_in : List Row → Option Asked
 heal_in rows = Some (asked.Heal (has_flag (codes "power-cycle") rows))
 
--- the number of a code that is written as F and decimal digits
-abbrev pub code_in : Text → Option ℕ
-code_in [] = None
-code_in (first ∷ digits) = if nat_eq first (byte "F") then decimal_in 1 21 digits else None
-
--- the code that was given, if one was; None where it is no code
-abbrev pub code_given : List Row → Option (Option ℕ)
-code_given rows = option_map_or (λ text. option_map Some (code_in text)) (first_of (codes "code") rows) (Some None)
-
+-- `explain` with the word that was given, if one was
 abbrev pub explain_in : List Row → Option Asked
-explain_in rows = option_map asked.Explain (code_given rows)
+explain_in rows = Some (asked.Explain (first_of (codes "word") rows))
 
 -- the command of this name, with what was given for its options; first of those that read nothing
 abbrev pub unread_in : Text → List Row → Option Asked
@@ -163,8 +154,7 @@ unread_in name rows =
     if bytes_eq name (codes "fuzz") then fuzz_in rows
     else (if bytes_eq name (codes "stops") then stops_in rows
     else (if bytes_eq name (codes "threads") then threads_in rows
-    else (if bytes_eq name (codes "explore") then explore_in rows
-    else (if bytes_eq name (codes "explain") then explain_in rows else None))))
+    else (if bytes_eq name (codes "explore") then explore_in rows else None)))
 
 -- a command that needs no memory of its own
 abbrev pub named_in : Text → List Row → Option Asked
@@ -180,7 +170,9 @@ named_in name rows =
     else unread_in name rows)))))))
 
 abbrev pub command_in : Text → List Row → Option Asked
-command_in name rows = if bytes_eq name (codes "shrink") then shrink_in rows else named_in name rows
+command_in name rows =
+    if bytes_eq name (codes "shrink") then shrink_in rows
+    else (if bytes_eq name (codes "explain") then explain_in rows else named_in name rows)
 
 -- nothing, where `clap` finds a fault in the words
 abbrev pub where_taken : Kinds → Option Asked → Option Asked

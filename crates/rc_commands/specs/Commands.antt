@@ -66,7 +66,7 @@ abbrev pub heal : App
 heal = with_rule (new_app (codes "heal")) (flag (codes "power-cycle"))
 
 abbrev pub explain : App
-explain = with_rule (new_app (codes "explain")) (word (codes "code"))
+explain = with_rule (new_app (codes "explain")) (word (codes "word"))
 
 abbrev pub history : App
 history = new_app (codes "history")

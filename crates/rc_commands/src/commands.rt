@@ -339,20 +339,20 @@ fn heal<'a>(alloc: Global) -> Result<Command<'a>, AllocError>
     ))
 }
 
-/// `explain` with the code that it explains.
+/// `explain` with the word that it explains.
 fn explain<'a>(alloc: Global) -> Result<Command<'a>, AllocError>
     ensures { IfOk result (IsBuiltAs spec.explain) }
 {
     command(
         alloc,
         "explain",
-        "Says what a code of a refusal or a fault means, when it comes, and what to do",
+        "Says what a code, a message, an event or a rule is, and what to do about it",
         "Example: ramseg explain F18",
     )
     .arg(
-        Arg::new(alloc, "code")
-            .value_name("CODE")
-            .help("The code, as F18; if not given, all codes are listed"),
+        Arg::new(alloc, "word").value_name("WORD").help(
+            "A code, as F18 or 18, or a name; if not given, all are listed",
+        ),
     )
 }
 

@@ -11,7 +11,7 @@ use Rattle.rc_sim.specs.declared.verdicts.Verdict.TheVariants.{Clean, Breach, Ba
 use Rattle.rc_sim.specs.declared.verdicts.SimFault.{SimFault}
 use Rattle.rc_sim.specs.declared.verdicts.SimFault.TheVariants.{Memory, Read, Write}
 use Rattle.rc_sim.specs.Verdicts.{Played, Narrated, Judged, Drawn, PowerCut, Threaded, Explored, Surveyed}
-use Rattle.rc_sim.specs.Verdicts.{Shrunk, Healed, Told}
+use Rattle.rc_sim.specs.Verdicts.{Shrunk, Healed, Told, Worded}
 use Rattle.rc_sim.specs.Histories.{Checked}
 use Rattle.rc_sim.specs.Written.{IsWritten, IsBegun}
 
@@ -64,7 +64,7 @@ ComesOf (asked.Shrink keep) bytes verdict text = Shrunk bytes verdict text
 ComesOf (asked.Log json) bytes verdict text = Narrated bytes verdict text
 ComesOf (asked.Picture mermaid) bytes verdict text = Narrated bytes verdict text
 ComesOf (asked.Heal power_cycle) bytes verdict text = Healed bytes verdict text
-ComesOf (asked.Explain code) bytes verdict text = Told verdict text
+ComesOf (asked.Explain word) bytes verdict text = Worded verdict text
 ComesOf (asked.Tell told) bytes verdict text = Told verdict text
 ComesOf (asked.Wrong told) bytes verdict text = ⊤
 

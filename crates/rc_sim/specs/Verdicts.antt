@@ -23,7 +23,7 @@ use Rattle.rc_threads.specs.Workload.{threads_setup}
 use Rattle.rc_sim.specs.declared.verdicts.Output.{Output}
 use Rattle.rc_sim.specs.declared.verdicts.Output.TheVariants.{Report, Trace}
 use Rattle.rc_sim.specs.declared.verdicts.Verdict.{Verdict}
-use Rattle.rc_sim.specs.declared.verdicts.Verdict.TheVariants.{Clean, Breach, Bad, Stopped, NoLine}
+use Rattle.rc_sim.specs.declared.verdicts.Verdict.TheVariants.{Clean, Breach, Bad, Stopped, NoLine, Wrong}
 
 -- what the audit found
 abbrev pub audited : Option Found → Verdict
@@ -171,6 +171,10 @@ cuts_text cuts breaches = count_line (codes "cuts ") cuts ++ count_line (codes "
 abbrev pub PowerCut : ℕ → ℕ → Verdict → List ℕ → Type 0
 PowerCut seed steps verdict text = (verdict ≡ Clean) × (text ≡ cuts_text (3 * length (drawn seed steps false)) 0)
 
--- help, the version, or what codes mean: nothing is claimed of the text
+-- what a word means, of which nothing is claimed; or, where it names nothing, no text
+abbrev pub Worded : Verdict → List ℕ → Type 0
+Worded verdict text = (verdict ≡ Clean) ⊎ ((verdict ≡ Wrong) × (text ≡ []))
+
+-- help, or the version: nothing is claimed of the text
 abbrev pub Told : Verdict → List ℕ → Type 0
 Told verdict text = verdict ≡ Clean

@@ -16,6 +16,7 @@ ghost use Rattle.rc_sim.specs.Written.{IsWritten, IsBegun};
 
 use crate::counted::Counted;
 use crate::drawing::{cut_powers, fuzz};
+use crate::explaining::explained;
 use crate::exploring::explore;
 use crate::healing::heal;
 use crate::histories::weigh_history;
@@ -23,13 +24,14 @@ use crate::narrating::{Telling, narrate};
 use crate::outlets::write_all;
 use crate::playing::{Kept, play, weigh};
 use crate::shrinking::shrink;
+use crate::staking::tell_stake_of_drawn;
 use crate::surveying::survey;
 use crate::telling::tell_why;
 use crate::threading::threads;
 use crate::verdicts::{Output, SimFault, Verdict};
 use linked_list_allocator::LocalHeap;
 use rc_commands::{Asked, asked_for};
-use rc_reasons::{Dialect, explain};
+use rc_reasons::Dialect;
 use rc_study::Options;
 use std::alloc::{Allocator, Global};
 use std::io::{Read, Write};
@@ -105,7 +107,10 @@ fn done<H: thread::Threads + Wait + Sync, R: Read, W: Write, E: Write>(
         Asked::Fuzz { seed, steps, free } => {
             fuzz(alloc, seed, steps as usize, free, writer, errors)
         }
-        Asked::Stops { seed, steps } => cut_powers(alloc, seed, steps as usize, writer),
+        Asked::Stops { seed, steps } => {
+            tell_stake_of_drawn(alloc, seed, steps as usize, errors);
+            cut_powers(alloc, seed, steps as usize, writer)
+        }
         Asked::Threads { hosts, writes } => threads(rt, alloc, hosts, writes, writer),
         Asked::Explore {
             seed,
@@ -153,7 +158,7 @@ fn done<H: thread::Threads + Wait + Sync, R: Read, W: Write, E: Write>(
             narrated(alloc, Telling::of_picture(mermaid), reader, writer, errors)
         }
         Asked::Heal { power_cycle } => healed(alloc, power_cycle, reader, writer, errors),
-        Asked::Explain { code } => explained(alloc, code, writer),
+        Asked::Explain { word } => explained(alloc, word, writer, errors),
         Asked::Tell(text) => tell(text.as_str(), writer),
         Asked::Wrong(text) => Ok(refused(text.as_str(), errors)),
     }
@@ -298,27 +303,7 @@ fn healed<R: Read, W: Write, E: Write>(
     outcome
 }
 
-/// Writes what a code means, or what all codes mean.
-fn explained<W: Write>(
-    alloc: Global,
-    code: Option<u8>,
-    writer: &mut Counted<W>,
-) -> Result<Verdict, SimFault>
-    ensures ok { IfOk result (λ verdict.
-        IsWritten Told verdict (W.contents writer.old.inner) (W.contents writer.new.inner)) }
-    ensures cut_short { (count : ℕ) → result ≡ Err (WriteFailed count) →
-        IsBegun Told count (W.contents writer.old.inner) (W.contents writer.new.inner) }
-    ensures nothing_without_memory { result ≡ Err Memory →
-        Keeps (W.contents writer.old.inner) (W.contents writer.new.inner) }
-    ensures writes { writer.new.failures ≡ failed_writes result writer.old.failures }
-    ensures unread { result ≢ Err ReadFailed }
-    ensures no_breach { result ≢ Ok Breach }
-{
-    let text = explain(alloc, code)?;
-    tell(text.as_str(), writer)
-}
-
-/// Writes a text: help, the version, or what codes mean.
+/// Writes a text: help, or the version.
 fn tell<W: Write>(text: &str, writer: &mut Counted<W>) -> Result<Verdict, SimFault>
     ensures ok { IfOk result (λ verdict.
         IsWritten Told verdict (W.contents writer.old.inner) (W.contents writer.new.inner)) }
