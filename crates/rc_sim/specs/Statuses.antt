@@ -52,7 +52,7 @@ ComesOf asked.Trace bytes verdict text = Played Trace bytes verdict text
 ComesOf asked.Audit bytes verdict text = Judged bytes verdict text
 ComesOf (asked.Fuzz seed steps free) bytes verdict text = Drawn seed steps free verdict text
 ComesOf (asked.Stops seed steps) bytes verdict text = PowerCut seed steps verdict text
-ComesOf (asked.Threads hosts writes) bytes verdict text = Threaded verdict text
+ComesOf (asked.Threads hosts writes) bytes verdict text = Threaded hosts writes verdict text
 ComesOf (asked.Explore seed steps hosts factor segment free save progress) bytes verdict text =
     Explored save verdict text
 ComesOf (asked.Survey first last steps hosts factor segment free progress) bytes verdict text = Surveyed verdict text
