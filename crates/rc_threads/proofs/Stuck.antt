@@ -55,6 +55,31 @@ can-deliver setup old found from number least f =
     ∙ both-true (node_can world (node_of f.message.to) (Take f.message)) (same_node (node_of f.message.to) name)
     (takes-can world (node_of f.message.to) f.message) mine)
 
+-- What is said of F18
+
+-- it is passed on
+pub bad-at : {B : Type 0} (P : Type 0) (r : Result B Fault) (fault : Fault) → r ≡ Err fault → (fault ≡ BadEvent → P) →
+    IfErr r (λ f. f ≡ BadEvent → P)
+bad-at P r fault is says = subst (λ x. IfErr x (λ f. f ≡ BadEvent → P)) (sym is) says
+
+-- more is said of it
+pub bad-then : {B : Type 0} (P Q : Type 0) (r : Result B Fault) → (P → Q) → IfErr r (λ f. f ≡ BadEvent → P) →
+    IfErr r (λ f. f ≡ BadEvent → Q)
+bad-then P Q (Ok x) more says = tt
+bad-then P Q (Err f) more says = λ bad. more (says bad)
+
+-- want of memory is another fault
+pub memory-not-bad : (P : Type 0) (fault : Fault) → fault ≡ OutOfMemory → fault ≡ BadEvent → P
+memory-not-bad P fault memory bad = absurd (other (sym memory ∙ bad))
+  where
+    other : OutOfMemory ≡ BadEvent → ⊥
+    other e = cc
+
+pub memory-alone : {B : Type 0} (P : Type 0) (r : Result B Fault) → IfErr r (λ f. f ≡ OutOfMemory) →
+    IfErr r (λ f. f ≡ BadEvent → P)
+memory-alone P (Ok x) memory = tt
+memory-alone P (Err f) memory = memory-not-bad P f memory
+
 -- A work that the node can't do
 
 -- what is said of a step that was refused
