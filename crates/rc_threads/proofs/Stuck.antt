@@ -1,7 +1,7 @@
 -- Why a seat can't go on.
 use Rattle.std.proofs.Common.{◌≡◌, ◌⊎◌, inl, inr, ℕ, Bool, true, false, ◌&&◌, take, length, List, [], ◌∷◌, ◌++◌, Option, Some, None}
 use Rattle.std.proofs.Common.{slice_get, refl, sym, ap, ◌∙◌, subst, arith}
-use Rattle.std.specs.Prelude.{Result, Ok, Err, IfErr, option_to_list, if◌then◌else◌}
+use Rattle.std.specs.Prelude.{Result, Ok, Err, IfErr, OnOk, option_to_list, if◌then◌else◌}
 use Rattle.rc_types.specs.declared.limits.TheConstants.{MAX_EVENTS}
 use Rattle.rc_types.specs.declared.events.Event.TheVariants as event
 use Rattle.rc_types.specs.declared.faults.Fault.TheVariants.{OutOfMemory, BadEvent}
@@ -18,7 +18,7 @@ use Rattle.rc_wire.specs.SeatView.{SeatData, node_name, world_at, node_at}
 use Rattle.rc_wire.specs.Calls.{Finds}
 use Rattle.rc_wire.specs.Works.{event_for, takes_if, can_do}
 use Rattle.rc_threads.specs.declared.steps.Step.{Step}
-use Rattle.rc_threads.specs.Runs.{Does, Progress, own_work, works_for}
+use Rattle.rc_threads.specs.Runs.{Does, Runs, Grows, Progress, own_work, works_for}
 use Rattle.rc_threads.specs.Ends.{GrowAll, CannotGoOn, SomeCannotGoOn, Ends, is_bad_event, joined}
 use Rattle.rc_threads.proofs.Found.{within-found, found-own}
 use Rattle.rc_threads.proofs.Turning.{starts-back}
@@ -109,6 +109,14 @@ refused-is-full setup old new given can (inl refused) =
     yes-no : true ≡ false → ⊥
     yes-no e = cc
 refused-is-full setup old new given can (inr full) = full
+
+-- what a thread says, from what its turns say
+pub ends-by : (setup : Setup) (old : SeatData) (steps : List Step) (outcome : Result (Unit {0}) Fault) (new : SeatData) →
+    OnOk outcome (Runs setup old (works_for old.name steps) new) → Grows old new →
+    IfErr outcome (λ f. (f ≡ OutOfMemory) ⊎ (f ≡ BadEvent)) →
+    IfErr outcome (λ f. f ≡ BadEvent → CannotGoOn setup old steps new) → Ends setup old steps outcome new
+ends-by setup old steps (Ok done) new runs grows told bad = runs
+ends-by setup old steps (Err f) new runs grows told bad = record { grows = grows; fault_is = told; bad = bad }
 
 -- Several seats
 

@@ -1,6 +1,7 @@
 //! The call that runs nodes on threads.
 
-ghost use Rattle.std.specs.Prelude.{◌≡◌, ◌⊎◌, true, false, All, None, IfOk, IfErr, OnOk, vec_capacity, vec_len};
+ghost use Rattle.std.specs.Prelude.{◌≡◌, ◌⊎◌, nat_eq, true, false, All, None, IfOk, IfErr, OnOk, vec_capacity, vec_len};
+ghost use Rattle.rc_journal.specs.Names.{number_of};
 ghost use Rattle.rc_types.specs.declared.faults.Fault.TheVariants.{OutOfMemory, BadEvent};
 ghost use Rattle.rc_threads.specs.Runs.{none_fetched};
 ghost use Rattle.rc_threads.specs.Ends.{IsIdle, RunAll, GrowAll, Ends, SomeCannotGoOn, is_seated, all_seated, joined};
@@ -9,7 +10,7 @@ use crate::board::{Board, Hint, Stop};
 use crate::gate::Gate;
 use crate::seats::run_seat;
 use crate::steps::Step;
-use rc_journal::Naming;
+use rc_journal::{Naming, SeatName};
 use rc_types::Fault;
 use rc_wire::{Seat, Wire};
 use std::alloc::{AllocError, Global};
@@ -78,11 +79,16 @@ fn is_seated<N: Naming>(seats: &[Seat<N>], step: &Step) -> bool
     ensures { result ≡ is_seated seats.now step.now }
 {
     match step {
-        Step::Do(name, _) => seats
-            .iter()
-            .any(|seat| seat.name().number() == name.number()),
+        Step::Do(name, _) => seats.iter().any(|seat| is_seat_of(seat, *name)),
         Step::Settle => true,
     }
+}
+
+/// Whether it is the seat of this name.
+fn is_seat_of<N: Naming>(seat: &Seat<N>, who: SeatName) -> bool
+    ensures { result ≡ nat_eq (number_of seat.now.name) (number_of who) }
+{
+    seat.name().number() == who.number()
 }
 
 /// Runs the seats on threads of one scope.

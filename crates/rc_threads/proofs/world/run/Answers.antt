@@ -1,4 +1,5 @@
 use Rattle.rc_threads.proofs.Fetching.{opened-idle}
+use Rattle.rc_threads.proofs.Works.{works-done}
 use Rattle.rc_threads.proofs.world.run.Goals as goal
 
 pub run_nodes-requires-clause-idle : goal.run_nodes-requires-clause-idle
