@@ -25,7 +25,11 @@ pub(crate) fn call(alloc: Global) -> Result<(), Fault> {
         kept: Seq::new(alloc),
     };
     let events = vec![in alloc; start]?;
-    let world = match run(alloc, World::new(alloc, setup(alloc), alloc), events.as_slice()) {
+    let world = match run(
+        alloc,
+        World::new(alloc, setup(alloc), alloc),
+        events.as_slice(),
+    ) {
         Ok(world) => world,
         Err((_, _, fault)) => return Err(fault),
     };
