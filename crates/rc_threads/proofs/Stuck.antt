@@ -19,7 +19,7 @@ use Rattle.rc_wire.specs.Calls.{Finds}
 use Rattle.rc_wire.specs.Works.{event_for, takes_if, can_do}
 use Rattle.rc_threads.specs.declared.steps.Step.{Step}
 use Rattle.rc_threads.specs.Runs.{Does, Runs, Grows, Progress, own_work, works_for}
-use Rattle.rc_threads.specs.Ends.{GrowAll, CannotGoOn, SomeCannotGoOn, Ends, is_bad_event, joined}
+use Rattle.rc_threads.specs.Ends.{GrowAll, CannotGoOn, SomeCannotGoOn, Ends, is_bad_event, joined, all_seated}
 use Rattle.rc_threads.proofs.Found.{within-found, found-own}
 use Rattle.rc_threads.proofs.Turning.{starts-back}
 
@@ -189,3 +189,17 @@ pub told-back : (setup : Setup) (old : SeatData) (steps : List Step) (new : Seat
 told-back setup old steps new others outcome both told ends is =
     subst (λ r. IfErr r (λ f. (f ≡ OutOfMemory) ⊎ (f ≡ BadEvent))) (sym is)
     (told-joined others outcome told (ends-told setup old steps outcome new ends))
+
+-- Whether all works are those of seats that are there
+
+pub unseated-not : (seats shown : List SeatData) (steps : List Step) (answer : Bool) → shown ≡ seats →
+    answer ≡ all_seated shown steps → answer ≡ false → all_seated seats steps ≡ false
+unseated-not seats shown steps answer same is no = ap (λ l. all_seated l steps) (sym same) ∙ (sym is ∙ no)
+
+pub seated-not : (seats shown : List SeatData) (steps : List Step) (answer : Bool) → shown ≡ seats →
+    answer ≡ all_seated shown steps → answer ≡ true → all_seated seats steps ≡ false → ⊥
+seated-not seats shown steps answer same is yes no =
+    other (sym yes ∙ (is ∙ (ap (λ l. all_seated l steps) same ∙ no)))
+  where
+    other : true ≡ false → ⊥
+    other e = cc

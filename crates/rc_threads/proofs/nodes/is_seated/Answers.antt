@@ -10,6 +10,6 @@ use Rattle.rc_threads.proofs.nodes.is_seated.Goals as goal
 
 pub returns-in-Do : goal.returns-in-Do
 returns-in-Do g c =
-    any_from_yields_List (λ (seat : SeatData). nat_eq (number_of seat.name) (number_of c.in-Do.name.now)) _ _ _ c.any.ensures.ran
+    any_from_yields_List (λ (seat : SeatData). nat_eq (number_of seat.name) (number_of c.in-Do.name)) _ _ _ c.any.ensures.ran
     (YieldsList-from_slice c.args.seats.now cc) (λ x b q k. search (rules, tests))
     ∙ ap (λ (s : Step). is_seated c.args.seats.now s) (sym c.in-Do.is)

@@ -17,18 +17,18 @@ pub returns-in_err-do_until-in-Until-clause-bad : goal.returns-in_err-do_until-i
 returns-in_err-do_until-in-Until-clause-bad g c =
     let setup = g.N.Naming.wire.setup in
     let steps = c.args.steps.now in
-    let p = err_from_is_err_and c.from_residual-in-Until.result c.from_residual-in-Until.ensures.1 in
+    let p = err_from_is_err_and c.from_residual.result c.from_residual.ensures.1 in
     bad-at ((start : SeatData) → Progress setup start steps c.args.at c.args.from c.args.seat.now →
-    CannotGoOn setup start steps c.do_until-in-Until.new.seat)
-    c.from_residual-in-Until.result c.in_err-do_until-in-Until.field-0.0 (p.1 ∙ ap Err p.2)
+    CannotGoOn setup start steps c.do_until.new.seat)
+    c.from_residual.result c.in_err-do_until-in-Until.field-0.0 (p.1 ∙ ap Err p.2)
     (λ bad start q. c.in_err-do_until-in-Until.ensures.bad bad start c.args.from q)
 
 pub returns-in_err-from-in-Look-clause-bad : goal.returns-in_err-from-in-Look-clause-bad
 returns-in_err-from-in-Look-clause-bad g c =
     let setup = g.N.Naming.wire.setup in
     let steps = c.args.steps.now in
-    let p = err_from_is_err_and c.from_residual-in-Look.result c.from_residual-in-Look.ensures.1 in
+    let p = err_from_is_err_and c.from_residual-in_err-from-in-Look.result c.from_residual-in_err-from-in-Look.ensures.1 in
     bad-at ((start : SeatData) → Progress setup start steps c.args.at c.args.from c.args.seat.now →
-    CannotGoOn setup start steps c.deliver_rest-in-Look.new.seat)
-    c.from_residual-in-Look.result c.in_err-from-in-Look.field-0.0 (p.1 ∙ ap Err p.2)
+    CannotGoOn setup start steps c.deliver_rest.new.seat)
+    c.from_residual-in_err-from-in-Look.result c.in_err-from-in-Look.field-0.0 (p.1 ∙ ap Err p.2)
     (λ bad start q. inr (c.in_err-from-in-Look.ensures.bad bad))

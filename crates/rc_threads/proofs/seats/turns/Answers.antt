@@ -61,14 +61,14 @@ returns-in_err-done-clause-bad g c =
 pub returns-in_err-do_until-clause-bad : goal.returns-in_err-do_until-clause-bad
 returns-in_err-do_until-clause-bad g c =
     let start = c.args.seat.now in
-    let p = err_from_is_err_and c.from_residual.result c.from_residual.ensures.1 in
-    bad-at (CannotGoOn g.N.Naming.wire.setup start c.args.steps.now c.do_until.new.seat) c.from_residual.result
+    let p = err_from_is_err_and c.from_residual-in_err-do_until.result c.from_residual-in_err-do_until.ensures.1 in
+    bad-at (CannotGoOn g.N.Naming.wire.setup start c.args.steps.now c.do_until.new.seat) c.from_residual-in_err-do_until.result
     c.in_err-do_until.field-0.0 (p.1 ∙ ap Err p.2)
     (λ bad. c.in_err-do_until.ensures.bad bad start c.loop.from c.loop.invariant.kept)
 
 pub returns-in_err-deliver_rest-clause-bad : goal.returns-in_err-deliver_rest-clause-bad
 returns-in_err-deliver_rest-clause-bad g c =
     let start = c.args.seat.now in
-    let p = err_from_is_err_and c.from_residual.result c.from_residual.ensures.1 in
-    bad-at (CannotGoOn g.N.Naming.wire.setup start c.args.steps.now c.deliver_rest.new.seat) c.from_residual.result
+    let p = err_from_is_err_and c.from_residual-in_err-deliver_rest.result c.from_residual-in_err-deliver_rest.ensures.1 in
+    bad-at (CannotGoOn g.N.Naming.wire.setup start c.args.steps.now c.deliver_rest.new.seat) c.from_residual-in_err-deliver_rest.result
     c.in_err-deliver_rest.field-0.0 (p.1 ∙ ap Err p.2) (λ bad. inr (c.in_err-deliver_rest.ensures.bad bad))
