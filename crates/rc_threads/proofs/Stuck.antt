@@ -194,12 +194,12 @@ told-back setup old steps new others outcome both told ends is =
 
 pub unseated-not : (seats shown : List SeatData) (steps : List Step) (answer : Bool) → shown ≡ seats →
     answer ≡ all_seated shown steps → answer ≡ false → all_seated seats steps ≡ false
-unseated-not seats shown steps answer same is no = ap (λ l. all_seated l steps) (sym same) ∙ (sym is ∙ no)
+unseated-not seats shown steps answer same is test = ap (λ l. all_seated l steps) (sym same) ∙ (sym is ∙ test)
 
 pub seated-not : (seats shown : List SeatData) (steps : List Step) (answer : Bool) → shown ≡ seats →
     answer ≡ all_seated shown steps → answer ≡ true → all_seated seats steps ≡ false → ⊥
-seated-not seats shown steps answer same is yes no =
-    other (sym yes ∙ (is ∙ (ap (λ l. all_seated l steps) same ∙ no)))
+seated-not seats shown steps answer same is test unseated =
+    other (sym test ∙ (is ∙ (ap (λ l. all_seated l steps) same ∙ unseated)))
   where
     other : true ≡ false → ⊥
     other e = cc
