@@ -77,9 +77,11 @@ pub explored_is_none : (save : Bool) (verdict : Verdict) (text : List ℕ) → E
 explored_is_none true verdict text h = clean_is_none verdict h
 explored_is_none false verdict text h = clean_is_none verdict (h.2 ∙ world_is_clean Report h.0)
 
-pub threaded_is_none : (verdict : Verdict) (text : List ℕ) → Threaded verdict text → verdict ≢ Breach
-threaded_is_none verdict text (inl h) = clean_is_none verdict (h.2 ∙ world_is_clean Report h.0)
-threaded_is_none verdict text (inr h) = stopped_is_none verdict 0 BadEvent h.0
+pub threaded_is_none : (hosts writes : ℕ) (verdict : Verdict) (text : List ℕ) → Threaded hosts writes verdict text →
+    verdict ≢ Breach
+threaded_is_none hosts writes verdict text (inl h) = clean_is_none verdict (h.3 ∙ world_is_clean Report h.0)
+threaded_is_none hosts writes verdict text (inr h) =
+    stopped_is_none verdict (length (h.0).events) BadEvent h.2
 
 -- ---- a scenario
 

@@ -56,7 +56,7 @@ ComesOf asked.History bytes verdict text = Narrated bytes verdict text
 ComesOf asked.Check bytes verdict text = Checked bytes verdict text
 ComesOf (asked.Fuzz seed steps free) bytes verdict text = Drawn seed steps free verdict text
 ComesOf (asked.Stops seed steps) bytes verdict text = PowerCut seed steps verdict text
-ComesOf (asked.Threads hosts writes) bytes verdict text = Threaded verdict text
+ComesOf (asked.Threads hosts writes) bytes verdict text = Threaded hosts writes verdict text
 ComesOf (asked.Explore seed steps hosts factor segment free save progress) bytes verdict text =
     Explored save verdict text
 ComesOf (asked.Survey first last steps hosts factor segment free progress) bytes verdict text = Surveyed verdict text

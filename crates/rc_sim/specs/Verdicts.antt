@@ -1,5 +1,5 @@
 -- What comes of a scenario, a trace, drawn events, or nodes on threads: what is printed, and what is answered.
-use Rattle.std.specs.Prelude.{◌≡◌, ◌≢◌, ◌⊎◌, ◌≤◌, ◌*◌, ℕ, Bool, true, false, List, [], ◌++◌, length, codes}
+use Rattle.std.specs.Prelude.{◌≡◌, ◌≢◌, ◌⊎◌, ◌≤◌, ◌+◌, ◌*◌, ℕ, Bool, true, false, List, [], ◌++◌, length, codes}
 use Rattle.std.specs.Prelude.{Option, Some, None, Result, Ok, Err}
 use Rattle.rc_types.specs.declared.faults.Code.{Code}
 use Rattle.rc_types.specs.declared.faults.Code.TheVariants.{OutOfMemory, BadEvent}
@@ -19,7 +19,8 @@ use Rattle.rc_report.specs.declared.judging.Finding.TheVariants as finding
 use Rattle.rc_report.specs.Judged.{finding_of, text_of}
 use Rattle.rc_world.specs.Happened.{Happened, sent_in}
 use Rattle.rc_draw.specs.Draw.{drawn_world, drawn}
-use Rattle.rc_threads.specs.Workload.{threads_setup}
+use Rattle.rc_threads.specs.Workload.{threads_setup, workload}
+use Rattle.rc_threads.specs.Worked.{AllHaveWorked}
 use Rattle.rc_sim.specs.declared.verdicts.Output.{Output}
 use Rattle.rc_sim.specs.declared.verdicts.Output.TheVariants.{Report, Trace}
 use Rattle.rc_sim.specs.declared.verdicts.Verdict.{Verdict}
@@ -150,18 +151,22 @@ HealedOf (Err place) verdict text = (verdict ≡ Bad place) × (text ≡ error_l
 abbrev pub Healed : List ℕ → Verdict → List ℕ → Type 0
 Healed bytes verdict text = HealedOf (reading bytes) verdict text
 
--- the report of a world that has the setup of nodes on threads
-abbrev pub Reported : Verdict → List ℕ → Type 0
-Reported verdict text = (world : Happened) × (world.setup ≡ threads_setup) ×
+-- the report of a world in which so many hosts, on threads, have done the workload with so many writes: each node has
+-- taken its works in order, and else deliveries
+abbrev pub Reported : ℕ → ℕ → Verdict → List ℕ → Type 0
+Reported hosts writes verdict text = (world : Happened) × (world.setup ≡ threads_setup) ×
+    AllHaveWorked threads_setup world.events (workload hosts writes) (hosts + 2) ×
     (verdict ≡ audited (breach (sent_in world))) × (text ≡ report (sent_in world))
 
--- a node could not do a step: which one is not known
+-- a node could not take its next work: the report of what had happened by then, and where that was
 abbrev pub Unable : Verdict → List ℕ → Type 0
-Unable verdict text = (verdict ≡ Stopped 0 BadEvent) × (text ≡ codes "stopped F18\n")
+Unable verdict text = (world : Happened) × (world.setup ≡ threads_setup) ×
+    (verdict ≡ Stopped (length world.events) BadEvent) ×
+    (text ≡ report (sent_in world) ++ stopped_line BadEvent (length world.events))
 
 -- of nodes on threads
-abbrev pub Threaded : Verdict → List ℕ → Type 0
-Threaded verdict text = Reported verdict text ⊎ Unable verdict text
+abbrev pub Threaded : ℕ → ℕ → Verdict → List ℕ → Type 0
+Threaded hosts writes verdict text = Reported hosts writes verdict text ⊎ Unable verdict text
 
 -- the two lines of power failures
 abbrev pub cuts_text : ℕ → ℕ → List ℕ
