@@ -24,15 +24,19 @@ pub(crate) const NODES: usize = 4;
 /// The most steps whose messages leave at once.
 const MOST: usize = 4_096;
 
+/// So many moments long a process that has come back is the more likely to end.
+const SHAKY: u8 = 12;
+
 /// Four nodes in processes of their own, and the outside. What one knows of another has come as bytes. `told`, `sent`
 /// and `counts` are of whoever looks on: what each node has told, all messages that have ever left, for the audit, and
-/// what has happened.
+/// what has happened. `shaky` says for how many moments each process is the more likely to end.
 #[derive(Drop)]
 pub(crate) struct Cluster {
     nodes: [Node; NODES],
     outside: NodeState<Global>,
     network: Network,
     generations: [u32; HOSTS],
+    shaky: [u8; NODES],
     attempts: Vec<(u32, ServerId)>,
     told: [Told; NODES],
     pub(crate) client: Client,
@@ -55,6 +59,7 @@ impl Cluster {
             outside: NodeState::outside(alloc),
             network: Network::new(alloc),
             generations: [0; HOSTS],
+            shaky: [0; NODES],
             attempts: Vec::new(alloc),
             told: [
                 Told::new(alloc),
@@ -119,9 +124,17 @@ impl Cluster {
         Ok(())
     }
 
-    /// Whether the process ends right now, as few do: it is killed, or the power is cut.
+    /// Whether the process ends right now, as few do, but some of those that have just come back: it is killed, or the
+    /// power is cut.
     fn falls(&mut self, place: usize) -> bool {
-        if self.is_calm || !self.dice.once_in(600) {
+        let times = match self.shaky.get_mut(place) {
+            Some(left) if *left > 0 => {
+                *left -= 1;
+                40
+            }
+            _ => 600,
+        };
+        if self.is_calm || !self.dice.once_in(times) {
             return false;
         }
         self.crash(place);
@@ -157,10 +170,19 @@ impl Cluster {
         if self.falls(place) {
             return Ok(());
         }
-        if let Some(node) = self.nodes.get_mut(place) {
-            node.note_synced(count);
-        }
+        self.note_synced(place, count);
         self.leave(alloc, place)
+    }
+
+    /// The process is told how many bytes are safe, which are no more than it has given to be written.
+    fn note_synced(&mut self, place: usize, count: usize) {
+        let is_known = match self.nodes.get_mut(place) {
+            Some(node) => node.note_synced(count),
+            None => true,
+        };
+        if !is_known {
+            self.counts.damaged.count();
+        }
     }
 
     /// What may leave leaves.
@@ -186,12 +208,7 @@ impl Cluster {
     }
 
     /// These messages leave, and are noted.
-    fn send_all(
-        &mut self,
-        alloc: Global,
-        place: usize,
-        batch: Vec<Message>,
-    ) -> Result<(), Fault> {
+    fn send_all(&mut self, alloc: Global, place: usize, batch: Vec<Message>) -> Result<(), Fault> {
         for message in batch {
             self.look_on(place, &message)?;
             self.network.send(alloc, &message)?;
@@ -293,8 +310,10 @@ impl Cluster {
 
     /// A segment is freed, of which a backup need not know any more.
     fn note_free(&mut self, place: usize, message: &Message) {
-        if let (Body::Free { seg }, Some(told)) = (&message.body, self.told.get_mut(place)) {
-            told.free(message.from, *seg);
+        if let Body::Free { seg } = &message.body {
+            if let Some(told) = self.told.get_mut(place) {
+                told.free(message.from, *seg);
+            }
         }
     }
 
@@ -342,6 +361,9 @@ impl Cluster {
         if !self.knows_all(place) {
             self.counts.forgotten.count();
         }
+        if let Some(left) = self.shaky.get_mut(place) {
+            *left = SHAKY;
+        }
         if place < HOSTS {
             return self.start(alloc, place);
         }
@@ -359,7 +381,7 @@ impl Cluster {
         }
     }
 
-    /// A host is started.
+    /// A host is started, unless it runs.
     pub(crate) fn start(&mut self, alloc: Global, place: usize) -> Result<(), Fault> {
         let keeps = self.is_calm || !self.dice.once_in(40);
         let Some(node) = self.nodes.get_mut(place) else {
@@ -372,8 +394,10 @@ impl Cluster {
                 kept: Seq::new(alloc),
             })
         };
-        if let (Ok(()), Some(told)) = (&done, self.told.get_mut(place)) {
-            told.restart(keeps);
+        if done.is_ok() {
+            if let Some(told) = self.told.get_mut(place) {
+                told.restart(keeps);
+            }
         }
         self.note_generation(place);
         self.follow(alloc, place, done)

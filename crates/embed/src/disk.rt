@@ -33,7 +33,7 @@ impl File {
         self.synced = self.synced.min(length);
     }
 
-    /// The power is cut. What was not on the disk is gone, but for some bytes; there may be zeros in place of the others.
+    /// The power is cut. What was not on the disk is gone, but for some bytes. In place of the others may be zeros.
     fn lose(&mut self, dice: &mut Dice) {
         let torn = dice.below(self.unsynced().saturating_add(1));
         let kept = self.synced.saturating_add(torn);

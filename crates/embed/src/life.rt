@@ -86,7 +86,8 @@ fn step(alloc: Global, cluster: &mut Cluster) -> Result<(), Fault> {
         151..=160 => cluster.come_back(alloc, host),
         161..=168 => cluster.come_back(alloc, COORDINATOR),
         169..=172 => suspect(alloc, cluster, host),
-        173..=180 => sync(alloc, cluster),
+        173..=178 => sync(alloc, cluster),
+        179..=180 => cluster.start(alloc, host),
         _ => decide(alloc, cluster, host),
     }
 }

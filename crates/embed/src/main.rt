@@ -1,7 +1,7 @@
-//! Nodes that outlive their processes: three hosts and a coordinator, each in an `rc_process::Process`, and the outside,
-//! on a transport of bytes that loses, repeats and reorders. Processes are killed, and power is cut, at drawn moments:
-//! between any two of writing, syncing, letting leave, and the steps of a save. Their nodes come back from what is left
-//! of their journals then. `docs/EMBEDDING.md` walks through it.
+//! Nodes that outlive their processes: three hosts and a coordinator, each in an `rc_process::Process`, and the
+//! outside, on a transport of bytes that loses, repeats and reorders. Processes are killed, and power is cut, at drawn
+//! moments: between any two of writing, syncing, letting leave, and the steps of a save. Their nodes come back from
+//! what is left of their journals then. `docs/EMBEDDING.md` walks through it.
 //!
 //! `embed FIRST COUNT` runs so many seeds from the first on, and tells of each in a line what happened, counted from
 //! the works and the messages, what became of the table in the end, and what was wrong: what the audit of all messages

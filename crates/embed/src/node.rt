@@ -137,16 +137,19 @@ impl Node {
         self.disk.sync_second();
     }
 
-    /// Both are on the disk, so the process is told so.
-    pub(crate) fn note_synced(&mut self, count: usize) {
-        if let Some(process) = &mut self.process {
-            if process.safe() <= count && count <= process.written() {
-                process.synced(count);
-            }
-            if self.disk.stage() == Stage::Idle {
-                self.known = process.safe();
-            }
+    /// Both are on the disk, so the process is told so. Says whether it knows of so many bytes.
+    pub(crate) fn note_synced(&mut self, count: usize) -> bool {
+        let Some(process) = &mut self.process else {
+            return true;
+        };
+        if process.safe() > count || count > process.written() {
+            return false;
         }
+        process.synced(count);
+        if self.disk.stage() == Stage::Idle {
+            self.known = count;
+        }
+        true
     }
 
     /// What may leave now.

@@ -123,10 +123,11 @@ impl Outcome {
     }
 
     /// Whether nothing was wrong: the audit has found no breach, no read in the end missed what was acknowledged, no
-    /// node had forgotten what it told when it came back, and none found a journal without what was safe.
+    /// node had forgotten what it told when it came back, no journal had other bytes than its process meant, and the
+    /// table was served, or refused for a reason.
     pub(crate) fn is_right(&self) -> bool {
-        let forgotten = self.counts.forgotten.number == 0 && self.counts.damaged.number == 0;
-        self.is_clean && !self.has_lost && forgotten
+        let knows_all = self.counts.forgotten.number == 0 && self.counts.damaged.number == 0;
+        self.is_clean && !self.has_lost && knows_all && !matches!(self.ending, Ending::Stuck)
     }
 
     /// What is told of it.

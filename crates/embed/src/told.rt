@@ -119,11 +119,7 @@ impl Told {
     }
 
     /// A backup has answered in an attempt, so that the master is fenced there.
-    fn note_fence(
-        &mut self,
-        attempt: u32,
-        attempts: &[(u32, ServerId)],
-    ) -> Result<(), AllocError> {
+    fn note_fence(&mut self, attempt: u32, attempts: &[(u32, ServerId)]) -> Result<(), AllocError> {
         for (number, master) in attempts {
             if *number == attempt {
                 self.fenced.push(*master)?;

@@ -9,8 +9,8 @@ ghost use Rattle.rc_saves.specs.Saved.{saved_of};
 ghost use Rattle.rc_saves.specs.declared.faults.SaveFault.TheVariants.{Outside, OutOfMemory};
 ghost use Rattle.rc_saves.specs.Claims.{IsSaved, BeginsWithNoSave};
 ghost use Rattle.rc_files.specs.Standing.{node_next, node_given};
-ghost use Rattle.rc_process.specs.View.{IsBack, IsReplayed, IsUnloaded, IsTooShort, begun, process_seen, ended, end_written};
-ghost use Rattle.rc_process.specs.View.{given, written_down, whole_start};
+ghost use Rattle.rc_process.specs.View.{IsBack, IsReplayed, IsUnloaded, IsTooShort, begun, process_seen};
+ghost use Rattle.rc_process.specs.View.{ended, end_written, given, written_down, whole_start};
 ghost use Rattle.rc_process.specs.declared.faults.BackFault.TheVariants.{NoSave, TooShort, NoMemory, NoRoom};
 
 use crate::faults::BackFault;
@@ -31,6 +31,7 @@ impl<A: Allocator + Clone> Process<A> {
     ///
     /// `Outside`: the node is the outside, which keeps nothing. `OutOfMemory`: memory was refused. After either `out`
     /// is as before.
+    #[tactic(auto, using(crate::proofs::Coded::save_faults))]
     pub fn begin(
         alloc: Global,
         node: NodeState<A>,
@@ -58,9 +59,9 @@ impl<A: Allocator + Clone> Process<A> {
     ///
     /// # Errors
     ///
-    /// `NoSave`: the file begins with no save. `TooShort`: it does, but fewer bytes are good than were known to be safe.
-    /// After either the node has forgotten what others know, and must not start again. `NoMemory`: memory was refused.
-    /// `NoRoom`: the node's numbers do not suffice to give it its works again, or to stop it.
+    /// `NoSave`: the file begins with no save. `TooShort`: it does, but fewer bytes are good than were known to be
+    /// safe. After either the node has forgotten what others know, and must not start again. `NoMemory`: memory was
+    /// refused. `NoRoom`: the node's numbers do not suffice to give it its works again, or to stop it.
     pub fn come_back(
         alloc: Global,
         tablets: A,
@@ -89,19 +90,21 @@ impl<A: Allocator + Clone> Process<A> {
         }
     }
 
-    /// Starts a server on the host, with all open replicas that it still has: gives it the Start that names them. This is
-    /// what a new host is given first, and one that has come back.
+    /// Starts a server on the host, with all open replicas that it still has: gives it the Start that names them. This
+    /// is what a new host is given first, and one that has come back.
     ///
     /// # Errors
     ///
-    /// `NoRoom`: the host's numbers do not suffice for one more step. `BadEvent` (F18): a server runs there, or the node
-    /// is no host. `OutOfMemory` (F1): memory was refused. After each nothing has changed, and nothing is to be written.
+    /// `NoRoom`: the host's numbers do not suffice for one more step. `BadEvent` (F18): a server runs there, or the
+    /// node is no host. `OutOfMemory` (F1): memory was refused. After each nothing has changed, and nothing is to be
+    /// written.
     pub fn start(&mut self, out: &mut Vec<u8>) -> Result<(), StepFault>
         ensures taken { OnOk result (process_seen self.new ≡
             given (process_seen self.old) (whole_start (node_seen self.old.node))) }
         ensures written { OnOk result (out.new.items ≡
             out.old.items ++ written_down (node_seen self.old.node) (whole_start (node_seen self.old.node))) }
-        ensures possible { OnOk result (may_take (node_seen self.old.node) (whole_start (node_seen self.old.node)) ≡ true) }
+        ensures possible { OnOk result (
+            may_take (node_seen self.old.node) (whole_start (node_seen self.old.node)) ≡ true) }
         ensures full { (result ≡ Err NoRoomLeft) ↔ (NodeHasRoom (node_seen self.old.node) → ⊥) }
         ensures bad { result ≡ Err (Refused BadEvent) →
             may_take (node_seen self.old.node) (whole_start (node_seen self.old.node)) ≡ false }
@@ -121,10 +124,8 @@ impl<A: Allocator + Clone> Process<A> {
 }
 
 /// The start of a host with all open replicas that it has.
-fn whole_start<A: Allocator + Clone>(
-    alloc: Global,
-    node: &NodeState<A>,
-) -> Result<NodeWork, Fault>
+#[tactic(auto, using(crate::proofs::Coded::starts_whole, crate::proofs::Coded::starts_nothing))]
+fn whole_start<A: Allocator + Clone>(alloc: Global, node: &NodeState<A>) -> Result<NodeWork, Fault>
     ensures { IfOk result (λ work. work ≡ whole_start (node_seen node.now)) }
 {
     let Some(backup) = node.backup() else {

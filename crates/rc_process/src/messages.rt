@@ -24,11 +24,7 @@ impl<A: Allocator + Clone> Process<A> {
     ///
     /// `NoRoom`: the node's numbers do not suffice for one more step. `Malformed`: the bytes are no message.
     /// `NoMemory`: memory was refused. After each nothing has changed, and nothing is to be written.
-    pub fn give_message(
-        &mut self,
-        bytes: &[u8],
-        out: &mut Vec<u8>,
-    ) -> Result<Message, MessageFault>
+    pub fn give_message(&mut self, bytes: &[u8], out: &mut Vec<u8>) -> Result<Message, MessageFault>
         ensures coded { IfOk result (λ message. bytes.now ≡ coded_message message) }
         ensures taken { IfOk result (λ message.
             process_seen self.new ≡ given (process_seen self.old) (Deliver message)) }
@@ -84,6 +80,7 @@ impl<A: Allocator + Clone> Process<A> {
     }
 
     /// Adds the record of a delivery of the message of these bytes, if that is kept.
+    #[tactic(auto, using(crate::proofs::Coded::sealed_delivery))]
     fn write_bytes(
         &self,
         work: &NodeWork,
@@ -103,6 +100,7 @@ impl<A: Allocator + Clone> Process<A> {
 }
 
 /// The message that these bytes are.
+#[tactic(auto, using(crate::proofs::Coded::whole, crate::proofs::Coded::not_whole, crate::proofs::Coded::none_in))]
 fn message_in(alloc: Global, bytes: &[u8]) -> Result<Message, MessageFault>
     ensures coded { IfOk result (λ message. bytes.now ≡ coded_message message) }
     ensures malformed { result ≡ Err Malformed → IsNoMessage bytes.now }
@@ -121,8 +119,8 @@ fn message_in(alloc: Global, bytes: &[u8]) -> Result<Message, MessageFault>
     }
 }
 
-/// Adds the record of a delivery of the message of these bytes: in their frame a 1, for the version, and then the bytes,
-/// whose own version stands for the kind of the work, which is 1, too.
+/// Adds the record of a delivery of the message of these bytes: in their frame a 1, for the version, and then the
+/// bytes, whose own version stands for the kind of the work, which is 1, too.
 fn seal_delivery(alloc: Global, bytes: &[u8], out: &mut Vec<u8>) -> Result<(), AllocError>
     ensures ok { OnOk result (out.new.items ≡ out.old.items ++ sealed (1 ∷ bytes.now)) }
     ensures err { OnErr result (out.new.items ≡ out.old.items) }

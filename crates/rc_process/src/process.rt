@@ -267,6 +267,7 @@ impl<A: Allocator + Clone> Process<A> {
     ///
     /// `Outside`: the node is the outside, which keeps nothing. `OutOfMemory`: memory was refused. After either nothing
     /// has changed.
+    #[tactic(auto, using(crate::proofs::Coded::save_faults))]
     pub fn begin_save(&mut self, out: &mut Vec<u8>) -> Result<(), SaveFault>
         ensures saved { OnOk result (IsSaved self.old.node out.old.items out.new.items) }
         ensures outside { (result ≡ Err Outside) ↔ (saved_of self.old.node ≡ None) }

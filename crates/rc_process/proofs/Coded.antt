@@ -1,6 +1,6 @@
 -- A message that has come as bytes, the start of a host, and faults.
 use Rattle.std.proofs.Common.{◌≡◌, ℕ, ◌<◌, ◌≤◌, ◌⊎◌, inl, inr, List, [], ◌∷◌, ◌++◌, length, refl, sym, ap, ◌∙◌, arith, length-append}
-use Rattle.std.proofs.Common.{Result, Ok, Err, Option, Some, None}
+use Rattle.std.proofs.Common.{Result, Ok, Err, Some, None}
 use Rattle.std.proofs.lemmas.List.{append-nil}
 use Rattle.rc_types.specs.declared.events.NodeWork.{NodeWork}
 use Rattle.rc_types.specs.declared.events.NodeWork.TheVariants as work
@@ -9,7 +9,6 @@ use Rattle.rc_codec.specs.Claims.{DecodesFront, BeginsWithNone}
 use Rattle.rc_codec.specs.Spelling.{coded_message}
 use Rattle.rc_codec.specs.declared.faults.DecodeFault.{DecodeFault}
 use Rattle.rc_codec.specs.declared.faults.DecodeFault.TheVariants.{OutOfMemory as F1}
-use Rattle.rc_codec.proofs.Lawful.{some_is}
 use Rattle.rc_backup.specs.BackupView.{Holdings, backup_of}
 use Rattle.rc_model.specs.Backup.{open_names}
 use Rattle.rc_world.specs.NodeView.{NodeData, OutsideData, CoordinatorData, HostNodeData, node_seen, backup_in}
