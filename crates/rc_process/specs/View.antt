@@ -98,6 +98,11 @@ given process work = record {
 abbrev pub IsNoMessage : List ℕ → Type 0
 IsNoMessage bytes = (message : Message) → bytes ≡ coded_message message → ⊥
 
+-- the work is the delivery of a message
+abbrev pub IsDelivery : NodeWork → Type 0
+IsDelivery (work.Deliver message) = Unit {0}
+IsDelivery _ = ⊥
+
 -- the work is the delivery of the message of these bytes
 abbrev pub IsDeliveryOf : NodeWork → List ℕ → Type 0
 IsDeliveryOf (work.Deliver message) bytes = bytes ≡ coded_message message

@@ -5,7 +5,7 @@ ghost use Rattle.rc_types.specs.declared.events.NodeWork.TheVariants.{Deliver};
 ghost use Rattle.rc_codec.specs.Spelling.{coded_message};
 ghost use Rattle.rc_world.specs.NodeView.{node_seen, NodeHasRoom};
 ghost use Rattle.rc_keeping.specs.Spelling.{sealed};
-ghost use Rattle.rc_process.specs.View.{IsNoMessage, IsDeliveryOf, process_seen, written_down, given};
+ghost use Rattle.rc_process.specs.View.{IsNoMessage, IsDelivery, IsDeliveryOf, process_seen, written_down, given};
 ghost use Rattle.rc_process.specs.declared.faults.MessageFault.TheVariants.{Malformed, NoMemory, NoRoom};
 
 use crate::faults::MessageFault;
@@ -73,10 +73,7 @@ impl<A: Allocator + Clone> Process<A> {
             out.truncate(length);
             return Err(MessageFault::NoMemory);
         }
-        match work {
-            NodeWork::Deliver(message) => Ok(message),
-            _ => unreachable!(),
-        }
+        Ok(delivered(work))
     }
 
     /// Adds the record of a delivery of the message of these bytes, if that is kept.
@@ -129,4 +126,15 @@ fn seal_delivery(alloc: Global, bytes: &[u8], out: &mut Vec<u8>) -> Result<(), A
     code.push(1u8)?;
     code.extend_from_slice(bytes)?;
     seal(alloc, code.as_slice(), out)
+}
+
+/// The message of a delivery.
+fn delivered(work: NodeWork) -> Message
+    requires { IsDelivery work }
+    ensures { work ≡ Deliver result }
+{
+    match work {
+        NodeWork::Deliver(message) => message,
+        _other => unreachable!(),
+    }
 }
