@@ -31,7 +31,7 @@ impl SevunthiNode {
     }
 
     /// An empty one.
-    fn empty(alloc: Global) -> SevunthiNode
+    pub(crate) fn empty(alloc: Global) -> SevunthiNode
         ensures { result.full ≡ false }
     {
         let at: *mut u8 = null_mut();
