@@ -239,7 +239,11 @@ impl Coordinator {
         for tablet in self.core.node.tablets().unwrap_or_default() {
             let (lo, hi) = (tablet.lo / 2, tablet.hi / 2);
             let state = if tablet.crashed { "is being recovered from" } else { "is owned by" };
-            let _ = writeln!(text, "table {} keys {lo} to {hi} {state} {} term {}", tablet.table, tablet.owner, tablet.term);
+            let _ = writeln!(
+                text,
+                "table {} keys {lo} to {hi} {state} {} term {}",
+                tablet.table, tablet.owner, tablet.term
+            );
         }
         let info = self.core.node.info();
         let _ = writeln!(text, "journal {} bytes, {} safe, {} syncs", info.written, info.safe, self.core.journal.syncs);

@@ -29,9 +29,8 @@ impl Dice {
 }
 
 /// What may happen.
-const FAULTS: [&str; 10] = [
-    "kill", "kill", "kill coordinator", "stop", "power", "cut off", "mangle", "full", "failing sync", "save",
-];
+const FAULTS: [&str; 10] =
+    ["kill", "kill", "kill coordinator", "stop", "power", "cut off", "mangle", "full", "failing sync", "save"];
 
 /// Runs a storm: prints each fault, and leaves the records and the clients' history in the folder.
 pub fn run(options: &Options) -> Result<bool, String> {
@@ -193,10 +192,11 @@ impl Storm {
             self.start_ended()?;
             thread::sleep(Duration::from_millis(300));
         }
-        Ok((0..self.cluster.places()).for_each(|place| {
+        for place in 0..self.cluster.places() {
             self.fail(place, 3, 0);
             self.fail(place, 4, 0);
-        }))
+        }
+        Ok(())
     }
 }
 

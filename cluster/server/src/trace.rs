@@ -57,7 +57,11 @@ fn row(message: &[u8]) -> Option<String> {
         kind::PLACE => {
             let digest = u64_at(body, 4)? as usize;
             let entries = entries(body.get(12 + 2 * digest..)?)?;
-            format!(r#"{{"m":"place","from":{},"seg":{},"entries":{entries}}}"#, server(envelope.from)?, u16_at(body, 0)?)
+            format!(
+                r#"{{"m":"place","from":{},"seg":{},"entries":{entries}}}"#,
+                server(envelope.from)?,
+                u16_at(body, 0)?
+            )
         }
         kind::APPEND => format!(
             r#"{{"m":"append","from":{},"seg":{},"offset":{},"entries":{}}}"#,

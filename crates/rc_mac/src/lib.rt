@@ -1,5 +1,5 @@
-//! HMAC with SHA-256: a sum over a message that only who knows the key can make. Whoever reads it knows that the message
-//! came from somebody who has the key, and as it is.
+//! HMAC with SHA-256: a sum over a message that only who knows the key can make. Whoever reads it knows that the
+//! message came from somebody who has the key, and as it is.
 #![tactic(auto)]
 
 ghost use Rattle.std.specs.Prelude.{◌≡◌, ◌++◌, ◌≤◌, ◌-◌, length, replicate};

@@ -28,8 +28,8 @@ pub enum Leaving {
 }
 
 impl Session {
-    /// Lets what one step has sent leave: moves it to the front of the caller's bytes, each message behind its length in
-    /// four bytes, if they are enough. A step may have sent nothing, which takes no bytes. Call it until nothing may
+    /// Lets what one step has sent leave: moves it to the front of the caller's bytes, each message behind its length
+    /// in four bytes, if they are enough. A step may have sent nothing, which takes no bytes. Call it until nothing may
     /// leave.
     pub fn leave(&mut self, to: &mut [u8]) -> Leaving
         ensures left { IfLeft result (HasLeft (session_seen self.old) (session_seen self.new) to.old to.new) }

@@ -5,7 +5,8 @@
 //! answers: bytes that are nothing, too little room, a count that can't be, a call that comes too early.
 //!
 //! To be read in this order: `specs/View.antt`, a session as its contracts see it; `specs/Claims.antt`, what its calls
-//! promise; `session`, making one and giving it works and messages; `starting`; `leaving`, what may leave; `saving`; `looks`.
+//! promise; `session`, making one and giving it works and messages; `starting`; `leaving`, what may leave; `saving`;
+//! `looks`, `dues` and `info`.
 #![tactic(auto)]
 
 mod dues;

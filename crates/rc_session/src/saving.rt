@@ -24,8 +24,8 @@ impl Session {
     pub fn save(&mut self) -> Result<(), SessionFault>
         ensures saved { OnOk result (IsSaved self.old.process.node [] self.new.second) }
         ensures begun { OnOk result (session_seen self.new ≡ record (session_seen self.old) {
-            process = save_begun (session_seen self.old).process (length self.new.second);
-            second = self.new.second;
+          process = save_begun (session_seen self.old).process (length self.new.second);
+          second = self.new.second;
         }) }
         ensures refused { result ≡ Err fault.Refused → MaySave (session_seen self.old) → ⊥ }
         ensures may { OnOk result (MaySave (session_seen self.old)) }

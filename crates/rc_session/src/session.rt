@@ -226,7 +226,8 @@ impl Session {
     /// So many bytes of the journal's file are safe: they will be there after any crash. Says whether it is taken note
     /// of: it is not below what was safe, and not above what was taken of the file.
     pub fn synced(&mut self, count: usize) -> bool
-        ensures taken { IsTrue result → self.new ≡ record self.old { process = record self.old.process { safe = count } } }
+        ensures taken { IsTrue result → self.new ≡
+            record self.old { process = record self.old.process { safe = count } } }
         ensures within { IsTrue result ↔ ((self.old.process.safe ≤ count)
             × (count ≤ self.old.process.written - length self.old.journal)) }
         ensures same { result ≡ false → self.new ≡ self.old }
@@ -253,9 +254,5 @@ fn fault_of(fault: StepFault) -> SessionFault {
 fn are_within(index: u8, factor: u8, segment: u16) -> bool
     ensures { IsTrue result ↔ AreWithin index factor segment }
 {
-    index < MAX_HOSTS
-        && 0 < factor
-        && factor <= MAX_FACTOR
-        && 0 < segment
-        && segment <= MAX_SEGMENT
+    index < MAX_HOSTS && 0 < factor && factor <= MAX_FACTOR && 0 < segment && segment <= MAX_SEGMENT
 }

@@ -102,15 +102,15 @@ pub extern "C" fn sevunthi_synced(alloc: Global, node: &mut SevunthiNode, count:
 }
 
 /// Begins a save, which is to be the second file: `sevunthi_take_second` gives it. From now on what
-/// `sevunthi_take_journal` gives belongs at the end of both files. Refused while something has to be added to the journal
-/// first, or a save was begun.
+/// `sevunthi_take_journal` gives belongs at the end of both files. Refused while something has to be added to the
+/// journal first, or a save was begun.
 #[unsafe(no_mangle)]
 pub extern "C" fn sevunthi_save(alloc: Global, node: &mut SevunthiNode) -> u32
     ensures saved { result ≡ 0 →
         IsSaved node.old.cell.session.process.node [] node.new.cell.session.second }
     ensures begun { result ≡ 0 → session_seen node.new.cell.session ≡ record (session_seen node.old.cell.session) {
-        process = save_begun (session_seen node.old.cell.session).process (length node.new.cell.session.second);
-        second = node.new.cell.session.second;
+      process = save_begun (session_seen node.old.cell.session).process (length node.new.cell.session.second);
+      second = node.new.cell.session.second;
     } }
     ensures refused { result ≡ 4 → MaySave (session_seen node.old.cell.session) → ⊥ }
     ensures same { (result ≡ 0 → ⊥) → node.old.full ≡ true →

@@ -101,11 +101,7 @@ fn shown(info: Info) -> SevunthiInfo
 }
 
 /// Copies bytes to the front of the caller's, if these are enough; or answers why there are none.
-fn give_out(
-    found: Result<Vec<u8>, SessionFault>,
-    to: &mut [u8],
-    needed: &mut usize,
-) -> u32
+fn give_out(found: Result<Vec<u8>, SessionFault>, to: &mut [u8], needed: &mut usize) -> u32
     ensures given { result ≡ 0 → IfOk found (λ code. IsGiven code.items to.old to.new needed.new) }
     ensures some { result ≡ 0 → IsOk found }
     ensures number { result ≡ 2 → ⊥ }
@@ -125,8 +121,8 @@ fn give_out(
     DONE
 }
 
-/// The coordinator's tablets, in order of table and first key: how many there are, in eight bytes, and of each table, first
-/// key, last key, owner, term, and whether the owner has crashed.
+/// The coordinator's tablets, in order of table and first key: how many there are, in eight bytes, and of each table,
+/// first key, last key, owner, term, and whether the owner has crashed.
 #[unsafe(no_mangle)]
 pub extern "C" fn sevunthi_tablets(
     alloc: Global,
@@ -179,8 +175,8 @@ pub extern "C" fn sevunthi_servers(
     give_out(found, to, needed)
 }
 
-/// What is due at the coordinator, for who was heard lately, who was silent for longer than one waits, and which owners are
-/// stuck: each list is how many there are, in eight bytes, and the ids. Each due takes seven bytes: a Suspect and a
+/// What is due at the coordinator, for who was heard lately, who was silent for longer than one waits, and which owners
+/// are stuck: each list is how many there are, in eight bytes, and the ids. Each due takes seven bytes: a Suspect and a
 /// Decide are coded as works, to be given to the node; a Restart as a Stop with the id of the server that has to be
 /// started anew.
 #[unsafe(no_mangle)]

@@ -31,8 +31,9 @@ fn put_in(alloc: Global, node: &mut SevunthiNode, session: Session) -> u32
     }
 }
 
-/// The coordinator, before anything has happened, in an empty place. What `sevunthi_take_journal` gives is the whole file
-/// to begin with, and has to be safe before the node is given anything. It is called once, when the cluster is set up.
+/// The coordinator, before anything has happened, in an empty place. What `sevunthi_take_journal` gives is the whole
+/// file to begin with, and has to be safe before the node is given anything. It is called once, when the cluster is set
+/// up.
 #[unsafe(no_mangle)]
 pub extern "C" fn sevunthi_coordinator(alloc: Global, node: &mut SevunthiNode) -> u32
     ensures new { result ≡ 0 → IsFirst (TheCoordinator new_coordinator) node.new.cell.session }

@@ -6,12 +6,12 @@ ghost use Rattle.rc_session.specs.View.{session_seen};
 ghost use Rattle.rc_session.specs.Claims.{IsInHand, HasLeft, HasNoRoom};
 
 use crate::handle::SevunthiNode;
-use crate::numbers::{DONE, MISUSED, NOTHING, NO_MEMORY, NO_ROOM};
+use crate::numbers::{DONE, MISUSED, NO_MEMORY, NO_ROOM, NOTHING};
 use rc_session::Leaving;
 use std::alloc::Global;
 
-/// Moves what has to be added to the journal's file to the front of the caller's bytes, if these are enough. `needed` is
-/// how many bytes it takes.
+/// Moves what has to be added to the journal's file to the front of the caller's bytes, if these are enough. `needed`
+/// is how many bytes it takes.
 #[unsafe(no_mangle)]
 pub extern "C" fn sevunthi_take_journal(
     alloc: Global,
@@ -39,8 +39,8 @@ pub extern "C" fn sevunthi_take_journal(
     if is_taken { DONE } else { NO_ROOM }
 }
 
-/// Moves the second file of a save that was begun to the front of the caller's bytes, if these are enough. `needed` is how
-/// many bytes it takes.
+/// Moves the second file of a save that was begun to the front of the caller's bytes, if these are enough. `needed` is
+/// how many bytes it takes.
 #[unsafe(no_mangle)]
 pub extern "C" fn sevunthi_take_second(
     alloc: Global,
@@ -68,9 +68,9 @@ pub extern "C" fn sevunthi_take_second(
     if is_taken { DONE } else { NO_ROOM }
 }
 
-/// Lets what one step has sent leave: moves it to the front of the caller's bytes, each message behind its length in four
-/// bytes, the least first. `needed` is how many bytes it takes; a step may have sent nothing. Call it until it answers
-/// that nothing may leave now.
+/// Lets what one step has sent leave: moves it to the front of the caller's bytes, each message behind its length in
+/// four bytes, the least first. `needed` is how many bytes it takes; a step may have sent nothing. Call it until it
+/// answers that nothing may leave now.
 #[unsafe(no_mangle)]
 pub extern "C" fn sevunthi_leave(
     alloc: Global,
