@@ -20,15 +20,17 @@ impl Dice {
                 0 if !bytes.is_empty() => bytes[at] ^= 1 << self.below(8),
                 1 if !bytes.is_empty() => bytes[at] = [0, 1, 255, 2][self.below(4)],
                 2 => bytes.truncate(at),
-                _ => bytes.extend_from_slice(&bytes[at..].to_vec()),
+                _ => bytes.extend_from_within(at..),
             }
         }
         bytes
     }
 }
 
+type Bytes = Vec<Vec<u8>>;
+
 /// What a cluster in one process has sent, and the journals that it has written.
-fn seen() -> Result<(Vec<Vec<u8>>, Vec<Vec<u8>>), Fault> {
+fn seen() -> Result<(Bytes, Bytes), Fault> {
     let host = |index| Node::host(Shape { index, factor: 2, segment: 4, free: true });
     let mut nodes = [host(0)?, host(1)?, host(2)?, Node::coordinator()?];
     let (mut sent, mut journals, mut next) = (Vec::new(), vec![Vec::new(); 4], 0);

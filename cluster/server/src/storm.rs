@@ -53,7 +53,7 @@ pub fn run(options: &Options) -> Result<bool, String> {
     let clients: Vec<_> = (0..CLIENTS)
         .map(|number| {
             let (target, ends, history) = (target.clone(), Arc::clone(&ends), Arc::clone(&history));
-            thread::spawn(move || live(number, seed, target, began, &ends, &history))
+            thread::spawn(move || live(number, seed, target, &ends, &history))
         })
         .collect();
     let mut storm = Storm { cluster, dice: Dice(seed ^ 0x5eed), client, began, faults: 0 };
@@ -73,7 +73,7 @@ pub fn run(options: &Options) -> Result<bool, String> {
         "seed {seed}: {} faults, {} writes, {} reads, {} unknown, longest gap {} ms",
         storm.faults, done.writes, done.reads, done.unknown, done.gap
     );
-    Ok(done.gap <= options.get("--gap", 6000)?)
+    Ok(done.gap <= options.get("--gap", 3000)?)
 }
 
 struct Storm {
@@ -219,8 +219,9 @@ impl Lived {
     }
 }
 
-/// A client writes and reads until it is told to end, and notes each call and its answer.
-fn live(number: u64, seed: u64, target: Target, began: Instant, ends: &AtomicBool, history: &Mutex<String>) -> Lived {
+/// A client writes and reads until it is told to end, and notes each invocation and its response, as `ramseg check` reads
+/// them. Each operation has a process number of its own.
+fn live(number: u64, seed: u64, target: Target, ends: &AtomicBool, history: &Mutex<String>) -> Lived {
     let mut dice = Dice(seed.wrapping_mul(31).wrapping_add(number));
     let mut client = Client::new(target);
     client.wait = Duration::from_millis(800);
@@ -230,37 +231,53 @@ fn live(number: u64, seed: u64, target: Target, began: Instant, ends: &AtomicBoo
         let key = dice.below(KEYS);
         count += 1;
         let value = format!("{number}-{count}");
-        let what = ["get", "put", "put", "delete"][dice.below(4).min(3) as usize];
-        let from = began.elapsed().as_nanos();
+        let what = ["get", "put", "put", "delete"][dice.below(4) as usize];
+        let process = count * CLIENTS + number;
+        let f = if what == "get" { "read" } else { "write" };
+        let given = if what == "put" { text(Some(value.as_bytes())) } else { "null".into() };
+        note(history, process, "invoke", f, key, &format!("\"value\":{given}"));
         let outcome = match what {
             "get" => client.get(TABLE, key),
             "put" => client.put(TABLE, key, value.as_bytes()),
             _ => client.delete(TABLE, key),
         };
-        let to = began.elapsed().as_nanos();
-        let said = match &outcome {
-            Outcome::Written(version) => format!("ok {version} -"),
+        let (kind, more) = match &outcome {
+            Outcome::Written(version) => ("ok", format!("\"value\":{given},\"version\":{version}")),
             Outcome::Read(version, read) => {
-                format!("ok {version} {}", read.as_ref().map_or("-".into(), |read| String::from_utf8_lossy(read)))
+                ("ok", format!("\"value\":{},\"version\":{version}", text(read.as_deref())))
             }
-            Outcome::Unknown => "unknown 0 -".into(),
-            Outcome::Refused(_) => "refused 0 -".into(),
+            Outcome::Unknown => ("info", format!("\"value\":{given}")),
+            Outcome::Refused(_) => ("fail", format!("\"value\":{given}")),
         };
+        note(history, process, kind, f, key, &more);
         match &outcome {
             Outcome::Written(_) => lived.writes += 1,
             Outcome::Read(..) => lived.reads += 1,
             _ => lived.unknown += 1,
         }
-        if matches!(outcome, Outcome::Written(_) | Outcome::Read(..)) {
+        if kind == "ok" {
             lived.gap = lived.gap.max(last.elapsed().as_millis());
             last = Instant::now();
-        }
-        let given = if what == "put" { value.as_str() } else { "-" };
-        if let Ok(mut history) = history.lock() {
-            let _ = writeln!(history, "{number} {what} {key} {given} {from} {to} {said}");
         }
         thread::sleep(Duration::from_millis(2 + dice.below(10)));
     }
     lived.gap = lived.gap.max(last.elapsed().as_millis());
     lived
+}
+
+/// A value in hexadecimal, in quotes, or null.
+fn text(value: Option<&[u8]>) -> String {
+    value.map_or("null".into(), |value| {
+        let digits = value.iter().map(|byte| format!("{byte:02x}")).collect::<String>();
+        format!("\"{digits}\"")
+    })
+}
+
+/// Adds a line to the history.
+fn note(history: &Mutex<String>, process: u64, kind: &str, f: &str, key: u64, more: &str) {
+    if let Ok(mut history) = history.lock() {
+        let key = format!("\"{TABLE}/{key}\"");
+        let line = format!("\"process\":{process},\"type\":\"{kind}\",\"f\":\"{f}\",\"key\":{key},{more}");
+        let _ = writeln!(history, "{{{line}}}");
+    }
 }
