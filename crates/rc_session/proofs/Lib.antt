@@ -1,1 +1,1 @@
-mod Wholes
+pub mod Wholes

@@ -18,7 +18,6 @@ use std::alloc::Global;
 /// # Errors
 ///
 /// `Malformed`: they are none, or one and more. `OutOfMemory`: memory was refused.
-#[tactic(auto, using(crate::proofs::Wholes::whole_is, crate::proofs::Wholes::shorter_is_not))]
 pub(crate) fn whole_work(alloc: Global, bytes: &[u8]) -> Result<NodeWork, DecodeFault>
     ensures coded { IfOk result (λ work. bytes.now ≡ coded_work work) }
     ensures found { (work : Given) → bytes.now ≡ coded_work work →
@@ -42,7 +41,6 @@ pub(crate) fn whole_work(alloc: Global, bytes: &[u8]) -> Result<NodeWork, Decode
 /// # Errors
 ///
 /// `Malformed`: they are none, or one and more. `OutOfMemory`: memory was refused.
-#[tactic(auto, using(crate::proofs::Wholes::whole_is, crate::proofs::Wholes::shorter_is_not))]
 pub(crate) fn whole_message(alloc: Global, bytes: &[u8]) -> Result<Message, DecodeFault>
     ensures coded { IfOk result (λ message. bytes.now ≡ coded_message message) }
     ensures found { (message : Sent) → bytes.now ≡ coded_message message →
