@@ -63,7 +63,7 @@ impl Session {
         ensures waits { result ≡ false → AllWait (session_seen self.old).process }
         ensures none { result ≡ false → session_seen self.new ≡ session_seen self.old }
     {
-        if self.hand.is_some() {
+        if let Some(_) = &self.hand {
             return true;
         }
         match self.process.leave() {

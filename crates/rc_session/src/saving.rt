@@ -5,7 +5,7 @@ ghost use Rattle.rc_saves.specs.Claims.{IsSaved};
 ghost use Rattle.rc_process.specs.View.{process_seen, save_begun, moved};
 ghost use Rattle.rc_session.specs.View.{session_seen};
 ghost use Rattle.rc_session.specs.Claims.{MaySave, MayEndSave};
-ghost use Rattle.rc_session.specs.declared.faults.SessionFault.TheVariants as fault;
+ghost use Rattle.rc_session.specs.declared.faults.SessionFault.TheVariants as why;
 
 use crate::faults::SessionFault;
 use crate::moving::moved;
@@ -27,7 +27,7 @@ impl Session {
           process = save_begun (session_seen self.old).process (length self.new.second);
           second = self.new.second;
         }) }
-        ensures refused { result ≡ Err fault.Refused → MaySave (session_seen self.old) → ⊥ }
+        ensures refused { result ≡ Err why.Refused → MaySave (session_seen self.old) → ⊥ }
         ensures may { OnOk result (MaySave (session_seen self.old)) }
         ensures same { OnErr result (session_seen self.new ≡ session_seen self.old) }
     {

@@ -12,7 +12,7 @@ ghost use Rattle.rc_process.specs.View.{IsBack, process_seen};
 ghost use Rattle.rc_session.specs.View.{session_seen, takes};
 ghost use Rattle.rc_session.specs.Claims.{IsNoWork, TakesWork, CanNotTake, IsNoMessage, TakesMessage, IsFirst};
 ghost use Rattle.rc_session.specs.Claims.{AreWithin, setup_for};
-ghost use Rattle.rc_session.specs.declared.faults.SessionFault.TheVariants as fault;
+ghost use Rattle.rc_session.specs.declared.faults.SessionFault.TheVariants as why;
 
 use crate::faults::SessionFault;
 use crate::moving::moved;
@@ -68,7 +68,7 @@ impl Session {
     /// `NoMemory`.
     pub fn coordinator(alloc: Global) -> Result<Session, SessionFault>
         ensures new { IfOk result (λ session. IsFirst (TheCoordinator new_coordinator) session) }
-        ensures fault { IfErr result (λ fault. fault ≡ fault.NoMemory) }
+        ensures fault { IfErr result (λ fault. fault ≡ why.NoMemory) }
     {
         Session::begin(alloc, NodeState::coordinator(alloc, alloc))
     }
@@ -88,8 +88,8 @@ impl Session {
     ) -> Result<Session, SessionFault>
         ensures new { IfOk result (λ session.
             IsFirst (TheHost (new_host index (setup_for factor segment free))) session) }
-        ensures range { (result ≡ Err fault.OutOfRange) ↔ (AreWithin index factor segment → ⊥) }
-        ensures fault { IfErr result (λ fault. (fault ≡ fault.NoMemory) ⊎ (fault ≡ fault.OutOfRange)) }
+        ensures range { (result ≡ Err why.OutOfRange) ↔ (AreWithin index factor segment → ⊥) }
+        ensures fault { IfErr result (λ fault. (fault ≡ why.NoMemory) ⊎ (fault ≡ why.OutOfRange)) }
     {
         if !are_within(index, factor, segment) {
             return Err(SessionFault::OutOfRange);
@@ -106,7 +106,7 @@ impl Session {
     /// The session of a new node.
     fn begin(alloc: Global, node: NodeState<Global>) -> Result<Session, SessionFault>
         ensures new { IfOk result (λ session. IsFirst (node_seen node) session) }
-        ensures fault { IfErr result (λ fault. fault ≡ fault.NoMemory) }
+        ensures fault { IfErr result (λ fault. fault ≡ why.NoMemory) }
     {
         let mut journal = Vec::new(alloc);
         match Process::begin(alloc, node, &mut journal) {
@@ -126,7 +126,7 @@ impl Session {
         ensures back { IfOk result (λ session.
             IsBack file.now known (process_seen session.process) session.journal) }
         ensures nothing { IfOk result (λ session. (session.second ≡ []) × (session.hand ≡ None)) }
-        ensures none { IfErr result (λ fault. fault ≡ fault.NoSave → BeginsWithNoSave file.now) }
+        ensures none { IfErr result (λ fault. fault ≡ why.NoSave → BeginsWithNoSave file.now) }
     {
         match Process::come_back(alloc, alloc, file, known) {
             Ok((process, journal)) => Ok(Session::of(alloc, process, journal)),
@@ -158,9 +158,9 @@ impl Session {
     pub fn step(&mut self, bytes: &[u8]) -> Result<(), SessionFault>
         ensures taken { OnOk result (TakesWork bytes.now (session_seen self.old) (session_seen self.new)) }
         ensures coded { OnOk result (IsNoWork bytes.now → ⊥) }
-        ensures malformed { result ≡ Err fault.Malformed → IsNoWork bytes.now }
-        ensures refused { result ≡ Err fault.Refused → CanNotTake bytes.now (session_seen self.old) }
-        ensures full { result ≡ Err fault.UsedUp → NodeHasRoom (node_seen self.old.process.node) → ⊥ }
+        ensures malformed { result ≡ Err why.Malformed → IsNoWork bytes.now }
+        ensures refused { result ≡ Err why.Refused → CanNotTake bytes.now (session_seen self.old) }
+        ensures full { result ≡ Err why.UsedUp → NodeHasRoom (node_seen self.old.process.node) → ⊥ }
         ensures same { OnErr result (session_seen self.new ≡ session_seen self.old) }
     {
         match whole_work(self.alloc, bytes) {
@@ -179,8 +179,8 @@ impl Session {
     pub fn deliver(&mut self, bytes: &[u8]) -> Result<(), SessionFault>
         ensures taken { OnOk result (TakesMessage bytes.now (session_seen self.old) (session_seen self.new)) }
         ensures coded { OnOk result (IsNoMessage bytes.now → ⊥) }
-        ensures malformed { result ≡ Err fault.Malformed → IsNoMessage bytes.now }
-        ensures full { result ≡ Err fault.UsedUp → NodeHasRoom (node_seen self.old.process.node) → ⊥ }
+        ensures malformed { result ≡ Err why.Malformed → IsNoMessage bytes.now }
+        ensures full { result ≡ Err why.UsedUp → NodeHasRoom (node_seen self.old.process.node) → ⊥ }
         ensures same { OnErr result (session_seen self.new ≡ session_seen self.old) }
     {
         match whole_message(self.alloc, bytes) {
@@ -193,14 +193,16 @@ impl Session {
     /// Gives the node a work.
     pub(crate) fn give(&mut self, work: &NodeWork) -> Result<(), SessionFault>
         ensures taken { OnOk result (session_seen self.new ≡ takes (session_seen self.old) work.now) }
-        ensures refused { result ≡ Err fault.Refused → may_take (node_seen self.old.process.node) work.now ≡ false }
-        ensures full { result ≡ Err fault.UsedUp → NodeHasRoom (node_seen self.old.process.node) → ⊥ }
-        ensures decoded { result ≡ Err fault.Malformed → ⊥ }
+        ensures refused { result ≡ Err why.Refused → may_take (node_seen self.old.process.node) work.now ≡ false }
+        ensures full { result ≡ Err why.UsedUp → NodeHasRoom (node_seen self.old.process.node) → ⊥ }
+        ensures decoded { result ≡ Err why.Malformed → ⊥ }
         ensures same { OnErr result (session_seen self.new ≡ session_seen self.old) }
     {
         match self.process.give(work, &mut self.journal) {
             Ok(()) => Ok(()),
-            Err(fault) => Err(fault_of(fault)),
+            Err(StepFault::NoRoom) => Err(SessionFault::UsedUp),
+            Err(StepFault::Refused(Fault::BadEvent)) => Err(SessionFault::Refused),
+            Err(StepFault::Refused(_)) => Err(SessionFault::NoMemory),
         }
     }
 
@@ -238,15 +240,6 @@ impl Session {
         }
         self.process.synced(count);
         true
-    }
-}
-
-/// The same fault, of a session.
-fn fault_of(fault: StepFault) -> SessionFault {
-    match fault {
-        StepFault::NoRoom => SessionFault::UsedUp,
-        StepFault::Refused(Fault::OutOfMemory) => SessionFault::NoMemory,
-        StepFault::Refused(_) => SessionFault::Refused,
     }
 }
 
