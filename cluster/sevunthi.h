@@ -1,4 +1,4 @@
-/* sevunthi.h: nodes of a replicated log, proved, for C.
+/* sevunthi.h: nodes of a replicated log, for C.
  *
  * A node lives behind a `sevunthi_node`, a place in the caller's memory that is all zeros where it is empty. It is used by one
  * thread at a time, and stays on the thread that filled it. Bytes are a pointer, which is not null, and a length. Each call

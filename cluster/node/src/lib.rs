@@ -1,7 +1,7 @@
-//! Nodes of a replicated log, proved, for a transport and a disk of your own.
+//! Nodes of a replicated log for a transport and a disk of your own.
 //!
 //! A [`Node`] takes works and coded messages, and says in [`Ready`] what has to be written, and what may leave. It is a
-//! safe shell over a static library whose functions are proved to follow the protocol; the shell itself is plain Rust.
+//! safe shell over a static library, whose contracts say that it follows the protocol; the shell itself is plain Rust.
 //!
 //! `examples/one_write.rs` has a coordinator and three hosts in one process.
 
