@@ -1,5 +1,6 @@
 -- Entries in pieces: cut off one by one, and joined one by one.
-use Rattle.std.proofs.Common.{◌≡◌, ℕ, ◌≤◌, List, [], ◌∷◌, ◌++◌, map, length, append_assoc, sym, ap, ◌∙◌, refl, arith}
+use Rattle.std.proofs.Common.{◌≡◌, ℕ, ◌≤◌, List, [], ◌∷◌, ◌++◌, map, length}
+use Rattle.std.proofs.Common.{append_assoc, sym, ap, ◌∙◌, refl, arith}
 use Rattle.std.proofs.lemmas.List.{append-nil, map-append}
 use Rattle.rc_types.specs.declared.entries.Entry.{Entry}
 use Rattle.rc_model.specs.Ownership.{under_term}
@@ -7,7 +8,8 @@ use Rattle.rc_ownership.specs.Replay.{all_waiting}
 use Rattle.rc_ownership.specs.Pieces.{NoneIsLong}
 use Rattle.rc_ownership.specs.declared.pieces.TheConstants.{PIECE}
 
-pub waiting-push : (pieces : List (List Entry)) (piece : List Entry) → all_waiting (pieces ++ piece ∷ []) ≡ all_waiting pieces ++ piece
+pub waiting-push : (pieces : List (List Entry)) (piece : List Entry) →
+    all_waiting (pieces ++ piece ∷ []) ≡ all_waiting pieces ++ piece
 waiting-push [] piece = append-nil piece
 waiting-push (first ∷ pieces) piece =
     ap (λ rest. first ++ rest) (waiting-push pieces piece) ∙ sym (append_assoc first (all_waiting pieces) piece)

@@ -1,5 +1,6 @@
 -- Room to note of each part whose end wasn't told that it is.
-use Rattle.std.proofs.Common.{◌≡◌, ℕ, ◌+◌, ◌≤◌, inl, inr, Bool, true, false, cond, nat_eq, Option, Some, None, List, [], ◌∷◌, ◌++◌}
+use Rattle.std.proofs.Common.{◌≡◌, ℕ, ◌+◌, ◌≤◌, inl, inr, Bool, true, false, cond, nat_eq}
+use Rattle.std.proofs.Common.{Option, Some, None, List, [], ◌∷◌, ◌++◌}
 use Rattle.std.proofs.Common.{length, length-append, take, zero, suc, sym, ap, subst, ◌∙◌, refl, arith}
 use Rattle.std.specs.Map.{lookup, set_value}
 use Rattle.rc_types.specs.declared.kept.GrantedRange.{GrantedRange}
