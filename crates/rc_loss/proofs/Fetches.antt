@@ -128,6 +128,7 @@ module _ (setup : Setup) (events : List Event) (number : ℕ) (m : ServerId) (ro
       record {
         replica = found.0;
         kept = kept;
+        whole = len;
         answer = answers host asker m row.holder number row.seg row.len part found.0 one.0 one.1 parts.1
             ((good.hosts_are row.holder.index).own ∙ last) fenced kept (long-enough row.len (length found.0.entries) len);
       }

@@ -1,5 +1,5 @@
 -- What is claimed of a Fetch, after every list of events of every setup.
-use Rattle.std.specs.Prelude.{◌≡◌, ℕ, true, List, [], ◌∷◌, Some, filter, take}
+use Rattle.std.specs.Prelude.{◌≡◌, ℕ, true, List, [], ◌∷◌, Some, filter, take, length}
 use Rattle.rc_types.specs.declared.ids.ServerId.{ServerId}
 use Rattle.rc_types.specs.declared.ids.Addr.{Addr}
 use Rattle.rc_types.specs.declared.ids.Addr.TheVariants.{Server, Coordinator as AtCoordinator}
@@ -35,6 +35,7 @@ pub record HasItsData (host : HostNode) (asker : ServerId) (number : ℕ) (m : S
     Type 0 where
   pub replica : Replica
   pub kept : replica_of row.seg (host.backup.held m).replicas ≡ Some replica
+  pub whole : row.len ≡ length replica.entries
   pub answer : (host_step host (Take (fetch_of_row asker number m row part))).1 ≡ between row.holder asker
       (Data number row.seg part.term (filter (is_in_part part) (take row.len replica.entries))) ∷ []
 
