@@ -1,7 +1,7 @@
 //! The life of a cluster, as its seed draws it.
 
-use crate::client::TABLE;
-use crate::cluster::{COORDINATOR, Cluster, HOSTS, OUTSIDE};
+use crate::client::{KEYS, TABLE, read_of};
+use crate::cluster::{COORDINATOR, Cluster, HOSTS, NODES};
 use crate::outcome::Outcome;
 use rc_audit::audit;
 use rc_types::{Fault, NodeWork, ServerId};
@@ -20,7 +20,7 @@ const MANY: usize = 12;
 const ROUNDS: usize = 2;
 
 /// What came of a seed: hosts are started and a table is made; then so much happens as is drawn; in the end all
-/// processes come back, and what was begun is done.
+/// processes come back, what was begun is done, and all keys are read.
 pub(crate) fn run(alloc: Global, seed: u64) -> Result<Outcome, Fault> {
     let mut cluster = Cluster::new(alloc, seed);
     live(alloc, &mut cluster)?;
@@ -39,14 +39,14 @@ fn live(alloc: Global, cluster: &mut Cluster) -> Result<(), Fault> {
     for _ in 0..ROUNDS {
         try_again(alloc, cluster)?;
     }
-    Ok(())
+    look(alloc, cluster)
 }
 
-/// The hosts and the coordinator are saved as they are new, the hosts are started, and a table is made.
+/// All nodes are set up, the hosts are started, and a table is made.
 fn begin(alloc: Global, cluster: &mut Cluster) -> Result<(), Fault> {
-    cluster.save_all(alloc)?;
+    cluster.set_up(alloc)?;
     for host in 0..HOSTS {
-        cluster.start(alloc, host, Vec::new(alloc))?;
+        cluster.start(alloc, host)?;
     }
     settle(alloc, cluster)?;
     let owner = cluster.newest(0);
@@ -76,38 +76,46 @@ fn step(alloc: Global, cluster: &mut Cluster) -> Result<(), Fault> {
     }
     let host = cluster.dice.below(HOSTS);
     match cluster.dice.below(200) {
-        0..=99 => cluster.deliver(alloc),
-        100..=119 => write(alloc, cluster),
-        120..=127 => read(alloc, cluster),
-        128..=151 => cluster.give(alloc, host, &NodeWork::Tick),
-        152..=158 => cluster.give(alloc, COORDINATOR, &NodeWork::Tick),
-        159 => crash(alloc, cluster, host),
-        160 => crash(alloc, cluster, COORDINATOR),
-        161..=170 => cluster.come_back(alloc, host),
-        171..=178 => cluster.come_back(alloc, COORDINATOR),
-        179..=182 => suspect(alloc, cluster, host),
+        0..=89 => cluster.deliver(alloc),
+        90..=109 => write(alloc, cluster),
+        110..=117 => read(alloc, cluster),
+        118..=141 => cluster.give(alloc, host, &NodeWork::Tick),
+        142..=148 => cluster.give(alloc, COORDINATOR, &NodeWork::Tick),
+        149 => crash(cluster, host),
+        150 => crash(cluster, COORDINATOR),
+        151..=160 => cluster.come_back(alloc, host),
+        161..=168 => cluster.come_back(alloc, COORDINATOR),
+        169..=172 => suspect(alloc, cluster, host),
+        173..=178 => sync(alloc, cluster),
+        179..=180 => cluster.start(alloc, host),
         _ => decide(alloc, cluster, host),
     }
 }
 
 /// A process ends.
-fn crash(alloc: Global, cluster: &mut Cluster, place: usize) -> Result<(), Fault> {
-    cluster.crash(alloc, place);
+fn crash(cluster: &mut Cluster, place: usize) -> Result<(), Fault> {
+    cluster.crash(place);
     Ok(())
+}
+
+/// What a node has written is synced.
+fn sync(alloc: Global, cluster: &mut Cluster) -> Result<(), Fault> {
+    let place = cluster.dice.below(NODES);
+    cluster.sync(alloc, place)
 }
 
 /// The outside asks for a write.
 fn write(alloc: Global, cluster: &mut Cluster) -> Result<(), Fault> {
     let to = asked(cluster);
     let body = cluster.client.write(alloc, &mut cluster.dice)?;
-    cluster.give(alloc, OUTSIDE, &NodeWork::Ask { to, body })
+    cluster.ask(alloc, &NodeWork::Ask { to, body })
 }
 
 /// The outside asks for a read.
 fn read(alloc: Global, cluster: &mut Cluster) -> Result<(), Fault> {
     let to = asked(cluster);
     let body = cluster.client.read(&mut cluster.dice);
-    cluster.give(alloc, OUTSIDE, &NodeWork::Ask { to, body })
+    cluster.ask(alloc, &NodeWork::Ask { to, body })
 }
 
 /// Whom the outside asks.
@@ -158,7 +166,7 @@ fn try_again(alloc: Global, cluster: &mut Cluster) -> Result<(), Fault> {
 /// A host is begun anew, and what has crashed meanwhile is recovered.
 fn renew(alloc: Global, cluster: &mut Cluster, host: usize) -> Result<(), Fault> {
     settle(alloc, cluster)?;
-    cluster.crash(alloc, host);
+    cluster.crash(host);
     cluster.come_back(alloc, host)?;
     settle(alloc, cluster)?;
     tick(alloc, cluster)?;
@@ -171,7 +179,7 @@ fn renew(alloc: Global, cluster: &mut Cluster, host: usize) -> Result<(), Fault>
 /// Delivers what is on its way, and lets all timers go off: what has come in a wrong order is sent again.
 fn tick(alloc: Global, cluster: &mut Cluster) -> Result<(), Fault> {
     settle(alloc, cluster)?;
-    for place in 0..OUTSIDE {
+    for place in 0..NODES {
         cluster.give(alloc, place, &NodeWork::Tick)?;
         settle(alloc, cluster)?;
     }
@@ -192,4 +200,29 @@ fn recover(alloc: Global, cluster: &mut Cluster, host: usize) -> Result<(), Faul
         tick(alloc, cluster)?;
     }
     Ok(())
+}
+
+/// All keys are read, from every host. Where the owner has crashed the coordinator says why nothing can be read.
+fn look(alloc: Global, cluster: &mut Cluster) -> Result<(), Fault> {
+    cluster.client.forget();
+    for owner in cluster.crashed_owners(alloc)? {
+        decide_again(alloc, cluster, owner)?;
+    }
+    for host in 0..HOSTS {
+        let to = cluster.newest(host);
+        for key in 0..KEYS {
+            let body = read_of(key);
+            cluster.ask(alloc, &NodeWork::Ask { to, body })?;
+        }
+        settle(alloc, cluster)?;
+    }
+    Ok(())
+}
+
+/// The recovery of a crashed owner is decided once more.
+fn decide_again(alloc: Global, cluster: &mut Cluster, owner: ServerId) -> Result<(), Fault> {
+    cluster.give(alloc, COORDINATOR, &NodeWork::Suspect(owner))?;
+    tick(alloc, cluster)?;
+    cluster.give(alloc, COORDINATOR, &NodeWork::Decide(owner))?;
+    tick(alloc, cluster)
 }

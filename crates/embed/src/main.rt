@@ -1,27 +1,31 @@
-//! Nodes that outlive their processes: three hosts, a coordinator and the outside, each a `NodeState` alone, on a
-//! transport of bytes that loses, repeats and reorders. The processes of the hosts and of the coordinator end at drawn
-//! moments, and their nodes are made anew from their journals, as far as these were synced, which begin with saves.
-//! `docs/EMBEDDING.md` walks through it.
+//! Nodes that outlive their processes: three hosts and a coordinator, each in an `rc_process::Process`, and the
+//! outside, on a transport of bytes that loses, repeats and reorders. Processes are killed, and power is cut, at drawn
+//! moments: between any two of writing, syncing, letting leave, and the steps of a save. Their nodes come back from
+//! what is left of their journals then. `docs/EMBEDDING.md` walks through it.
 //!
 //! `embed FIRST COUNT` runs so many seeds from the first on, and tells of each in a line what happened, counted from
-//! the works and the messages, and what the audit of all messages says.
+//! the works and the messages, what became of the table in the end, and what was wrong: what the audit of all messages
+//! that left says; acknowledged writes that were not read; nodes that had forgotten what they told. The last line
+//! counts.
 //!
-//! To be read in this order: `node`, a node with its journal: write down, step, sync, save; `cluster`, all of them:
-//! send, deliver, crash, come back; `life`, a run of a seed. The rest serves these: `who`, which node it is; `network`,
-//! what is on its way; `client`, whom the outside asks; `dice`, what is drawn; `outcome`, what came of it.
+//! To be read in this order: `node`, a node in its process; `disk`, its files; `cluster`, all nodes, and what follows a
+//! work; `life`, a run of a seed; `told`, what must not be forgotten. The rest serves these: `who`, which node it is;
+//! `network`, what is on its way; `client`, whom the outside asks; `dice`, what is drawn; `outcome`, what came of it.
 #![tactic(auto)]
 
 mod client;
 mod cluster;
 mod dice;
+mod disk;
 mod life;
 mod network;
 mod node;
 mod outcome;
+mod told;
 mod who;
 
 use life::run;
-use outcome::Outcome;
+use outcome::{Outcome, Totals};
 use rc_types::Fault;
 use std::alloc::Global;
 use std::io;
@@ -33,26 +37,16 @@ fn main(rt: HostRuntime) -> io::Result<()> {
         println!(rt; "usage: embed FIRST COUNT")?;
         return Ok(());
     };
-    let mut recovered = 0u64;
-    let mut clean = 0u64;
+    let mut totals = Totals::new();
     for number in 0..count {
         let outcome = outcome_of(rt.alloc(), first.saturating_add(number))?;
-        recovered = with_one_if(recovered, outcome.recoveries > 0);
-        clean = with_one_if(clean, outcome.is_clean);
+        totals.add(&outcome);
         let line = outcome.line(rt.alloc())?;
         println!(rt; "{line}")?;
     }
-    println!(rt; "{count} seeds, {recovered} with a recovery, {clean} clean")?;
+    let line = totals.line(rt.alloc())?;
+    println!(rt; "{line}")?;
     Ok(())
-}
-
-/// A number, and one more if this is so.
-fn with_one_if(number: u64, is_so: bool) -> u64 {
-    if is_so {
-        number.saturating_add(1)
-    } else {
-        number
-    }
 }
 
 /// What came of a seed.

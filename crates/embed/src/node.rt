@@ -1,9 +1,10 @@
-//! A node with its journal.
+//! A node in its process, with its disk.
 
+use crate::dice::Dice;
+use crate::disk::{Disk, Stage};
 use crate::who::Who;
-use rc_codec::DecodeFault;
-use rc_keeping::{Role, keeps, read_back, write_down};
-use rc_saves::{SaveFault, load, save_into};
+use rc_process::{BackFault, MessageFault, Process};
+use rc_saves::SaveFault;
 use rc_types::{Fault, Message, NodeWork, ServerId};
 use rc_world::{NodeState, StepFault};
 use std::alloc::Global;
@@ -11,196 +12,239 @@ use std::alloc::Global;
 /// A journal that has so many bytes behind its save is long.
 const LONG: usize = 1_024;
 
-/// A node, what was written down of its works, and how many bytes of that are safe: they are there again after its
-/// process has ended. In memory a journal stands for a file, and `sync` for waiting until it is on the disk. That of a
-/// host and of the coordinator begins with a save, of `saved` bytes.
+/// A node: its process, unless that has ended; what is to be written; its disk; and how many bytes of its journal are
+/// known elsewhere to be safe.
 #[derive(Drop)]
 pub(crate) struct Node {
     who: Who,
-    state: NodeState<Global>,
-    journal: Vec<u8>,
+    process: Option<Process<Global>>,
+    pending: Vec<u8>,
+    disk: Disk,
+    known: usize,
     saved: usize,
-    synced: usize,
-    is_down: bool,
 }
 
 impl Node {
-    /// A node before anything has happened. It takes no memory.
+    /// A node that was not set up yet. It takes no memory.
     pub(crate) fn new(alloc: Global, who: Who) -> Node {
         Node {
             who,
-            state: who.begun(alloc),
-            journal: Vec::new(alloc),
+            process: None,
+            pending: Vec::new(alloc),
+            disk: Disk::new(alloc),
+            known: 0,
             saved: 0,
-            synced: 0,
-            is_down: false,
         }
+    }
+
+    /// The node is set up: its journal is the save of a new node, and that is safe.
+    pub(crate) fn set_up(&mut self, alloc: Global) -> Result<(), Fault> {
+        let mut save = Vec::new(alloc);
+        match Process::begin(alloc, self.who.begun(alloc), &mut save) {
+            Ok(process) => self.process = Some(process),
+            Err(SaveFault::OutOfMemory) => return Err(Fault::OutOfMemory),
+            Err(SaveFault::Outside) => return Err(Fault::BadEvent),
+        }
+        self.disk.write(save.as_slice())?;
+        self.disk.sync_first();
+        self.saved = save.len();
+        self.known = save.len();
+        Ok(())
     }
 
     /// Whether no process has the node now.
     pub(crate) fn is_down(&self) -> bool {
-        self.is_down
+        self.process.is_none()
+    }
+
+    /// The node, to be looked at.
+    pub(crate) fn state(&self) -> Option<&NodeState<Global>> {
+        match &self.process {
+            Some(process) => Some(process.node()),
+            None => None,
+        }
     }
 
     /// The server of a host's last start.
-    pub(crate) fn server(&self) -> ServerId {
-        self.state.server()
+    pub(crate) fn server(&self) -> Option<ServerId> {
+        match self.state() {
+            Some(state) => Some(state.server()),
+            None => None,
+        }
     }
 
     /// How many bytes its journal has.
     pub(crate) fn journal_len(&self) -> usize {
-        self.journal.len()
+        self.disk.len()
     }
 
-    /// How many bytes of its journal are not safe yet.
+    /// How many bytes of its journal are not on the disk.
     pub(crate) fn unsynced(&self) -> usize {
-        self.journal.len().saturating_sub(self.synced)
+        self.disk.unsynced()
     }
 
-    /// Writes a work down and gives it to the node, which adds what it sends. Nothing of that may leave before `sync`.
+    /// Gives the node a work.
     ///
     /// # Errors
     ///
-    /// F18 or F1. Nothing has happened, and the work is struck out again.
-    pub(crate) fn step(
-        &mut self,
-        alloc: Global,
-        work: &NodeWork,
-        sent: &mut Vec<Message>,
-    ) -> Result<(), Fault> {
-        let length = self.journal.len();
-        self.write_down(alloc, work)?;
-        match self.take(work, sent) {
-            Ok(()) => Ok(()),
-            Err(fault) => {
-                self.journal.truncate(length);
-                Err(fault)
-            }
+    /// F18: no process has it, or it can't be given this now. F1.
+    pub(crate) fn give(&mut self, work: &NodeWork) -> Result<(), Fault> {
+        match &mut self.process {
+            Some(process) => process.give(work, &mut self.pending).map_err(fault_of),
+            None => Err(Fault::BadEvent),
         }
     }
 
-    /// Gives the node a work. One for which its numbers do not suffice any more is refused as one that can't be done.
-    fn take(&mut self, work: &NodeWork, sent: &mut Vec<Message>) -> Result<(), Fault> {
-        match self.state.try_step_into(work, sent) {
-            Ok(()) => Ok(()),
-            Err(StepFault::Refused(fault)) => Err(fault),
-            Err(StepFault::NoRoom) => Err(Fault::BadEvent),
+    /// Gives the node a message as it has come.
+    ///
+    /// # Errors
+    ///
+    /// F18: no process has it, or these bytes are none. F1.
+    pub(crate) fn give_message(&mut self, bytes: &[u8]) -> Result<Message, Fault> {
+        let Some(process) = &mut self.process else {
+            return Err(Fault::BadEvent);
+        };
+        match process.give_message(bytes, &mut self.pending) {
+            Ok(message) => Ok(message),
+            Err(MessageFault::NoMemory) => Err(Fault::OutOfMemory),
+            Err(_) => Err(Fault::BadEvent),
         }
     }
 
-    /// Writes a work down, if it is one that is kept.
-    fn write_down(&mut self, alloc: Global, work: &NodeWork) -> Result<(), Fault> {
-        if keeps(self.role(), work) {
-            write_down(alloc, work, &mut self.journal)?;
+    /// Starts a host's server, with all open replicas that it has.
+    pub(crate) fn start(&mut self) -> Result<(), Fault> {
+        match &mut self.process {
+            Some(process) => process.start(&mut self.pending).map_err(fault_of),
+            None => Err(Fault::BadEvent),
         }
+    }
+
+    /// Writes what is to be written.
+    pub(crate) fn write(&mut self) -> Result<(), Fault> {
+        self.disk.write(self.pending.as_slice())?;
+        self.pending.clear();
         Ok(())
     }
 
-    /// All that was written down is safe from now on.
-    pub(crate) fn sync(&mut self) {
-        self.synced = self.journal.len();
+    /// Begins to sync what was written, and gives how many bytes that are.
+    pub(crate) fn sync_first(&mut self) -> usize {
+        self.disk.sync_first();
+        self.disk.len()
     }
 
-    /// Whether a process has it, and its journal has become long since it was saved.
-    pub(crate) fn is_long(&self) -> bool {
-        !self.is_down && self.journal.len().saturating_sub(self.saved) > LONG
+    /// Goes on with that: the same in the second file, where there is one.
+    pub(crate) fn sync_second(&mut self) {
+        self.disk.sync_second();
     }
 
-    /// A save of the node takes the place of its journal. As a file this is written beside the old one, synced, and
-    /// renamed, so that there is either at every moment. Says whether there is one: the outside keeps nothing.
-    ///
-    /// # Errors
-    ///
-    /// F1. The journal is as before.
-    pub(crate) fn save(&mut self, alloc: Global) -> Result<bool, Fault> {
+    /// Both are on the disk, so the process is told so. Says whether it knows of so many bytes.
+    pub(crate) fn note_synced(&mut self, count: usize) -> bool {
+        let Some(process) = &mut self.process else {
+            return true;
+        };
+        if process.safe() > count || count > process.written() {
+            return false;
+        }
+        process.synced(count);
+        if self.disk.stage() == Stage::Idle {
+            self.known = count;
+        }
+        true
+    }
+
+    /// What may leave now.
+    pub(crate) fn leave(&mut self) -> Option<Vec<Message>> {
+        match &mut self.process {
+            Some(process) => process.leave(),
+            None => None,
+        }
+    }
+
+    /// Whether a save is under way, or the journal has become long since the last one.
+    pub(crate) fn wants_saving(&self) -> bool {
+        let behind = self.disk.len().saturating_sub(self.saved);
+        self.process.is_some() && (self.disk.stage() != Stage::Idle || behind > LONG)
+    }
+
+    /// The next step of a save, which is done after the fourth; says whether this was the last.
+    pub(crate) fn go_on_saving(&mut self, alloc: Global) -> Result<bool, Fault> {
+        match self.disk.stage() {
+            Stage::Idle => self.begin_save(alloc)?,
+            Stage::Written => self.disk.sync_second(),
+            Stage::Synced => self.disk.rename(),
+            Stage::Renamed => {
+                self.end_save();
+                return Ok(true);
+            }
+        }
+        Ok(false)
+    }
+
+    /// All that is to be written is written, and then a save to the second file. Until this has taken the journal's
+    /// place, as much is known to be safe as either file has.
+    fn begin_save(&mut self, alloc: Global) -> Result<(), Fault> {
+        self.write()?;
         let mut save = Vec::new(alloc);
-        match save_into(alloc, &self.state, &mut save) {
-            Ok(()) => {}
-            Err(SaveFault::Outside) => return Ok(false),
-            Err(SaveFault::OutOfMemory) => return Err(Fault::OutOfMemory),
+        if let Some(process) = &mut self.process {
+            match process.begin_save(&mut save) {
+                Ok(()) => {}
+                Err(SaveFault::OutOfMemory) => return Err(Fault::OutOfMemory),
+                Err(SaveFault::Outside) => return Err(Fault::BadEvent),
+            }
         }
-        self.saved = save.len();
-        self.synced = save.len();
-        self.journal = save;
-        Ok(true)
+        self.known = self.known.min(save.len());
+        self.disk.begin_second(save);
+        Ok(())
     }
 
-    /// The process ends. What it had in memory is gone, and so is what was not synced, but for so many bytes of it.
-    pub(crate) fn crash(&mut self, alloc: Global, torn: usize) {
-        self.state = self.who.begun(alloc);
-        self.journal.truncate(self.synced.saturating_add(torn));
-        self.is_down = true;
+    /// The second file has taken the journal's place for good.
+    fn end_save(&mut self) {
+        self.disk.sync_folder();
+        if let Some(process) = &mut self.process {
+            process.saved();
+            self.known = process.safe();
+        }
+        self.saved = self.disk.len();
     }
 
-    /// A new process has the node: it is made anew from the save that its journal begins with, and given again the
-    /// works of its journal. What it sends then is dropped. What stands behind the last whole record is cut off.
-    /// Gives the names of the open replicas that it has, by master and segment.
+    /// The process ends, and with it what it had not written.
+    pub(crate) fn end(&mut self) {
+        self.process = None;
+        self.pending.clear();
+    }
+
+    /// The power is cut, and what was not synced goes too.
+    pub(crate) fn cut_power(&mut self, dice: &mut Dice) {
+        self.end();
+        self.disk.cut_power(dice);
+    }
+
+    /// A new process has the node: it has come back from its journal, which is cut off where its good bytes end. What
+    /// was read and what is to be written counts as safe once it is synced.
     ///
     /// # Errors
     ///
-    /// F1, or F18 where the save is damaged. The node is still down.
-    pub(crate) fn come_back(&mut self, alloc: Global) -> Result<Vec<(ServerId, u16)>, Fault> {
-        self.begin(alloc)?;
-        let works = self.read_back(alloc)?;
-        self.take_again(alloc, works.as_slice())?;
-        self.is_down = false;
-        match self.state.backup() {
-            Some(backup) => backup.open_names(),
-            None => Ok(Vec::new(alloc)),
-        }
-    }
-
-    /// The node is that of the save that its journal begins with; the outside, which keeps nothing, is a new one.
-    fn begin(&mut self, alloc: Global) -> Result<(), Fault> {
-        if let Who::Outside = self.who {
-            self.state = self.who.begun(alloc);
-            return Ok(());
-        }
-        self.load(alloc)
-    }
-
-    /// The node is that of the save. Where the journal begins with none it is damaged, and the node must not come back.
-    fn load(&mut self, alloc: Global) -> Result<(), Fault> {
-        match load(alloc, alloc, self.journal.as_slice()) {
-            Ok((state, saved)) => {
-                self.state = state;
-                self.saved = saved;
+    /// F1. F18 where the journal has lost what was safe. The node is still down.
+    pub(crate) fn come_back(&mut self, alloc: Global) -> Result<(), Fault> {
+        self.disk.sync_folder();
+        self.disk.forget_second();
+        match Process::come_back(alloc, alloc, self.disk.journal(), self.known) {
+            Ok((process, added)) => {
+                self.disk.cut(process.written().saturating_sub(added.len()));
+                self.pending = added;
+                self.process = Some(process);
                 Ok(())
             }
-            Err(DecodeFault::Malformed) => Err(Fault::BadEvent),
-            Err(DecodeFault::OutOfMemory) => Err(Fault::OutOfMemory),
+            Err(BackFault::NoMemory) => Err(Fault::OutOfMemory),
+            Err(_) => Err(Fault::BadEvent),
         }
     }
+}
 
-    /// The works behind the save, up to the last whole record, behind which the journal is cut off.
-    fn read_back(&mut self, alloc: Global) -> Result<Vec<NodeWork>, Fault> {
-        let behind = self.journal.get(self.saved..).unwrap_or(&[]);
-        let (works, good) = read_back(alloc, behind)?;
-        self.journal.truncate(self.saved.saturating_add(good));
-        self.synced = self.journal.len();
-        Ok(works)
-    }
-
-    /// Gives the node these works, and drops what it sends. One that is refused again is passed over: its process ended
-    /// before it was struck out.
-    fn take_again(&mut self, alloc: Global, works: &[NodeWork]) -> Result<(), Fault> {
-        let mut dropped = Vec::new(alloc);
-        for work in works {
-            match self.state.try_step_into(work, &mut dropped) {
-                Ok(()) | Err(StepFault::Refused(Fault::BadEvent)) => dropped.clear(),
-                Err(StepFault::Refused(fault)) => return Err(fault),
-                Err(StepFault::NoRoom) => return Err(Fault::BadEvent),
-            }
-        }
-        Ok(())
-    }
-
-    /// What the node is.
-    fn role(&self) -> Role {
-        match self.who {
-            Who::Host(_) => Role::Host,
-            Who::Coordinator => Role::Coordinator,
-            Who::Outside => Role::Outside,
-        }
+/// A work for which the node's numbers do not suffice any more is one that can't be done.
+fn fault_of(fault: StepFault) -> Fault {
+    match fault {
+        StepFault::Refused(fault) => fault,
+        StepFault::NoRoom => Fault::BadEvent,
     }
 }

@@ -1,7 +1,7 @@
 //! What came of a run.
 
 use crate::cluster::Cluster;
-use rc_types::{Body, Message};
+use rc_types::{Body, Code, Message};
 use std::alloc::{AllocError, Global};
 
 /// A number that only rises.
@@ -30,9 +30,11 @@ pub(crate) struct Counts {
     pub(crate) lost: Count,
     pub(crate) repeated: Count,
     pub(crate) saves: Count,
-    host_crashes: Count,
-    coordinator_crashes: Count,
-    lost_bytes: Count,
+    pub(crate) kills: Count,
+    pub(crate) forgotten: Count,
+    pub(crate) damaged: Count,
+    power_cuts: Count,
+    unsynced: Count,
 }
 
 impl Counts {
@@ -45,20 +47,42 @@ impl Counts {
             lost: none,
             repeated: none,
             saves: none,
-            host_crashes: none,
-            coordinator_crashes: none,
-            lost_bytes: none,
+            kills: none,
+            forgotten: none,
+            damaged: none,
+            power_cuts: none,
+            unsynced: none,
         }
     }
 
-    /// A process has ended, with so many bytes that were not synced, of which so many stayed.
-    pub(crate) fn crash(&mut self, is_coordinator: bool, unsynced: usize, torn: usize) {
-        if is_coordinator {
-            self.coordinator_crashes.count();
-        } else {
-            self.host_crashes.count();
+    /// The power of a node was cut, of whose journal so many bytes were not synced.
+    pub(crate) fn cut_power(&mut self, unsynced: usize) {
+        self.power_cuts.count();
+        self.unsynced.add(unsynced);
+    }
+}
+
+/// What became of the table in the end.
+#[derive(Clone, Copy)]
+pub(crate) enum Ending {
+    /// All keys were read.
+    Served,
+    /// The coordinator refuses to recover it, for this reason.
+    Refused(Code),
+    /// Neither.
+    Stuck,
+}
+
+impl Ending {
+    /// That of a cluster which has come to rest.
+    fn of(cluster: &Cluster) -> Ending {
+        if cluster.client.is_served() {
+            return Ending::Served;
         }
-        self.lost_bytes.add(unsynced.saturating_sub(torn));
+        match cluster.client.refused() {
+            Some(code) => Ending::Refused(code),
+            None => Ending::Stuck,
+        }
     }
 }
 
@@ -71,7 +95,9 @@ pub(crate) struct Outcome {
     acknowledged: u64,
     pub(crate) recoveries: u64,
     journals: u64,
-    pub(crate) is_clean: bool,
+    pub(crate) ending: Ending,
+    has_lost: bool,
+    is_clean: bool,
 }
 
 impl Outcome {
@@ -90,8 +116,18 @@ impl Outcome {
             acknowledged: acknowledged_in(sent),
             recoveries: recoveries_in(alloc, sent)?,
             journals: cluster.journals(),
+            ending: Ending::of(cluster),
+            has_lost: cluster.client.has_lost(),
             is_clean,
         })
+    }
+
+    /// Whether nothing was wrong: the audit has found no breach, no read in the end missed what was acknowledged, no
+    /// node had forgotten what it told when it came back, no journal had other bytes than its process meant, and the
+    /// table was served, or refused for a reason.
+    pub(crate) fn is_right(&self) -> bool {
+        let knows_all = self.counts.forgotten.number == 0 && self.counts.damaged.number == 0;
+        self.is_clean && !self.has_lost && knows_all && !matches!(self.ending, Ending::Stuck)
     }
 
     /// What is told of it.
@@ -116,21 +152,100 @@ impl Outcome {
         pen.number(" delivered ", self.counts.delivered.number);
         pen.number(" lost ", self.counts.lost.number);
         pen.number(" repeated ", self.counts.repeated.number);
-        pen.number(" host-crashes ", self.counts.host_crashes.number);
-        pen.number(
-            " coordinator-crashes ",
-            self.counts.coordinator_crashes.number,
-        );
-        pen.number(" lost-bytes ", self.counts.lost_bytes.number);
+        pen.number(" kills ", self.counts.kills.number);
+        pen.number(" power-cuts ", self.counts.power_cuts.number);
+        pen.number(" unsynced-bytes ", self.counts.unsynced.number);
         pen.number(" saves ", self.counts.saves.number);
         pen.number(" journal-bytes ", self.journals);
         pen.number(" acknowledged ", self.acknowledged);
         pen.number(" recoveries ", self.recoveries);
+        self.tell_ending(pen);
+        self.tell_wrongs(pen);
+    }
+
+    /// Tells what became of the table.
+    fn tell_ending(&self, pen: &mut Pen<'_>) {
+        match self.ending {
+            Ending::Served => pen.put(" served"),
+            Ending::Refused(code) => pen.number(" refused F", u64::from(code.number())),
+            Ending::Stuck => pen.put(" stuck"),
+        }
+    }
+
+    /// Tells what was wrong, if anything was.
+    fn tell_wrongs(&self, pen: &mut Pen<'_>) {
+        if self.counts.forgotten.number > 0 {
+            pen.number(" forgotten ", self.counts.forgotten.number);
+        }
+        if self.counts.damaged.number > 0 {
+            pen.number(" damaged ", self.counts.damaged.number);
+        }
+        if self.has_lost {
+            pen.put(" lost");
+        }
         pen.put(if self.is_clean {
             " audit clean"
         } else {
             " audit breach"
         });
+    }
+}
+
+/// What came of all seeds.
+#[derive(Clone, Copy)]
+pub(crate) struct Totals {
+    seeds: Count,
+    recovered: Count,
+    served: Count,
+    refused: Count,
+    right: Count,
+}
+
+impl Totals {
+    /// Of no seed.
+    pub(crate) fn new() -> Totals {
+        let none = Count { number: 0 };
+        Totals {
+            seeds: none,
+            recovered: none,
+            served: none,
+            refused: none,
+            right: none,
+        }
+    }
+
+    /// One seed more.
+    pub(crate) fn add(&mut self, outcome: &Outcome) {
+        self.seeds.count();
+        if outcome.recoveries > 0 {
+            self.recovered.count();
+        }
+        match outcome.ending {
+            Ending::Served => self.served.count(),
+            Ending::Refused(_) => self.refused.count(),
+            Ending::Stuck => {}
+        }
+        if outcome.is_right() {
+            self.right.count();
+        }
+    }
+
+    /// What is told of them.
+    pub(crate) fn line(&self, alloc: Global) -> Result<String, AllocError> {
+        let mut text = String::new(alloc);
+        let mut pen = Pen {
+            text: &mut text,
+            refused: false,
+        };
+        pen.number("", self.seeds.number);
+        pen.number(" seeds, with a recovery ", self.recovered.number);
+        pen.number(", served ", self.served.number);
+        pen.number(", refused ", self.refused.number);
+        pen.number(", right ", self.right.number);
+        if pen.refused {
+            return Err(AllocError);
+        }
+        Ok(text)
     }
 }
 

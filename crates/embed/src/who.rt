@@ -1,4 +1,4 @@
-//! Which node it is, and how it begins.
+//! Which node of those that have a process it is, and how it begins.
 
 ghost use Rattle.rc_world.specs.HostView.{IsWithinLimits};
 
@@ -11,7 +11,6 @@ use std::alloc::Global;
 pub(crate) enum Who {
     Host(u8),
     Coordinator,
-    Outside,
 }
 
 impl Who {
@@ -20,7 +19,6 @@ impl Who {
         match self {
             Who::Host(index) => NodeState::host(alloc, index, &setup(alloc)),
             Who::Coordinator => NodeState::coordinator(alloc, alloc),
-            Who::Outside => NodeState::outside(alloc),
         }
     }
 }

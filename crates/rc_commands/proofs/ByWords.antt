@@ -16,7 +16,7 @@ use Rattle.clap.proofs.OnLiterals.{clap_on_literals}
 use Rattle.clap.proofs.WalkLemmas.{both}
 use Rattle.rc_commands.specs.declared.asking.Asked.{Asked}
 use Rattle.rc_commands.specs.declared.asking.Asked.TheVariants as asked
-use Rattle.rc_commands.specs.Asking.{Tells, as_command, asked_in, asks_for_text, begins_with_help, command_in, explain_in}
+use Rattle.rc_commands.specs.Asking.{Tells, as_command, asked_in, asks_for_text, begins_with_help, command_in, explain_in, heal_in}
 use Rattle.rc_commands.specs.Asking.{explore_by, explore_in, exploring, fuzz_in, log_in, picture_in, seeds_given, shrink_in}
 use Rattle.rc_commands.specs.Asking.{is_alone, is_command, is_end, is_help, is_option, is_plain, is_request, is_text}
 use Rattle.rc_commands.specs.Asking.{is_version, run_in, stops_in, threads_in, where_taken, heap_line, option_zip_with}
@@ -24,13 +24,15 @@ use Rattle.rc_commands.specs.Asking as line_of
 use Rattle.rc_commands.specs.Commands as command
 use Rattle.rc_commands.specs.Commands.{ramseg}
 use Rattle.rc_commands.proofs.Words.{IsLevel, asks, audit_is, explore_is, fuzz_is, leaf, line_told, run_is, same, stops_is, log_is}
-use Rattle.rc_commands.proofs.Words.{picture_is, shrink_is, tells, tells_first, text_tells, threads_is, trace_is}
+use Rattle.rc_commands.proofs.Words.{heal_is, picture_is, shrink_is, tells, tells_first, text_tells, threads_is, trace_is}
 use Rattle.rc_commands.specs.Numbers.{decimal_in}
 use Rattle.rc_commands.proofs.Heap.{heap_given, none_first}
 use Rattle.rc_commands.proofs.Lines.{audit_found, audit_line, by_command, empty_told, explain_found, explain_line, explore_found}
 use Rattle.rc_commands.proofs.Lines.{explore_line, faults_at, fuzz_found, fuzz_line, no_option, run_found, run_line, stops_found}
 use Rattle.rc_commands.proofs.Lines.{stops_line, log_found, log_line, picture_found, picture_line, shrink_found, shrink_line}
-use Rattle.rc_commands.proofs.Lines.{threads_found, threads_line, told, trace_found, trace_line}
+use Rattle.rc_commands.proofs.Lines.{heal_found, heal_line, threads_found, threads_line, told, trace_found, trace_line}
+use Rattle.rc_commands.proofs.Lines.{history_found, history_line, check_found, check_line}
+use Rattle.rc_commands.proofs.Words.{history_is, check_is}
 
 -- no error comes exactly where a command stands alone; else each is a request exactly where a text is asked for
 abbrev agrees : Bool → Bool → Kinds → Bool
@@ -158,6 +160,33 @@ unfolding clap_on_literals
 shrink_ended [] = refl
 shrink_ended (next ∷ rest) = refl
 
+heal_alone : After command.heal.top []
+unfolding clap_on_literals
+heal_alone = refl
+
+heal_ended : (rest : List Text) → After command.heal.top (codes "--" ∷ rest)
+unfolding clap_on_literals
+heal_ended [] = refl
+heal_ended (next ∷ rest) = refl
+
+history_alone : After command.history.top []
+unfolding clap_on_literals
+history_alone = refl
+
+history_ended : (rest : List Text) → After command.history.top (codes "--" ∷ rest)
+unfolding clap_on_literals
+history_ended [] = refl
+history_ended (next ∷ rest) = refl
+
+check_alone : After command.check.top []
+unfolding clap_on_literals
+check_alone = refl
+
+check_ended : (rest : List Text) → After command.check.top (codes "--" ∷ rest)
+unfolding clap_on_literals
+check_ended [] = refl
+check_ended (next ∷ rest) = refl
+
 explain_alone : After command.explain.top []
 unfolding clap_on_literals
 explain_alone = refl
@@ -174,6 +203,12 @@ after_trace words = after command.trace.top [] trace_is trace_alone trace_ended 
 
 after_audit : (words : List Text) → After command.audit.top words
 after_audit words = after command.audit.top [] audit_is audit_alone audit_ended words (no_options words)
+
+after_history : (words : List Text) → After command.history.top words
+after_history words = after command.history.top [] history_is history_alone history_ended words (no_options words)
+
+after_check : (words : List Text) → After command.check.top words
+after_check words = after command.check.top [] check_is check_alone check_ended words (no_options words)
 
 -- ---- whole lines
 
@@ -226,6 +261,11 @@ line word rest plain = by_command (λ w. is_plain (w ∷ rest) ≡ true → Agre
     (λ e. ap (agrees (is_end rest) (begins_with_help rest)) (shrink_line rest)
     ∙ after command.shrink.top (codes "keep" ∷ []) shrink_is shrink_alone shrink_ended rest
     (plain_after (codes "keep" ∷ []) rest (codes "shrink") (λ w more h. not_true _ h) e))
+    (λ e. ap (agrees (is_end rest) (begins_with_help rest)) (heal_line rest)
+    ∙ after command.heal.top (codes "power-cycle" ∷ []) heal_is heal_alone heal_ended rest
+    (plain_after (codes "power-cycle" ∷ []) rest (codes "heal") (λ w more h. not_true _ h) e))
+    (λ e. ap (agrees (is_end rest) (begins_with_help rest)) (history_line rest) ∙ after_history rest)
+    (λ e. ap (agrees (is_end rest) (begins_with_help rest)) (check_line rest) ∙ after_check rest)
     (λ e. absurd (true≢false (sym e ∙ about rest)))
     (λ w none no_help e.
     ap (λ b. agrees (b && is_end rest) (if b then begins_with_help rest else (is_help w || is_version w)) (fault_of ramseg (w ∷ rest))) none
@@ -310,6 +350,18 @@ asked_shrink : (rest : List Text) → asked_in (codes "shrink" ∷ rest) ≡ whe
     (shrink_in (rows_at (leaf command.shrink.top) rest).1)
 asked_shrink rest = ap₂ asked_by (shrink_line rest) (shrink_found rest)
 
+asked_heal : (rest : List Text) → asked_in (codes "heal" ∷ rest) ≡ where_taken (faults_at command.heal.top rest)
+    (heal_in (rows_at (leaf command.heal.top) rest).1)
+asked_heal rest = ap₂ asked_by (heal_line rest) (heal_found rest)
+
+asked_history : (rest : List Text) → asked_in (codes "history" ∷ rest) ≡ where_taken (faults_at command.history.top rest)
+    (Some asked.History)
+asked_history rest = ap₂ asked_by (history_line rest) (history_found rest)
+
+asked_check : (rest : List Text) → asked_in (codes "check" ∷ rest) ≡ where_taken (faults_at command.check.top rest)
+    (Some asked.Check)
+asked_check rest = ap₂ asked_by (check_line rest) (check_found rest)
+
 -- of which command an answer is not
 module _ (T : Option Asked → Bool) (none : T None ≡ false) where
   never : (faults : Kinds) (x : Option Asked) → T x ≡ false → T (where_taken faults x) ≡ false
@@ -332,6 +384,12 @@ module _ (T : Option Asked → Bool) (none : T None ≡ false) where
 
   pub no_audit : T (Some asked.Audit) ≡ false → (rest : List Text) → T (asked_in (codes "audit" ∷ rest)) ≡ false
   no_audit e rest = ap T (asked_audit rest) ∙ never _ _ e
+
+  pub no_history : T (Some asked.History) ≡ false → (rest : List Text) → T (asked_in (codes "history" ∷ rest)) ≡ false
+  no_history e rest = ap T (asked_history rest) ∙ never _ _ e
+
+  pub no_check : T (Some asked.Check) ≡ false → (rest : List Text) → T (asked_in (codes "check" ∷ rest)) ≡ false
+  no_check e rest = ap T (asked_check rest) ∙ never _ _ e
 
   pub no_fuzz : ((seed steps : ℕ) (free : Bool) → T (Some (asked.Fuzz seed steps free)) ≡ false) → (rest : List Text) →
       T (asked_in (codes "fuzz" ∷ rest)) ≡ false
@@ -430,13 +488,13 @@ module _ (T : Option Asked → Bool) (none : T None ≡ false) where
       T (asked_in (codes "picture" ∷ rest)) ≡ false
   no_picture each rest = ap T (asked_picture rest) ∙ never _ _ (each _)
 
-  pub no_explain : ((code : Option ℕ) → T (Some (asked.Explain code)) ≡ false) → (rest : List Text) →
+  pub no_heal : ((power_cycle : Bool) → T (Some (asked.Heal power_cycle)) ≡ false) → (rest : List Text) →
+      T (asked_in (codes "heal" ∷ rest)) ≡ false
+  no_heal each rest = ap T (asked_heal rest) ∙ never _ _ (each _)
+
+  pub no_explain : ((word : Option Text) → T (Some (asked.Explain word)) ≡ false) → (rest : List Text) →
       T (asked_in (codes "explain" ∷ rest)) ≡ false
-  no_explain each rest = ap T (asked_explain rest) ∙ never _ _ (go _)
-    where
-      go : (o : Option (Option ℕ)) → T (option_map asked.Explain o) ≡ false
-      go None = none
-      go (Some code) = each code
+  no_explain each rest = ap T (asked_explain rest) ∙ never _ _ (each _)
 
   pub no_help : (rest : List Text) → T (asked_in (codes "help" ∷ rest)) ≡ false
   unfolding clap_on_literals
@@ -478,8 +536,11 @@ trace_only (word ∷ rest) h = by_command (λ w. is_trace (asked_in (w ∷ rest)
     (λ first last steps hosts factor segment free progress. refl) rest)))
     (λ e. absurd (true≢false (sym e ∙ no_log is_trace refl (λ json. refl) rest)))
     (λ e. absurd (true≢false (sym e ∙ no_picture is_trace refl (λ mermaid. refl) rest)))
-    (λ e. absurd (true≢false (sym e ∙ no_explain is_trace refl (λ code. refl) rest)))
+    (λ e. absurd (true≢false (sym e ∙ no_explain is_trace refl (λ word. refl) rest)))
     (λ e. absurd (true≢false (sym e ∙ no_shrink is_trace refl (λ keep. refl) rest)))
+    (λ e. absurd (true≢false (sym e ∙ no_heal is_trace refl (λ power_cycle. refl) rest)))
+    (λ e. absurd (true≢false (sym e ∙ no_history is_trace refl refl rest)))
+    (λ e. absurd (true≢false (sym e ∙ no_check is_trace refl refl rest)))
     (λ e. absurd (true≢false (sym e ∙ no_help is_trace refl rest)))
     (λ w no_name no_about e. absurd (true≢false (sym e ∙ no_other is_trace refl rest w no_name no_about))) word h
 
@@ -525,8 +586,11 @@ run_only (word ∷ rest) h = by_command (λ w. is_bare_run (asked_in (w ∷ rest
     (λ first last steps hosts factor segment free progress. refl) rest)))
     (λ e. absurd (true≢false (sym e ∙ no_log is_bare_run refl (λ json. refl) rest)))
     (λ e. absurd (true≢false (sym e ∙ no_picture is_bare_run refl (λ mermaid. refl) rest)))
-    (λ e. absurd (true≢false (sym e ∙ no_explain is_bare_run refl (λ code. refl) rest)))
+    (λ e. absurd (true≢false (sym e ∙ no_explain is_bare_run refl (λ word. refl) rest)))
     (λ e. absurd (true≢false (sym e ∙ no_shrink is_bare_run refl (λ keep. refl) rest)))
+    (λ e. absurd (true≢false (sym e ∙ no_heal is_bare_run refl (λ power_cycle. refl) rest)))
+    (λ e. absurd (true≢false (sym e ∙ no_history is_bare_run refl refl rest)))
+    (λ e. absurd (true≢false (sym e ∙ no_check is_bare_run refl refl rest)))
     (λ e. absurd (true≢false (sym e ∙ no_help is_bare_run refl rest)))
     (λ w no_name no_about e. absurd (true≢false (sym e ∙ no_other is_bare_run refl rest w no_name no_about))) word h
 
@@ -545,8 +609,11 @@ audit_only (word ∷ rest) h = by_command (λ w. is_audit (asked_in (w ∷ rest)
     (λ first last steps hosts factor segment free progress. refl) rest)))
     (λ e. absurd (true≢false (sym e ∙ no_log is_audit refl (λ json. refl) rest)))
     (λ e. absurd (true≢false (sym e ∙ no_picture is_audit refl (λ mermaid. refl) rest)))
-    (λ e. absurd (true≢false (sym e ∙ no_explain is_audit refl (λ code. refl) rest)))
+    (λ e. absurd (true≢false (sym e ∙ no_explain is_audit refl (λ word. refl) rest)))
     (λ e. absurd (true≢false (sym e ∙ no_shrink is_audit refl (λ keep. refl) rest)))
+    (λ e. absurd (true≢false (sym e ∙ no_heal is_audit refl (λ power_cycle. refl) rest)))
+    (λ e. absurd (true≢false (sym e ∙ no_history is_audit refl refl rest)))
+    (λ e. absurd (true≢false (sym e ∙ no_check is_audit refl refl rest)))
     (λ e. absurd (true≢false (sym e ∙ no_help is_audit refl rest)))
     (λ w no_name no_about e. absurd (true≢false (sym e ∙ no_other is_audit refl rest w no_name no_about))) word h
 
@@ -601,9 +668,21 @@ pub picture_gives : (words : List Text) → is_alone (codes "picture") words ≡
 unfolding clap_on_literals
 picture_gives = alone_gives (codes "picture") (asked.Picture false) refl refl
 
+pub heal_gives : (words : List Text) → is_alone (codes "heal") words ≡ true → asked_in words ≡ Some (asked.Heal false)
+unfolding clap_on_literals
+heal_gives = alone_gives (codes "heal") (asked.Heal false) refl refl
+
 pub explain_gives : (words : List Text) → is_alone (codes "explain") words ≡ true → asked_in words ≡ Some (asked.Explain None)
 unfolding clap_on_literals
 explain_gives = alone_gives (codes "explain") (asked.Explain None) refl refl
+
+pub history_gives : (words : List Text) → is_alone (codes "history") words ≡ true → asked_in words ≡ Some asked.History
+unfolding clap_on_literals
+history_gives = alone_gives (codes "history") asked.History refl refl
+
+pub check_gives : (words : List Text) → is_alone (codes "check") words ≡ true → asked_in words ≡ Some asked.Check
+unfolding clap_on_literals
+check_gives = alone_gives (codes "check") asked.Check refl refl
 
 -- ---- lines with each option once
 
@@ -667,7 +746,10 @@ is_answer a b e = go a e
     go (asked.Shrink keep) e = ap (λ o. unwrap_or o b) e
     go (asked.Log json) e = ap (λ o. unwrap_or o b) e
     go (asked.Picture mermaid) e = ap (λ o. unwrap_or o b) e
-    go (asked.Explain code) e = ap (λ o. unwrap_or o b) e
+    go (asked.Heal power_cycle) e = ap (λ o. unwrap_or o b) e
+    go (asked.Explain word) e = ap (λ o. unwrap_or o b) e
+    go asked.History e = ap (λ o. unwrap_or o b) e
+    go asked.Check e = ap (λ o. unwrap_or o b) e
 
 module _ (words : List Text) (a : Asked) (asks : as_command a ≡ asked_in words) where
   pub trace_told : (a ≡ asked.Trace) ↔ (is_alone (codes "trace") words ≡ true)
@@ -701,8 +783,17 @@ module _ (words : List Text) (a : Asked) (asks : as_command a ≡ asked_in words
   pub picture_told : is_alone (codes "picture") words ≡ true → a ≡ asked.Picture false
   picture_told h = is_answer a (asked.Picture false) (asks ∙ picture_gives words h)
 
+  pub heal_told : is_alone (codes "heal") words ≡ true → a ≡ asked.Heal false
+  heal_told h = is_answer a (asked.Heal false) (asks ∙ heal_gives words h)
+
   pub explain_told : is_alone (codes "explain") words ≡ true → a ≡ asked.Explain None
   explain_told h = is_answer a (asked.Explain None) (asks ∙ explain_gives words h)
+
+  pub history_told : is_alone (codes "history") words ≡ true → a ≡ asked.History
+  history_told h = is_answer a asked.History (asks ∙ history_gives words h)
+
+  pub check_told : is_alone (codes "check") words ≡ true → a ≡ asked.Check
+  check_told h = is_answer a asked.Check (asks ∙ check_gives words h)
 
   pub heap_told : (bytes : Text) → words ≡ heap_line bytes →
       as_command a ≡ option_map asked.Run (option_map Some (decimal_in 16 1048576 bytes))

@@ -69,3 +69,8 @@ pub as_mapped : {X : Type 0} (read : Text → X) (f : Found) (name : Text) (o : 
     option_map (λ s. s.now) o ≡ first_value f name
     → option_map read (first_of name (rows_of f)) ≡ option_map read (option_map (λ s. s.now) o)
 as_mapped read f name o is = ap (option_map read) (sym (is ∙ first_value-rows f name))
+
+-- the text itself, if one was given
+pub as_found : (f : Found) (name : Text) (o : Option (Bor Text)) → option_map (λ s. s.now) o ≡ first_value f name
+    → first_of name (rows_of f) ≡ option_map (λ s. s.now) o
+as_found f name o is = sym (is ∙ first_value-rows f name)

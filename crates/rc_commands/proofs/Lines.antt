@@ -99,6 +99,21 @@ unfolding walked walk_fault defaults_fault
 shrink_line words = ap₂ fault_at (stopped_fault top top_names (walk_from nothing_held) (codes "shrink", []) words)
     (sym (walk_stopped top.rules top_names (walk_from nothing_held) (codes "shrink") [] words))
 
+pub heal_line : (words : List Text) → fault_of ramseg (codes "heal" ∷ words) ≡ faults_at command.heal.top words
+unfolding walked walk_fault defaults_fault
+heal_line words = ap₂ fault_at (stopped_fault top top_names (walk_from nothing_held) (codes "heal", []) words)
+    (sym (walk_stopped top.rules top_names (walk_from nothing_held) (codes "heal") [] words))
+
+pub history_line : (words : List Text) → fault_of ramseg (codes "history" ∷ words) ≡ faults_at command.history.top words
+unfolding walked walk_fault defaults_fault
+history_line words = ap₂ fault_at (stopped_fault top top_names (walk_from nothing_held) (codes "history", []) words)
+    (sym (walk_stopped top.rules top_names (walk_from nothing_held) (codes "history") [] words))
+
+pub check_line : (words : List Text) → fault_of ramseg (codes "check" ∷ words) ≡ faults_at command.check.top words
+unfolding walked walk_fault defaults_fault
+check_line words = ap₂ fault_at (stopped_fault top top_names (walk_from nothing_held) (codes "check", []) words)
+    (sym (walk_stopped top.rules top_names (walk_from nothing_held) (codes "check") [] words))
+
 pub run_found : (words : List Text) → subcommand_of ramseg (codes "run" ∷ words) ≡ Some (rows_at (leaf command.run.top) words)
 unfolding walked
 run_found words = ap found_at (sym (walk_stopped top.rules top_names (walk_from nothing_held) (codes "run") [] words))
@@ -149,6 +164,19 @@ pub shrink_found : (words : List Text) → subcommand_of ramseg (codes "shrink" 
 unfolding walked
 shrink_found words = ap found_at (sym (walk_stopped top.rules top_names (walk_from nothing_held) (codes "shrink") [] words))
 
+pub heal_found : (words : List Text) → subcommand_of ramseg (codes "heal" ∷ words)
+    ≡ Some (rows_at (leaf command.heal.top) words)
+unfolding walked
+heal_found words = ap found_at (sym (walk_stopped top.rules top_names (walk_from nothing_held) (codes "heal") [] words))
+
+pub history_found : (words : List Text) → subcommand_of ramseg (codes "history" ∷ words) ≡ Some (rows_at (leaf command.history.top) words)
+unfolding walked
+history_found words = ap found_at (sym (walk_stopped top.rules top_names (walk_from nothing_held) (codes "history") [] words))
+
+pub check_found : (words : List Text) → subcommand_of ramseg (codes "check" ∷ words) ≡ Some (rows_at (leaf command.check.top) words)
+unfolding walked
+check_found words = ap found_at (sym (walk_stopped top.rules top_names (walk_from nothing_held) (codes "check") [] words))
+
 -- ---- other lines
 
 -- what `clap` tells of a line that begins with no command, and not with `help`
@@ -171,33 +199,36 @@ no_option word = go (long_of word)
     go None = refl
     go (Some flag) = refl
 
-none_of : (a b c d e f g h i j k : Bool) →
-    (a || (b || (c || (d || (e || (f || (g || (h || (i || (j || (k || false))))))))))) ≡ false →
-    (a ≡ false) × (b ≡ false) × (c ≡ false) × (d ≡ false) × (e ≡ false) × (f ≡ false)
-    × (g ≡ false) × (h ≡ false) × (i ≡ false) × (j ≡ false) × (k ≡ false)
-none_of true b c d e f g h i j k none = absurd (true≢false none)
-none_of false true c d e f g h i j k none = absurd (true≢false none)
-none_of false false true d e f g h i j k none = absurd (true≢false none)
-none_of false false false true e f g h i j k none = absurd (true≢false none)
-none_of false false false false true f g h i j k none = absurd (true≢false none)
-none_of false false false false false true g h i j k none = absurd (true≢false none)
-none_of false false false false false false true h i j k none = absurd (true≢false none)
-none_of false false false false false false false true i j k none = absurd (true≢false none)
-none_of false false false false false false false false true j k none = absurd (true≢false none)
-none_of false false false false false false false false false true k none = absurd (true≢false none)
-none_of false false false false false false false false false false true none = absurd (true≢false none)
-none_of false false false false false false false false false false false none =
-    (refl, refl, refl, refl, refl, refl, refl, refl, refl, refl, refl)
+none_of : (a b c d e f g h i j k l m n : Bool) →
+    (a || (b || (c || (d || (e || (f || (g || (h || (i || (j || (k || (l || (m || (n || false)))))))))))))) ≡ false →
+    (a ≡ false) × (b ≡ false) × (c ≡ false) × (d ≡ false) × (e ≡ false) × (f ≡ false) × (g ≡ false)
+    × (h ≡ false) × (i ≡ false) × (j ≡ false) × (k ≡ false) × (l ≡ false) × (m ≡ false) × (n ≡ false)
+none_of true b c d e f g h i j k l m n none = absurd (true≢false none)
+none_of false true c d e f g h i j k l m n none = absurd (true≢false none)
+none_of false false true d e f g h i j k l m n none = absurd (true≢false none)
+none_of false false false true e f g h i j k l m n none = absurd (true≢false none)
+none_of false false false false true f g h i j k l m n none = absurd (true≢false none)
+none_of false false false false false true g h i j k l m n none = absurd (true≢false none)
+none_of false false false false false false true h i j k l m n none = absurd (true≢false none)
+none_of false false false false false false false true i j k l m n none = absurd (true≢false none)
+none_of false false false false false false false false true j k l m n none = absurd (true≢false none)
+none_of false false false false false false false false false true k l m n none = absurd (true≢false none)
+none_of false false false false false false false false false false true l m n none = absurd (true≢false none)
+none_of false false false false false false false false false false false true m n none = absurd (true≢false none)
+none_of false false false false false false false false false false false false true n none = absurd (true≢false none)
+none_of false false false false false false false false false false false false false true none = absurd (true≢false none)
+none_of false false false false false false false false false false false false false false none =
+    (refl, refl, refl, refl, refl, refl, refl, refl, refl, refl, refl, refl, refl, refl)
 
 module _ (word : Text) (rest : List Text) (none : is_command word ≡ false) (no_help : bytes_eq (codes "help") word ≡ false) where
   no_command : subcommand_met top_names idle word ≡ None
   no_command =
-      let p = none_of (bytes_eq (codes "run") word) (bytes_eq (codes "trace") word) (bytes_eq (codes "audit") word)
-      (bytes_eq (codes "fuzz") word)
-      (bytes_eq (codes "stops") word) (bytes_eq (codes "threads") word) (bytes_eq (codes "explore") word)
-      (bytes_eq (codes "log") word) (bytes_eq (codes "picture") word) (bytes_eq (codes "explain") word)
-      (bytes_eq (codes "shrink") word) none in
-      rw (p.0, p.1, p.2, p.3, p.4, p.5, p.6, p.7, p.8, p.9, p.10, no_help) refl
+      let p = none_of (bytes_eq (codes "run") word) (bytes_eq (codes "trace") word)
+      (bytes_eq (codes "audit") word) (bytes_eq (codes "fuzz") word) (bytes_eq (codes "stops") word)
+      (bytes_eq (codes "threads") word) (bytes_eq (codes "explore") word) (bytes_eq (codes "log") word)
+      (bytes_eq (codes "picture") word) (bytes_eq (codes "explain") word) (bytes_eq (codes "shrink") word)
+      (bytes_eq (codes "heal") word) (bytes_eq (codes "history") word) (bytes_eq (codes "check") word) none in
+      rw (p.0, p.1, p.2, p.3, p.4, p.5, p.6, p.7, p.8, p.9, p.10, p.11, p.12, p.13, no_help) refl
 
   pub told : Told word rest
   told = ⊎_elim {C = Told word rest} (λ h. subst (λ w. Told w rest) (sym h.1) (ended rest))
@@ -206,11 +237,12 @@ module _ (word : Text) (rest : List Text) (none : is_command word ≡ false) (no
 -- ---- by the first word
 
 -- what holds of a line by its first word, if it holds of each command's, of those of `help`, and of those of neither
-pub by_command : (P : Text → Type 0) → P (codes "run") → P (codes "trace") → P (codes "audit") → P (codes "fuzz") →
-    P (codes "stops") → P (codes "threads") → P (codes "explore") → P (codes "log") → P (codes "picture") → P (codes "explain") →
-    P (codes "shrink") → P (codes "help")
-    → ((word : Text) → is_command word ≡ false → bytes_eq (codes "help") word ≡ false → P word) → (word : Text) → P word
-by_command P run trace audit fuzz stops threads explore log picture explain shrink help other word =
+pub by_command : (P : Text → Type 0) → P (codes "run") → P (codes "trace") → P (codes "audit") →
+    P (codes "fuzz") → P (codes "stops") → P (codes "threads") → P (codes "explore") → P (codes "log") →
+    P (codes "picture") → P (codes "explain") → P (codes "shrink") → P (codes "heal") → P (codes "history") →
+    P (codes "check") → P (codes "help") →
+    ((word : Text) → is_command word ≡ false → bytes_eq (codes "help") word ≡ false → P word) → (word : Text) → P word
+by_command P run trace audit fuzz stops threads explore log picture explain shrink heal history check help other word =
     ⊎_elim (λ it. subst P it.1 run) (λ a.
     ⊎_elim (λ it. subst P it.1 trace) (λ b.
     ⊎_elim (λ it. subst P it.1 audit) (λ c.
@@ -222,8 +254,16 @@ by_command P run trace audit fuzz stops threads explore log picture explain shri
     ⊎_elim (λ it. subst P it.1 picture) (λ i.
     ⊎_elim (λ it. subst P it.1 explain) (λ j.
     ⊎_elim (λ it. subst P it.1 shrink) (λ k.
-    ⊎_elim (λ it. subst P it.1 help) (λ no_help. other word (no_name a b c d e f g h i j k) no_help)
-    (text_tells (codes "help") word)) (text_tells (codes "shrink") word)) (text_tells (codes "explain") word))
+    ⊎_elim (λ it. subst P it.1 heal) (λ l.
+    ⊎_elim (λ it. subst P it.1 history) (λ m.
+    ⊎_elim (λ it. subst P it.1 check) (λ n.
+    ⊎_elim (λ it. subst P it.1 help) (λ no_help. other word (no_name a b c d e f g h i j k l m n) no_help)
+    (text_tells (codes "help") word))
+    (text_tells (codes "check") word))
+    (text_tells (codes "history") word))
+    (text_tells (codes "heal") word))
+    (text_tells (codes "shrink") word))
+    (text_tells (codes "explain") word))
     (text_tells (codes "picture") word))
     (text_tells (codes "log") word))
     (text_tells (codes "explore") word))
@@ -245,5 +285,8 @@ by_command P run trace audit fuzz stops threads explore log picture explain shri
         bytes_eq (codes "picture") word ≡ false →
         bytes_eq (codes "explain") word ≡ false →
         bytes_eq (codes "shrink") word ≡ false →
+        bytes_eq (codes "heal") word ≡ false →
+        bytes_eq (codes "history") word ≡ false →
+        bytes_eq (codes "check") word ≡ false →
         is_command word ≡ false
-    no_name a b c d e f g h i j k = rw (a, b, c, d, e, f, g, h, i, j, k) refl
+    no_name a b c d e f g h i j k l m n = rw (a, b, c, d, e, f, g, h, i, j, k, l, m, n) refl

@@ -120,6 +120,14 @@ pub trace_is : IsLevel (leaf command.trace.top) false []
 unfolding clap_on_literals
 trace_is = record { long = λ name _. refl; short = λ x. refl; strays = refl; positional = refl }
 
+pub history_is : IsLevel (leaf command.history.top) false []
+unfolding clap_on_literals
+history_is = record { long = λ name _. refl; short = λ x. refl; strays = refl; positional = refl }
+
+pub check_is : IsLevel (leaf command.check.top) false []
+unfolding clap_on_literals
+check_is = record { long = λ name _. refl; short = λ x. refl; strays = refl; positional = refl }
+
 pub audit_is : IsLevel (leaf command.audit.top) false []
 unfolding clap_on_literals
 audit_is = record { long = λ name _. refl; short = λ x. refl; strays = refl; positional = refl }
@@ -157,6 +165,15 @@ pub picture_is : IsLevel (leaf command.picture.top) false (codes "mermaid" ∷ [
 unfolding clap_on_literals
 picture_is = record {
   long = λ name e. passed (bytes_eq (codes "mermaid") name) _ _ (or_parts _ _ e).0;
+  short = λ x. refl;
+  strays = refl;
+  positional = refl;
+}
+
+pub heal_is : IsLevel (leaf command.heal.top) false (codes "power-cycle" ∷ [])
+unfolding clap_on_literals
+heal_is = record {
+  long = λ name e. passed (bytes_eq (codes "power-cycle") name) _ _ (or_parts _ _ e).0;
   short = λ x. refl;
   strays = refl;
   positional = refl;

@@ -47,7 +47,6 @@ IsInRange (asked.Threads hosts writes) = (3 ≤ hosts) × (hosts ≤ 16) × (wri
 IsInRange (asked.Explore seed steps hosts factor segment free save progress) = IsSized steps hosts factor segment
 IsInRange (asked.Survey first last steps hosts factor segment free progress) =
     IsFew (first, last) × IsSized steps hosts factor segment
-IsInRange (asked.Explain code) = IsWithin 1 21 code
 IsInRange _ = ⊤
 
 -- ---- the command, as `clap` reads the words
@@ -142,17 +141,12 @@ log_in rows = Some (asked.Log (has_flag (codes "json") rows))
 abbrev pub picture_in : List Row → Option Asked
 picture_in rows = Some (asked.Picture (has_flag (codes "mermaid") rows))
 
--- the number of a code that is written as F and decimal digits
-abbrev pub code_in : Text → Option ℕ
-code_in [] = None
-code_in (first ∷ digits) = if nat_eq first (byte "F") then decimal_in 1 21 digits else None
+abbrev pub heal_in : List Row → Option Asked
+heal_in rows = Some (asked.Heal (has_flag (codes "power-cycle") rows))
 
--- the code that was given, if one was; None where it is no code
-abbrev pub code_given : List Row → Option (Option ℕ)
-code_given rows = option_map_or (λ text. option_map Some (code_in text)) (first_of (codes "code") rows) (Some None)
-
+-- `explain` with the word that was given, if one was
 abbrev pub explain_in : List Row → Option Asked
-explain_in rows = option_map asked.Explain (code_given rows)
+explain_in rows = Some (asked.Explain (first_of (codes "word") rows))
 
 -- the command of this name, with what was given for its options; first of those that read nothing
 abbrev pub unread_in : Text → List Row → Option Asked
@@ -160,8 +154,7 @@ unread_in name rows =
     if bytes_eq name (codes "fuzz") then fuzz_in rows
     else (if bytes_eq name (codes "stops") then stops_in rows
     else (if bytes_eq name (codes "threads") then threads_in rows
-    else (if bytes_eq name (codes "explore") then explore_in rows
-    else (if bytes_eq name (codes "explain") then explain_in rows else None))))
+    else (if bytes_eq name (codes "explore") then explore_in rows else None)))
 
 -- a command that needs no memory of its own
 abbrev pub named_in : Text → List Row → Option Asked
@@ -169,12 +162,17 @@ named_in name rows =
     if bytes_eq name (codes "run") then run_in rows
     else (if bytes_eq name (codes "trace") then Some asked.Trace
     else (if bytes_eq name (codes "audit") then Some asked.Audit
+    else (if bytes_eq name (codes "history") then Some asked.History
+    else (if bytes_eq name (codes "check") then Some asked.Check
     else (if bytes_eq name (codes "log") then log_in rows
     else (if bytes_eq name (codes "picture") then picture_in rows
-    else unread_in name rows))))
+    else (if bytes_eq name (codes "heal") then heal_in rows
+    else unread_in name rows)))))))
 
 abbrev pub command_in : Text → List Row → Option Asked
-command_in name rows = if bytes_eq name (codes "shrink") then shrink_in rows else named_in name rows
+command_in name rows =
+    if bytes_eq name (codes "shrink") then shrink_in rows
+    else (if bytes_eq name (codes "explain") then explain_in rows else named_in name rows)
 
 -- nothing, where `clap` finds a fault in the words
 abbrev pub where_taken : Kinds → Option Asked → Option Asked
@@ -214,7 +212,8 @@ is_alone name (word ∷ rest) = bytes_eq name word && is_end rest
 
 abbrev pub names : List Text
 names = codes "run" ∷ codes "trace" ∷ codes "audit" ∷ codes "fuzz" ∷ codes "stops" ∷ codes "threads" ∷ codes "explore"
-    ∷ codes "log" ∷ codes "picture" ∷ codes "explain" ∷ codes "shrink" ∷ []
+    ∷ codes "log" ∷ codes "picture" ∷ codes "explain" ∷ codes "shrink" ∷ codes "heal" ∷ codes "history"
+    ∷ codes "check" ∷ []
 
 abbrev pub is_command : Text → Bool
 is_command word = list_any (λ name. bytes_eq name word) names
@@ -255,7 +254,8 @@ options_of name =
     else (if bytes_eq (codes "explore") name then exploring
     else (if bytes_eq (codes "log") name then codes "json" ∷ []
     else (if bytes_eq (codes "picture") name then codes "mermaid" ∷ []
-    else (if bytes_eq (codes "shrink") name then codes "keep" ∷ [] else [])))))))
+    else (if bytes_eq (codes "shrink") name then codes "keep" ∷ []
+    else (if bytes_eq (codes "heal") name then codes "power-cycle" ∷ [] else []))))))))
 
 -- `--NAME` or `--NAME=VALUE`, for one of these options
 abbrev pub is_option : List Text → Text → Bool

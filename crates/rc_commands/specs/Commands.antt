@@ -62,8 +62,17 @@ log = with_rule (new_app (codes "log")) (flag (codes "json"))
 abbrev pub picture : App
 picture = with_rule (new_app (codes "picture")) (flag (codes "mermaid"))
 
+abbrev pub heal : App
+heal = with_rule (new_app (codes "heal")) (flag (codes "power-cycle"))
+
 abbrev pub explain : App
-explain = with_rule (new_app (codes "explain")) (word (codes "code"))
+explain = with_rule (new_app (codes "explain")) (word (codes "word"))
+
+abbrev pub history : App
+history = new_app (codes "history")
+
+abbrev pub check : App
+check = new_app (codes "check")
 
 abbrev pub alone : App
 alone = on_top (λ top. record top { has_version = true; no_binary_name = true; subcommand_required = true })
@@ -78,7 +87,8 @@ abbrev pub running : App
 running = with_subcommand (with_subcommand (with_subcommand reading fuzz.top) stops.top) threads.top
 
 abbrev pub ramseg : App
-ramseg = with_subcommand (with_subcommand (with_subcommand running explore.top) shrink.top) explain.top
+ramseg = with_subcommand (with_subcommand (with_subcommand (with_subcommand (with_subcommand (with_subcommand running
+    explore.top) shrink.top) heal.top) explain.top) history.top) check.top
 
 -- a command that is built so, and has no option for its subcommands
 abbrev pub IsBuiltAs : App → Command → Type 0

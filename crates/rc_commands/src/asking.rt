@@ -14,7 +14,7 @@ ghost use Rattle.rc_commands.specs.Numbers.{decimal_in};
 ghost use Rattle.rc_commands.specs.Commands.{ramseg};
 
 use crate::commands::program;
-use crate::numbers::{BadWord, code_of, has_flag, has_option, number_of, seeds_of};
+use crate::numbers::{BadWord, has_flag, has_option, number_of, seeds_of};
 use clap::error::ErrorKind;
 use clap::{ArgMatches, Error};
 use rc_types::{Fault, Seq};
@@ -31,6 +31,10 @@ pub enum Asked {
     Trace,
     /// Judge a trace.
     Audit,
+    /// Replay a scenario, and write what its clients saw.
+    History,
+    /// Judge a history of clients.
+    Check,
     /// Run events that are drawn from a seed, with freed segments where `free` says so.
     Fuzz {
         seed: u64,
@@ -81,9 +85,14 @@ pub enum Asked {
     Picture {
         mermaid: bool,
     },
-    /// Say what the code of this number means, or what all codes mean.
+    /// Add to a scenario the events that bring its tablets back; after all servers were stopped and all hosts started,
+    /// where `power_cycle` says so.
+    Heal {
+        power_cycle: bool,
+    },
+    /// Say what this word means, or which words there are.
     Explain {
-        code: Option<u8>,
+        word: Option<Seq<u8>>,
     },
     /// Nothing but this text, for standard output: help, or the version.
     Tell(String),
@@ -117,8 +126,14 @@ pub fn asked_for(alloc: Global, words: &[String]) -> Result<Asked, Fault>
         (λ a. is_alone (codes "log") (map string_bytes words.now) ≡ true → a ≡ Asked.Log false) }
     ensures picture { IfOk result
         (λ a. is_alone (codes "picture") (map string_bytes words.now) ≡ true → a ≡ Asked.Picture false) }
+    ensures heal { IfOk result
+        (λ a. is_alone (codes "heal") (map string_bytes words.now) ≡ true → a ≡ Asked.Heal false) }
     ensures explain { IfOk result
         (λ a. is_alone (codes "explain") (map string_bytes words.now) ≡ true → a ≡ Asked.Explain None) }
+    ensures history { IfOk result
+        (λ a. is_alone (codes "history") (map string_bytes words.now) ≡ true → a ≡ Asked.History) }
+    ensures check { IfOk result
+        (λ a. is_alone (codes "check") (map string_bytes words.now) ≡ true → a ≡ Asked.Check) }
     ensures texts { IfOk result (λ a. is_plain (map string_bytes words.now) ≡ true
         → is_text a ≡ asks_for_text (map string_bytes words.now)) }
 
@@ -162,6 +177,7 @@ fn found_named(alloc: Global, name: &str, given: &ArgMatches<'_>) -> Result<Aske
 {
     match name {
         "shrink" => shrink_of(alloc, given),
+        "explain" => explain_of(alloc, given),
         _ => match command_named(name, given) {
             Ok(command) => Ok(command),
             Err(word) => wrong(alloc, &word),
@@ -204,11 +220,16 @@ fn command_named<'a>(name: &str, given: &ArgMatches<'a>) -> Result<Asked, BadWor
         "run" => run_of(given),
         "trace" => Ok(Asked::Trace),
         "audit" => Ok(Asked::Audit),
+        "history" => Ok(Asked::History),
+        "check" => Ok(Asked::Check),
         "log" => Ok(Asked::Log {
             json: has_flag(given, "json"),
         }),
         "picture" => Ok(Asked::Picture {
             mermaid: has_flag(given, "mermaid"),
+        }),
+        "heal" => Ok(Asked::Heal {
+            power_cycle: has_flag(given, "power-cycle"),
         }),
         _ => unread_named(name, given),
     }
@@ -226,7 +247,6 @@ fn unread_named<'a>(name: &str, given: &ArgMatches<'a>) -> Result<Asked, BadWord
         "stops" => stops_of(given),
         "threads" => threads_of(given),
         "explore" => explore_of(given),
-        "explain" => explain_of(given),
         _ => Err(BadWord::NoCommand),
     }
 }
@@ -352,18 +372,18 @@ fn single_of<'a>(given: &ArgMatches<'a>) -> Result<Asked, BadWord<'a>>
     })
 }
 
-/// `explain` with its code.
-fn explain_of<'a>(given: &ArgMatches<'a>) -> Result<Asked, BadWord<'a>>
-    ensures command { let asked = explain_in (rows_of (found_of given.now)) in
-        MatchResult result (λ a. as_command a ≡ asked) (λ _. asked ≡ None) }
+/// `explain` with its word.
+fn explain_of(alloc: Global, given: &ArgMatches<'_>) -> Result<Asked, Fault>
+    ensures command { IfOk result (λ a. as_command a ≡ explain_in (rows_of (found_of given.now))) }
     ensures text { IfOk result (λ a. is_text a ≡ false) }
     ensures ranges { IfOk result IsInRange }
+    ensures memory { IfErr result (λ e. e ≡ OutOfMemory) }
 {
-    let code = match code_of(given)? {
-        Some(number) => Some(number as u8),
-        None => None,
+    let Some(text) = given.get_str("word") else {
+        return Ok(Asked::Explain { word: None });
     };
-    Ok(Asked::Explain { code })
+    let word = Seq::from_vec(text.as_bytes().to_vec(alloc)?);
+    Ok(Asked::Explain { word: Some(word) })
 }
 
 /// What is told in place of a command's work: help and the version, or what is wrong.

@@ -15,7 +15,10 @@ pub fn program<'a>(alloc: Global) -> Result<Command<'a>, AllocError>
     let running = running(alloc)?;
     let exploring = with(running, explore(alloc))?;
     let shrinking = with(exploring, shrink(alloc))?;
-    with(shrinking, explain(alloc))
+    let healing = with(shrinking, heal(alloc))?;
+    let explaining = with(healing, explain(alloc))?;
+    let telling = with(explaining, Ok(history(alloc)))?;
+    with(telling, Ok(check(alloc)))
 }
 
 /// The program with the commands up to `threads`.
@@ -114,6 +117,30 @@ fn audit<'a>(alloc: Global) -> Command<'a>
         "audit",
         "Judges a trace that it reads from standard input",
         "Example: ramseg audit < examples/first-write.trace",
+    )
+}
+
+/// `history`.
+fn history<'a>(alloc: Global) -> Command<'a>
+    ensures { IsBuiltAs spec.history result }
+{
+    command(
+        alloc,
+        "history",
+        "Replays a scenario that it reads from standard input, and prints what its clients saw as JSON lines",
+        "Example: ramseg history < examples/first-write.json",
+    )
+}
+
+/// `check`.
+fn check<'a>(alloc: Global) -> Command<'a>
+    ensures { IsBuiltAs spec.check result }
+{
+    command(
+        alloc,
+        "check",
+        "Judges whether a history that it reads from standard input is linearizable",
+        "Example: ramseg history < examples/first-write.json | ramseg check",
     )
 }
 
@@ -295,20 +322,37 @@ fn picture<'a>(alloc: Global) -> Result<Command<'a>, AllocError>
     ))
 }
 
-/// `explain` with the code that it explains.
+/// `heal` with its flag.
+fn heal<'a>(alloc: Global) -> Result<Command<'a>, AllocError>
+    ensures { IfOk result (IsBuiltAs spec.heal) }
+{
+    command(
+        alloc,
+        "heal",
+        "Prints a scenario with the events that bring each of its tablets back, and tells what it did and why",
+        "Example: ramseg heal < examples/stuck/own-lost.json > healed.json",
+    )
+    .arg(flag(
+        alloc,
+        "power-cycle",
+        "Stops all servers first, and starts all hosts",
+    ))
+}
+
+/// `explain` with the word that it explains.
 fn explain<'a>(alloc: Global) -> Result<Command<'a>, AllocError>
     ensures { IfOk result (IsBuiltAs spec.explain) }
 {
     command(
         alloc,
         "explain",
-        "Says what a code of a refusal or a fault means, when it comes, and what to do",
+        "Says what a code, a message, an event or a rule is, and what to do about it",
         "Example: ramseg explain F18",
     )
     .arg(
-        Arg::new(alloc, "code")
-            .value_name("CODE")
-            .help("The code, as F18; if not given, all codes are listed"),
+        Arg::new(alloc, "word").value_name("WORD").help(
+            "A code, as F18 or 18, or a name; if not given, all are listed",
+        ),
     )
 }
 

@@ -1,9 +1,9 @@
-//! Numbers on the command line: decimal digits alone, or after the `F` of a code.
+//! Numbers on the command line: decimal digits alone.
 
 ghost use Rattle.std.specs.Prelude.{◌≡◌, Some, None, IfOk, IfSome, MatchResult};
 ghost use Rattle.clap.specs.Words.{found_of, rows_of};
 ghost use Rattle.rc_commands.specs.Asking as spec;
-ghost use Rattle.rc_commands.specs.Asking.{IsFew, code_given, number_given, seeds_given};
+ghost use Rattle.rc_commands.specs.Asking.{IsFew, number_given, seeds_given};
 ghost use Rattle.rc_commands.specs.Numbers.{IsWithin, decimal_in};
 
 use clap::ArgMatches;
@@ -18,10 +18,6 @@ pub enum BadWord<'a> {
         text: &'a str,
         least: u64,
         most: u64,
-    },
-    /// No code.
-    Code {
-        text: &'a str,
     },
     /// No range of seeds.
     Range {
@@ -47,10 +43,6 @@ impl fmt::Display for BadWord<'_> {
                 f,
                 "error: '{text}' is no value for '--{option}': decimal digits from {least} to {most}\n"
             )?,
-            BadWord::Code { text } => write!(
-                f,
-                "error: '{text}' is no code: F1 to F{MOST_CODE}\n"
-            )?,
             BadWord::Range { text } => write!(
                 f,
                 "error: '{text}' is no value for '--seeds': A..B, A at most B, at most {MOST_SEEDS} seeds\n"
@@ -68,9 +60,6 @@ impl fmt::Display for BadWord<'_> {
 
 /// The most seeds of one command.
 const MOST_SEEDS: u64 = 10_000;
-
-/// The number of the last code.
-const MOST_CODE: u64 = 21;
 
 /// The number that was given for an option, if one was.
 pub fn number_of<'a>(
@@ -162,30 +151,6 @@ fn range_between(first: u64, last: u64) -> Option<(u64, u64)>
     } else {
         None
     }
-}
-
-/// The number of the code that was given, if one was.
-pub fn code_of<'a>(given: &ArgMatches<'a>) -> Result<Option<u64>, BadWord<'a>>
-    ensures number { let number = code_given (rows_of (found_of given.now)) in
-        MatchResult result (λ found. number ≡ Some found) (λ _. number ≡ None) }
-    ensures range { IfOk result (IsWithin 1 21) }
-{
-    let Some(text) = given.get_str("code") else {
-        return Ok(None);
-    };
-    match code_in(text) {
-        Some(number) => Ok(Some(number)),
-        None => Err(BadWord::Code { text }),
-    }
-}
-
-/// The number of the code that is written so: `F` and decimal digits.
-fn code_in(text: &str) -> Option<u64>
-    ensures number { result ≡ spec.code_in text.now }
-    ensures range { IsWithin 1 21 result }
-{
-    let digits = text.strip_prefix("F")?;
-    number_in(digits, 1, MOST_CODE)
 }
 
 /// The number that these digits write, if it is in the range.

@@ -6,3 +6,4 @@ pub mod Returning
 pub mod All
 pub mod Again
 pub mod Waiting
+pub mod Coded

@@ -4,6 +4,8 @@ use Rattle.std.specs.Prelude.{min, Option, Some, None}
 use Rattle.rc_types.specs.declared.events.NodeWork.{NodeWork}
 use Rattle.rc_types.specs.declared.events.NodeWork.TheVariants as work
 use Rattle.rc_types.specs.declared.messages.Message.{Message}
+use Rattle.rc_codec.specs.Spelling.{coded_message}
+use Rattle.rc_model.specs.Backup.{open_names}
 use Rattle.rc_model.specs.Headline.{In}
 use Rattle.rc_history.specs.Nodes.{Node, TheOutside, TheCoordinator, TheHost, name_of}
 use Rattle.rc_world.specs.NodeView.{NodeData, node_seen, node_runs, work_at, after_work}
@@ -92,6 +94,25 @@ given process work = record {
   saving = process.saving;
 }
 
+-- the bytes are no message, or not a message alone
+abbrev pub IsNoMessage : List ℕ → Type 0
+IsNoMessage bytes = (message : Message) → bytes ≡ coded_message message → ⊥
+
+-- the work is the delivery of a message
+abbrev pub IsDelivery : NodeWork → Type 0
+IsDelivery (work.Deliver message) = Unit {0}
+IsDelivery _ = ⊥
+
+-- the work is the delivery of the message of these bytes
+abbrev pub IsDeliveryOf : NodeWork → List ℕ → Type 0
+IsDeliveryOf (work.Deliver message) bytes = bytes ≡ coded_message message
+IsDeliveryOf _ bytes = ⊥
+
+-- the start of a host with all open replicas that it has
+abbrev pub whole_start : Node → NodeWork
+whole_start (TheHost host) = work.Start (open_names host.backup)
+whole_start _ = work.Start []
+
 -- What leaves
 
 -- one of those that are held back leaves, which rests on nothing that is not safe
@@ -167,6 +188,16 @@ pub record IsReplayed (file : List ℕ) (process : ProcessView) : Type 0 where
     held = [];
     saving = None;
   }
+
+-- no node can be loaded from the file: it begins with no save
+abbrev pub IsUnloaded : List ℕ → Type 0
+IsUnloaded file = (node : NodeData) (count : ℕ) → IsLoaded file node count → ⊥
+
+-- the file begins with a save, but fewer of its bytes are good than these
+pub record IsTooShort (file : List ℕ) (known : ℕ) : Type 0 where
+  pub again : ProcessView
+  pub replayed : IsReplayed file again
+  pub few : again.written < known
 
 -- a host that runs is stopped, and that is written down
 abbrev pub ended : ProcessView → ProcessView

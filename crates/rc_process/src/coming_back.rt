@@ -1,18 +1,24 @@
 //! A process that begins, and one that comes back from its file.
 
-ghost use Rattle.std.specs.Prelude.{◌≡◌, ◌++◌, ◌-◌, length, IfOk, IfErr, OnOk, OnErr};
-ghost use Rattle.rc_world.specs.NodeView.{node_seen};
+ghost use Rattle.std.specs.Prelude.{◌≡◌, ◌↔◌, ◌⊎◌, ◌++◌, ◌-◌, true, false, length};
+ghost use Rattle.std.specs.Prelude.{Err, None, IfOk, IfErr, OnOk, OnErr};
+ghost use Rattle.rc_types.specs.declared.faults.Fault.TheVariants.{OutOfMemory as F1, BadEvent};
+ghost use Rattle.rc_world.specs.declared.work.StepFault.TheVariants.{NoRoom as NoRoomLeft, Refused};
+ghost use Rattle.rc_world.specs.NodeView.{node_seen, may_take, NodeHasRoom};
+ghost use Rattle.rc_saves.specs.Saved.{saved_of};
+ghost use Rattle.rc_saves.specs.declared.faults.SaveFault.TheVariants.{Outside, OutOfMemory};
 ghost use Rattle.rc_saves.specs.Claims.{IsSaved, BeginsWithNoSave};
 ghost use Rattle.rc_files.specs.Standing.{node_next, node_given};
-ghost use Rattle.rc_process.specs.View.{IsBack, IsReplayed, begun, process_seen, ended, end_written};
-ghost use Rattle.rc_process.specs.declared.faults.BackFault.TheVariants.{NoSave};
+ghost use Rattle.rc_process.specs.View.{IsBack, IsReplayed, IsUnloaded, IsTooShort, begun, process_seen};
+ghost use Rattle.rc_process.specs.View.{ended, end_written, given, written_down, whole_start};
+ghost use Rattle.rc_process.specs.declared.faults.BackFault.TheVariants.{NoSave, TooShort, NoMemory, NoRoom};
 
 use crate::faults::BackFault;
 use crate::process::Process;
 use rc_codec::DecodeFault;
 use rc_keeping::read_back;
 use rc_saves::{SaveFault, load, save_into};
-use rc_types::{Fault, NodeWork};
+use rc_types::{Fault, NodeWork, Seq};
 use rc_world::{NodeState, StepFault};
 use std::alloc::{Allocator, Global};
 
@@ -25,6 +31,7 @@ impl<A: Allocator + Clone> Process<A> {
     ///
     /// `Outside`: the node is the outside, which keeps nothing. `OutOfMemory`: memory was refused. After either `out`
     /// is as before.
+    #[tactic(auto, using(crate::proofs::Coded::save_faults))]
     pub fn begin(
         alloc: Global,
         node: NodeState<A>,
@@ -32,6 +39,8 @@ impl<A: Allocator + Clone> Process<A> {
     ) -> Result<Process<A>, SaveFault>
         ensures saved { OnOk result (IsSaved node out.old.items out.new.items) }
         ensures begun { IfOk result (λ process. process ≡ begun node (length out.new.items - length out.old.items)) }
+        ensures outside { (result ≡ Err Outside) ↔ (saved_of node ≡ None) }
+        ensures fault { IfErr result (λ fault. (fault ≡ Outside) ⊎ (fault ≡ OutOfMemory)) }
         ensures unwritten { OnErr result (out.new.items ≡ out.old.items) }
     {
         let length = out.len();
@@ -50,9 +59,9 @@ impl<A: Allocator + Clone> Process<A> {
     ///
     /// # Errors
     ///
-    /// `NoSave`: the file begins with no save. `TooShort`: fewer bytes are good than were known to be safe. After
-    /// either the node has forgotten what others know, and must not start again. `NoMemory`, `NoRoom`: memory, or a
-    /// number of the node's, did not suffice.
+    /// `NoSave`: the file begins with no save. `TooShort`: it does, but fewer bytes are good than were known to be
+    /// safe. After either the node has forgotten what others know, and must not start again. `NoMemory`: memory was
+    /// refused. `NoRoom`: the node's numbers do not suffice to give it its works again, or to stop it.
     pub fn come_back(
         alloc: Global,
         tablets: A,
@@ -60,7 +69,11 @@ impl<A: Allocator + Clone> Process<A> {
         known: usize,
     ) -> Result<(Process<A>, Vec<u8>), BackFault>
         ensures back { IfOk result (λ found. IsBack file.now known (process_seen found.0) found.1.items) }
-        ensures none { IfErr result (λ fault. fault ≡ NoSave → BeginsWithNoSave file.now) }
+        ensures none { result ≡ Err NoSave → BeginsWithNoSave file.now }
+        ensures loads { IsUnloaded file.now → (result ≡ Err NoSave) ⊎ (result ≡ Err NoMemory) }
+        ensures short { result ≡ Err TooShort → IsTooShort file.now known }
+        ensures fault { IfErr result (λ fault.
+            (fault ≡ NoSave) ⊎ (fault ≡ TooShort) ⊎ (fault ≡ NoMemory) ⊎ (fault ≡ NoRoom)) }
     {
         let mut process = match replayed(alloc, tablets, file) {
             Ok(process) => process,
@@ -76,6 +89,54 @@ impl<A: Allocator + Clone> Process<A> {
             Err(StepFault::Refused(_)) => Err(BackFault::NoMemory),
         }
     }
+
+    /// Starts a server on the host, with all open replicas that it still has: gives it the Start that names them. This
+    /// is what a new host is given first, and one that has come back.
+    ///
+    /// # Errors
+    ///
+    /// `NoRoom`: the host's numbers do not suffice for one more step. `BadEvent` (F18): a server runs there, or the
+    /// node is no host. `OutOfMemory` (F1): memory was refused. After each nothing has changed, and nothing is to be
+    /// written.
+    pub fn start(&mut self, out: &mut Vec<u8>) -> Result<(), StepFault>
+        ensures taken { OnOk result (process_seen self.new ≡
+            given (process_seen self.old) (whole_start (node_seen self.old.node))) }
+        ensures written { OnOk result (out.new.items ≡
+            out.old.items ++ written_down (node_seen self.old.node) (whole_start (node_seen self.old.node))) }
+        ensures possible { OnOk result (
+            may_take (node_seen self.old.node) (whole_start (node_seen self.old.node)) ≡ true) }
+        ensures full { (result ≡ Err NoRoomLeft) ↔ (NodeHasRoom (node_seen self.old.node) → ⊥) }
+        ensures bad { result ≡ Err (Refused BadEvent) →
+            may_take (node_seen self.old.node) (whole_start (node_seen self.old.node)) ≡ false }
+        ensures fault { IfErr result (λ fault.
+            (fault ≡ NoRoomLeft) ⊎ (fault ≡ Refused F1) ⊎ (fault ≡ Refused BadEvent)) }
+        ensures err { OnErr result (process_seen self.new ≡ process_seen self.old) }
+        ensures unwritten { OnErr result (out.new.items ≡ out.old.items) }
+    {
+        if !self.node().has_room() {
+            return Err(StepFault::NoRoom);
+        }
+        match whole_start(self.alloc(), self.node()) {
+            Ok(work) => self.give(&work, out),
+            Err(_) => Err(StepFault::Refused(Fault::OutOfMemory)),
+        }
+    }
+}
+
+/// The start of a host with all open replicas that it has.
+#[tactic(auto, using(crate::proofs::Coded::starts_whole, crate::proofs::Coded::starts_nothing))]
+fn whole_start<A: Allocator + Clone>(alloc: Global, node: &NodeState<A>) -> Result<NodeWork, Fault>
+    ensures { IfOk result (λ work. work ≡ whole_start (node_seen node.now)) }
+{
+    let Some(backup) = node.backup() else {
+        return Ok(NodeWork::Start {
+            kept: Seq::new(alloc),
+        });
+    };
+    let names = backup.open_names()?;
+    Ok(NodeWork::Start {
+        kept: Seq::from_vec(names),
+    })
 }
 
 /// The process of a file, before its node is stopped.
@@ -85,7 +146,9 @@ fn replayed<A: Allocator + Clone>(
     file: &[u8],
 ) -> Result<Process<A>, BackFault>
     ensures back { IfOk result (λ process. IsReplayed file.now (process_seen process)) }
-    ensures none { IfErr result (λ fault. fault ≡ NoSave → BeginsWithNoSave file.now) }
+    ensures none { result ≡ Err NoSave → BeginsWithNoSave file.now }
+    ensures loads { IsUnloaded file.now → (result ≡ Err NoSave) ⊎ (result ≡ Err NoMemory) }
+    ensures fault { IfErr result (λ fault. (fault ≡ NoSave) ⊎ (fault ≡ NoMemory) ⊎ (fault ≡ NoRoom)) }
 {
     let (node, count) = match load(alloc, tablets, file) {
         Ok(found) => found,

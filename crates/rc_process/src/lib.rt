@@ -6,16 +6,17 @@
 //! Then whatever happens is what `rc_lives` has of lives (`laws`), and all that holds of those holds of the messages
 //! that have left.
 //!
-//! To be read in this order: `specs/View.antt`, a process as its contracts see it; `process`, the calls; `coming_back`;
-//! `specs/Running.antt`, processes on their disks, and what a server does with them; `laws`.
+//! To be read in this order: `specs/View.antt`, a process as its contracts see it; `process`, the calls; `messages`;
+//! `coming_back`; `specs/Running.antt`, processes on their disks, and what a server does with them; `laws`.
 #![tactic(auto)]
 
 mod coming_back;
 mod faults;
 mod held;
 pub mod laws;
+mod messages;
 mod process;
 mod saving;
 
-pub use faults::BackFault;
+pub use faults::{BackFault, MessageFault};
 pub use process::Process;

@@ -10,6 +10,8 @@ ghost use Rattle.rc_keeping.specs.Keeping.{kept_as};
 ghost use Rattle.rc_lives.specs.Lives.{keeps, is_masters};
 ghost use Rattle.rc_model.specs.Nodes.{is_for_backup};
 ghost use Rattle.rc_saves.specs.Claims.{IsSaved};
+ghost use Rattle.rc_saves.specs.Saved.{saved_of};
+ghost use Rattle.rc_saves.specs.declared.faults.SaveFault.TheVariants.{OutOfMemory as NoMemory, Outside};
 ghost use Rattle.rc_process.specs.View.{process_seen, written_down, written_next, rests_on, started_next, given};
 ghost use Rattle.rc_process.specs.View.{Leaves, AllWait, begun, role_at, save_begun, moved};
 
@@ -77,6 +79,11 @@ impl<A: Allocator + Clone> Process<A> {
             held: Vec::new(alloc),
             saving: None,
         }
+    }
+
+    /// What it takes memory from.
+    pub(crate) fn alloc(&self) -> Global {
+        self.alloc
     }
 
     /// The node, to be looked at.
@@ -148,14 +155,14 @@ impl<A: Allocator + Clone> Process<A> {
     }
 
     /// Whether the node keeps the work.
-    fn keeps(&self, work: &NodeWork) -> bool
+    pub(crate) fn keeps(&self, work: &NodeWork) -> bool
         ensures { result ≡ keeps (name_of (node_seen self.now.node)) (work_at (node_seen self.now.node) work.now) }
     {
         keeps(role_of(&self.node), work)
     }
 
     /// The step itself, whose record has so many bytes.
-    fn step(&mut self, work: &NodeWork, more: usize) -> Result<(), Fault>
+    pub(crate) fn step(&mut self, work: &NodeWork, more: usize) -> Result<(), Fault>
         requires room { NodeHasRoom (node_seen self.old.node) }
         requires down { more ≡ length (written_down (node_seen self.old.node) work.now) }
         ensures taken { OnOk result (process_seen self.new ≡ given (process_seen self.old) work.now) }
@@ -260,8 +267,11 @@ impl<A: Allocator + Clone> Process<A> {
     ///
     /// `Outside`: the node is the outside, which keeps nothing. `OutOfMemory`: memory was refused. After either nothing
     /// has changed.
+    #[tactic(auto, using(crate::proofs::Coded::save_faults))]
     pub fn begin_save(&mut self, out: &mut Vec<u8>) -> Result<(), SaveFault>
         ensures saved { OnOk result (IsSaved self.old.node out.old.items out.new.items) }
+        ensures outside { (result ≡ Err Outside) ↔ (saved_of self.old.node ≡ None) }
+        ensures fault { IfErr result (λ fault. (fault ≡ Outside) ⊎ (fault ≡ NoMemory)) }
         ensures ok { OnOk result (process_seen self.new ≡
             save_begun (process_seen self.old) (length out.new.items - length out.old.items)) }
         ensures err { OnErr result (process_seen self.new ≡ process_seen self.old) }

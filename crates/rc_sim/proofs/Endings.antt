@@ -25,6 +25,7 @@ use Rattle.rc_runs.specs.Steps.{RunsThrough, StopsAt}
 use Rattle.rc_sim.specs.Written.{IsWritten, IsBegun}
 use Rattle.rc_sim.specs.Verdicts.{verdict_of, printed_of, last_line, ended_verdict, ended_output}
 use Rattle.rc_sim.specs.Verdicts.{found_verdict, Comes, Played, Storied, Narrated, Judged, Drawn, ShrunkOf, Shrunk}
+use Rattle.rc_sim.specs.Verdicts.{HealedOf, Healed}
 
 -- nothing has happened yet
 abbrev pub start_of : Scenario → Happened
@@ -135,6 +136,10 @@ narrated_so verdict text one other same h = subst (λ d. Storied (of_value d) ve
 pub shrunk_so : (verdict : Verdict) (text : List ℕ) (one other : List ℕ) → value_in one ≡ value_in other →
     Shrunk one verdict text → Shrunk other verdict text
 shrunk_so verdict text one other same h = subst (λ d. ShrunkOf (of_value d) verdict text) same h
+
+pub healed_so : (verdict : Verdict) (text : List ℕ) (one other : List ℕ) → value_in one ≡ value_in other →
+    Healed one verdict text → Healed other verdict text
+healed_so verdict text one other same h = subst (λ d. HealedOf (of_value d) verdict text) same h
 
 -- the report of a drawing is that of its world
 pub drawn_of : {E : Type 0} (result : Result Answer E) (world : Happened) (seed steps : ℕ) (free : Bool) →

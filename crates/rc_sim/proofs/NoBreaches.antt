@@ -14,7 +14,8 @@ use Rattle.rc_sim.specs.declared.verdicts.SimFault.{SimFault}
 use Rattle.rc_sim.specs.declared.verdicts.Output.{Output}
 use Rattle.rc_sim.specs.declared.verdicts.Output.TheVariants.{Report, Trace}
 use Rattle.rc_sim.specs.declared.answers.Answer.{Answer}
-use Rattle.rc_sim.specs.Verdicts.{audited, verdict_of, unless_stopped, Comes, Storied, Explored, ShrunkOf, Threaded}
+use Rattle.rc_sim.specs.Verdicts.{audited, verdict_of, unless_stopped, Comes, Storied, Explored, HealedOf, ShrunkOf}
+use Rattle.rc_sim.specs.Verdicts.{Threaded}
 
 is_breach : Verdict → Bool
 is_breach Breach = true
@@ -76,9 +77,11 @@ pub explored_is_none : (save : Bool) (verdict : Verdict) (text : List ℕ) → E
 explored_is_none true verdict text h = clean_is_none verdict h
 explored_is_none false verdict text h = clean_is_none verdict (h.2 ∙ world_is_clean Report h.0)
 
-pub threaded_is_none : (verdict : Verdict) (text : List ℕ) → Threaded verdict text → verdict ≢ Breach
-threaded_is_none verdict text (inl h) = clean_is_none verdict (h.2 ∙ world_is_clean Report h.0)
-threaded_is_none verdict text (inr h) = stopped_is_none verdict 0 BadEvent h.0
+pub threaded_is_none : (hosts writes : ℕ) (verdict : Verdict) (text : List ℕ) → Threaded hosts writes verdict text →
+    verdict ≢ Breach
+threaded_is_none hosts writes verdict text (inl h) = clean_is_none verdict (h.3 ∙ world_is_clean Report h.0)
+threaded_is_none hosts writes verdict text (inr h) =
+    stopped_is_none verdict (length (h.0).events) BadEvent h.2
 
 -- ---- a scenario
 
@@ -108,3 +111,8 @@ pub shrunk_is_none : (read : Result Scenario ℕ) (verdict : Verdict) (text : Li
 shrunk_is_none (Ok scenario) verdict text (inl clean) = clean_is_none verdict clean
 shrunk_is_none (Ok scenario) verdict text (inr nothing) = no_line_is_none verdict nothing.0
 shrunk_is_none (Err place) verdict text h = bad_is_none verdict place h.0
+
+pub healed_is_none : (read : Result Scenario ℕ) (verdict : Verdict) (text : List ℕ) → HealedOf read verdict text → verdict ≢ Breach
+healed_is_none (Ok scenario) verdict text (inl clean) = clean_is_none verdict clean
+healed_is_none (Ok scenario) verdict text (inr nothing) = nothing.0
+healed_is_none (Err place) verdict text h = bad_is_none verdict place h.0

@@ -10,7 +10,9 @@ use Rattle.rc_sim.specs.declared.verdicts.Verdict.{Verdict}
 use Rattle.rc_sim.specs.declared.verdicts.Verdict.TheVariants.{Clean, Breach, Bad, Stopped, NoLine, Wrong}
 use Rattle.rc_sim.specs.declared.verdicts.SimFault.{SimFault}
 use Rattle.rc_sim.specs.declared.verdicts.SimFault.TheVariants.{Memory, Read, Write}
-use Rattle.rc_sim.specs.Verdicts.{Played, Narrated, Judged, Drawn, PowerCut, Threaded, Explored, Surveyed, Shrunk, Told}
+use Rattle.rc_sim.specs.Verdicts.{Played, Narrated, Judged, Drawn, PowerCut, Threaded, Explored, Surveyed}
+use Rattle.rc_sim.specs.Verdicts.{Shrunk, Healed, Told, Worded}
+use Rattle.rc_sim.specs.Histories.{Checked}
 use Rattle.rc_sim.specs.Written.{IsWritten, IsBegun}
 
 abbrev pub verdict_status : Verdict → ℕ
@@ -50,16 +52,19 @@ abbrev pub ComesOf : Asked → List ℕ → Verdict → List ℕ → Type 0
 ComesOf (asked.Run heap) bytes verdict text = Played Report bytes verdict text
 ComesOf asked.Trace bytes verdict text = Played Trace bytes verdict text
 ComesOf asked.Audit bytes verdict text = Judged bytes verdict text
+ComesOf asked.History bytes verdict text = Narrated bytes verdict text
+ComesOf asked.Check bytes verdict text = Checked bytes verdict text
 ComesOf (asked.Fuzz seed steps free) bytes verdict text = Drawn seed steps free verdict text
 ComesOf (asked.Stops seed steps) bytes verdict text = PowerCut seed steps verdict text
-ComesOf (asked.Threads hosts writes) bytes verdict text = Threaded verdict text
+ComesOf (asked.Threads hosts writes) bytes verdict text = Threaded hosts writes verdict text
 ComesOf (asked.Explore seed steps hosts factor segment free save progress) bytes verdict text =
     Explored save verdict text
 ComesOf (asked.Survey first last steps hosts factor segment free progress) bytes verdict text = Surveyed verdict text
 ComesOf (asked.Shrink keep) bytes verdict text = Shrunk bytes verdict text
 ComesOf (asked.Log json) bytes verdict text = Narrated bytes verdict text
 ComesOf (asked.Picture mermaid) bytes verdict text = Narrated bytes verdict text
-ComesOf (asked.Explain code) bytes verdict text = Told verdict text
+ComesOf (asked.Heal power_cycle) bytes verdict text = Healed bytes verdict text
+ComesOf (asked.Explain word) bytes verdict text = Worded verdict text
 ComesOf (asked.Tell told) bytes verdict text = Told verdict text
 ComesOf (asked.Wrong told) bytes verdict text = ⊤
 

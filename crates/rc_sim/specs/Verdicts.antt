@@ -1,5 +1,5 @@
 -- What comes of a scenario, a trace, drawn events, or nodes on threads: what is printed, and what is answered.
-use Rattle.std.specs.Prelude.{◌≡◌, ◌≢◌, ◌⊎◌, ◌≤◌, ◌*◌, ℕ, Bool, true, false, List, [], ◌++◌, length, codes}
+use Rattle.std.specs.Prelude.{◌≡◌, ◌≢◌, ◌⊎◌, ◌≤◌, ◌+◌, ◌*◌, ℕ, Bool, true, false, List, [], ◌++◌, length, codes}
 use Rattle.std.specs.Prelude.{Option, Some, None, Result, Ok, Err}
 use Rattle.rc_types.specs.declared.faults.Code.{Code}
 use Rattle.rc_types.specs.declared.faults.Code.TheVariants.{OutOfMemory, BadEvent}
@@ -19,11 +19,12 @@ use Rattle.rc_report.specs.declared.judging.Finding.TheVariants as finding
 use Rattle.rc_report.specs.Judged.{finding_of, text_of}
 use Rattle.rc_world.specs.Happened.{Happened, sent_in}
 use Rattle.rc_draw.specs.Draw.{drawn_world, drawn}
-use Rattle.rc_threads.specs.Workload.{threads_setup}
+use Rattle.rc_threads.specs.Workload.{threads_setup, workload}
+use Rattle.rc_threads.specs.Worked.{AllHaveWorked}
 use Rattle.rc_sim.specs.declared.verdicts.Output.{Output}
 use Rattle.rc_sim.specs.declared.verdicts.Output.TheVariants.{Report, Trace}
 use Rattle.rc_sim.specs.declared.verdicts.Verdict.{Verdict}
-use Rattle.rc_sim.specs.declared.verdicts.Verdict.TheVariants.{Clean, Breach, Bad, Stopped, NoLine}
+use Rattle.rc_sim.specs.declared.verdicts.Verdict.TheVariants.{Clean, Breach, Bad, Stopped, NoLine, Wrong}
 
 -- what the audit found
 abbrev pub audited : Option Found → Verdict
@@ -137,18 +138,35 @@ ShrunkOf (Err place) verdict text = (verdict ≡ Bad place) × (text ≡ error_l
 abbrev pub Shrunk : List ℕ → Verdict → List ℕ → Type 0
 Shrunk bytes verdict text = ShrunkOf (reading bytes) verdict text
 
--- the report of a world that has the setup of nodes on threads
-abbrev pub Reported : Verdict → List ℕ → Type 0
-Reported verdict text = (world : Happened) × (world.setup ≡ threads_setup) ×
+-- a scenario, or nothing
+abbrev pub IsHealed : Verdict → List ℕ → Type 0
+IsHealed verdict text = (verdict ≡ Clean) ⊎ ((verdict ≢ Breach) × (text ≡ []))
+
+-- of what was read as a scenario
+abbrev pub HealedOf : Result Scenario ℕ → Verdict → List ℕ → Type 0
+HealedOf (Ok scenario) verdict text = IsHealed verdict text
+HealedOf (Err place) verdict text = (verdict ≡ Bad place) × (text ≡ error_line place)
+
+-- of these bytes as a scenario
+abbrev pub Healed : List ℕ → Verdict → List ℕ → Type 0
+Healed bytes verdict text = HealedOf (reading bytes) verdict text
+
+-- the report of a world in which so many hosts, on threads, have done the workload with so many writes: each node has
+-- taken its works in order, and else deliveries
+abbrev pub Reported : ℕ → ℕ → Verdict → List ℕ → Type 0
+Reported hosts writes verdict text = (world : Happened) × (world.setup ≡ threads_setup) ×
+    AllHaveWorked threads_setup world.events (workload hosts writes) (hosts + 2) ×
     (verdict ≡ audited (breach (sent_in world))) × (text ≡ report (sent_in world))
 
--- a node could not do a step: which one is not known
+-- a node could not take its next work: the report of what had happened by then, and where that was
 abbrev pub Unable : Verdict → List ℕ → Type 0
-Unable verdict text = (verdict ≡ Stopped 0 BadEvent) × (text ≡ codes "stopped F18\n")
+Unable verdict text = (world : Happened) × (world.setup ≡ threads_setup) ×
+    (verdict ≡ Stopped (length world.events) BadEvent) ×
+    (text ≡ report (sent_in world) ++ stopped_line BadEvent (length world.events))
 
 -- of nodes on threads
-abbrev pub Threaded : Verdict → List ℕ → Type 0
-Threaded verdict text = Reported verdict text ⊎ Unable verdict text
+abbrev pub Threaded : ℕ → ℕ → Verdict → List ℕ → Type 0
+Threaded hosts writes verdict text = Reported hosts writes verdict text ⊎ Unable verdict text
 
 -- the two lines of power failures
 abbrev pub cuts_text : ℕ → ℕ → List ℕ
@@ -158,6 +176,10 @@ cuts_text cuts breaches = count_line (codes "cuts ") cuts ++ count_line (codes "
 abbrev pub PowerCut : ℕ → ℕ → Verdict → List ℕ → Type 0
 PowerCut seed steps verdict text = (verdict ≡ Clean) × (text ≡ cuts_text (3 * length (drawn seed steps false)) 0)
 
--- help, the version, or what codes mean: nothing is claimed of the text
+-- what a word means, of which nothing is claimed; or, where it names nothing, no text
+abbrev pub Worded : Verdict → List ℕ → Type 0
+Worded verdict text = (verdict ≡ Clean) ⊎ ((verdict ≡ Wrong) × (text ≡ []))
+
+-- help, or the version: nothing is claimed of the text
 abbrev pub Told : Verdict → List ℕ → Type 0
 Told verdict text = verdict ≡ Clean

@@ -128,8 +128,8 @@ fn traced(alloc: Global, sent: &[Message]) -> Result<Answer, SimFault>
     })
 }
 
-/// The answer to a run that stopped at this event of the scenario.
-fn stopped<A: Allocator + Clone>(
+/// The answer to a run that stopped at this event.
+pub(crate) fn stopped<A: Allocator + Clone>(
     alloc: Global,
     world: &World<A>,
     output: Output,

@@ -3,30 +3,35 @@
 ghost use Rattle.std.specs.Prelude.{◌≡◌, ◌≢◌, ◌≤◌, ℕ, Some, None, Ok, Err, IfOk, map, string_bytes};
 ghost use Rattle.std.specs.Io.KnownBytes.{Keeps};
 ghost use Rattle.rc_commands.specs.declared.asking.Asked.{Asked as AskedModel};
-ghost use Rattle.rc_commands.specs.declared.asking.Asked.TheVariants.{Audit};
+ghost use Rattle.rc_commands.specs.declared.asking.Asked.TheVariants.{Audit, Check};
 ghost use Rattle.rc_commands.specs.Asking.{IsInRange, as_command, asked_in};
 ghost use Rattle.rc_sim.specs.declared.verdicts.Output.TheVariants.{Report};
 ghost use Rattle.rc_sim.specs.declared.verdicts.SimFault.TheVariants.{Memory, Read as ReadFailed, Write as WriteFailed};
 ghost use Rattle.rc_sim.specs.declared.verdicts.Verdict.TheVariants.{Breach, Wrong};
 ghost use Rattle.rc_sim.specs.Failures.{OneFailed, failed_reads, failed_writes};
+ghost use Rattle.rc_sim.specs.Histories.{Checked};
 ghost use Rattle.rc_sim.specs.Statuses.{fault_status, outcome_status, Answered, ComesOf, Does};
-ghost use Rattle.rc_sim.specs.Verdicts.{Played, Narrated, Judged, Shrunk, Told};
+ghost use Rattle.rc_sim.specs.Verdicts.{Played, Narrated, Healed, Judged, Shrunk, Told};
 ghost use Rattle.rc_sim.specs.Written.{IsWritten, IsBegun};
 
 use crate::counted::Counted;
 use crate::drawing::{cut_powers, fuzz};
+use crate::explaining::explained;
 use crate::exploring::explore;
+use crate::healing::heal;
+use crate::histories::weigh_history;
 use crate::narrating::{Telling, narrate};
 use crate::outlets::write_all;
 use crate::playing::{Kept, play, weigh};
 use crate::shrinking::shrink;
+use crate::staking::tell_stake_of_drawn;
 use crate::surveying::survey;
 use crate::telling::tell_why;
 use crate::threading::threads;
 use crate::verdicts::{Output, SimFault, Verdict};
 use linked_list_allocator::LocalHeap;
 use rc_commands::{Asked, asked_for};
-use rc_reasons::{Dialect, explain};
+use rc_reasons::Dialect;
 use rc_study::Options;
 use std::alloc::{Allocator, Global};
 use std::io::{Read, Write};
@@ -34,16 +39,16 @@ use std::sync::Wait;
 use std::thread;
 
 /// Does what the words after the program's name ask for, and gives the exit status: 0 where all is
-/// well, 1 where an audit found a breach, 2 for a wrong command line, scenario or trace, for an event that
-/// was not possible, and where `shrink` finds no line to keep, 3 where memory was refused, 4 where a read
-/// or a write failed.
+/// well, 1 where an audit found a breach or a history is not linearizable, 2 for a wrong command line, scenario,
+/// trace or history, for an event that was not possible, and where `shrink` finds no line to keep, 3 where memory was
+/// refused, 4 where a read or a write failed.
 ///
 /// `run` and `trace` run the scenario that the reader gives (see [`simulate`](crate::simulate)), `log` and `picture`
-/// tell its story, `shrink` leaves out of it what it can, `audit` judges the trace that it gives
-/// ([`judge`](crate::judge)); `fuzz`, `stops`, `threads`, `explore` and `explain` read nothing.
-/// Help and the version go to the writer. What is wrong with the command line, the line of a
-/// fault (`memory`, `read`, `write N`), and why a scenario or a trace was refused, go to `errors`; where that can not
-/// be written, the status alone tells. Only `threads` starts threads and waits.
+/// tell its story, `history` what its clients saw, `heal` adds what brings its tablets back, `shrink` leaves out of it
+/// what it can, `audit` judges the trace that it gives ([`judge`](crate::judge)), `check` the history; `fuzz`, `stops`,
+/// `threads`, `explore` and `explain` read nothing. Help and the version go to the writer. What is wrong with the
+/// command line, the line of a fault (`memory`, `read`, `write N`), and why a scenario or a trace was refused, go to
+/// `errors`; where that can not be written, the status alone tells. Only `threads` starts threads and waits.
 pub fn command<H: thread::Threads + Wait + Sync, R: Read, W: Write, E: Write>(
     rt: &H,
     alloc: Global,
@@ -63,8 +68,9 @@ pub fn command<H: thread::Threads + Wait + Sync, R: Read, W: Write, E: Write>(
     ensures unfailed { result ≢ 4
         → (reader.new.failures ≡ reader.old.failures) × (writer.new.failures ≡ writer.old.failures) }
 
-    // a breach is told of a trace alone that `audit` was given: no run has one, no drawing, and no nodes on threads
-    ensures no_breach { asked_in (map string_bytes words.now) ≢ Some Audit → result ≢ 1 }
+    // a breach is told of a trace or a history alone that was given: no run has one, no drawing, no nodes on threads
+    ensures no_breach { asked_in (map string_bytes words.now) ≢ Some Audit →
+        asked_in (map string_bytes words.now) ≢ Some Check → result ≢ 1 }
 {
     match asked_for(alloc, words) {
         Ok(asked) => {
@@ -90,16 +96,21 @@ fn done<H: thread::Threads + Wait + Sync, R: Read, W: Write, E: Write>(
     ensures unread { as_command asked ≡ None → reader.new ≡ reader.old }
     ensures reads { reader.new.failures ≡ failed_reads result reader.old.failures }
     ensures writes { writer.new.failures ≡ failed_writes result writer.old.failures }
-    ensures no_breach { asked ≢ Audit → result ≢ Ok Breach }
+    ensures no_breach { asked ≢ Audit → asked ≢ Check → result ≢ Ok Breach }
 {
     match asked {
         Asked::Run { heap } => run(alloc, heap, reader, writer, errors),
         Asked::Trace => played(alloc, alloc, Output::Trace, reader, writer, errors),
         Asked::Audit => audited(alloc, reader, writer, errors),
+        Asked::History => narrated(alloc, Telling::History, reader, writer, errors),
+        Asked::Check => checked(alloc, reader, writer, errors),
         Asked::Fuzz { seed, steps, free } => {
             fuzz(alloc, seed, steps as usize, free, writer, errors)
         }
-        Asked::Stops { seed, steps } => cut_powers(alloc, seed, steps as usize, writer),
+        Asked::Stops { seed, steps } => {
+            tell_stake_of_drawn(alloc, seed, steps as usize, errors);
+            cut_powers(alloc, seed, steps as usize, writer)
+        }
         Asked::Threads { hosts, writes } => threads(rt, alloc, hosts, writes, writer),
         Asked::Explore {
             seed,
@@ -146,7 +157,8 @@ fn done<H: thread::Threads + Wait + Sync, R: Read, W: Write, E: Write>(
         Asked::Picture { mermaid } => {
             narrated(alloc, Telling::of_picture(mermaid), reader, writer, errors)
         }
-        Asked::Explain { code } => explained(alloc, code, writer),
+        Asked::Heal { power_cycle } => healed(alloc, power_cycle, reader, writer, errors),
+        Asked::Explain { word } => explained(alloc, word, writer, errors),
         Asked::Tell(text) => tell(text.as_str(), writer),
         Asked::Wrong(text) => Ok(refused(text.as_str(), errors)),
     }
@@ -215,6 +227,21 @@ fn audited<R: Read, W: Write, E: Write>(
     outcome
 }
 
+/// Judges the history that the reader gives, and tells what is wrong with it.
+fn checked<R: Read, W: Write, E: Write>(
+    alloc: Global,
+    reader: &mut Counted<R>,
+    writer: &mut Counted<W>,
+    errors: &mut Counted<E>,
+) -> Result<Verdict, SimFault>
+    ensures answered { Answered Checked result (R.remaining reader.old.inner) (W.contents writer.old.inner)
+        (W.contents writer.new.inner) }
+    ensures reads { reader.new.failures ≡ failed_reads result reader.old.failures }
+    ensures writes { writer.new.failures ≡ failed_writes result writer.old.failures }
+{
+    weigh_history(alloc, reader, writer, errors)
+}
+
 /// Tells the story of the scenario that the reader gives, and what is wrong with it.
 fn narrated<R: Read, W: Write, E: Write>(
     alloc: Global,
@@ -256,27 +283,27 @@ fn shrunk<R: Read, W: Write, E: Write>(
     outcome
 }
 
-/// Writes what a code means, or what all codes mean.
-fn explained<W: Write>(
+/// Heals the scenario that the reader gives, and tells what it did, or what is wrong with it.
+fn healed<R: Read, W: Write, E: Write>(
     alloc: Global,
-    code: Option<u8>,
+    power_cycle: bool,
+    reader: &mut Counted<R>,
     writer: &mut Counted<W>,
+    errors: &mut Counted<E>,
 ) -> Result<Verdict, SimFault>
-    ensures ok { IfOk result (λ verdict.
-        IsWritten Told verdict (W.contents writer.old.inner) (W.contents writer.new.inner)) }
-    ensures cut_short { (count : ℕ) → result ≡ Err (WriteFailed count) →
-        IsBegun Told count (W.contents writer.old.inner) (W.contents writer.new.inner) }
-    ensures nothing_without_memory { result ≡ Err Memory →
-        Keeps (W.contents writer.old.inner) (W.contents writer.new.inner) }
+    ensures answered { Answered Healed result (R.remaining reader.old.inner) (W.contents writer.old.inner)
+        (W.contents writer.new.inner) }
+    ensures reads { reader.new.failures ≡ failed_reads result reader.old.failures }
     ensures writes { writer.new.failures ≡ failed_writes result writer.old.failures }
-    ensures unread { result ≢ Err ReadFailed }
     ensures no_breach { result ≢ Ok Breach }
 {
-    let text = explain(alloc, code)?;
-    tell(text.as_str(), writer)
+    let mut kept = Kept::new(alloc);
+    let outcome = heal(alloc, power_cycle, reader, writer, errors, &mut kept);
+    tell_why(alloc, Dialect::Scenario, &outcome, &kept, errors);
+    outcome
 }
 
-/// Writes a text: help, the version, or what codes mean.
+/// Writes a text: help, or the version.
 fn tell<W: Write>(text: &str, writer: &mut Counted<W>) -> Result<Verdict, SimFault>
     ensures ok { IfOk result (λ verdict.
         IsWritten Told verdict (W.contents writer.old.inner) (W.contents writer.new.inner)) }

@@ -10,15 +10,15 @@ ghost use Rattle.rc_sim.specs.Written.{IsWritten, IsBegun};
 
 use crate::answers::{Answer, ended};
 use crate::counted::Counted;
-use crate::outlets::write_all;
 use crate::simulating::write_answer;
+use crate::staking::tell_stake;
 use crate::verdicts::{Output, SimFault, Verdict};
 use rc_draw::drawn_run;
 use std::alloc::{AllocError, Global};
 use std::io::Write;
 
-/// Runs so many steps of events that are drawn from the seed, and writes the report. Where nothing was acknowledged,
-/// `errors` is told what reaches more.
+/// Runs so many steps of events that are drawn from the seed, and writes the report. `errors` is told what was at
+/// stake.
 ///
 /// After `Memory` nothing was written, after `Write(n)` the first n bytes of the report. `Write` comes only
 /// where the writer has failed in this very call.
@@ -41,18 +41,8 @@ pub fn fuzz<W: Write, E: Write>(
     ensures no_breach { result ≢ Ok Breach }
 {
     let answer = drawn_answer(alloc, seed, steps, free)?;
-    hint_at(answer.text.as_str(), errors);
+    tell_stake(answer.text.as_str(), errors);
     write_answer(writer, &answer)
-}
-
-/// Where the report says that nothing was acknowledged, `errors` is told what reaches more.
-fn hint_at<E: Write>(report: &str, errors: &mut Counted<E>) {
-    if report.contains("\nacknowledged 0\n") {
-        let _ = write_all(
-            errors,
-            b"hint: nothing was acknowledged; 'explore' draws events that reach more\n",
-        );
-    }
 }
 
 /// The report of a drawing.

@@ -1,17 +1,21 @@
-//! What the program `ramseg` does: a scenario is run, a trace is judged, events are drawn, or nodes are run on threads;
-//! and what came of it is written.
+//! What the program `ramseg` does: a scenario is run, a trace or a history is judged, events are drawn, or nodes are
+//! run on threads; and what came of it is written.
 #![tactic(auto)]
 
 mod answers;
 mod commanding;
 mod counted;
 mod drawing;
+mod explaining;
 mod exploring;
+mod healing;
+mod histories;
 mod narrating;
 mod outlets;
 mod playing;
 mod shrinking;
 mod simulating;
+mod staking;
 mod surveying;
 mod telling;
 mod threading;

@@ -12,6 +12,7 @@ ghost use Rattle.rc_sim.specs.Written.{IsWritten, IsBegun};
 
 use crate::answers::{Answer, bad};
 use crate::counted::Counted;
+use crate::histories::history_lines;
 use crate::outlets::read_all;
 use crate::playing::Kept;
 use crate::simulating::write_answer;
@@ -34,6 +35,8 @@ pub enum Telling {
     Page,
     /// As a sequence diagram for Mermaid.
     Mermaid,
+    /// As the history of its clients.
+    History,
 }
 
 impl Telling {
@@ -154,6 +157,7 @@ fn text_of(alloc: Global, story: &Story<'_>, telling: Telling) -> Result<String,
         Telling::Json => log_json(alloc, story),
         Telling::Page => page(alloc, story),
         Telling::Mermaid => mermaid(alloc, story),
+        Telling::History => history_lines(alloc, story.messages),
     };
     text.map_err(|_| SimFault::Memory)
 }

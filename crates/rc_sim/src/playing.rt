@@ -15,6 +15,7 @@ use crate::simulating::write_answer;
 use crate::verdicts::{Output, SimFault, Verdict};
 use rc_telling::{Factors, hints};
 use rc_types::{Event, Message};
+use rc_words::names_of_codes;
 use rc_world::World;
 use std::alloc::{Allocator, Global};
 use std::io::{Read, Write};
@@ -26,6 +27,8 @@ pub(crate) struct Kept {
     pub(crate) bytes: Vec<u8>,
     /// How many messages were sent.
     pub(crate) sent: usize,
+    /// The names of the codes that it was refused with.
+    pub(crate) names: String,
     /// What may not have been meant in it.
     pub(crate) hints: String,
 }
@@ -36,6 +39,7 @@ impl Kept {
         Kept {
             bytes: Vec::new(alloc),
             sent: 0,
+            names: String::new(alloc),
             hints: String::new(alloc),
         }
     }
@@ -58,6 +62,9 @@ impl Kept {
         events: &[Event],
         messages: &[Message],
     ) {
+        if let Ok(names) = names_of_codes(alloc, messages) {
+            self.names = names;
+        }
         if let Ok(hints) = hints(alloc, factors, events, messages) {
             self.hints = hints;
         }

@@ -58,5 +58,6 @@ fn hint<E: Write>(alloc: Global, dialect: Dialect, kept: &Kept, errors: &mut Cou
     if let Ok(hint) = hint_of_twice(alloc, dialect, kept.bytes.as_slice()) {
         let _ = write_all(errors, hint.as_bytes());
     }
+    let _ = write_all(errors, kept.names.as_bytes());
     let _ = write_all(errors, kept.hints.as_bytes());
 }

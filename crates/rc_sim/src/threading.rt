@@ -3,28 +3,26 @@
 ghost use Rattle.std.specs.Prelude.{◌≡◌, ◌≢◌, ◌≤◌, ℕ, string_bytes, IfOk, IfErr, Ok, Err};
 ghost use Rattle.std.specs.Io.KnownBytes.{Keeps};
 ghost use Rattle.rc_types.specs.declared.limits.TheConstants.{MAX_HOSTS};
-ghost use Rattle.rc_threads.specs.Workload.{threads_setup};
 ghost use Rattle.rc_sim.specs.declared.verdicts.SimFault.TheVariants.{Memory, Read as ReadFailed, Write as WriteFailed};
 ghost use Rattle.rc_sim.specs.declared.verdicts.Verdict.TheVariants.{Breach};
 ghost use Rattle.rc_sim.specs.Failures.{failed_writes};
-ghost use Rattle.rc_sim.specs.Verdicts.{Reported, Threaded, Unable};
+ghost use Rattle.rc_sim.specs.Verdicts.{Threaded};
 ghost use Rattle.rc_sim.specs.Written.{IsWritten, IsBegun};
 
-use crate::answers::{Answer, ended};
+use crate::answers::{Answer, ended, stopped};
 use crate::counted::Counted;
 use crate::simulating::write_answer;
 use crate::verdicts::{Output, SimFault, Verdict};
 use rc_threads::world_of_threads;
-use rc_types::{Code, Fault};
-use rc_world::World;
+use rc_types::Code;
 use std::alloc::Global;
 use std::io::Write;
 use std::sync::Wait;
 use std::thread;
 
 /// Runs the nodes of so many hosts, each on a thread of its own, with so many writes and a recovery, and writes the
-/// report of the world in which all has happened that they did; or, where a node could not do a step (F18), one line
-/// that says so.
+/// report of the world in which all has happened that they did; and where a node could not take its next work (F18), a
+/// last line that says so, with the number of the event that there was no room for or that was not possible.
 ///
 /// It fails as `fuzz` does: `Memory` also where a thread was refused.
 pub fn threads<R: thread::Threads + Wait + Sync, W: Write>(
@@ -36,9 +34,9 @@ pub fn threads<R: thread::Threads + Wait + Sync, W: Write>(
 ) -> Result<Verdict, SimFault>
     requires { hosts ≤ MAX_HOSTS }
     ensures ok { IfOk result (λ verdict.
-        IsWritten Threaded verdict (W.contents writer.old.inner) (W.contents writer.new.inner)) }
+        IsWritten (Threaded hosts writes) verdict (W.contents writer.old.inner) (W.contents writer.new.inner)) }
     ensures cut_short { (count : ℕ) → result ≡ Err (WriteFailed count) →
-        IsBegun Threaded count (W.contents writer.old.inner) (W.contents writer.new.inner) }
+        IsBegun (Threaded hosts writes) count (W.contents writer.old.inner) (W.contents writer.new.inner) }
     ensures nothing_without_memory { result ≡ Err Memory →
         Keeps (W.contents writer.old.inner) (W.contents writer.new.inner) }
     ensures writes { writer.new.failures ≡ failed_writes result writer.old.failures }
@@ -57,35 +55,15 @@ fn threaded_answer<R: thread::Threads + Wait + Sync>(
     writes: u32,
 ) -> Result<Answer, SimFault>
     requires { hosts ≤ MAX_HOSTS }
-    ensures ok { IfOk result (λ answer. Threaded answer.verdict (string_bytes answer.text)) }
+    ensures ok { IfOk result (λ answer. Threaded hosts writes answer.verdict (string_bytes answer.text)) }
     ensures fault { IfErr result (λ fault. fault ≡ Memory) }
 {
     match world_of_threads(rt, alloc, hosts, writes) {
-        Ok(world) => reported(alloc, &world),
-        Err(Fault::OutOfMemory) => Err(SimFault::Memory),
-        Err(_) => unable(alloc),
+        Ok((world, true)) => ended(alloc, &world, Output::Report),
+        Ok((world, false)) => {
+            let place = world.events().len();
+            stopped(alloc, &world, Output::Report, place, Code::BadEvent)
+        }
+        Err(_) => Err(SimFault::Memory),
     }
-}
-
-/// The report of what the nodes did.
-fn reported(alloc: Global, world: &World<Global>) -> Result<Answer, SimFault>
-    requires { world.now.setup ≡ threads_setup }
-    ensures ok { IfOk result (λ answer. Reported answer.verdict (string_bytes answer.text)) }
-    ensures fault { IfErr result (λ fault. fault ≡ Memory) }
-{
-    ended(alloc, world, Output::Report)
-}
-
-/// A node could not do a step: which one is not known.
-fn unable(alloc: Global) -> Result<Answer, SimFault>
-    ensures ok { IfOk result (λ answer. Unable answer.verdict (string_bytes answer.text)) }
-    ensures fault { IfErr result (λ fault. fault ≡ Memory) }
-{
-    let mut text = String::new(alloc);
-    text.push_str("stopped F18\n")?;
-    Ok(Answer {
-        verdict: Verdict::Stopped(0, Code::BadEvent),
-        text,
-        sent: 0,
-    })
 }

@@ -142,6 +142,17 @@ impl Course {
         None
     }
 
+    /// The first host's newest server that runs and was suspected.
+    pub(crate) fn zombie(&self) -> Option<ServerId> {
+        for index in 0..MAX_HOSTS {
+            if self.is_running(index) && self.is_suspected(index) {
+                let generation = self.generation(index);
+                return Some(ServerId { index, generation });
+            }
+        }
+        None
+    }
+
     /// Whether a server runs.
     pub(crate) fn runs(&self, id: ServerId) -> bool {
         self.is_running(id.index) && self.generation(id.index) == id.generation

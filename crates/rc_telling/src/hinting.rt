@@ -7,7 +7,7 @@ use crate::recoveries::{Recoveries, tell_recoveries};
 use crate::tables::Table;
 use rc_pen::{Pen, Piece, Spelling};
 use rc_types::limits::MAX_HOSTS;
-use rc_types::{Addr, Event, Message, Setup};
+use rc_types::{Addr, Body, Event, Message, Setup};
 use std::alloc::{AllocError, Global};
 
 /// How many kinds of waiting messages are told one by one.
@@ -67,6 +67,7 @@ fn tell_hints(
     pen.take(course.begin(messages.len()));
     course.take_all(events);
     tell_waiting(&course, alloc, pen, messages);
+    tell_lost_own(&course, pen, messages);
     tell_unheard(&course, pen);
     tell_unstarted(&course, pen);
     tell_few(&course, pen, factors);
@@ -77,7 +78,11 @@ fn tell_hints(
 fn tell_unrecovered(course: &Course, alloc: Global, pen: &mut Pen, messages: &[Message]) {
     let mut recoveries = Recoveries::new(alloc);
     pen.take(recoveries.note_all(messages, course.delivered.as_slice()));
-    tell_recoveries(pen, &recoveries, course);
+    let waits = messages
+        .iter()
+        .enumerate()
+        .any(|(number, message)| course.waits(number, message));
+    tell_recoveries(pen, &recoveries, course, waits);
 }
 
 /// Messages that wait.
@@ -99,6 +104,30 @@ fn count_waiting(
         }
     }
     Ok(())
+}
+
+/// The first table whose owner was not told that it has it.
+fn tell_lost_own(course: &Course, pen: &mut Pen, messages: &[Message]) {
+    for (number, message) in messages.iter().enumerate() {
+        if let (
+            Body::Own {
+                table,
+                attempt: 0,
+                ..
+            },
+            Addr::Server(id),
+        ) = (&message.body, message.to)
+        {
+            if course.waits(number, message) {
+                pen.say_all(
+                    "hint: the Own of table % has not reached %, and nothing sends it again: where it is lost, stop % \
+                     and start its host, and decide\n",
+                    &[Piece::U32(*table), Piece::Id(id), Piece::Id(id)],
+                );
+                return;
+            }
+        }
+    }
 }
 
 /// Requests that nobody heard.

@@ -239,8 +239,13 @@ impl Recoveries {
     }
 }
 
-/// Each recovery that is not at its end.
-pub(crate) fn tell_recoveries(pen: &mut Pen, recoveries: &Recoveries, course: &Course) {
+/// Each recovery that is not at its end, where messages wait or none does.
+pub(crate) fn tell_recoveries(
+    pen: &mut Pen,
+    recoveries: &Recoveries,
+    course: &Course,
+    waits: bool,
+) {
     for (master, attempt) in &recoveries.newest.entries {
         if !attempt.is_decided {
             tell_undecided(pen, *master, attempt);
@@ -249,7 +254,7 @@ pub(crate) fn tell_recoveries(pen: &mut Pen, recoveries: &Recoveries, course: &C
             if is_gone(part.to, course) {
                 tell_gone(pen, *master);
             } else {
-                tell_stage(pen, *master, recoveries.stage(term, &part), course);
+                tell_stage(pen, *master, recoveries.stage(term, &part), course, waits);
             }
             pen.say("\n");
         }
@@ -301,7 +306,7 @@ fn tell_gone(pen: &mut Pen, master: ServerId) {
 }
 
 /// How far a part has come, and what it waits for.
-fn tell_stage(pen: &mut Pen, master: ServerId, stage: Stage, course: &Course) {
+fn tell_stage(pen: &mut Pen, master: ServerId, stage: Stage, course: &Course, waits: bool) {
     match stage {
         Stage::Planned => pen.say(", which the plan has not reached"),
         Stage::Fetching(seg, from) => {
@@ -315,7 +320,7 @@ fn tell_stage(pen: &mut Pen, master: ServerId, stage: Stage, course: &Course) {
         }
         Stage::Fetched => {
             pen.say(", which has read all of it, and waits until its own backups have stored it");
-            tell_unsuspected(pen, course);
+            tell_unsuspected(pen, course, waits);
         }
         Stage::Recovered => {
             pen.say(", which has told the coordinator that it has it, and waits for the answer");
@@ -323,11 +328,22 @@ fn tell_stage(pen: &mut Pen, master: ServerId, stage: Stage, course: &Course) {
     }
 }
 
-/// A server that has stopped, and of which the coordinator was not told.
-fn tell_unsuspected(pen: &mut Pen, course: &Course) {
+/// A server that has stopped, and of which the coordinator was not told; or else, where no message waits, one that was
+/// suspected and runs.
+fn tell_unsuspected(pen: &mut Pen, course: &Course, waits: bool) {
     if let Some(id) = course.unsuspected() {
         pen.say_all(
             "; % has stopped and was not suspected, so its place is not filled",
+            &[Piece::Id(id)],
+        );
+        return;
+    }
+    if waits {
+        return;
+    }
+    if let Some(id) = course.zombie() {
+        pen.say_all(
+            "; % was suspected and runs: once it is stopped and its host is started, that can be one",
             &[Piece::Id(id)],
         );
     }

@@ -82,3 +82,30 @@ within-found from first number name (m ∷ messages) some =
           let le : from ≤ first = is-at-most from first here.1 in (omega (arith, e, le), omega (arith, e)))
       | inr later ↦ (let h = within-found from (first + 1) number name messages later.1 in (h.0, omega (arith, h.1)))
     ]
+
+-- a number that is found is not below where counting begins,
+found-above : (from first number : ℕ) (name : NodeName) (messages : List Message) →
+    find (λ n. nat_le from n) (numbers_from first name messages) ≡ Some number → first ≤ number
+found-above from first number name [] some = cc
+found-above from first number name (m ∷ messages) some =
+    elim (some-left from first number (same_node (node_of m.to) name) (numbers_from (first + 1) name messages) some) [
+      | inl here ↦ (let e : first ≡ number = here.2 in omega (arith, e))
+      | inr later ↦ (let h = found-above from (first + 1) number name messages later.1 in omega (arith, h))
+    ]
+
+-- and is that of a message to this node
+pub found-own : (from first number : ℕ) (name : NodeName) (messages : List Message) (k : ℕ) (message : Message) →
+    find (λ n. nat_le from n) (numbers_from first name messages) ≡ Some number → slice_get messages k ≡ Some message →
+    number ≡ first + k → same_node (node_of message.to) name ≡ true
+found-own from first number name [] k message some at is = cc
+found-own from first number name (m ∷ messages) zero message some at is =
+    let same : m ≡ message = cc in
+    elim (some-left from first number (same_node (node_of m.to) name) (numbers_from (first + 1) name messages) some) [
+      | inl here ↦ ap (λ (x : Message). same_node (node_of x.to) name) (sym same) ∙ here.0
+      | inr later ↦ (let h = found-above from (first + 1) number name messages later.1 in absurd (omega (arith, h, is)))
+    ]
+found-own from first number name (m ∷ messages) (suc k) message some at is =
+    elim (some-left from first number (same_node (node_of m.to) name) (numbers_from (first + 1) name messages) some) [
+      | inl here ↦ (let e : first ≡ number = here.2 in absurd (omega (arith, e, is)))
+      | inr later ↦ found-own from (first + 1) number name messages k message later.1 at (omega (arith, is))
+    ]

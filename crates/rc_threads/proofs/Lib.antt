@@ -4,3 +4,5 @@ pub mod Seating
 pub mod Crossing
 pub mod Fetching
 pub mod Listing
+pub mod Stuck
+pub mod Works

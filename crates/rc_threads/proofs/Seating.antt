@@ -1,15 +1,14 @@
 -- Lists of seats, from the last on.
 use Rattle.std.proofs.Common.{◌≡◌, ℕ, zero, suc, ◌<◌, List, [], ◌∷◌, ◌++◌, length, take, Option, Some, All}
 use Rattle.std.proofs.Common.{refl, sym, ap, ◌∙◌, subst, arith}
-use Rattle.std.specs.Prelude.{Result, Ok, Err, OnOk, option_to_list, slice_index_or}
-use Rattle.std.specs.Result.{result_and}
+use Rattle.std.specs.Prelude.{Bool, true, false, if◌then◌else◌, Result, Ok, Err, OnOk, option_to_list, slice_index_or}
 use Rattle.rc_model.specs.Model.{Setup, Fault}
 use Rattle.rc_wire.specs.declared.work.Work.{Work}
 use Rattle.rc_wire.specs.SeatView.{SeatData}
 use Rattle.rc_threads.specs.declared.steps.Step.{Step}
 use Rattle.rc_threads.specs.Runs.{Runs, Grows, works_for}
 use Rattle.rc_threads.proofs.Turning.{grows-does, grows-same}
-use Rattle.rc_threads.specs.Ends.{IsIdle, RunAll, GrowAll, Ends}
+use Rattle.rc_threads.specs.Ends.{IsIdle, RunAll, GrowAll, Ends, is_bad_event, joined}
 
 pub take-all : {A : Type 0} (xs : List A) → take (length xs) xs ≡ xs
 take-all [] = refl
@@ -21,7 +20,7 @@ grows-runs setup old works new r = grows-does old new works r.does
 pub ends-grows : (setup : Setup) (old : SeatData) (steps : List Step) (outcome : Result (Unit {0}) Fault) (new : SeatData) →
     Ends setup old steps outcome new → Grows old new
 ends-grows setup old steps (Ok done) new ends = grows-runs setup old (works_for old.name steps) new ends
-ends-grows setup old steps (Err fault) new ends = ends.0
+ends-grows setup old steps (Err fault) new ends = ends.grows
 
 pub grow-last : (olds news : List SeatData) (old new : SeatData) → GrowAll olds news → Grows old new →
     GrowAll (olds ++ old ∷ []) (news ++ new ∷ [])
@@ -45,10 +44,16 @@ grow-same (seat ∷ seats) = (grows-same seat, grow-same seats)
 pub run-both : (setup : Setup) (steps : List Step) (olds news : List SeatData) (old new : SeatData)
     (others outcome : Result (Unit {0}) Fault) →
     OnOk others (RunAll setup olds steps news) → Ends setup old steps outcome new →
-    OnOk (result_and others outcome) (RunAll setup (olds ++ old ∷ []) steps (news ++ new ∷ []))
+    OnOk (joined others outcome) (RunAll setup (olds ++ old ∷ []) steps (news ++ new ∷ []))
 run-both setup steps olds news old new (Ok a) (Ok b) all ends = run-last setup steps olds news old new all ends
-run-both setup steps olds news old new (Ok a) (Err e) all ends = tt
-run-both setup steps olds news old new (Err e) outcome all ends = tt
+run-both setup steps olds news old new (Ok a) (Err f) all ends = tt
+run-both setup steps olds news old new (Err e) (Ok b) all ends = tt
+run-both setup steps olds news old new (Err e) (Err f) all ends = by (is_bad_event (Err f))
+  where
+    by : (b : Bool) → OnOk (let r : Result (Unit {0}) Fault = if b then Err f else Err e in r)
+        (RunAll setup (olds ++ old ∷ []) steps (news ++ new ∷ []))
+    by true = tt
+    by false = tt
 
 front-index : (xs ys : List SeatData) (k : ℕ) (d : SeatData) → k < length xs → slice_index_or (xs ++ ys) k d ≡ slice_index_or xs k d
 front-index [] ys k d lt = absurd (omega (arith, lt))
@@ -98,7 +103,7 @@ grown-back setup steps olds rest news after popped old new outcome split some al
 pub run-back : (setup : Setup) (steps : List Step) (olds rest news after : List SeatData) (popped : Option SeatData) (old new : SeatData)
     (others outcome both : Result (Unit {0}) Fault) → olds ≡ rest ++ option_to_list popped → popped ≡ Some old →
     OnOk others (RunAll setup rest steps news) → Ends setup old steps outcome new → after ≡ news ++ new ∷ [] →
-    both ≡ result_and others outcome → OnOk both (RunAll setup olds steps after)
+    both ≡ joined others outcome → OnOk both (RunAll setup olds steps after)
 run-back setup steps olds rest news after popped old new others outcome both split some all ends put is =
     let was : olds ≡ rest ++ old ∷ [] = split ∙ ap (λ o. rest ++ option_to_list o) some in
     subst (λ l. OnOk both (RunAll setup l steps after)) (sym was)

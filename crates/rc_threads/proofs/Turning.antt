@@ -60,7 +60,7 @@ get-front (y ∷ xs) ys zero x lt found = found
 get-front (y ∷ xs) ys (suc n) x lt found = get-front xs ys n x (omega (arith, lt)) found
 
 -- what stands at a number below the length of a beginning stands there in the beginning
-starts-back : {A : Type 0} (longer shorter : List A) (n : ℕ) (x : A) → StartsWith longer shorter → n < length shorter →
+pub starts-back : {A : Type 0} (longer shorter : List A) (n : ℕ) (x : A) → StartsWith longer shorter → n < length shorter →
     slice_get longer n ≡ Some x → slice_get shorter n ≡ Some x
 starts-back longer shorter n x starts lt found =
     get-front shorter starts.rest n x lt (ap (λ l. slice_get l n) (sym starts.same) ∙ found)

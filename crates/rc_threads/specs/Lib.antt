@@ -1,3 +1,4 @@
 pub mod Runs
 pub mod Ends
 pub mod Workload
+pub mod Worked

@@ -1,7 +1,7 @@
 //! What the threads and their caller share: how many hints are open, the first fault, and the way to each seat's
 //! thread.
 
-ghost use Rattle.std.specs.Prelude.{◌≡◌, ◌⊎◌, IfErr};
+ghost use Rattle.std.specs.Prelude.{◌≡◌, ◌⊎◌};
 ghost use Rattle.rc_types.specs.declared.faults.Fault.TheVariants.{OutOfMemory, BadEvent};
 
 use crossbeam_channel::{Receiver, SendError, Sender, unbounded};
@@ -26,18 +26,6 @@ pub(crate) enum Stop {
     NoMemory,
     /// A work could not be done, or there was no room for an event.
     BadEvent,
-}
-
-impl Stop {
-    /// As a fault.
-    pub(crate) fn fault(self) -> Fault
-        ensures { (result ≡ OutOfMemory) ⊎ (result ≡ BadEvent) }
-    {
-        match self {
-            Stop::NoMemory => Fault::OutOfMemory,
-            Stop::BadEvent => Fault::BadEvent,
-        }
-    }
 }
 
 /// How many hints were given and are not done, and the first fault.
@@ -110,11 +98,6 @@ impl Board {
         self.lines.iter().find(|line| line.number == number)
     }
 
-    /// Whether there is a line to the seat of this number.
-    pub(crate) fn knows(&self, number: usize) -> bool {
-        self.line(number).is_some()
-    }
-
     /// Gives a hint to the seat of this number, if it has a line that has not ended. It is open from before it is
     /// given.
     pub(crate) fn give<R: Wait>(&self, rt: &R, number: usize, hint: Hint) {
@@ -134,10 +117,8 @@ impl Board {
     ///
     /// # Errors
     ///
-    /// The first fault, once there was one.
-    pub(crate) fn take<R: Wait>(&self, rt: &R, number: usize) -> Result<Option<Hint>, Fault>
-        ensures fault { IfErr result (λ fault. (fault ≡ OutOfMemory) ⊎ (fault ≡ BadEvent)) }
-    {
+    /// All is to end, since somewhere there was a fault.
+    pub(crate) fn take<R: Wait>(&self, rt: &R, number: usize) -> Result<Option<Hint>, Stop> {
         self.going(rt)?;
         let hint = self
             .line(number)
@@ -181,14 +162,23 @@ impl Board {
     ///
     /// # Errors
     ///
-    /// The first fault, once there was one.
-    pub(crate) fn going<R: Wait>(&self, rt: &R) -> Result<(), Fault>
-        ensures fault { IfErr result (λ fault. (fault ≡ OutOfMemory) ⊎ (fault ≡ BadEvent)) }
-    {
-        let stop = self.open.lock(rt).stop;
-        match stop {
-            Some(stop) => Err(stop.fault()),
+    /// Why it is not, as it was found first.
+    pub(crate) fn going<R: Wait>(&self, rt: &R) -> Result<(), Stop> {
+        match self.open.lock(rt).stop {
+            Some(stop) => Err(stop),
             None => Ok(()),
+        }
+    }
+
+    /// The fault to be told where the seats have come to this one: want of memory, where that was found first.
+    pub(crate) fn first<R: Wait>(&self, rt: &R, fault: Fault) -> Fault
+        requires { (fault ≡ OutOfMemory) ⊎ (fault ≡ BadEvent) }
+        ensures fault { (result ≡ OutOfMemory) ⊎ (result ≡ BadEvent) }
+        ensures bad { result ≡ BadEvent → fault ≡ BadEvent }
+    {
+        match self.going(rt) {
+            Err(Stop::NoMemory) => Fault::OutOfMemory,
+            _ => fault,
         }
     }
 

@@ -1,15 +1,16 @@
 //! The call that runs nodes on threads.
 
-ghost use Rattle.std.specs.Prelude.{◌≡◌, ◌⊎◌, true, All, None, IfOk, IfErr, OnOk, vec_capacity, vec_len};
+ghost use Rattle.std.specs.Prelude.{◌≡◌, ◌⊎◌, nat_eq, true, false, All, None, IfOk, IfErr, OnOk, vec_capacity, vec_len};
+ghost use Rattle.rc_journal.specs.Names.{number_of};
 ghost use Rattle.rc_types.specs.declared.faults.Fault.TheVariants.{OutOfMemory, BadEvent};
 ghost use Rattle.rc_threads.specs.Runs.{none_fetched};
-ghost use Rattle.rc_threads.specs.Ends.{IsIdle, RunAll, GrowAll, Ends};
+ghost use Rattle.rc_threads.specs.Ends.{IsIdle, RunAll, GrowAll, Ends, SomeCannotGoOn, is_seated, all_seated, joined};
 
 use crate::board::{Board, Hint, Stop};
 use crate::gate::Gate;
 use crate::seats::run_seat;
 use crate::steps::Step;
-use rc_journal::Naming;
+use rc_journal::{Naming, SeatName};
 use rc_types::Fault;
 use rc_wire::{Seat, Wire};
 use std::alloc::{AllocError, Global};
@@ -22,8 +23,9 @@ use std::thread::{Promise, PromisedHandle, Scope, Threads};
 ///
 /// # Errors
 ///
-/// `BadEvent` (F18): a step names no seat that was handed in, a node can't do one of its works, or 200,000 events
-/// have happened. `OutOfMemory` (F1): memory or a thread was refused. All seats come back.
+/// `BadEvent` (F18) only where a step names no seat that was handed in, a seat has come to a work that its node can't
+/// do where it is, or 200,000 events have happened. `OutOfMemory` (F1): memory or a thread was refused. All seats come
+/// back.
 pub fn run_nodes<N: Naming + Send + Sync, R: Threads + Wait + Sync, G: Gate>(
     rt: &R,
     alloc: Global,
@@ -37,17 +39,22 @@ pub fn run_nodes<N: Naming + Send + Sync, R: Threads + Wait + Sync, G: Gate>(
     ensures ok { IfOk result (λ after. RunAll N.wire.setup seats.items steps.now after.items) }
     ensures err { IfErr result (λ refused. GrowAll seats.items refused.0.items) }
     ensures fault { IfErr result (λ refused. (refused.1 ≡ OutOfMemory) ⊎ (refused.1 ≡ BadEvent)) }
+    ensures seated { OnOk result (all_seated seats.items steps.now ≡ true) }
+    ensures unseated { all_seated seats.items steps.now ≡ false → IfErr result (λ refused.
+        (refused.1 ≡ BadEvent) × (refused.0.items ≡ seats.items)) }
+    ensures bad { IfErr result (λ refused. refused.1 ≡ BadEvent → (all_seated seats.items steps.now ≡ false) ⊎
+        SomeCannotGoOn N.wire.setup seats.items steps.now refused.0.items) }
 {
+    if !all_seated(seats.as_slice(), steps) {
+        return Err((seats, Fault::BadEvent));
+    }
     let Ok(board) = board_for(alloc, &seats) else {
         return Err((seats, Fault::OutOfMemory));
     };
-    if !all_known(&board, steps) {
-        return Err((seats, Fault::BadEvent));
-    }
     let (seats, outcome) = run_on(rt, alloc, wire, &board, seats, steps, gate);
     match outcome {
         Ok(()) => Ok(seats),
-        Err(fault) => Err((seats, fault)),
+        Err(fault) => Err((seats, board.first(rt, fault))),
     }
 }
 
@@ -60,12 +67,28 @@ fn board_for<N: Naming>(alloc: Global, seats: &[Seat<N>]) -> Result<Board, Alloc
     Board::new(alloc, &names)
 }
 
-/// Whether each step is of a seat that has a line.
-fn all_known(board: &Board, steps: &[Step]) -> bool {
-    steps.iter().all(|step| match step {
-        Step::Do(name, _) => board.knows(name.number()),
+/// Whether each work is that of one of these seats.
+fn all_seated<N: Naming>(seats: &[Seat<N>], steps: &[Step]) -> bool
+    ensures { result ≡ all_seated seats.now steps.now }
+{
+    steps.iter().all(|step| is_seated(seats, step))
+}
+
+/// Whether the step is no work, or that of one of these seats.
+fn is_seated<N: Naming>(seats: &[Seat<N>], step: &Step) -> bool
+    ensures { result ≡ is_seated seats.now step.now }
+{
+    match step {
+        Step::Do(name, _) => seats.iter().any(|seat| is_seat_of(seat, *name)),
         Step::Settle => true,
-    })
+    }
+}
+
+/// Whether it is the seat of this name.
+fn is_seat_of<N: Naming>(seat: &Seat<N>, who: SeatName) -> bool
+    ensures { result ≡ nat_eq (number_of seat.now.name) (number_of who) }
+{
+    seat.name().number() == who.number()
 }
 
 /// Runs the seats on threads of one scope.
@@ -83,6 +106,8 @@ fn run_on<N: Naming + Send + Sync, R: Threads + Wait + Sync, G: Gate>(
     ensures ok { OnOk result.1 (RunAll N.wire.setup seats.items steps.now result.0.items) }
     ensures grows { GrowAll seats.items result.0.items }
     ensures fault { IfErr result.1 (λ fault. (fault ≡ OutOfMemory) ⊎ (fault ≡ BadEvent)) }
+    ensures bad { IfErr result.1 (λ fault. fault ≡ BadEvent →
+        SomeCannotGoOn N.wire.setup seats.items steps.now result.0.items) }
 {
     thread::scope(
         thread::scope_env(),
@@ -91,7 +116,9 @@ fn run_on<N: Naming + Send + Sync, R: Threads + Wait + Sync, G: Gate>(
             requires { All IsIdle seats.items × (none_fetched steps.now ≡ true) }
             ensures { OnOk result.1 (RunAll N.wire.setup seats.items steps.entry.now result.0.items)
                 × GrowAll seats.items result.0.items
-                × IfErr result.1 (λ fault. (fault ≡ OutOfMemory) ⊎ (fault ≡ BadEvent)) }
+                × IfErr result.1 (λ fault. (fault ≡ OutOfMemory) ⊎ (fault ≡ BadEvent))
+                × IfErr result.1 (λ fault. fault ≡ BadEvent →
+                SomeCannotGoOn N.wire.setup seats.items steps.entry.now result.0.items) }
         {
             let mut seats = seats;
             let outcome = run_in(scope, rt, alloc, wire, board, &mut seats, steps, gate);
@@ -167,6 +194,8 @@ fn run_in<'s, E, N: Naming + Send + Sync, R: Threads + Wait + Sync, G: Gate>(
     ensures len { vec_len seats.new ≡ vec_len seats.old }
     ensures room { vec_capacity seats.new ≡ vec_capacity seats.old }
     ensures fault { IfErr result (λ fault. (fault ≡ OutOfMemory) ⊎ (fault ≡ BadEvent)) }
+    ensures bad { IfErr result (λ fault. fault ≡ BadEvent →
+        SomeCannotGoOn N.wire.setup seats.old.items steps.now seats.new.items) }
 {
     let Some(seat) = seats.pop() else {
         return lead(rt, board, steps);
@@ -178,16 +207,24 @@ fn run_in<'s, E, N: Naming + Send + Sync, R: Threads + Wait + Sync, G: Gate>(
         Err(ended) => ended,
     };
     seats.push_reserved(seat);
-    others.and(outcome)
+    joined(others, outcome)
 }
 
-/// Gives the works to the threads, step by step, waits where the steps say so, and then ends all.
-///
-/// # Errors
-///
-/// The first fault, if there was one by then.
+/// What threads have come to, and one more: a work that can't be done counts before want of memory.
+fn joined(others: Result<(), Fault>, outcome: Result<(), Fault>) -> Result<(), Fault>
+    ensures { result ≡ joined others outcome }
+{
+    match (others, outcome) {
+        (Ok(()), outcome) => outcome,
+        (Err(_), Err(Fault::BadEvent)) => Err(Fault::BadEvent),
+        (Err(fault), _) => Err(fault),
+    }
+}
+
+/// Gives the works to the threads, step by step, waits where the steps say so, and then ends all. Where a fault has
+/// ended it, the seat that had it tells which it was; here want of memory is told.
 fn lead<R: Wait>(rt: &R, board: &Board, steps: &[Step]) -> Result<(), Fault>
-    ensures { IfErr result (λ fault. (fault ≡ OutOfMemory) ⊎ (fault ≡ BadEvent)) }
+    ensures { IfErr result (λ fault. fault ≡ OutOfMemory) }
 {
     for (at, step) in steps.iter().enumerate() {
         if board.going(rt).is_err() {
@@ -201,5 +238,8 @@ fn lead<R: Wait>(rt: &R, board: &Board, steps: &[Step]) -> Result<(), Fault>
         }
     }
     board.end(rt);
-    board.going(rt)
+    match board.going(rt) {
+        Ok(()) => Ok(()),
+        Err(_) => Err(Fault::OutOfMemory),
+    }
 }

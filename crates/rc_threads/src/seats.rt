@@ -4,7 +4,7 @@ ghost use Rattle.std.specs.Prelude.{◌≡◌, ◌⊎◌, ◌≤◌, true, lengt
 ghost use Rattle.rc_types.specs.declared.faults.Fault.TheVariants.{OutOfMemory, BadEvent};
 ghost use Rattle.rc_wire.specs.SeatView.{SeatData};
 ghost use Rattle.rc_threads.specs.Runs.{Progress, Runs, Grows, works_for, none_fetched};
-ghost use Rattle.rc_threads.specs.Ends.{Ends};
+ghost use Rattle.rc_threads.specs.Ends.{Ends, CannotGoOn};
 
 use crate::around::Around;
 use crate::board::{Board, Hint, Stop};
@@ -78,6 +78,8 @@ fn obey<N: Naming, R: Wait, A: Around>(
     ensures idle { OnOk result (seat.new.pending ≡ None) }
     ensures grows { Grows seat.old seat.new }
     ensures fault { IfErr result (λ fault. (fault ≡ OutOfMemory) ⊎ (fault ≡ BadEvent)) }
+    ensures bad { IfErr result (λ fault. fault ≡ BadEvent → (start : SeatData) →
+        Progress N.wire.setup start steps.now at from seat.old → CannotGoOn N.wire.setup start steps.now seat.new) }
 {
     match hint {
         Hint::Until(end) => {
@@ -92,7 +94,8 @@ fn obey<N: Naming, R: Wait, A: Around>(
     }
 }
 
-/// The seat takes hints until its line ends, and does what is left.
+/// The seat takes hints until its line ends, and does what is left. Where another seat's fault ends it, that one tells
+/// which it was; of this one want of memory is told, which says nothing of it.
 fn turns<N: Naming, R: Wait, G: Gate>(
     rt: &R,
     alloc: Global,
@@ -107,6 +110,7 @@ fn turns<N: Naming, R: Wait, G: Gate>(
     ensures ok { OnOk result (Runs N.wire.setup seat.old (works_for seat.old.name steps.now) seat.new) }
     ensures grows { Grows seat.old seat.new }
     ensures fault { IfErr result (λ fault. (fault ≡ OutOfMemory) ⊎ (fault ≡ BadEvent)) }
+    ensures bad { IfErr result (λ fault. fault ≡ BadEvent → CannotGoOn N.wire.setup seat.old steps.now seat.new) }
 {
     let number = seat.name().number();
     let mut around = Told {
@@ -118,7 +122,10 @@ fn turns<N: Naming, R: Wait, G: Gate>(
     let mut at = 0;
     let mut from = 0;
     for _ in rt.forever() {
-        let Some(hint) = board.take(rt, number)? else {
+        let Ok(next) = board.take(rt, number) else {
+            return Err(Fault::OutOfMemory);
+        };
+        let Some(hint) = next else {
             break;
         };
         let done = obey(rt, alloc, wire, &mut around, seat, steps, at, from, hint)?;

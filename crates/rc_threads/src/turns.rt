@@ -1,11 +1,15 @@
 //! The turns of one seat.
 
-ghost use Rattle.std.specs.Prelude.{◌≡◌, ◌⊎◌, ℕ, ◌+◌, ◌<◌, ◌≤◌, true, length, take, None, IfOk, IfErr, OnOk, OnErr};
+ghost use Rattle.std.specs.Prelude.{◌≡◌, ◌⊎◌, ℕ, ◌+◌, ◌<◌, ◌≤◌, true, false, length, take, None};
+ghost use Rattle.std.specs.Prelude.{IfOk, IfErr, OnOk, OnErr};
 ghost use Rattle.std.specs.Option.{IfSome, IfNone};
 ghost use Rattle.rc_types.specs.declared.faults.Fault.TheVariants.{OutOfMemory, BadEvent, Pending};
+ghost use Rattle.rc_types.specs.declared.limits.TheConstants.{MAX_EVENTS};
 ghost use Rattle.rc_wire.specs.SeatView.{SeatData};
 ghost use Rattle.rc_wire.specs.declared.work.Work.TheVariants.{Fetched};
+ghost use Rattle.rc_wire.specs.Works.{can_do};
 ghost use Rattle.rc_threads.specs.Runs.{Takes, Grows, Progress, Runs, works_for, none_fetched};
+ghost use Rattle.rc_threads.specs.Ends.{CannotGoOn};
 
 use crate::around::Around;
 use crate::steps::{Step, own_work};
@@ -27,6 +31,8 @@ fn take_step<N: Naming, R: Wait, A: Around>(
     ensures ok { OnOk result (Takes N.wire.setup seat.old work seat.new) }
     ensures err { OnErr result (Grows seat.old seat.new) }
     ensures fault { IfErr result (λ fault. (fault ≡ OutOfMemory) ⊎ (fault ≡ BadEvent)) }
+    ensures bad { IfErr result (λ fault. fault ≡ BadEvent →
+        ((can_do N.wire.setup seat.old work ≡ false) × (seat.new ≡ seat.old)) ⊎ (length seat.new.seen ≡ MAX_EVENTS)) }
 {
     seat.prepare(work)?;
     let name = seat.name();
@@ -41,8 +47,8 @@ fn take_step<N: Naming, R: Wait, A: Around>(
 ///
 /// # Errors
 ///
-/// `BadEvent` (F18): the node can't do this now, or 200,000 events have happened. `OutOfMemory` (F1): memory was
-/// refused. The seat may have seen more, and its step may be pending or committed.
+/// `BadEvent` (F18): the node can't do this where it is, or 200,000 events have happened. `OutOfMemory` (F1): memory
+/// was refused. The seat may have seen more, and its step may be pending or committed.
 pub fn do_next<N: Naming, R: Wait, A: Around>(
     rt: &R,
     alloc: Global,
@@ -60,6 +66,8 @@ pub fn do_next<N: Naming, R: Wait, A: Around>(
     ensures idle { OnOk result (seat.new.pending ≡ None) }
     ensures grows { Grows seat.old seat.new }
     ensures fault { IfErr result (λ fault. (fault ≡ OutOfMemory) ⊎ (fault ≡ BadEvent)) }
+    ensures bad { IfErr result (λ fault. fault ≡ BadEvent → (start : SeatData) (from : ℕ) →
+        Progress N.wire.setup start steps.now at from seat.old → CannotGoOn N.wire.setup start steps.now seat.new) }
 {
     match own_work(alloc, &steps[at], seat.name())? {
         Some(work) => take_step(rt, wire, around, seat, work),
@@ -91,6 +99,7 @@ pub fn deliver_next<N: Naming, R: Wait, A: Around>(
     ensures idle { OnOk result (seat.new.pending ≡ None) }
     ensures grows { Grows seat.old seat.new }
     ensures fault { IfErr result (λ fault. (fault ≡ OutOfMemory) ⊎ (fault ≡ BadEvent)) }
+    ensures bad { IfErr result (λ fault. fault ≡ BadEvent → length seat.new.seen ≡ MAX_EVENTS) }
 {
     let Some(number) = wire.next(rt, seat, from) else {
         return Ok(None);
@@ -137,6 +146,8 @@ pub fn do_until<N: Naming, R: Wait, A: Around>(
     ensures idle { OnOk result (seat.new.pending ≡ None) }
     ensures grows { Grows seat.old seat.new }
     ensures fault { IfErr result (λ fault. (fault ≡ OutOfMemory) ⊎ (fault ≡ BadEvent)) }
+    ensures bad { IfErr result (λ fault. fault ≡ BadEvent → (start : SeatData) (from : ℕ) →
+        Progress N.wire.setup start steps.now at from seat.old → CannotGoOn N.wire.setup start steps.now seat.new) }
 {
     for next in at..end {
         do_next(rt, alloc, wire, around, seat, steps, next)?;
@@ -166,6 +177,7 @@ pub fn deliver_rest<N: Naming, R: Wait, A: Around>(
     ensures idle { OnOk result (seat.new.pending ≡ None) }
     ensures grows { Grows seat.old seat.new }
     ensures fault { IfErr result (λ fault. (fault ≡ OutOfMemory) ⊎ (fault ≡ BadEvent)) }
+    ensures bad { IfErr result (λ fault. fault ≡ BadEvent → length seat.new.seen ≡ MAX_EVENTS) }
 {
     let mut below = from;
     for _ in rt.forever() {

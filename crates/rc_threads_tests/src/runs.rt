@@ -16,7 +16,7 @@ use std::alloc::{AllocError, Global};
 use std::marker::Brand;
 use std::process::Abort;
 use std::sync::Wait;
-use std::sync::atomic::{AtomicBool, Ordering};
+use std::sync::atomic::{AtomicBool, AtomicU32, Ordering};
 use std::test::Fail;
 use std::thread::Threads;
 
@@ -178,6 +178,84 @@ impl Gate for Flags {
     fn after_commit<R: Wait>(&self, _rt: &R, _seat: SeatName) {}
 }
 
+/// A gate that counts, seat by seat, how often it is passed before a commit and after one, and notes where these do not
+/// take turns.
+#[derive(Drop)]
+struct Turns {
+    before: [AtomicU32; 5],
+    after: [AtomicU32; 5],
+    mixed: AtomicBool,
+}
+
+/// Five numbers, for five seats.
+fn zeros() -> [AtomicU32; 5] {
+    [
+        AtomicU32::new(0),
+        AtomicU32::new(0),
+        AtomicU32::new(0),
+        AtomicU32::new(0),
+        AtomicU32::new(0),
+    ]
+}
+
+impl Turns {
+    fn new() -> Turns {
+        Turns {
+            before: zeros(),
+            after: zeros(),
+            mixed: AtomicBool::new(false),
+        }
+    }
+
+    /// The numbers of one seat.
+    fn of(&self, seat: SeatName) -> (u32, u32) {
+        let at = seat.number();
+        match (self.before.get(at), self.after.get(at)) {
+            (Some(before), Some(after)) => {
+                (before.load(Ordering::SeqCst), after.load(Ordering::SeqCst))
+            }
+            _ => (0, 0),
+        }
+    }
+
+    /// Notes whether these are other numbers than they should be.
+    fn expect(&self, numbers: (u32, u32), before: u32) {
+        if numbers != (before, numbers.1) {
+            self.mixed.store(true, Ordering::SeqCst);
+        }
+    }
+}
+
+/// One more.
+fn add_one(counts: &[AtomicU32; 5], seat: SeatName) {
+    if let Some(count) = counts.get(seat.number()) {
+        let _ = count.fetch_add(1, Ordering::SeqCst);
+    }
+}
+
+/// The sum of five numbers.
+fn sum(counts: &[AtomicU32; 5]) -> u32 {
+    let mut sum = 0u32;
+    for count in counts {
+        sum = sum.saturating_add(count.load(Ordering::SeqCst));
+    }
+    sum
+}
+
+impl Gate for Turns {
+    fn before_commit<R: Wait>(&self, _rt: &R, seat: SeatName) {
+        let numbers = self.of(seat);
+        self.expect(numbers, numbers.1);
+        add_one(&self.before, seat);
+    }
+
+    fn after_commit<R: Wait>(&self, _rt: &R, seat: SeatName) {
+        let numbers = self.of(seat);
+        self.expect(numbers, numbers.1.saturating_add(1));
+        add_one(&self.after, seat);
+    }
+}
+
 /// The world of the wire.
 fn close<N: Naming>(
     alloc: Global,
@@ -330,11 +408,42 @@ fn settles(rt: HostRuntime) -> Result<(), Fail> {
     Ok(())
 }
 
-/// A work for a seat that is not there is F18, and nothing has happened.
+/// The gate is passed before each commit of a seat and again after it, and each commit is one event.
+#[test]
+fn gate_twice_a_commit(rt: HostRuntime) -> Result<(), Fail> {
+    let alloc = rt.alloc();
+    let mut steps = starts(alloc)?;
+    add_writes(alloc, &mut steps, 2)?;
+    let opening = opened(alloc, 3)?;
+    let turns = Turns::new();
+    let left = run::<Brand, HostRuntime, Turns>(&rt, alloc, opening, steps.as_slice(), &turns)?;
+    assert!(rt; left.fault.is_none());
+    assert!(rt; !turns.mixed.load(Ordering::SeqCst));
+    let events = left.world.events().len() as u64;
+    assert_eq!(rt; u64::from(sum(&turns.before)), events);
+    assert_eq!(rt; u64::from(sum(&turns.after)), events);
+    Ok(())
+}
+
+/// A work that its node can't do is F18, after what was done before it.
+#[test]
+fn second_start(rt: HostRuntime) -> Result<(), Fail> {
+    let alloc = rt.alloc();
+    let mut steps = starts(alloc)?;
+    add_start(alloc, &mut steps, 1)?;
+    let opening = opened(alloc, 3)?;
+    let left = run::<Brand, HostRuntime, Free>(&rt, alloc, opening, steps.as_slice(), &Free)?;
+    assert!(rt; matches!(left.fault, Some(Fault::BadEvent)));
+    assert!(rt; left.world.events().len() >= 3);
+    assert!(rt; is_clean(alloc, left.world.sent())?);
+    Ok(())
+}
+
+/// A work for a seat that is not there is F18, and nothing has happened, whatever else is to be done.
 #[test]
 fn unknown_seat(rt: HostRuntime) -> Result<(), Fail> {
     let alloc = rt.alloc();
-    let mut steps = Vec::new(alloc);
+    let mut steps = starts(alloc)?;
     add(&mut steps, SeatName::Host(3), Work::Tick)?;
     let opening = opened(alloc, 3)?;
     let left = run::<Brand, HostRuntime, Free>(&rt, alloc, opening, steps.as_slice(), &Free)?;

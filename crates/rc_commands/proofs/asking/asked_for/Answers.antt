@@ -7,7 +7,8 @@ use Rattle.rc_commands.specs.Asking.{Tells}
 use Rattle.rc_commands.specs.Commands.{ramseg}
 use Rattle.rc_commands.proofs.Parsed.{gives_command, none_asked, refused, taken, told_among}
 use Rattle.rc_commands.proofs.ByWords.{audit_told, cut_told, drawn_told, explain_told, explore_told, fuzz_told, heap_told, log_told}
-use Rattle.rc_commands.proofs.ByWords.{picture_told, run_told, stops_told, texts_told, threads_told, trace_told}
+use Rattle.rc_commands.proofs.ByWords.{heal_told, picture_told, run_told, stops_told, texts_told, threads_told, trace_told}
+use Rattle.rc_commands.proofs.ByWords.{check_told, history_told}
 use Rattle.rc_commands.proofs.asking.asked_for.Goals as goal
 
 pub returns-in-Ok-clause-command : goal.returns-in-Ok-clause-command
@@ -142,6 +143,14 @@ pub returns-in-Err-clause-picture : goal.returns-in-Err-clause-picture
 returns-in-Err-clause-picture c =
     IfOk-weaker c.refused.result _ _ (picture_told (map string_bytes c.args.words.now)) (returns-in-Err-clause-command c)
 
+pub returns-in-Ok-clause-heal : goal.returns-in-Ok-clause-heal
+returns-in-Ok-clause-heal c =
+    IfOk-weaker c.found.result _ _ (heal_told (map string_bytes c.args.words.now)) (returns-in-Ok-clause-command c)
+
+pub returns-in-Err-clause-heal : goal.returns-in-Err-clause-heal
+returns-in-Err-clause-heal c =
+    IfOk-weaker c.refused.result _ _ (heal_told (map string_bytes c.args.words.now)) (returns-in-Err-clause-command c)
+
 pub returns-in-Ok-clause-explain : goal.returns-in-Ok-clause-explain
 returns-in-Ok-clause-explain c =
     IfOk-weaker c.found.result _ _ (explain_told (map string_bytes c.args.words.now)) (returns-in-Ok-clause-command c)
@@ -149,3 +158,19 @@ returns-in-Ok-clause-explain c =
 pub returns-in-Err-clause-explain : goal.returns-in-Err-clause-explain
 returns-in-Err-clause-explain c =
     IfOk-weaker c.refused.result _ _ (explain_told (map string_bytes c.args.words.now)) (returns-in-Err-clause-command c)
+
+pub returns-in-Ok-clause-history : goal.returns-in-Ok-clause-history
+returns-in-Ok-clause-history c =
+    IfOk-weaker c.found.result _ _ (history_told (map string_bytes c.args.words.now)) (returns-in-Ok-clause-command c)
+
+pub returns-in-Err-clause-history : goal.returns-in-Err-clause-history
+returns-in-Err-clause-history c =
+    IfOk-weaker c.refused.result _ _ (history_told (map string_bytes c.args.words.now)) (returns-in-Err-clause-command c)
+
+pub returns-in-Ok-clause-check : goal.returns-in-Ok-clause-check
+returns-in-Ok-clause-check c =
+    IfOk-weaker c.found.result _ _ (check_told (map string_bytes c.args.words.now)) (returns-in-Ok-clause-command c)
+
+pub returns-in-Err-clause-check : goal.returns-in-Err-clause-check
+returns-in-Err-clause-check c =
+    IfOk-weaker c.refused.result _ _ (check_told (map string_bytes c.args.words.now)) (returns-in-Err-clause-command c)

@@ -12,4 +12,5 @@ pub returns-clause-no_breach : goal.returns-clause-no_breach
 returns-clause-no_breach g c =
     let answer = c.in_ok-answer.answer in
     no_breach_of c.write_answer.result answer.verdict
-    c.write_answer.ensures.verdict (threaded_is_none answer.verdict (string_bytes answer.text) c.in_ok-answer.ensures.ok)
+    c.write_answer.ensures.verdict (threaded_is_none c.args.hosts c.args.writes answer.verdict (string_bytes answer.text)
+    c.in_ok-answer.ensures.ok)

@@ -1,4 +1,8 @@
-use Rattle.std.proofs.Common.{length, subst, arith}
+use Rattle.std.proofs.Common.{inr, length, subst, ap, ◌∙◌, arith}
+use Rattle.std.specs.Prelude.{Err}
+use Rattle.std.proofs.lemmas.Result.{err_from_is_err_and}
+use Rattle.rc_threads.specs.Ends.{CannotGoOn}
+use Rattle.rc_threads.proofs.Stuck.{bad-at}
 use Rattle.rc_threads.specs.Runs.{Runs, works_for}
 use Rattle.rc_threads.proofs.Turning.{grows-through, grows-same, progress-begins}
 use Rattle.rc_threads.proofs.Seating.{take-all}
@@ -46,3 +50,25 @@ returns-clause-grows g c =
     grows-through c.args.seat.now c.do_until.new.seat c.deliver_rest.new.seat
     (grows-through c.args.seat.now c.loop.seat c.do_until.new.seat c.loop.invariant.grows c.do_until.ensures.grows)
     c.deliver_rest.ensures.grows
+
+pub returns-in_err-done-clause-bad : goal.returns-in_err-done-clause-bad
+returns-in_err-done-clause-bad g c =
+    let start = c.args.seat.now in
+    let p = err_from_is_err_and c.from_residual.result c.from_residual.ensures.1 in
+    bad-at (CannotGoOn g.N.Naming.wire.setup start c.args.steps.now c.obey.new.seat) c.from_residual.result
+    c.in_err-done.field-0.0 (p.1 ∙ ap Err p.2) (λ bad. c.in_err-done.ensures.bad bad start c.loop.invariant.kept)
+
+pub returns-in_err-do_until-clause-bad : goal.returns-in_err-do_until-clause-bad
+returns-in_err-do_until-clause-bad g c =
+    let start = c.args.seat.now in
+    let p = err_from_is_err_and c.from_residual-in_err-do_until.result c.from_residual-in_err-do_until.ensures.1 in
+    bad-at (CannotGoOn g.N.Naming.wire.setup start c.args.steps.now c.do_until.new.seat) c.from_residual-in_err-do_until.result
+    c.in_err-do_until.field-0.0 (p.1 ∙ ap Err p.2)
+    (λ bad. c.in_err-do_until.ensures.bad bad start c.loop.from c.loop.invariant.kept)
+
+pub returns-in_err-deliver_rest-clause-bad : goal.returns-in_err-deliver_rest-clause-bad
+returns-in_err-deliver_rest-clause-bad g c =
+    let start = c.args.seat.now in
+    let p = err_from_is_err_and c.from_residual-in_err-deliver_rest.result c.from_residual-in_err-deliver_rest.ensures.1 in
+    bad-at (CannotGoOn g.N.Naming.wire.setup start c.args.steps.now c.deliver_rest.new.seat) c.from_residual-in_err-deliver_rest.result
+    c.in_err-deliver_rest.field-0.0 (p.1 ∙ ap Err p.2) (λ bad. inr (c.in_err-deliver_rest.ensures.bad bad))

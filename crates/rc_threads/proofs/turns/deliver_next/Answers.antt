@@ -1,9 +1,13 @@
-use Rattle.std.proofs.Common.{◌≡◌, true, false, sym, ◌∙◌, ◌+◌}
+use Rattle.std.proofs.Common.{◌≡◌, true, false, length, sym, ap, ◌∙◌, ◌+◌}
+use Rattle.std.specs.Prelude.{Err}
+use Rattle.std.proofs.lemmas.Result.{err_from_is_err_and}
+use Rattle.rc_types.specs.declared.limits.TheConstants.{MAX_EVENTS}
 use Rattle.rc_wire.specs.Works.{was_delivered}
 use Rattle.rc_wire.specs.declared.work.Work.TheVariants.{Fetched}
 use Rattle.rc_threads.proofs.Turning.{progress-later, progress-lower, progress-had, progress-fetched, progress-all}
 use Rattle.rc_threads.proofs.Turning.{had-idle, idle-later, finds-of, misses-of, grows-later, grows-equal, grows-finds, grows-takes}
 use Rattle.rc_threads.proofs.Turning.{grows-through}
+use Rattle.rc_threads.proofs.Stuck.{bad-at, memory-not-bad, can-deliver, refused-is-full}
 use Rattle.rc_threads.proofs.turns.deliver_next.Goals as goal
 
 pub returns-in_default-clause-none : goal.returns-in_default-clause-none
@@ -107,3 +111,22 @@ returns-then-found-clause-grows g c =
     (grows-through now c.fetch.new.seat c.take_step.new.seat
     (grows-finds setup now c.in-Some.number c.fetch.new.seat finds)
     (grows-takes setup c.fetch.new.seat Fetched c.take_step.new.seat c.in_ok-take_step.ensures.ok))
+
+-- where F18 comes
+
+pub returns-in_err-found-clause-bad : goal.returns-in_err-found-clause-bad
+returns-in_err-found-clause-bad g c =
+    let p = err_from_is_err_and c.from_residual.result c.from_residual.ensures.1 in
+    bad-at (length c.fetch.new.seat.seen ≡ MAX_EVENTS) c.from_residual.result c.in_err-found.field-0.0 (p.1 ∙ ap Err p.2)
+    (memory-not-bad _ c.in_err-found.field-0.0 c.in_err-found.ensures.no_memory)
+
+pub returns-in_err-take_step-clause-bad : goal.returns-in_err-take_step-clause-bad
+returns-in_err-take_step-clause-bad g c =
+    let setup = g.N.Naming.wire.setup in
+    let now = c.next.new.seat in
+    let finds = finds-of setup now c.in-Some.number c.in_ok-found.found c.fetch.new.seat c.if-found.true c.in_ok-found.ensures.ok in
+    let can = can-deliver setup now c.fetch.new.seat c.args.from c.in-Some.number (sym c.next.ensures.least ∙ c.in-Some.is) finds in
+    let p = err_from_is_err_and c.from_residual-in_err-take_step.result c.from_residual-in_err-take_step.ensures.1 in
+    bad-at (length c.take_step.new.seat.seen ≡ MAX_EVENTS) c.from_residual-in_err-take_step.result c.in_err-take_step.field-0.0
+    (p.1 ∙ ap Err p.2)
+    (λ bad. refused-is-full setup c.fetch.new.seat c.take_step.new.seat Fetched can (c.in_err-take_step.ensures.bad bad))

@@ -1,3 +1,8 @@
+use Rattle.std.proofs.Common.{◌≡◌, length, ap, ◌∙◌}
+use Rattle.std.specs.Prelude.{Err}
+use Rattle.std.proofs.lemmas.Result.{err_from_is_err_and}
+use Rattle.rc_types.specs.declared.limits.TheConstants.{MAX_EVENTS}
+use Rattle.rc_threads.proofs.Stuck.{bad-at}
 use Rattle.rc_threads.proofs.Turning.{grows-same, grows-through, if-some, if-none}
 use Rattle.rc_threads.proofs.turns.deliver_rest.Goals as goal
 
@@ -37,3 +42,9 @@ returns-in-None-2-clause-idle g c = c.in_ok-next.ensures.idle
 pub returns-in-None-2-clause-grows : goal.returns-in-None-2-clause-grows
 returns-in-None-2-clause-grows g c =
     grows-through c.args.seat.now c.loop.seat c.deliver_next.new.seat c.loop.invariant.grows c.in_ok-next.ensures.grows
+
+pub returns-in_err-next-clause-bad : goal.returns-in_err-next-clause-bad
+returns-in_err-next-clause-bad g c =
+    let p = err_from_is_err_and c.from_residual.result c.from_residual.ensures.1 in
+    bad-at (length c.deliver_next.new.seat.seen ≡ MAX_EVENTS) c.from_residual.result c.in_err-next.field-0.0 (p.1 ∙ ap Err p.2)
+    (λ bad. c.in_err-next.ensures.bad bad)

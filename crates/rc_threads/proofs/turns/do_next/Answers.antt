@@ -1,7 +1,12 @@
-use Rattle.std.proofs.Common.{◌≡◌, Some, None, sym, ap, ◌∙◌}
+use Rattle.std.proofs.Common.{◌≡◌, ℕ, Some, None, sym, ap, ◌∙◌}
+use Rattle.std.specs.Prelude.{Err}
+use Rattle.std.proofs.lemmas.Result.{err_from_is_err_and}
+use Rattle.rc_wire.specs.SeatView.{SeatData}
+use Rattle.rc_threads.specs.Ends.{CannotGoOn}
 use Rattle.rc_journal.specs.declared.names.SeatName.{SeatName}
-use Rattle.rc_threads.specs.Runs.{own_work}
+use Rattle.rc_threads.specs.Runs.{Progress, own_work}
 use Rattle.rc_threads.proofs.Turning.{on-ok, get-index, progress-done, progress-skipped, grows-same, grows-tried}
+use Rattle.rc_threads.proofs.Stuck.{IsRefused, bad-at, bad-then, memory-not-bad, refused-is-stuck}
 use Rattle.rc_threads.proofs.turns.do_next.Goals as goal
 
 pub returns-in-Some-clause-ok : goal.returns-in-Some-clause-ok
@@ -35,3 +40,29 @@ pub returns-in-Some-clause-grows : goal.returns-in-Some-clause-grows
 returns-in-Some-clause-grows g c =
     grows-tried g.N.Naming.wire.setup c.args.seat.now c.in-Some.work c.take_step.new.seat c.take_step.result c.take_step.ensures.ok
     c.take_step.ensures.err
+
+pub returns-in_err-work-clause-bad : goal.returns-in_err-work-clause-bad
+returns-in_err-work-clause-bad g c =
+    let setup = g.N.Naming.wire.setup in
+    let seat = c.args.seat.now in
+    let steps = c.args.steps.now in
+    let p = err_from_is_err_and c.from_residual.result c.from_residual.ensures.1 in
+    bad-at ((start : SeatData) (from : ℕ) → Progress setup start steps c.args.at from seat → CannotGoOn setup start steps seat)
+    c.from_residual.result c.in_err-work.field-0.0 (p.1 ∙ ap Err p.2)
+    (memory-not-bad _ c.in_err-work.field-0.0 c.in_err-work.ensures.no_memory)
+
+pub returns-in-Some-clause-bad : goal.returns-in-Some-clause-bad
+returns-in-Some-clause-bad g c =
+    let setup = g.N.Naming.wire.setup in
+    let seat = c.args.seat.now in
+    let steps = c.args.steps.now in
+    let new = c.take_step.new.seat in
+    let step = c.index-steps-at.result in
+    let own : own_work seat.name step ≡ Some c.in-Some.work =
+    ap (λ (n : SeatName). own_work n step) (sym c.name.ensures.name) ∙ (sym c.in_ok-work.ensures.copy ∙ c.in-Some.is) in
+    bad-then (IsRefused setup seat c.in-Some.work new)
+    ((start : SeatData) (from : ℕ) → Progress setup start steps c.args.at from seat → CannotGoOn setup start steps new)
+    c.take_step.result
+    (λ refused start from p. refused-is-stuck setup start steps c.args.at from seat new step c.in-Some.work p
+    (get-index steps c.args.at step c.requires.within c.index-steps-at.is) own refused)
+    c.take_step.ensures.bad

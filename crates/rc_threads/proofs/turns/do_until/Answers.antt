@@ -1,4 +1,9 @@
-use Rattle.std.proofs.Common.{◌≡◌, subst, arith}
+use Rattle.std.proofs.Common.{◌≡◌, ℕ, subst, ap, ◌∙◌, arith}
+use Rattle.std.specs.Prelude.{Err}
+use Rattle.std.proofs.lemmas.Result.{err_from_is_err_and}
+use Rattle.rc_wire.specs.SeatView.{SeatData}
+use Rattle.rc_threads.specs.Ends.{CannotGoOn}
+use Rattle.rc_threads.proofs.Stuck.{bad-at}
 use Rattle.rc_threads.specs.Runs.{Progress}
 use Rattle.rc_threads.proofs.Turning.{grows-same, grows-through}
 use Rattle.rc_threads.proofs.turns.do_until.Goals as goal
@@ -29,3 +34,14 @@ returns-in_err-do_next-clause-grows g c =
 
 pub returns-clause-grows : goal.returns-clause-grows
 returns-clause-grows g c = c.loop-next.invariant.grows
+
+pub returns-in_err-do_next-clause-bad : goal.returns-in_err-do_next-clause-bad
+returns-in_err-do_next-clause-bad g c =
+    let setup = g.N.Naming.wire.setup in
+    let seat = c.args.seat.now in
+    let steps = c.args.steps.now in
+    let new = c.do_next.new.seat in
+    let p = err_from_is_err_and c.from_residual.result c.from_residual.ensures.1 in
+    bad-at ((start : SeatData) (from : ℕ) → Progress setup start steps c.args.at from seat → CannotGoOn setup start steps new)
+    c.from_residual.result c.in_err-do_next.field-0.0 (p.1 ∙ ap Err p.2)
+    (λ bad start from q. c.in_err-do_next.ensures.bad bad start from (c.loop-next.invariant.kept start from q))

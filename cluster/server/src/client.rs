@@ -1,0 +1,179 @@
+//! A client: it finds the owner of a key, and asks again where that is of use.
+
+use crate::protocol::{DONE, NO_VALUE, Op, Reply, Request, UNKNOWN};
+use sevunthi::message::framed;
+use std::collections::HashMap;
+use std::io::{self, Read, Write};
+use std::net::TcpStream;
+use std::thread;
+use std::time::{Duration, Instant};
+
+/// Where a cluster is.
+#[derive(Clone, Debug)]
+pub struct Target {
+    /// The address that all listen on.
+    pub address: String,
+    /// The port of host 0; the others follow, and then the coordinator.
+    pub port: u16,
+    /// How many hosts there are.
+    pub hosts: u8,
+}
+
+/// What has become of a request.
+#[derive(Clone, Debug, PartialEq, Eq)]
+pub enum Outcome {
+    /// The write is durable, and has this version.
+    Written(u64),
+    /// The version and the value that were read, confirmed; version 0 where there is none.
+    Read(u64, Option<Vec<u8>>),
+    /// Nobody knows: the write may have been done, once or, where it was asked again, more often, or may still be done.
+    Unknown,
+    /// It was refused, by the number behind the F, and was not done.
+    Refused(u8),
+}
+
+/// A client. It asks one thing at a time. A write that is asked again is a new write: so a put whose answer is lost is not
+/// asked again, and is `Unknown`.
+pub struct Client {
+    target: Target,
+    connections: HashMap<u8, TcpStream>,
+    owners: HashMap<u32, u8>,
+    number: u64,
+    /// For how long a request is tried.
+    pub patience: Duration,
+    /// How long one answer is waited for.
+    pub wait: Duration,
+}
+
+impl Client {
+    /// A client of this cluster.
+    pub fn new(target: Target) -> Client {
+        Client {
+            target,
+            connections: HashMap::new(),
+            owners: HashMap::new(),
+            number: 0,
+            patience: Duration::from_secs(10),
+            wait: Duration::from_secs(3),
+        }
+    }
+
+    /// Writes a value.
+    pub fn put(&mut self, table: u32, key: u64, value: &[u8]) -> Outcome {
+        self.ask(Op::Put, table, key, value)
+    }
+
+    /// Deletes a value.
+    pub fn delete(&mut self, table: u32, key: u64) -> Outcome {
+        self.ask(Op::Delete, table, key, &[])
+    }
+
+    /// Reads a value, confirmed: no acknowledged write that was asked for before is missed.
+    pub fn get(&mut self, table: u32, key: u64) -> Outcome {
+        self.ask(Op::Get, table, key, &[])
+    }
+
+    /// Asks the owner, and whoever is the owner then, until it is done, is unknown, or one has waited long enough.
+    fn ask(&mut self, op: Op, table: u32, key: u64, value: &[u8]) -> Outcome {
+        let began = Instant::now();
+        let mut last = Outcome::Refused(2);
+        while began.elapsed() < self.patience {
+            let Some(owner) = self.owner(table, key) else {
+                thread::sleep(Duration::from_millis(20));
+                continue;
+            };
+            match self.call(owner, op, table, key, value) {
+                Ok(Reply { code: code @ (DONE | NO_VALUE), version, value, .. }) => {
+                    return match op {
+                        Op::Get | Op::GetFast => Outcome::Read(version, (code == DONE).then_some(value)),
+                        _ => Outcome::Written(version),
+                    };
+                }
+                Ok(Reply { code: code @ (2..=5), .. }) => last = Outcome::Refused(code),
+                Ok(Reply { code: UNKNOWN, .. }) => last = Outcome::Unknown,
+                Ok(Reply { code, .. }) => return Outcome::Refused(code),
+                Err(Lost::Before) => last = Outcome::Refused(2),
+                Err(Lost::After) => last = Outcome::Unknown,
+            }
+            self.owners.remove(&table);
+            if last == Outcome::Unknown && !matches!(op, Op::Get | Op::GetFast) {
+                return last;
+            }
+            thread::sleep(Duration::from_millis(10));
+        }
+        last
+    }
+
+    /// The host that owns the key, as the coordinator said last.
+    fn owner(&mut self, table: u32, key: u64) -> Option<u8> {
+        if let Some(owner) = self.owners.get(&table) {
+            return Some(*owner);
+        }
+        let coordinator = self.target.hosts;
+        let reply = self.call(coordinator, Op::Owner, table, key, &[]).ok()?;
+        if reply.code != DONE {
+            return None;
+        }
+        let owner = reply.version as u8;
+        self.owners.insert(table, owner);
+        Some(owner)
+    }
+
+    /// Asks the coordinator.
+    pub fn call_coordinator(&mut self, op: Op, table: u32, key: u64) -> Option<Reply> {
+        let coordinator = self.target.hosts;
+        self.call(coordinator, op, table, key, &[]).ok()
+    }
+
+    /// Asks whoever has this place: hosts first, and then the coordinator.
+    pub fn call(&mut self, place: u8, op: Op, table: u32, key: u64, value: &[u8]) -> Result<Reply, Lost> {
+        self.number += 1;
+        let request = Request { op, number: self.number, table, key, value: value.to_vec() };
+        let mut bytes = Vec::new();
+        request.put(&mut bytes);
+        let mut stream = match self.connections.remove(&place) {
+            Some(stream) => stream,
+            None => connect(&self.target, place).map_err(|_| Lost::Before)?,
+        };
+        let reply = exchange(&mut stream, &bytes, self.number, self.wait).map_err(|_| Lost::After)?;
+        self.connections.insert(place, stream);
+        Ok(reply)
+    }
+}
+
+/// When an answer was lost: before the request was sent, or after.
+#[derive(Clone, Copy, Debug, PartialEq, Eq)]
+pub enum Lost {
+    /// It was not sent.
+    Before,
+    /// It was sent.
+    After,
+}
+
+/// Connects as a client to whoever has this place.
+pub fn connect(target: &Target, place: u8) -> io::Result<TcpStream> {
+    let address = format!("{}:{}", target.address, target.port + u16::from(place));
+    let address = address.parse().map_err(|_| io::ErrorKind::InvalidInput)?;
+    let mut stream = TcpStream::connect_timeout(&address, Duration::from_millis(500))?;
+    stream.set_nodelay(true)?;
+    stream.write_all(b"C")?;
+    Ok(stream)
+}
+
+fn exchange(stream: &mut TcpStream, request: &[u8], number: u64, wait: Duration) -> io::Result<Reply> {
+    stream.set_read_timeout(Some(wait))?;
+    stream.write_all(request)?;
+    let mut bytes = Vec::new();
+    loop {
+        for piece in framed(&bytes) {
+            if let Some(reply) = Reply::read(piece).filter(|reply| reply.number == number) {
+                return Ok(reply);
+            }
+        }
+        let mut more = [0; 8192];
+        match stream.read(&mut more)? {
+            0 => return Err(io::ErrorKind::UnexpectedEof.into()),
+            count => bytes.extend_from_slice(&more[..count]),
+        }
+    }
+}

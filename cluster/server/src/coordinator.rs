@@ -1,0 +1,259 @@
+//! The process of the coordinator.
+
+use crate::core::{Config, Core, Frame};
+use crate::net::Event;
+use crate::protocol::{DONE, Op, Reply, Request, WRONG};
+use crate::wire::NOT_UP;
+use sevunthi::message::{framed, kind};
+use sevunthi::{Address, Answer, Due, Envelope, Fault, Id, Work};
+use std::collections::HashMap;
+use std::fmt::Write as _;
+use std::io;
+use std::sync::mpsc::{Receiver, RecvTimeoutError};
+use std::time::{Duration, Instant};
+
+/// A refusal where no tablet holds the key.
+const NO_TABLE: u8 = 2;
+
+/// The coordinator.
+struct Coordinator {
+    core: Core,
+    began: Instant,
+    /// Of each host the server that was heard last, and when.
+    heard: HashMap<u8, (Id, Instant)>,
+    /// What was said of the last request.
+    refused: Option<u8>,
+    is_due: bool,
+}
+
+/// Runs the coordinator for ever.
+pub fn run(config: Config) -> io::Result<()> {
+    let (core, events) = Core::open(config)?;
+    let mut coordinator =
+        Coordinator { core, began: Instant::now(), heard: HashMap::new(), refused: None, is_due: false };
+    coordinator.settle();
+    coordinator.serve(&events);
+    Ok(())
+}
+
+impl Coordinator {
+    fn serve(&mut self, events: &Receiver<Event>) {
+        let (mut beat, mut tick) = (Instant::now(), Instant::now());
+        loop {
+            match events.recv_timeout(Duration::from_millis(20)) {
+                Ok(event) => {
+                    let began = Instant::now();
+                    let mut event = Some(event);
+                    while let Some(one) = event {
+                        self.take(one);
+                        event = if began.elapsed().as_millis() < 20 { events.try_recv().ok() } else { None };
+                    }
+                }
+                Err(RecvTimeoutError::Timeout) => {}
+                Err(RecvTimeoutError::Disconnected) => return,
+            }
+            if self.is_due || Duration::from_millis(100) <= beat.elapsed() {
+                beat = Instant::now();
+                self.is_due = false;
+                self.do_dues();
+                self.show();
+            }
+            if Duration::from_millis(self.core.config.tick) <= tick.elapsed() {
+                tick = Instant::now();
+                self.step(Work::Tick);
+            }
+            self.settle();
+            self.core.shorten();
+        }
+    }
+
+    fn step(&mut self, work: Work) -> bool {
+        self.core.counts.works += 1;
+        match self.core.node.step(work) {
+            Ok(()) => true,
+            Err(fault) => {
+                if fault != Fault::Refused {
+                    eprintln!("{work:?}: {fault}");
+                }
+                false
+            }
+        }
+    }
+
+    /// What is due, for who was heard and who was not.
+    fn do_dues(&mut self) {
+        let silence = Duration::from_millis(self.core.config.silence);
+        let Ok(servers) = self.core.node.servers() else { return };
+        let (mut heard, mut silent) = (Vec::new(), Vec::new());
+        for (id, at) in self.heard.values() {
+            if at.elapsed() < silence {
+                heard.push(*id);
+            }
+        }
+        for (id, is_up) in servers {
+            let last = self.heard.get(&id.index).filter(|(other, _)| *other == id).map_or(self.began, |(_, at)| *at);
+            if is_up && silence <= last.elapsed() {
+                silent.push(id);
+            }
+        }
+        for due in self.core.node.dues(&heard, &silent, &[]).unwrap_or_default() {
+            self.do_due(due);
+        }
+    }
+
+    fn do_due(&mut self, due: Due) {
+        match due {
+            Due::Suspect(id) => {
+                eprintln!("suspects {id}");
+                self.step(Work::Suspect(id));
+            }
+            Due::Decide(id) => {
+                eprintln!("decides the recovery of {id}");
+                self.step(Work::Decide(id));
+            }
+            Due::Restart(id) => {
+                let mut said = vec![NOT_UP];
+                said.extend_from_slice(&id.code());
+                self.core.post(usize::from(id.index), &said);
+            }
+        }
+    }
+
+    fn take(&mut self, event: Event) {
+        match event {
+            Event::Peer(batch) => {
+                let (mut heard, mut is_due) = (Vec::new(), false);
+                self.core.each_frame(&batch, |core, frame| match frame {
+                    Frame::Message(message) => {
+                        if let Some(Envelope { from: Address::Server(id), kind, .. }) = Envelope::read(message) {
+                            heard.push(id);
+                            is_due |= matches!(kind, kind::REPLICAS | kind::READY);
+                        }
+                        core.deliver(message);
+                    }
+                    Frame::Heartbeat(id) => heard.push(id),
+                    Frame::NotUp(_) => {}
+                });
+                self.is_due |= is_due;
+                heard.into_iter().for_each(|id| self.hear(id));
+            }
+            Event::Client(client, bytes) => {
+                for bytes in framed(&bytes) {
+                    match Request::read(bytes) {
+                        Some(request) => self.ask(client, &request),
+                        None => self.core.answer(client, &Reply::bare(WRONG, 0)),
+                    }
+                }
+            }
+            Event::ClientUp(client, writer) => self.core.set_client(client, Some(writer)),
+            Event::ClientDown(client) => self.core.set_client(client, None),
+        }
+    }
+
+    /// Something has come from this server. What comes late from an older one of its host says nothing.
+    fn hear(&mut self, id: Id) {
+        let newest = self.heard.get(&id.index).map_or(0, |(other, _)| other.generation);
+        if newest <= id.generation {
+            self.heard.insert(id.index, (id, Instant::now()));
+        }
+    }
+
+    fn ask(&mut self, client: u64, request: &Request) {
+        let (number, key) = (request.number, request.key);
+        let mut reply = Reply::bare(DONE, number);
+        match request.op {
+            Op::Create => reply.code = self.create(request.table, key),
+            Op::Split if key >> 63 == 0 => reply.code = self.work(Work::Split { table: request.table, at: 2 * key }),
+            Op::Owner if key >> 63 == 0 => match self.owner(request.table, 2 * key) {
+                Some(id) => reply.version = u64::from(id.index),
+                None => reply.code = NO_TABLE,
+            },
+            Op::Status => reply.value = self.text().into_bytes(),
+            Op::Fail if self.core.config.faults => self.core.fail(request.table, key),
+            _ => reply.code = WRONG,
+        }
+        self.core.answer(client, &reply);
+    }
+
+    /// Creates a table at this host, or at the one that owns least, where there is no such host.
+    fn create(&mut self, table: u32, index: u64) -> u8 {
+        let servers = self.core.node.servers().unwrap_or_default();
+        let tablets = self.core.node.tablets().unwrap_or_default();
+        let up = || servers.iter().filter(|(_, is_up)| *is_up).map(|(id, _)| *id);
+        let named = up().find(|id| u64::from(id.index) == index);
+        let owns = |id: &Id| tablets.iter().filter(|tablet| tablet.owner == *id).count();
+        match named.or_else(|| up().min_by_key(owns)) {
+            Some(owner) => self.work(Work::Create { table, owner }),
+            None => NO_TABLE,
+        }
+    }
+
+    /// Gives the node a work, and says by which code it was refused.
+    fn work(&mut self, work: Work) -> u8 {
+        self.refused = None;
+        if !self.step(work) {
+            return WRONG;
+        }
+        self.settle();
+        self.refused.take().unwrap_or(DONE)
+    }
+
+    fn owner(&mut self, table: u32, key: u64) -> Option<Id> {
+        let tablets = self.core.node.tablets().ok()?;
+        let holds = |tablet: &&sevunthi::Tablet| tablet.table == table && tablet.lo <= key && key <= tablet.hi;
+        tablets.iter().find(holds).map(|tablet| tablet.owner)
+    }
+
+    /// All that is there is written, made safe and sent, until nothing waits.
+    fn settle(&mut self) {
+        for _ in 0..64 {
+            self.route();
+            if !self.core.make_safe() {
+                break;
+            }
+        }
+        self.route();
+        self.core.flush();
+    }
+
+    fn route(&mut self) {
+        let mut refused = None;
+        self.core.route(|_, message| {
+            if let Some(Answer::Refused(code)) = Envelope::read(message).and_then(|envelope| envelope.answer()) {
+                refused = Some(code);
+            }
+        });
+        self.refused = refused.or(self.refused);
+    }
+
+    /// The state, as text.
+    fn text(&mut self) -> String {
+        let mut text = String::new();
+        for (id, is_up) in self.core.node.servers().unwrap_or_default() {
+            let last = self.heard.get(&id.index).filter(|(other, _)| *other == id);
+            let heard = last.map_or("not heard".into(), |(_, at)| format!("heard {} ms ago", at.elapsed().as_millis()));
+            if is_up || last.is_some() {
+                let _ = writeln!(text, "server {id} {} {heard}", if is_up { "up" } else { "crashed" });
+            }
+        }
+        for tablet in self.core.node.tablets().unwrap_or_default() {
+            let (lo, hi) = (tablet.lo / 2, tablet.hi / 2);
+            let state = if tablet.crashed { "is being recovered from" } else { "is owned by" };
+            let _ = writeln!(
+                text,
+                "table {} keys {lo} to {hi} {state} {} term {}",
+                tablet.table, tablet.owner, tablet.term
+            );
+        }
+        let info = self.core.node.info();
+        let _ = writeln!(text, "journal {} bytes, {} safe, {} syncs", info.written, info.safe, self.core.journal.syncs);
+        text
+    }
+
+    fn show(&mut self) {
+        let now = self.text();
+        if let Ok(mut text) = self.core.text.lock() {
+            *text = now;
+        }
+    }
+}

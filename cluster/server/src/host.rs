@@ -1,0 +1,377 @@
+//! The process of a host.
+
+use crate::core::{Config, Core, Frame};
+use crate::net::Event;
+use crate::protocol::{DONE, NO_VALUE, Op, Reply, Request, UNKNOWN, WRONG};
+use crate::wire::HEARTBEAT;
+use sevunthi::message::{self, framed, kind, u32_at, u64_at};
+use sevunthi::{Answer, Envelope, Id, Work};
+use std::collections::{HashMap, VecDeque};
+use std::fmt::Write as _;
+use std::io;
+use std::sync::mpsc::{Receiver, RecvTimeoutError};
+use std::time::{Duration, Instant};
+
+/// A place of the log.
+type Place = (u16, u64);
+
+/// Where segments run out, a host begins anew: it has a new log then.
+const LAST_HEAD: u16 = 60_000;
+
+/// F3: the head is being rolled, so that a write has to wait.
+const ROLLING: u8 = 3;
+
+/// A request and its client; none is the server itself.
+struct Asked {
+    client: Option<u64>,
+    request: Request,
+}
+
+/// A host.
+struct Host {
+    core: Core,
+    server: Id,
+    /// Writes that were taken, by their places.
+    pending: HashMap<Place, Asked>,
+    /// Requests that came while the head was being rolled.
+    waiting: VecDeque<Asked>,
+    /// Reads that were answered, with the place that the next write got, which confirms them.
+    reads: VecDeque<(Place, u64, Reply, (u32, u64))>,
+    /// The end of what confirms: a write was taken at the place before.
+    next: Place,
+    /// Ranges that were granted: table, first and last key.
+    grants: Vec<(u32, u64, u64)>,
+    is_replaced: bool,
+    code: Vec<u8>,
+}
+
+/// Runs a host for ever.
+pub fn run(config: Config) -> io::Result<()> {
+    let (core, events) = Core::open(config)?;
+    let mut host = Host {
+        core,
+        server: Id { index: 0, generation: 0 },
+        pending: HashMap::new(),
+        waiting: VecDeque::new(),
+        reads: VecDeque::new(),
+        next: (0, 0),
+        grants: Vec::new(),
+        is_replaced: false,
+        code: Vec::new(),
+    };
+    host.begin();
+    host.serve(&events);
+    Ok(())
+}
+
+impl Host {
+    /// Starts the server anew. What was asked of the old one is unknown.
+    fn begin(&mut self) {
+        if let Err(fault) = self.core.node.start() {
+            eprintln!("the server did not start: {fault}");
+        }
+        self.server = self.core.node.info().server;
+        self.is_replaced = false;
+        self.grants.clear();
+        self.next = (0, 0);
+        let taken = std::mem::take(&mut self.pending).into_values();
+        for Asked { client, request } in taken.chain(std::mem::take(&mut self.waiting)) {
+            self.reply(client, &Reply::bare(UNKNOWN, request.number));
+        }
+        for (_, client, reply, _) in std::mem::take(&mut self.reads) {
+            self.core.answer(client, &Reply::bare(5, reply.number));
+        }
+        self.settle();
+        eprintln!("server {} begins", self.server);
+    }
+
+    fn serve(&mut self, events: &Receiver<Event>) {
+        let (mut beat, mut tick) = (Instant::now(), Instant::now());
+        loop {
+            match events.recv_timeout(Duration::from_millis(20)) {
+                Ok(event) => self.take_some(event, events),
+                Err(RecvTimeoutError::Timeout) => {}
+                Err(RecvTimeoutError::Disconnected) => return,
+            }
+            if Duration::from_millis(100) <= beat.elapsed() {
+                beat = Instant::now();
+                self.send_heartbeat();
+                self.show();
+            }
+            if Duration::from_millis(self.core.config.tick) <= tick.elapsed() {
+                tick = Instant::now();
+                let _ = self.core.node.step(Work::Tick);
+            }
+            self.retry();
+            self.confirm();
+            self.settle();
+            let info = self.core.node.info();
+            if self.is_replaced || info.is_deposed || LAST_HEAD < info.head {
+                eprintln!("server {} was replaced, or its log is long: it begins anew", self.server);
+                self.begin();
+            }
+            self.core.shorten();
+        }
+    }
+
+    /// Takes what is there, for a while.
+    fn take_some(&mut self, first: Event, events: &Receiver<Event>) {
+        let began = Instant::now();
+        let mut event = Some(first);
+        while let Some(one) = event {
+            self.take(one);
+            event = if began.elapsed() < Duration::from_millis(20) { events.try_recv().ok() } else { None };
+        }
+    }
+
+    fn take(&mut self, event: Event) {
+        match event {
+            Event::Peer(batch) => {
+                let server = self.server;
+                let (mut is_replaced, mut grants) = (false, Vec::new());
+                self.core.each_frame(&batch, |core, frame| match frame {
+                    Frame::Message(message) => {
+                        if core.deliver(message) {
+                            grants.extend(granted(message, server));
+                        }
+                    }
+                    Frame::NotUp(id) => is_replaced |= id == server,
+                    Frame::Heartbeat(_) => {}
+                });
+                self.is_replaced |= is_replaced;
+                self.grants.append(&mut grants);
+            }
+            Event::Client(client, bytes) => {
+                for bytes in framed(&bytes) {
+                    match Request::read(bytes) {
+                        Some(request) => self.ask(client, request),
+                        None => self.core.answer(client, &Reply::bare(WRONG, 0)),
+                    }
+                }
+            }
+            Event::ClientUp(client, writer) => self.core.set_client(client, Some(writer)),
+            Event::ClientDown(client) => self.core.set_client(client, None),
+        }
+    }
+
+    /// A client's request.
+    fn ask(&mut self, client: u64, request: Request) {
+        match request.op {
+            Op::Put | Op::Delete | Op::Get | Op::GetFast if request.key >> 63 == 0 => {
+                let asked = Asked { client: Some(client), request };
+                if self.waiting.is_empty() {
+                    self.give(asked);
+                } else {
+                    self.waiting.push_back(asked);
+                }
+            }
+            Op::Status => {
+                let value = self.text().into_bytes();
+                self.core.answer(client, &Reply { code: DONE, number: request.number, version: 0, value });
+            }
+            Op::Fail if self.core.config.faults => {
+                self.core.fail(request.table, request.key);
+                self.core.answer(client, &Reply::bare(DONE, request.number));
+            }
+            _ => self.core.answer(client, &Reply::bare(WRONG, request.number)),
+        }
+    }
+
+    /// Gives the node a request, and takes at once what that sends. Says whether it is done with.
+    fn give(&mut self, asked: Asked) -> bool {
+        // a client's keys are even, and those between them are the server's own
+        let key = if asked.client.is_some() { 2 * asked.request.key } else { asked.request.key };
+        let Request { op, table, ref value, .. } = asked.request;
+        let mut code = std::mem::take(&mut self.code);
+        match op {
+            Op::Get | Op::GetFast => message::read(self.server, table, key, &mut code),
+            Op::Delete => message::write(self.server, table, key, None, &mut code),
+            _ => message::write(self.server, table, key, Some(value), &mut code),
+        }
+        let before = self.core.node.info();
+        let is_taken = self.core.node.deliver(&code).is_ok();
+        self.code = code;
+        self.core.counts.works += 1;
+        let place = (before.head, before.entries);
+        let mut said = None;
+        let mut answers = Vec::new();
+        self.core.route(|_, message| answers.push(message.to_vec()));
+        for message in &answers {
+            match Envelope::read(message).and_then(|envelope| envelope.answer()) {
+                Some(written @ Answer::Written { .. }) => self.acknowledge(written),
+                other => said = other,
+            }
+        }
+        let after = self.core.node.info();
+        if is_taken && matches!(op, Op::Put | Op::Delete) && said.is_none() && place != (after.head, after.entries) {
+            self.next = (place.0, place.1 + 1);
+            self.pending.insert(place, asked);
+            return true;
+        }
+        self.conclude(asked, said, place)
+    }
+
+    /// What the node has answered at once.
+    fn conclude(&mut self, asked: Asked, said: Option<Answer>, place: Place) -> bool {
+        let number = asked.request.number;
+        match said {
+            Some(Answer::Read { version, value, .. }) => {
+                let code = if value.is_some() { DONE } else { NO_VALUE };
+                let reply = Reply { code, number, version, value: value.unwrap_or_default() };
+                let Some(client) = asked.client else { return true };
+                if asked.request.op == Op::GetFast {
+                    self.core.answer(client, &reply);
+                } else {
+                    self.reads.push_back((place, client, reply, (asked.request.table, 2 * asked.request.key)));
+                }
+                true
+            }
+            Some(Answer::Refused(ROLLING)) => {
+                self.waiting.push_front(asked);
+                false
+            }
+            other => {
+                let code = if let Some(Answer::Refused(code)) = other { code } else { UNKNOWN };
+                match asked.client {
+                    Some(client) => self.core.answer(client, &Reply::bare(code, number)),
+                    None => self.refuse_reads(),
+                }
+                true
+            }
+        }
+    }
+
+    fn reply(&mut self, client: Option<u64>, reply: &Reply) {
+        if let Some(client) = client {
+            self.core.answer(client, reply);
+        }
+    }
+
+    /// A write is durable: it is answered, and with it all reads that were answered before it was taken.
+    fn acknowledge(&mut self, written: Answer) {
+        let Answer::Written { segment, offset, table, key, version } = written else { return };
+        let place = (segment, offset);
+        while self.reads.front().is_some_and(|read| read.0 <= place) {
+            if let Some((_, client, reply, _)) = self.reads.pop_front() {
+                self.core.answer(client, &reply);
+            }
+        }
+        let Some(Asked { client: Some(client), request }) = self.pending.remove(&place) else { return };
+        let code = if (request.table, 2 * request.key) == (table, key) { DONE } else { UNKNOWN };
+        self.core.answer(client, &Reply { code, number: request.number, version, value: Vec::new() });
+    }
+
+    /// What had to wait for a roll is asked again.
+    fn retry(&mut self) {
+        while let Some(asked) = self.waiting.pop_front() {
+            if !self.give(asked) {
+                return;
+            }
+        }
+    }
+
+    /// Where no write was taken since the last read, one is made, to the last key of its range, which is the server's own.
+    fn confirm(&mut self) {
+        let Some(&(place, _, _, (table, key))) = self.reads.back() else { return };
+        if place < self.next || !self.waiting.is_empty() {
+            return;
+        }
+        let granted = self.grants.iter().rev().find(|(other, lo, hi)| *other == table && *lo <= key && key <= *hi);
+        let Some(&(_, _, key)) = granted else {
+            return self.refuse_reads();
+        };
+        let request = Request { op: Op::Put, number: 0, table, key, value: Vec::new() };
+        self.give(Asked { client: None, request });
+    }
+
+    /// Reads that can't be confirmed here are refused: their clients ask elsewhere.
+    fn refuse_reads(&mut self) {
+        for (_, client, reply, _) in std::mem::take(&mut self.reads) {
+            self.core.answer(client, &Reply::bare(5, reply.number));
+        }
+    }
+
+    /// All that is there is written, made safe and sent, until nothing waits.
+    fn settle(&mut self) {
+        for _ in 0..64 {
+            self.route();
+            let was_synced = self.core.make_safe();
+            if was_synced {
+                self.route();
+            }
+            let Some(message) = self.core.local.pop_front() else { break };
+            self.take_local(&message);
+            while let Some(message) = self.core.local.pop_front() {
+                self.take_local(&message);
+            }
+        }
+        self.core.flush();
+    }
+
+    fn take_local(&mut self, message: &[u8]) {
+        if self.core.deliver(message) {
+            self.grants.extend(granted(message, self.server));
+        }
+    }
+
+    fn route(&mut self) {
+        let mut answers = Vec::new();
+        self.core.route(|_, message| answers.extend(Envelope::read(message).and_then(|envelope| envelope.answer())));
+        for answer in answers {
+            self.acknowledge(answer);
+        }
+    }
+
+    fn send_heartbeat(&mut self) {
+        let mut beat = vec![HEARTBEAT];
+        beat.extend_from_slice(&self.server.code());
+        let coordinator = usize::from(self.core.config.hosts);
+        self.core.post(coordinator, &beat);
+    }
+
+    /// The state, as text.
+    fn text(&mut self) -> String {
+        let info = self.core.node.info();
+        let counts = self.core.counts;
+        let mut text = String::new();
+        let rows = [
+            ("server_generation", u64::from(info.server.generation)),
+            ("runs", u64::from(info.runs)),
+            ("head_segment", u64::from(info.head)),
+            ("head_entries", info.entries),
+            ("journal_bytes", info.written as u64),
+            ("journal_safe_bytes", info.safe as u64),
+            ("journal_syncs", self.core.journal.syncs),
+            ("journal_sync_nanoseconds", counts.syncing),
+            ("saves", counts.saves),
+            ("works", counts.works),
+            ("messages_sent", counts.messages),
+            ("frames_taken", counts.frames),
+            ("answers", counts.answered),
+            ("writes_pending", self.pending.len() as u64),
+            ("requests_waiting", self.waiting.len() as u64),
+            ("reads_waiting", self.reads.len() as u64),
+        ];
+        for (name, value) in rows {
+            let _ = writeln!(text, "sevunthi_{name}{{host=\"{}\"}} {value}", info.server.index);
+        }
+        text
+    }
+
+    fn show(&mut self) {
+        let now = self.text();
+        if let Ok(mut text) = self.core.text.lock() {
+            *text = now;
+        }
+    }
+}
+
+/// The range that a message grants to this server.
+fn granted(message: &[u8], server: Id) -> Option<(u32, u64, u64)> {
+    let envelope = Envelope::read(message)?;
+    let is_own = envelope.kind == kind::OWN && envelope.to == sevunthi::Address::Server(server);
+    if !is_own {
+        return None;
+    }
+    Some((u32_at(envelope.body, 0)?, u64_at(envelope.body, 4)?, u64_at(envelope.body, 12)?))
+}

@@ -1,0 +1,150 @@
+//! A node's folder: its lock, its journal, and how many bytes of that were safe.
+
+use std::fs::{self, File, OpenOptions};
+use std::io::{self, ErrorKind, Write};
+use std::os::unix::fs::FileExt;
+use std::path::{Path, PathBuf};
+
+/// What fails next, where a test asks for it.
+#[derive(Clone, Copy, Debug, Default, PartialEq, Eq)]
+pub enum Failing {
+    /// Nothing.
+    #[default]
+    Nothing,
+    /// The next write writes half, and the disk is full.
+    Write,
+    /// The next sync.
+    Sync,
+    /// The process ends in the next save, after this step.
+    Save(u8),
+}
+
+/// The file of a node's journal, locked.
+pub struct Journal {
+    folder: PathBuf,
+    file: File,
+    known: File,
+    _lock: File,
+    /// How many bytes it has.
+    pub length: usize,
+    /// How many it had when it was last shortened.
+    pub saved: usize,
+    /// How often it was synced.
+    pub syncs: u64,
+    /// What fails next.
+    pub failing: Failing,
+}
+
+/// What stands in a folder: the journal's bytes, if there is one, and how many were known to be safe.
+pub struct Found {
+    /// The journal's bytes.
+    pub bytes: Option<Vec<u8>>,
+    /// How many were known to be safe.
+    pub known: usize,
+    lock: File,
+}
+
+/// Locks the folder, and reads what stands there. A second file that was left is removed unread.
+pub fn find(folder: &Path) -> io::Result<Found> {
+    fs::create_dir_all(folder)?;
+    let lock = OpenOptions::new().create(true).append(true).open(folder.join("lock"))?;
+    lock.try_lock().map_err(|_| io::Error::new(ErrorKind::WouldBlock, "another process has this folder"))?;
+    sync_folder(folder)?;
+    match fs::remove_file(folder.join("next")) {
+        Err(error) if error.kind() != ErrorKind::NotFound => return Err(error),
+        _ => {}
+    }
+    let bytes = match fs::read(folder.join("journal")) {
+        Ok(bytes) => Some(bytes),
+        Err(error) if error.kind() == ErrorKind::NotFound => None,
+        Err(error) => return Err(error),
+    };
+    let known = match fs::read(folder.join("known")) {
+        Ok(bytes) => sevunthi::message::u64_at(&bytes, 0).unwrap_or(0) as usize,
+        Err(_) => 0,
+    };
+    Ok(Found { bytes, known, lock })
+}
+
+fn sync_folder(folder: &Path) -> io::Result<()> {
+    File::open(folder)?.sync_all()
+}
+
+impl Journal {
+    /// The journal that was found, cut to its good bytes, or an empty one.
+    pub fn open(folder: &Path, found: Found, good: usize) -> io::Result<Journal> {
+        let file = OpenOptions::new().create(true).append(true).open(folder.join("journal"))?;
+        file.set_len(good as u64)?;
+        file.sync_all()?;
+        let known = OpenOptions::new().create(true).truncate(false).write(true).open(folder.join("known"))?;
+        sync_folder(folder)?;
+        Ok(Journal {
+            folder: folder.into(),
+            file,
+            known,
+            _lock: found.lock,
+            length: good,
+            saved: good,
+            syncs: 0,
+            failing: Failing::Nothing,
+        })
+    }
+
+    /// Adds bytes at its end. After an error the process has to end.
+    pub fn add(&mut self, bytes: &[u8]) -> io::Result<()> {
+        if self.failing == Failing::Write && !bytes.is_empty() {
+            self.file.write_all(&bytes[..bytes.len() / 2])?;
+            return Err(ErrorKind::StorageFull.into());
+        }
+        self.file.write_all(bytes)?;
+        self.length += bytes.len();
+        Ok(())
+    }
+
+    /// Makes all its bytes safe. After an error the process has to end.
+    pub fn sync(&mut self) -> io::Result<()> {
+        if self.failing == Failing::Sync {
+            return Err(io::Error::other("the disk has failed"));
+        }
+        self.file.sync_data()?;
+        self.syncs += 1;
+        self.note(self.length)
+    }
+
+    fn note(&self, known: usize) -> io::Result<()> {
+        self.known.write_all_at(&(known as u64).to_le_bytes(), 0)
+    }
+
+    /// A save takes its place: second file, sync, rename, sync of the folder. Until the new length is noted nothing is
+    /// known to be safe of whichever file stands there.
+    pub fn replace(&mut self, save: &[u8]) -> io::Result<()> {
+        let next = self.folder.join("next");
+        let mut file = OpenOptions::new().create(true).truncate(true).write(true).open(&next)?;
+        if self.failing == Failing::Write {
+            file.write_all(&save[..save.len() / 2])?;
+            return Err(ErrorKind::StorageFull.into());
+        }
+        file.write_all(save)?;
+        self.end_in_save(1);
+        file.sync_all()?;
+        self.end_in_save(2);
+        self.note(0)?;
+        self.known.sync_all()?;
+        self.end_in_save(3);
+        fs::rename(&next, self.folder.join("journal"))?;
+        self.end_in_save(4);
+        sync_folder(&self.folder)?;
+        self.file = OpenOptions::new().append(true).open(self.folder.join("journal"))?;
+        self.length = save.len();
+        self.saved = save.len();
+        self.note(self.length)
+    }
+
+    /// Ends the process at once, where a test asks for it.
+    fn end_in_save(&self, step: u8) {
+        if self.failing == Failing::Save(step) {
+            eprintln!("ends in a save, after step {step}");
+            std::process::abort();
+        }
+    }
+}

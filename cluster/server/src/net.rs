@@ -1,0 +1,197 @@
+//! Connections: each is read by a thread that hands whole pieces over, and written by another.
+
+use crate::wire::{MOST, Seal};
+use sevunthi::message::u32_at;
+use std::fs::File;
+use std::io::{self, Read, Write};
+use std::net::{TcpListener, TcpStream};
+use std::sync::atomic::{AtomicUsize, Ordering};
+use std::sync::mpsc::{Receiver, Sender, channel};
+use std::sync::{Arc, Mutex};
+use std::thread;
+use std::time::Duration;
+
+/// What comes to the node's thread.
+pub enum Event {
+    /// The frames of a peer's batch.
+    Peer(Vec<u8>),
+    /// Whole requests of a client, each behind its length.
+    Client(u64, Vec<u8>),
+    /// A client is there, to be answered here.
+    ClientUp(u64, Writer),
+    /// It has gone.
+    ClientDown(u64),
+}
+
+/// What is written to a connection by a thread of its own.
+pub struct Writer {
+    to: Sender<Vec<u8>>,
+    queued: Arc<AtomicUsize>,
+}
+
+impl Writer {
+    /// Queues these bytes. Where too much is queued they are lost, as any message may be.
+    pub fn send(&self, bytes: Vec<u8>) {
+        if bytes.is_empty() || MOST < self.queued.load(Ordering::Relaxed) {
+            return;
+        }
+        self.queued.fetch_add(bytes.len(), Ordering::Relaxed);
+        let _ = self.to.send(bytes);
+    }
+
+    fn new() -> (Writer, Receiver<Vec<u8>>, Arc<AtomicUsize>) {
+        let (to, from) = channel();
+        let queued = Arc::new(AtomicUsize::new(0));
+        (Writer { to, queued: Arc::clone(&queued) }, from, queued)
+    }
+
+    /// A writer to this peer, who is connected to when there is something to write. What a broken connection had is lost.
+    pub fn to_peer(address: String, secret: Vec<u8>) -> Writer {
+        let (writer, from, queued) = Writer::new();
+        thread::spawn(move || {
+            let mut open: Option<(TcpStream, Seal)> = None;
+            while let Ok(mut bytes) = from.recv() {
+                while let Ok(more) = from.try_recv() {
+                    bytes.extend_from_slice(&more);
+                }
+                queued.fetch_sub(bytes.len(), Ordering::Relaxed);
+                if open.is_none() {
+                    open = connect(&address, &secret).ok();
+                }
+                let Some((stream, seal)) = &mut open else { continue };
+                if stream.write_all(&seal.close(&bytes)).is_err() {
+                    open = None;
+                }
+            }
+        });
+        writer
+    }
+
+    /// A writer to a client.
+    fn to_client(mut stream: TcpStream) -> Writer {
+        let (writer, from, queued) = Writer::new();
+        thread::spawn(move || {
+            while let Ok(mut bytes) = from.recv() {
+                while let Ok(more) = from.try_recv() {
+                    bytes.extend_from_slice(&more);
+                }
+                queued.fetch_sub(bytes.len(), Ordering::Relaxed);
+                if stream.write_all(&bytes).is_err() {
+                    return;
+                }
+            }
+        });
+        writer
+    }
+}
+
+/// Connects to a peer, and reads its challenge.
+fn connect(address: &str, secret: &[u8]) -> io::Result<(TcpStream, Seal)> {
+    let address = address.parse().map_err(|_| io::ErrorKind::InvalidInput)?;
+    let mut stream = TcpStream::connect_timeout(&address, Duration::from_millis(200))?;
+    stream.set_nodelay(true)?;
+    stream.write_all(b"P")?;
+    stream.set_read_timeout(Some(Duration::from_millis(500)))?;
+    let mut challenge = [0; 16];
+    stream.read_exact(&mut challenge)?;
+    stream.set_write_timeout(Some(Duration::from_secs(2)))?;
+    Ok((stream, Seal::new(secret, challenge)))
+}
+
+/// Reads pieces that begin with their length in four bytes, and hands over as many whole ones as there are, until one is
+/// longer than `most`, or nobody takes them.
+pub fn read_pieces(mut stream: impl Read, most: usize, mut give: impl FnMut(Vec<u8>) -> bool) {
+    let mut buffer: Vec<u8> = Vec::new();
+    loop {
+        let length = buffer.len();
+        buffer.resize(length + (64 << 10), 0);
+        match stream.read(&mut buffer[length..]) {
+            Ok(0) | Err(_) => return,
+            Ok(count) => buffer.truncate(length + count),
+        }
+        let Some(whole) = whole(&buffer, most) else { return };
+        if 0 < whole {
+            let rest = buffer.split_off(whole);
+            if !give(std::mem::replace(&mut buffer, rest)) {
+                return;
+            }
+        }
+    }
+}
+
+/// How many bytes the whole pieces at the front take; none where one is too long.
+fn whole(bytes: &[u8], most: usize) -> Option<usize> {
+    let mut at = 0;
+    while let Some(length) = u32_at(bytes, at) {
+        if most < length as usize {
+            return None;
+        }
+        let next = at + 4 + length as usize;
+        if bytes.len() < next {
+            break;
+        }
+        at = next;
+    }
+    Some(at)
+}
+
+/// Listens, and hands over what comes. Who asks by HTTP is shown the text.
+pub fn listen(address: &str, secret: Vec<u8>, events: Sender<Event>, text: Arc<Mutex<String>>) -> io::Result<()> {
+    let listener = TcpListener::bind(address)?;
+    thread::spawn(move || {
+        for (number, stream) in listener.incoming().enumerate() {
+            let Ok(stream) = stream else { continue };
+            let (secret, events, text) = (secret.clone(), events.clone(), Arc::clone(&text));
+            thread::spawn(move || {
+                let _ = serve(stream, number as u64, &secret, &events, &text);
+            });
+        }
+    });
+    Ok(())
+}
+
+fn serve(
+    mut stream: TcpStream,
+    number: u64,
+    secret: &[u8],
+    events: &Sender<Event>,
+    text: &Mutex<String>,
+) -> io::Result<()> {
+    stream.set_nodelay(true)?;
+    let mut kind = [0];
+    stream.read_exact(&mut kind)?;
+    match kind[0] {
+        b'P' => serve_peer(stream, secret, events),
+        b'C' => {
+            let up = Event::ClientUp(number, Writer::to_client(stream.try_clone()?));
+            if events.send(up).is_ok() {
+                read_pieces(stream, 1 << 20, |bytes| events.send(Event::Client(number, bytes)).is_ok());
+                let _ = events.send(Event::ClientDown(number));
+            }
+            Ok(())
+        }
+        b'G' => {
+            let _ = stream.read(&mut [0; 4096])?;
+            let text = text.lock().map(|text| text.clone()).unwrap_or_default();
+            let length = text.len();
+            let head = "HTTP/1.0 200 OK\r\nContent-Type: text/plain; charset=utf-8";
+            write!(stream, "{head}\r\nContent-Length: {length}\r\n\r\n{text}")
+        }
+        _ => Ok(()),
+    }
+}
+
+/// Takes batches of a peer until one is not the next that who has the secret has made.
+fn serve_peer(mut stream: TcpStream, secret: &[u8], events: &Sender<Event>) -> io::Result<()> {
+    let mut challenge = [0; 16];
+    File::open("/dev/urandom")?.read_exact(&mut challenge)?;
+    stream.write_all(&challenge)?;
+    let mut seal = Seal::new(secret, challenge);
+    read_pieces(stream, MOST + 40, |batches| {
+        sevunthi::message::framed(&batches).all(|batch| match seal.open(batch) {
+            Some(frames) => events.send(Event::Peer(frames.to_vec())).is_ok(),
+            None => false,
+        })
+    });
+    Ok(())
+}

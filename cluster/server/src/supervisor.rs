@@ -1,0 +1,197 @@
+//! Starting nodes: one in this process, or a whole cluster of processes.
+
+use crate::client::{Client, Target};
+use crate::core::Config;
+use crate::options::Options;
+use crate::protocol::Op;
+use crate::{coordinator, host};
+use std::fs::{self, File, OpenOptions};
+use std::io::{Read, Write};
+use std::os::unix::fs::OpenOptionsExt;
+use std::path::{Path, PathBuf};
+use std::process::{Child, Command, Stdio};
+use std::thread;
+use std::time::Duration;
+
+/// Runs one node, until its input ends: whoever started it has then ended.
+pub fn serve(options: &Options) -> Result<(), String> {
+    let folder: PathBuf = options.get("--folder", String::new())?.into();
+    let secret: PathBuf = options.get("--secret", String::new())?.into();
+    let index: i32 = options.get("--index", -1)?;
+    let config = Config {
+        index: u8::try_from(index).ok(),
+        hosts: options.get("--hosts", 4)?,
+        address: options.get("--address", "127.0.0.1".to_string())?,
+        port: options.get("--port", 7300)?,
+        folder,
+        secret: fs::read(&secret).map_err(|error| format!("{}: {error}", secret.display()))?,
+        factor: options.get("--factor", 2)?,
+        segment: options.get("--segment", 1024)?,
+        tick: options.get("--tick", 200)?,
+        silence: options.get("--silence", 1000)?,
+        long: options.get("--long", 256 << 20)?,
+        record: options.has("--record"),
+        faults: options.has("--faults"),
+    };
+    thread::spawn(|| {
+        let mut input = std::io::stdin();
+        while !matches!(input.read(&mut [0; 64]), Ok(0) | Err(_)) {}
+        std::process::exit(0);
+    });
+    let run = if config.index.is_some() { host::run } else { coordinator::run };
+    run(config).map_err(|error| error.to_string())
+}
+
+/// A cluster of processes on this machine.
+pub struct Cluster {
+    /// Where it is.
+    pub target: Target,
+    folder: PathBuf,
+    more: Vec<String>,
+    children: Vec<Option<Child>>,
+}
+
+impl Cluster {
+    /// A cluster in this folder, of which nothing runs yet. The first one there makes the secret.
+    pub fn new(target: Target, folder: &Path, more: Vec<String>) -> Result<Cluster, String> {
+        let told = |error: std::io::Error| format!("{}: {error}", folder.display());
+        fs::create_dir_all(folder).map_err(told)?;
+        let folder = folder.canonicalize().map_err(told)?;
+        let secret = folder.join("secret");
+        if !secret.exists() {
+            let mut bytes = [0; 32];
+            File::open("/dev/urandom").and_then(|mut file| file.read_exact(&mut bytes)).map_err(told)?;
+            let mut file = OpenOptions::new().create_new(true).write(true).mode(0o600).open(&secret).map_err(told)?;
+            file.write_all(&bytes).map_err(told)?;
+        }
+        let children = (0..=target.hosts).map(|_| None).collect();
+        Ok(Cluster { target, folder, more, children })
+    }
+
+    /// How many processes it has: the hosts, and the coordinator, which has the last place.
+    pub fn places(&self) -> usize {
+        self.children.len()
+    }
+
+    /// The folder of a node.
+    pub fn folder(&self, place: usize) -> PathBuf {
+        let name = if place + 1 == self.places() { "coordinator".to_string() } else { format!("host{place}") };
+        self.folder.join(name)
+    }
+
+    /// Starts the process of a node.
+    pub fn start(&mut self, place: usize) -> Result<(), String> {
+        let folder = self.folder(place);
+        fs::create_dir_all(&folder).map_err(|error| error.to_string())?;
+        let log = OpenOptions::new().create(true).append(true).open(folder.join("log"));
+        let log = log.map_err(|error| error.to_string())?;
+        let index = if place + 1 == self.places() { -1 } else { place as i32 };
+        let program = std::env::current_exe().map_err(|error| error.to_string())?;
+        let child = Command::new(program)
+            .args(["serve", "--index", &index.to_string(), "--hosts", &self.target.hosts.to_string()])
+            .args(["--address", &self.target.address, "--port", &self.target.port.to_string()])
+            .arg("--folder")
+            .arg(&folder)
+            .arg("--secret")
+            .arg(self.folder.join("secret"))
+            .args(&self.more)
+            .stdin(Stdio::piped())
+            .stdout(Stdio::null())
+            .stderr(log)
+            .spawn()
+            .map_err(|error| error.to_string())?;
+        self.children[place] = Some(child);
+        Ok(())
+    }
+
+    /// Starts all.
+    pub fn start_all(&mut self) -> Result<(), String> {
+        (0..self.places()).rev().try_for_each(|place| self.start(place))
+    }
+
+    /// Those whose process has ended, with how.
+    pub fn ended(&mut self) -> Vec<(usize, String)> {
+        let mut ended = Vec::new();
+        for (place, child) in self.children.iter_mut().enumerate() {
+            if let Some(Ok(Some(status))) = child.as_mut().map(Child::try_wait) {
+                ended.push((place, status.to_string()));
+                *child = None;
+            }
+        }
+        ended
+    }
+
+    /// Ends a process at once.
+    pub fn kill(&mut self, place: usize) {
+        if let Some(mut child) = self.children[place].take() {
+            let _ = child.kill();
+            let _ = child.wait();
+        }
+    }
+
+    /// Sends a signal to a process.
+    pub fn signal(&self, place: usize, signal: &str) {
+        if let Some(child) = &self.children[place] {
+            let _ = Command::new("kill").arg(signal).arg(child.id().to_string()).status();
+        }
+    }
+
+    /// The process's number.
+    pub fn process(&self, place: usize) -> Option<u32> {
+        self.children[place].as_ref().map(Child::id)
+    }
+}
+
+impl Drop for Cluster {
+    fn drop(&mut self) {
+        (0..self.places()).for_each(|place| self.kill(place));
+    }
+}
+
+/// Runs a cluster: starts it, shows what changes, and starts again what ends.
+pub fn up(options: &Options) -> Result<(), String> {
+    let folder: PathBuf = options.get("--folder", "cluster-data".to_string())?.into();
+    let mut more = Vec::new();
+    for name in ["--factor", "--segment", "--tick", "--silence", "--long"] {
+        let value = options.get(name, String::new())?;
+        if !value.is_empty() {
+            more.extend([name.to_string(), value]);
+        }
+    }
+    more.extend(["--record", "--faults"].iter().filter(|flag| options.has(flag)).map(|flag| flag.to_string()));
+    let mut cluster = Cluster::new(crate::target(options)?, &folder, more)?;
+    cluster.start_all()?;
+    for place in 0..cluster.places() {
+        println!("process {} is {}", cluster.process(place).unwrap_or(0), cluster.folder(place).display());
+    }
+    let mut shown = String::new();
+    loop {
+        thread::sleep(Duration::from_millis(250));
+        for (place, how) in cluster.ended() {
+            println!("{} has ended ({how}), and is started again", cluster.folder(place).display());
+            thread::sleep(Duration::from_millis(100));
+            cluster.start(place)?;
+        }
+        let now = glance(&cluster.target);
+        if now != shown {
+            println!("{now}");
+            shown = now;
+        }
+    }
+}
+
+/// Who is up, and who owns what.
+fn glance(target: &Target) -> String {
+    let mut client = Client::new(target.clone());
+    client.wait = Duration::from_millis(500);
+    let Some(reply) = client.call_coordinator(Op::Status, 0, 0) else {
+        return "the coordinator does not answer".to_string();
+    };
+    let text = String::from_utf8_lossy(&reply.value).into_owned();
+    let up = text.lines().filter(|line| line.contains(" up ")).filter_map(|line| line.split(' ').nth(1));
+    let mut now = format!("up: {}", up.collect::<Vec<_>>().join(" "));
+    for line in text.lines().filter(|line| line.starts_with("table ")) {
+        now = format!("{now}; {line}");
+    }
+    now
+}

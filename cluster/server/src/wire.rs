@@ -1,0 +1,120 @@
+//! Frames and batches.
+//!
+//! A frame is its length in four bytes, the sender's clock in eight, a message, and a sum over clock and message in four. A
+//! batch is its length in four bytes, its number on this connection in eight, the sum of 32 bytes that only who has the
+//! secret can make, and frames.
+
+use sevunthi::mac;
+use sevunthi::message::{u32_at, u64_at};
+
+/// The longest batch.
+pub const MOST: usize = 256 << 20;
+
+/// The first byte of what is no message of the protocol: a heartbeat of a server, with its id.
+pub const HEARTBEAT: u8 = 0;
+
+/// The coordinator's answer to the heartbeat of one that its list shows crashed.
+pub const NOT_UP: u8 = 255;
+
+/// A sum against accidents, as journals have it.
+pub fn sum(bytes: &[u8]) -> u32 {
+    bytes.iter().fold(2_166_136_261, |sum: u32, byte| sum.wrapping_mul(16_777_619).wrapping_add(u32::from(*byte)))
+}
+
+/// Adds a frame.
+pub fn put_frame(clock: u64, message: &[u8], out: &mut Vec<u8>) {
+    out.extend_from_slice(&(message.len() as u32 + 12).to_le_bytes());
+    let at = out.len();
+    out.extend_from_slice(&clock.to_le_bytes());
+    out.extend_from_slice(message);
+    let sum = sum(&out[at..]);
+    out.extend_from_slice(&sum.to_le_bytes());
+}
+
+/// The clock and the message of each frame, up to the first that is none.
+pub fn frames(bytes: &[u8]) -> impl Iterator<Item = (u64, &[u8])> {
+    let mut rest = bytes;
+    std::iter::from_fn(move || {
+        let length = u32_at(rest, 0)? as usize;
+        let frame = rest.get(4..4usize.checked_add(length)?)?;
+        let inner = frame.get(..length.checked_sub(4)?)?;
+        if u32_at(frame, inner.len())? != sum(inner) {
+            return None;
+        }
+        rest = &rest[4 + length..];
+        Some((u64_at(inner, 0)?, inner.get(8..)?))
+    })
+}
+
+/// One direction of a connection between peers: who has the secret makes batches, and whoever reads takes no other, none
+/// twice, and none out of order.
+pub struct Seal {
+    secret: Vec<u8>,
+    challenge: [u8; 16],
+    number: u64,
+}
+
+impl Seal {
+    /// A connection whose reader has drawn this challenge.
+    pub fn new(secret: &[u8], challenge: [u8; 16]) -> Seal {
+        Seal { secret: secret.to_vec(), challenge, number: 0 }
+    }
+
+    fn mac(&self, number: u64, frames: &[u8]) -> [u8; 32] {
+        let mut message = Vec::with_capacity(24 + frames.len());
+        message.extend_from_slice(&self.challenge);
+        message.extend_from_slice(&number.to_le_bytes());
+        message.extend_from_slice(frames);
+        mac(&self.secret, &message)
+    }
+
+    /// These frames as the next batch.
+    pub fn close(&mut self, frames: &[u8]) -> Vec<u8> {
+        let mut batch = Vec::with_capacity(44 + frames.len());
+        batch.extend_from_slice(&(frames.len() as u32 + 40).to_le_bytes());
+        batch.extend_from_slice(&self.number.to_le_bytes());
+        batch.extend_from_slice(&self.mac(self.number, frames));
+        batch.extend_from_slice(frames);
+        self.number += 1;
+        batch
+    }
+
+    /// The frames of a batch, without its length, if it is the next one.
+    pub fn open<'a>(&mut self, batch: &'a [u8]) -> Option<&'a [u8]> {
+        let frames = batch.get(40..)?;
+        let is_next = u64_at(batch, 0)? == self.number;
+        let made = self.mac(self.number, frames);
+        let differs = made.iter().zip(&batch[8..40]).fold(0, |differs, (x, y)| differs | (x ^ y));
+        self.number += 1;
+        (is_next && differs == 0).then_some(frames)
+    }
+}
+
+#[cfg(test)]
+mod tests {
+    use super::*;
+
+    #[test]
+    fn a_batch_is_taken_once() {
+        let mut out = Vec::new();
+        put_frame(7, b"hello", &mut out);
+        let (mut writer, mut reader) = (Seal::new(b"secret", [1; 16]), Seal::new(b"secret", [1; 16]));
+        let batch = writer.close(&out);
+        let opened = reader.open(&batch[4..]).expect("it is the next one").to_vec();
+        assert_eq!(frames(&opened).collect::<Vec<_>>(), [(7, &b"hello"[..])]);
+        assert_eq!(reader.open(&batch[4..]), None);
+        assert_eq!(Seal::new(b"another", [1; 16]).open(&batch[4..]), None);
+        assert_eq!(Seal::new(b"secret", [2; 16]).open(&batch[4..]), None);
+    }
+
+    #[test]
+    fn a_damaged_frame_ends_the_batch() {
+        let mut out = Vec::new();
+        put_frame(7, b"hello", &mut out);
+        for place in 0..out.len() {
+            let mut damaged = out.clone();
+            damaged[place] ^= 1;
+            assert!(frames(&damaged).all(|frame| frame != (7, &b"hello"[..])));
+        }
+    }
+}

@@ -1,0 +1,4 @@
+pub mod Operations
+pub mod Linearizable
+pub mod Evidence
+pub mod Pending

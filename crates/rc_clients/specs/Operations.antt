@@ -1,0 +1,63 @@
+-- The operations of a history of clients. The moment of an event is its number, its place in the history.
+use Rattle.std.specs.Prelude.{◌≡◌, ℕ, List, Option, Some, None, nat_lt, if◌then◌else◌, slice_get, option_and_then}
+use Rattle.std.specs.Option.{option_map_or}
+use Rattle.rc_clients.specs.declared.events.Request.TheVariants as request
+use Rattle.rc_clients.specs.declared.events.ClientEvent.{ClientEvent}
+use Rattle.rc_clients.specs.declared.events.ClientEvent.TheVariants.{Invoked, Written, Shown}
+use Rattle.rc_clients.specs.declared.operations.Kind.{Kind}
+use Rattle.rc_clients.specs.declared.operations.Kind.TheVariants as kind
+use Rattle.rc_clients.specs.declared.operations.Operation.{Operation}
+
+-- the write of this invocation, which got this version
+abbrev pub write_by : ℕ → ℕ → ℕ → ClientEvent → Option Operation
+write_by invocation response version (Invoked table key (request.Write value)) = Some (record {
+  kind = kind.Write;
+  table = table;
+  key = key;
+  version = version;
+  invocation = invocation;
+  response = response;
+})
+write_by invocation response version _ = None
+
+-- the read of this invocation, which showed this version
+abbrev pub read_by : ℕ → ℕ → ℕ → ClientEvent → Option Operation
+read_by invocation response version (Invoked table key request.Read) = Some (record {
+  kind = kind.Read;
+  table = table;
+  key = key;
+  version = version;
+  invocation = invocation;
+  response = response;
+})
+read_by invocation response version _ = None
+
+-- the operation that the event at this moment answers: a write or a read whose invocation stands before it
+abbrev pub answered_by : List ClientEvent → ℕ → ClientEvent → Option Operation
+answered_by history response (Written invocation version) = if nat_lt invocation response then
+    option_and_then (write_by invocation response version) (slice_get history invocation) else None
+answered_by history response (Shown invocation version value) = if nat_lt invocation response then
+    option_and_then (read_by invocation response version) (slice_get history invocation) else None
+answered_by history response _ = None
+
+-- the operation whose response is the event at this moment, if it is one
+unfoldable pub operation_at : List ClientEvent → ℕ → Option Operation
+operation_at history moment = option_and_then (answered_by history moment) (slice_get history moment)
+
+-- an operation of the history: one that was answered
+abbrev pub IsOperation : List ClientEvent → Operation → Type 0
+IsOperation history op = operation_at history op.response ≡ Some op
+
+-- what an event writes or shows
+abbrev pub value_in : ClientEvent → Option (List ℕ)
+value_in (Invoked table key (request.Write value)) = value
+value_in (Shown invocation version value) = value
+value_in _ = None
+
+-- what a write wrote stands in its invocation, and what a read showed in its response
+abbrev pub told_at : Kind → ℕ → ℕ → ℕ
+told_at kind.Write invocation response = invocation
+told_at kind.Read invocation response = response
+
+unfoldable pub value_of : List ClientEvent → Operation → Option (List ℕ)
+value_of history op = option_map_or value_in (slice_get history (told_at op.kind op.invocation op.response)) None

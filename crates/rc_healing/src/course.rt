@@ -1,0 +1,183 @@
+//! A world that goes on, with its coordinator followed.
+
+ghost use Rattle.rc_world.specs.HostView.{IsWithinLimits};
+
+use rc_coordinator::Coordinator;
+use rc_types::limits::MAX_HOSTS;
+use rc_types::{Addr, Event, Fault, Message, NodeWork, Seq, ServerId, Setup, TryClone};
+use rc_world::World;
+use std::alloc::Global;
+
+/// A world that goes on, and its coordinator once more, to be looked at.
+pub(crate) struct Course {
+    world: World<Global>,
+    coordinator: Coordinator<Global>,
+    /// What the coordinator has sent in the last step: the world has it too.
+    echo: Vec<Message>,
+    /// The messages from this one on are to be delivered.
+    next: usize,
+}
+
+impl Drop for Course {
+    fn drop(self) {
+        let Course {
+            world: _,
+            coordinator: _,
+            echo: _,
+            next: _,
+        } = self;
+    }
+}
+
+impl Course {
+    /// A world of its own after these events. What was sent in them and has not arrived never will.
+    pub(crate) fn of(alloc: Global, setup: &Setup, events: &[Event]) -> Result<Course, Fault>
+        requires { IsWithinLimits setup.now }
+    {
+        let mut course = Course {
+            world: World::new(alloc, setup.try_clone(alloc)?, alloc),
+            coordinator: Coordinator::new(alloc, alloc),
+            echo: Vec::new(alloc),
+            next: 0,
+        };
+        for event in events {
+            course.take(alloc, event)?;
+        }
+        course.next = course.world.sent().len();
+        Ok(course)
+    }
+
+    /// The world.
+    pub(crate) fn world(&self) -> &World<Global> {
+        &self.world
+    }
+
+    /// The world alone.
+    pub(crate) fn into_world(self) -> World<Global> {
+        let Course {
+            world,
+            coordinator: _,
+            echo: _,
+            next: _,
+        } = self;
+        world
+    }
+
+    /// The coordinator.
+    pub(crate) fn coordinator(&self) -> &Coordinator<Global> {
+        &self.coordinator
+    }
+
+    /// One more event.
+    pub(crate) fn take(&mut self, alloc: Global, event: &Event) -> Result<(), Fault> {
+        self.follow(event)?;
+        self.world.take(alloc, event)
+    }
+
+    /// The coordinator takes its part of an event.
+    fn follow(&mut self, event: &Event) -> Result<(), Fault> {
+        match event {
+            Event::Deliver(number) => self.follow_message(*number),
+            Event::Tick(Addr::Coordinator) => self.tell(&NodeWork::Tick),
+            Event::Suspect(id) => self.tell(&NodeWork::Suspect(*id)),
+            Event::Decide(id) => self.tell(&NodeWork::Decide(*id)),
+            Event::Create { table, owner } => self.tell(&NodeWork::Create {
+                table: *table,
+                owner: *owner,
+            }),
+            Event::Split { table, at } => self.tell(&NodeWork::Split {
+                table: *table,
+                at: *at,
+            }),
+            _ => Ok(()),
+        }
+    }
+
+    /// The coordinator takes the message of this number, if it is for it.
+    fn follow_message(&mut self, number: usize) -> Result<(), Fault> {
+        let Some(message) = self.world.sent().get(number) else {
+            return Err(Fault::BadEvent);
+        };
+        if message.to != Addr::Coordinator {
+            return Ok(());
+        }
+        if !self.coordinator.has_room() {
+            return Err(Fault::BadEvent);
+        }
+        self.echo.clear();
+        self.coordinator.take(message, &mut self.echo)
+    }
+
+    /// The coordinator takes a work.
+    fn tell(&mut self, work: &NodeWork) -> Result<(), Fault> {
+        if !self.coordinator.has_room() {
+            return Err(Fault::BadEvent);
+        }
+        self.echo.clear();
+        self.coordinator.step_into(work, &mut self.echo)
+    }
+
+    /// The newest server of a host.
+    pub(crate) fn server(&self, host: u8) -> ServerId {
+        ServerId {
+            index: host,
+            generation: self.world.newest(host),
+        }
+    }
+
+    /// The server that runs on a host, if one does.
+    pub(crate) fn running(&self, host: u8) -> Option<ServerId> {
+        let id = self.server(host);
+        if self.world.is_running(id) {
+            Some(id)
+        } else {
+            None
+        }
+    }
+
+    /// All messages that were sent since it began are delivered, in their order, and those that they bring.
+    pub(crate) fn deliver(&mut self, alloc: Global) -> Result<(), Fault> {
+        for _ in 0..usize::MAX {
+            let number = self.next;
+            let Some(message) = self.world.sent().get(number) else {
+                return Ok(());
+            };
+            let is_heard = match message.to {
+                Addr::Outside => false,
+                Addr::Coordinator => true,
+                Addr::Server(id) => self.world.is_running(id),
+            };
+            if is_heard {
+                self.take(alloc, &Event::Deliver(number))?;
+            }
+            self.next = number.saturating_add(1);
+        }
+        Ok(())
+    }
+
+    /// The timers of the coordinator and of all servers that run go off, and what they send is delivered.
+    pub(crate) fn tick(&mut self, alloc: Global) -> Result<(), Fault> {
+        self.take(alloc, &Event::Tick(Addr::Coordinator))?;
+        for host in 0..MAX_HOSTS {
+            if let Some(id) = self.running(host) {
+                self.take(alloc, &Event::Tick(Addr::Server(id)))?;
+            }
+        }
+        self.deliver(alloc)
+    }
+
+    /// A host is started, with all its open replicas kept.
+    pub(crate) fn start(&mut self, alloc: Global, host: u8) -> Result<(), Fault> {
+        let kept = Seq::from_vec(self.world.open_replicas(host)?);
+        self.take(alloc, &Event::Start { host, kept })
+    }
+
+    /// A server stops, and its host is started, with all its open replicas kept.
+    pub(crate) fn restart(&mut self, alloc: Global, id: ServerId) -> Result<(), Fault> {
+        if self.world.is_running(id) {
+            self.take(alloc, &Event::Stop(id))?;
+            self.start(alloc, id.index)?;
+        }
+        Ok(())
+    }
+}

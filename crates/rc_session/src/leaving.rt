@@ -1,0 +1,100 @@
+//! What may leave, coded, into the caller's room.
+
+ghost use Rattle.std.specs.Prelude.{[], ◌≡◌, ◌++◌, ◌<◌, true, false, length, Some, None, OnOk, IfOk, IsTrue};
+ghost use Rattle.std.specs.List.{flat_map};
+ghost use Rattle.rc_codec.specs.Spelling.{coded_message};
+ghost use Rattle.rc_process.specs.View.{AllWait};
+ghost use Rattle.rc_session.specs.View.{session_seen, framed, all_framed};
+ghost use Rattle.rc_session.specs.Claims.{IsInHand, IfLeft, IfNoRoom, HasLeft, HasNoRoom};
+ghost use Rattle.rc_session.specs.declared.leaving.Leaving.TheVariants as leaving;
+
+use crate::moving::copied;
+use crate::session::Session;
+use rc_codec::{Put, encode_message};
+use rc_types::{Message, Seq};
+use std::alloc::{AllocError, Global};
+
+/// What has become of what one step has sent.
+#[derive(Clone, Copy, Debug, PartialEq, Eq)]
+pub enum Leaving {
+    /// It has left, and takes so many of the caller's bytes.
+    Left(usize),
+    /// It stays, since it takes so many bytes, and the caller has fewer.
+    NoRoom(usize),
+    /// Nothing may leave now.
+    Waits,
+    /// Memory was refused. Nothing is lost: call again later.
+    NoMemory,
+}
+
+impl Session {
+    /// Lets what one step has sent leave: moves it to the front of the caller's bytes, each message behind its length
+    /// in four bytes, if they are enough. A step may have sent nothing, which takes no bytes. Call it until nothing may
+    /// leave.
+    pub fn leave(&mut self, to: &mut [u8]) -> Leaving
+        ensures left { IfLeft result (HasLeft (session_seen self.old) (session_seen self.new) to.old to.new) }
+        ensures stays { IfNoRoom result (HasNoRoom (session_seen self.old) (session_seen self.new) to.old to.new) }
+        ensures waits { result ≡ leaving.Waits → AllWait (session_seen self.old).process }
+        ensures none { result ≡ leaving.Waits → session_seen self.new ≡ session_seen self.old }
+        ensures kept { result ≡ leaving.NoMemory → IsInHand (session_seen self.old) (session_seen self.new) }
+    {
+        if !self.take_in_hand() {
+            return Leaving::Waits;
+        }
+        let mut code = Vec::new(self.alloc);
+        let coded = match &self.hand {
+            Some(messages) => put_framed(self.alloc, messages.as_slice(), &mut code),
+            None => Ok(()),
+        };
+        if coded.is_err() {
+            return Leaving::NoMemory;
+        }
+        let count = code.len();
+        if !copied(code.as_slice(), to) {
+            return Leaving::NoRoom(count);
+        }
+        self.hand = None;
+        Leaving::Left(count)
+    }
+
+    /// Takes in hand what one step has sent and may leave, if nothing is there. Says whether something is.
+    fn take_in_hand(&mut self) -> bool
+        ensures held { IsTrue result → IsInHand (session_seen self.old) (session_seen self.new) }
+        ensures waits { result ≡ false → AllWait (session_seen self.old).process }
+        ensures none { result ≡ false → session_seen self.new ≡ session_seen self.old }
+    {
+        if let Some(_) = &self.hand {
+            return true;
+        }
+        match self.process.leave() {
+            Some(messages) => {
+                self.hand = Some(Seq::from_vec(messages));
+                true
+            }
+            None => false,
+        }
+    }
+}
+
+/// Adds each message behind the length of its coding. Where memory is refused some of it may stand there.
+fn put_framed(alloc: Global, messages: &[Message], out: &mut Vec<u8>) -> Result<(), AllocError>
+    ensures { OnOk result (out.new.items ≡ out.old.items ++ all_framed messages.now) }
+{
+    for message in messages {
+        put_frame(alloc, message, out)?;
+    }
+    Ok(())
+}
+
+/// One message behind the length of its coding.
+fn put_frame(alloc: Global, message: &Message, out: &mut Vec<u8>) -> Result<(), AllocError>
+    ensures { OnOk result (out.new.items ≡ out.old.items ++ framed message.now) }
+{
+    let mut code = Vec::new(alloc);
+    encode_message(message, &mut code)?;
+    let Ok(length) = u32::try_from(code.len()) else {
+        return Err(AllocError);
+    };
+    length.put(out)?;
+    out.extend_from_slice(code.as_slice())
+}

@@ -1,0 +1,315 @@
+//! From the bytes of a scenario to those of one in which its tablets have come back.
+
+ghost use Rattle.std.specs.Prelude.{◌≡◌, ◌≢◌, ℕ, [], string_bytes, IfOk, IfErr, IfSome, Ok, Err};
+ghost use Rattle.std.specs.Io.KnownBytes.{Keeps};
+ghost use Rattle.rc_world.specs.HostView.{IsWithinLimits};
+ghost use Rattle.rc_sim.specs.declared.verdicts.SimFault.TheVariants.{Memory, Read as ReadFailed, Write as WriteFailed};
+ghost use Rattle.rc_sim.specs.declared.verdicts.Verdict.TheVariants.{Breach};
+ghost use Rattle.rc_sim.specs.Failures.{failed_reads, failed_writes};
+ghost use Rattle.rc_sim.specs.Verdicts.{IsHealed, Healed as HealedText};
+ghost use Rattle.rc_sim.specs.Written.{IsWritten, IsBegun};
+
+use crate::answers::{Answer, bad};
+use crate::counted::Counted;
+use crate::outlets::read_all;
+use crate::playing::Kept;
+use crate::simulating::write_answer;
+use crate::verdicts::{SimFault, Verdict};
+use rc_healing::{Deed, Gone, Healed, Served, Why};
+use rc_reading::{ReadFault, Scenario, ScenarioEvent, read_scenario};
+use rc_runs::Run;
+use rc_study::{Left, saved_scenario};
+use rc_types::{Event, Fault, Setup, Tablet, TryClone};
+use std::alloc::{AllocError, Global};
+use std::io::{Read, Write};
+use std::slice;
+
+/// Reads a scenario, and writes it with the events that bring its tablets back, or the one line of a scenario that is
+/// wrong. Each thing that was done is told to `errors`, with its reason, and what came of each tablet. Where the run
+/// stops, or the events that a world takes do not suffice, nothing is written. The bytes are kept once that is there.
+///
+/// It fails as [`simulate`](crate::simulate) does.
+pub(crate) fn heal<R: Read, W: Write, E: Write>(
+    alloc: Global,
+    power_cycle: bool,
+    reader: &mut Counted<R>,
+    writer: &mut Counted<W>,
+    errors: &mut Counted<E>,
+    kept: &mut Kept,
+) -> Result<Verdict, SimFault>
+    ensures ok { IfOk result (λ verdict. IfSome (R.remaining reader.old.inner)
+        (λ bytes. IsWritten (HealedText bytes) verdict (W.contents writer.old.inner) (W.contents writer.new.inner))) }
+    ensures cut_short { (count : ℕ) → result ≡ Err (WriteFailed count) → IfSome (R.remaining reader.old.inner)
+        (λ bytes. IsBegun (HealedText bytes) count (W.contents writer.old.inner) (W.contents writer.new.inner)) }
+    ensures nothing_without_memory { result ≡ Err Memory →
+        Keeps (W.contents writer.old.inner) (W.contents writer.new.inner) }
+    ensures nothing_unread { result ≡ Err ReadFailed →
+        Keeps (W.contents writer.old.inner) (W.contents writer.new.inner) }
+    ensures reads { reader.new.failures ≡ failed_reads result reader.old.failures }
+    ensures writes { writer.new.failures ≡ failed_writes result writer.old.failures }
+    ensures no_breach { result ≢ Ok Breach }
+{
+    let bytes = read_all(alloc, reader)?;
+    let answer = healed_of(alloc, bytes.as_slice(), power_cycle, errors)?;
+    kept.note(bytes, &answer);
+    write_answer(writer, &answer)
+}
+
+/// What is written of these bytes as a scenario.
+fn healed_of<E: Write>(
+    alloc: Global,
+    bytes: &[u8],
+    power_cycle: bool,
+    errors: &mut Counted<E>,
+) -> Result<Answer, SimFault>
+    ensures ok { IfOk result (λ answer. HealedText bytes.now answer.verdict (string_bytes answer.text)) }
+    ensures fault { IfErr result (λ fault. fault ≡ Memory) }
+{
+    match read_scenario(alloc, bytes) {
+        Ok(scenario) => answer_of(alloc, scenario, power_cycle, errors),
+        Err(ReadFault::OutOfMemory) => Err(SimFault::Memory),
+        Err(ReadFault::BadScenario(place)) => bad(alloc, place),
+    }
+}
+
+/// What is written of a scenario.
+fn answer_of<E: Write>(
+    alloc: Global,
+    scenario: Scenario,
+    power_cycle: bool,
+    errors: &mut Counted<E>,
+) -> Result<Answer, SimFault>
+    requires { IsWithinLimits scenario.setup }
+    ensures ok { IfOk result (λ answer. IsHealed answer.verdict (string_bytes answer.text)) }
+    ensures fault { IfErr result (λ fault. fault ≡ Memory) }
+{
+    let Scenario { setup, events } = scenario;
+    let Ok(copy) = setup.try_clone(alloc) else {
+        return Err(SimFault::Memory);
+    };
+    let mut run = Run::new(alloc, copy, alloc);
+    let mut places = Vec::new(alloc);
+    for (place, event) in events.as_slice().iter().enumerate() {
+        let outcome = run.play_all(alloc, slice::from_ref(event));
+        note_place(&mut places, run.world().events().len(), place)?;
+        if let Err((_, fault)) = outcome {
+            return Ok(nothing(
+                alloc,
+                Verdict::Stopped(place, fault.code()),
+                run.world().sent().len(),
+            ));
+        }
+    }
+    match rc_healing::heal(alloc, &setup, run.world().events(), power_cycle) {
+        Ok(healed) => told(
+            alloc,
+            &setup,
+            events.into_vec(),
+            places.as_slice(),
+            &healed,
+            errors,
+        ),
+        Err(Fault::OutOfMemory) => Err(SimFault::Memory),
+        Err(_) => {
+            let _ = writeln!(
+                errors.inner,
+                "error: a run takes 200000 events, and these do not suffice to heal it"
+            );
+            Ok(nothing(alloc, Verdict::Wrong, 0))
+        }
+    }
+}
+
+/// Nothing is written, for this reason.
+fn nothing(alloc: Global, verdict: Verdict, sent: usize) -> Answer
+    ensures verdict { result.verdict ≡ verdict }
+    ensures text { string_bytes result.text ≡ [] }
+{
+    Answer {
+        verdict,
+        text: String::new(alloc),
+        sent,
+    }
+}
+
+/// The events of the world that have happened since come from this place.
+fn note_place(places: &mut Vec<usize>, happened: usize, place: usize) -> Result<(), AllocError> {
+    for _ in places.len()..happened {
+        places.push(place)?;
+    }
+    Ok(())
+}
+
+/// Tells what was done, and gives the scenario with the events that did it.
+fn told<E: Write>(
+    alloc: Global,
+    setup: &Setup,
+    mut events: Vec<ScenarioEvent>,
+    places: &[usize],
+    healed: &Healed,
+    errors: &mut Counted<E>,
+) -> Result<Answer, SimFault>
+    ensures verdict { IfOk result (λ answer. IsHealed answer.verdict (string_bytes answer.text)) }
+    ensures fault { IfErr result (λ fault. fault ≡ Memory) }
+{
+    let places = Places {
+        places,
+        more: events.len(),
+    };
+    tell(&places, healed, errors);
+    for event in &healed.events {
+        let Ok(copy) = event.try_clone(alloc) else {
+            return Err(SimFault::Memory);
+        };
+        events.push(ScenarioEvent::Core(copy))?;
+    }
+    let mut left = Vec::new(alloc);
+    for (place, event) in events.iter().enumerate() {
+        let message = match event {
+            ScenarioEvent::Core(Event::Deliver(number)) => *number,
+            _ => 0,
+        };
+        left.push(Left { place, message })?;
+    }
+    let text = saved_scenario(alloc, setup, events.as_slice(), left.as_slice())?;
+    Ok(Answer {
+        verdict: Verdict::Clean,
+        text,
+        sent: 0,
+    })
+}
+
+/// Where the events of a world stand in the scenario that is written.
+#[derive(Clone, Copy)]
+struct Places<'a> {
+    /// Of those of the scenario that was read.
+    places: &'a [usize],
+    /// The place of the first one that was added.
+    more: usize,
+}
+
+impl Places<'_> {
+    /// The place of this event.
+    fn of(&self, event: usize) -> usize {
+        match self.places.get(event) {
+            Some(place) => *place,
+            None => self
+                .more
+                .saturating_add(event.saturating_sub(self.places.len())),
+        }
+    }
+}
+
+/// Tells what was done and why, and what came of each tablet.
+fn tell<E: Write>(places: &Places<'_>, healed: &Healed, errors: &mut Counted<E>) {
+    for deed in &healed.deeds {
+        tell_deed(places, deed, errors);
+    }
+    for tablet in &healed.tablets {
+        tell_tablet(places, healed, tablet, errors);
+    }
+    let events = healed.events.len();
+    let _ = writeln!(errors.inner, "rounds {}, events {events}", healed.rounds);
+}
+
+/// Tells what was done, and why.
+fn tell_deed<E: Write>(places: &Places<'_>, deed: &Deed, errors: &mut Counted<E>) {
+    let _ = write!(errors.inner, "event {}: ", places.of(deed.after));
+    let _ = match deed.why {
+        Why::PowerCut => writeln!(
+            errors.inner,
+            "stop all servers and start all hosts: the power is cut"
+        ),
+        Why::Stopped(host) => writeln!(errors.inner, "start host {host}: its server does not run"),
+        Why::TooFew(host) => writeln!(
+            errors.inner,
+            "start host {host}: one host more has to run than a segment has replicas"
+        ),
+        Why::Zombie(id) => writeln!(
+            errors.inner,
+            "restart {id}: the coordinator's list shows it crashed, and it runs"
+        ),
+        Why::Stuck(id) => writeln!(
+            errors.inner,
+            "restart {id}: it is up, owns a tablet, and takes no write"
+        ),
+        Why::Silent(id) => writeln!(
+            errors.inner,
+            "suspect {id}: the coordinator's list shows it up, and it does not run"
+        ),
+        Why::Again(id) => writeln!(
+            errors.inner,
+            "suspect {id} again: its recovery was decided, and who is needed for it is gone"
+        ),
+        Why::Answered(id) => writeln!(
+            errors.inner,
+            "decide {id}: all servers that are up have answered"
+        ),
+    };
+}
+
+/// Tells what came of a tablet.
+fn tell_tablet<E: Write>(
+    places: &Places<'_>,
+    healed: &Healed,
+    tablet: &Tablet,
+    errors: &mut Counted<E>,
+) {
+    let _ = write!(
+        errors.inner,
+        "table {}, keys {} to {}: ",
+        tablet.table, tablet.lo, tablet.hi
+    );
+    let served = healed
+        .served
+        .iter()
+        .find(|served| is_same(&served.tablet, tablet));
+    let gone = healed
+        .gone
+        .iter()
+        .find(|gone| tablet.crashed && gone.master == tablet.owner);
+    match (served, gone) {
+        (Some(Served { version, .. }), _) => {
+            let _ = writeln!(
+                errors.inner,
+                "served by {}, which acknowledges a new write of key {} as version {version}, and shows it",
+                tablet.owner, tablet.lo
+            );
+        }
+        (None, Some(gone)) => tell_gone(places, gone, errors),
+        (None, None) => {
+            let _ = writeln!(
+                errors.inner,
+                "not served by {}, and nothing shows that it is gone",
+                tablet.owner
+            );
+        }
+    }
+}
+
+/// Whether they are one tablet.
+fn is_same(tablet: &Tablet, other: &Tablet) -> bool {
+    tablet.table == other.table && tablet.lo == other.lo
+}
+
+/// Tells which segment is gone, and since when.
+fn tell_gone<E: Write>(places: &Places<'_>, gone: &Gone, errors: &mut Counted<E>) {
+    let _ = write!(
+        errors.inner,
+        "segment {} of {} is gone; at event {} it was placed under epoch {}",
+        gone.seg,
+        gone.master,
+        places.of(gone.placed),
+        gone.epoch
+    );
+    for drop in &gone.drops {
+        let _ = write!(
+            errors.inner,
+            "; {} had it, and event {} started host {} without it",
+            drop.member,
+            places.of(drop.start),
+            drop.member.index
+        );
+    }
+    let _ = writeln!(errors.inner);
+}

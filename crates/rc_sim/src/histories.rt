@@ -1,0 +1,106 @@
+//! What clients saw: the history of a run is written, and one that is given is judged.
+
+ghost use Rattle.std.specs.Prelude.{◌≡◌, ◌≢◌, ℕ, List, string_bytes, IfOk, IfErr, IfSome, Ok, Err};
+ghost use Rattle.std.specs.Io.KnownBytes.{Keeps};
+ghost use Rattle.rc_sim.specs.declared.verdicts.SimFault.TheVariants.{Memory, Read as ReadFailed, Write as WriteFailed};
+ghost use Rattle.rc_sim.specs.Failures.{failed_reads, failed_writes};
+ghost use Rattle.rc_sim.specs.Histories.{Checked, weighed};
+ghost use Rattle.rc_sim.specs.Written.{IsWritten, IsBegun};
+
+use crate::answers::{Answer, bad};
+use crate::counted::Counted;
+use crate::outlets::{read_all, write_all};
+use crate::simulating::write_answer;
+use crate::verdicts::{SimFault, Verdict};
+use rc_clients::{
+    HistoryFault, LineFault, ReadHistory, Violation, check, history_of, history_text,
+    judgement_text, read_history,
+};
+use rc_reading::limits::MOST_BYTES;
+use rc_types::Message;
+use std::alloc::{AllocError, Global};
+use std::io::{Read, Write};
+
+/// What the clients saw who asked and were told these messages, as JSON lines.
+pub(crate) fn history_lines(alloc: Global, messages: &[Message]) -> Result<String, AllocError> {
+    let history = history_of(alloc, messages)?;
+    history_text(alloc, &history)
+}
+
+/// Reads a history, judges it, and writes what was found, or the one line of a history that is wrong; why it is wrong
+/// goes to `errors`. Nothing is claimed of the text.
+///
+/// It fails as [`simulate`](crate::simulate) does.
+pub(crate) fn weigh_history<R: Read, W: Write, E: Write>(
+    alloc: Global,
+    reader: &mut Counted<R>,
+    writer: &mut Counted<W>,
+    errors: &mut Counted<E>,
+) -> Result<Verdict, SimFault>
+    ensures ok { IfOk result (λ verdict. IfSome (R.remaining reader.old.inner)
+        (λ bytes. IsWritten (Checked bytes) verdict (W.contents writer.old.inner) (W.contents writer.new.inner))) }
+    ensures cut_short { (count : ℕ) → result ≡ Err (WriteFailed count) → IfSome (R.remaining reader.old.inner)
+        (λ bytes. IsBegun (Checked bytes) count (W.contents writer.old.inner) (W.contents writer.new.inner)) }
+    ensures nothing_without_memory { result ≡ Err Memory →
+        Keeps (W.contents writer.old.inner) (W.contents writer.new.inner) }
+    ensures nothing_unread { result ≡ Err ReadFailed →
+        Keeps (W.contents writer.old.inner) (W.contents writer.new.inner) }
+    ensures reads { reader.new.failures ≡ failed_reads result reader.old.failures }
+    ensures writes { writer.new.failures ≡ failed_writes result writer.old.failures }
+{
+    let bytes = read_all(alloc, reader)?;
+    let answer = judged(alloc, bytes.as_slice(), errors)?;
+    write_answer(writer, &answer)
+}
+
+/// What is answered to these bytes as a history.
+fn judged<E: Write>(
+    alloc: Global,
+    bytes: &[u8],
+    errors: &mut Counted<E>,
+) -> Result<Answer, SimFault>
+    ensures ok { IfOk result (λ answer. Checked bytes.now answer.verdict (string_bytes answer.text)) }
+    ensures fault { IfErr result (λ fault. fault ≡ Memory) }
+{
+    if bytes.len() > MOST_BYTES {
+        let _ = write_all(errors, b"the history is too long\n");
+        return bad(alloc, 0);
+    }
+    match read_history(alloc, bytes) {
+        Ok(history) => weighed_answer(alloc, &history),
+        Err(HistoryFault::OutOfMemory) => Err(SimFault::Memory),
+        Err(HistoryFault::BadLine(line, fault)) => {
+            tell_line(line, fault, errors);
+            bad(alloc, line)
+        }
+    }
+}
+
+/// Tells what is wrong with a line.
+fn tell_line<E: Write>(line: usize, fault: LineFault, errors: &mut Counted<E>) {
+    let _ = writeln!(errors.inner, "line {line}: {fault}");
+}
+
+/// What the judge says of a history.
+fn weighed_answer(alloc: Global, history: &ReadHistory) -> Result<Answer, SimFault>
+    ensures ok { IfOk result (λ answer. (bytes : List ℕ) → Checked bytes answer.verdict (string_bytes answer.text)) }
+    ensures fault { IfErr result (λ fault. fault ≡ Memory) }
+{
+    let found = check(alloc, history.events.as_slice())?;
+    let text = judgement_text(alloc, history, found)?;
+    Ok(Answer {
+        verdict: verdict_of(found),
+        text,
+        sent: 0,
+    })
+}
+
+/// The verdict on a history that is linearizable, or is not.
+fn verdict_of(found: Option<Violation>) -> Verdict
+    ensures { result ≡ weighed found }
+{
+    match found {
+        None => Verdict::Clean,
+        Some(_) => Verdict::Breach,
+    }
+}

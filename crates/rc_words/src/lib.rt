@@ -1,0 +1,21 @@
+//! What the words of `ramseg` mean: the codes, the kinds of messages, the events of a scenario, and the rules that can
+//! be broken. Nothing here decides anything.
+#![tactic(auto)]
+
+mod codes;
+mod events;
+mod explaining;
+mod kinds;
+mod looking;
+mod names;
+mod rules;
+mod topics;
+
+pub use codes::names_of_codes;
+pub use events::{EVENTS, Happening};
+pub use explaining::{Explained, explain};
+pub use kinds::{KINDS, Kind};
+pub use looking::{Found, topic_of};
+pub use names::nearest;
+pub use rules::{RULES, Rule};
+pub use topics::{TOPICS, Topic};
