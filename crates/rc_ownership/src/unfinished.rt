@@ -38,8 +38,8 @@ fn keep_unfinished(begun: &IndexMap<u32, FetchedPart>, grants: &Grants, places: 
     places.retain(|place| is_unfinished(begun, grants, *place));
 }
 
-/// Whether so many of some places are enough to go over them all: more than half. So a place is looked at twice for each
-/// that may be let go.
+/// Whether so many of some places are enough to go over them all: more than half of them. So two places are looked at
+/// for each that may be let go.
 fn are_many(count: usize, places: usize) -> bool {
     places / 2 < count
 }
