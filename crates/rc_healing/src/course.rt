@@ -52,17 +52,6 @@ impl Course {
         &self.world
     }
 
-    /// The world alone.
-    pub(crate) fn into_world(self) -> World<Global> {
-        let Course {
-            world,
-            coordinator: _,
-            echo: _,
-            next: _,
-        } = self;
-        world
-    }
-
     /// The coordinator.
     pub(crate) fn coordinator(&self) -> &Coordinator<Global> {
         &self.coordinator
@@ -76,20 +65,12 @@ impl Course {
 
     /// The coordinator takes its part of an event.
     fn follow(&mut self, event: &Event) -> Result<(), Fault> {
-        match event {
-            Event::Deliver(number) => self.follow_message(*number),
-            Event::Tick(Addr::Coordinator) => self.tell(&NodeWork::Tick),
-            Event::Suspect(id) => self.tell(&NodeWork::Suspect(*id)),
-            Event::Decide(id) => self.tell(&NodeWork::Decide(*id)),
-            Event::Create { table, owner } => self.tell(&NodeWork::Create {
-                table: *table,
-                owner: *owner,
-            }),
-            Event::Split { table, at } => self.tell(&NodeWork::Split {
-                table: *table,
-                at: *at,
-            }),
-            _ => Ok(()),
+        if let Event::Deliver(number) = event {
+            return self.follow_message(*number);
+        }
+        match work_of(event) {
+            Some(work) => self.tell(&work),
+            None => Ok(()),
         }
     }
 
@@ -179,5 +160,23 @@ impl Course {
             self.start(alloc, id.index)?;
         }
         Ok(())
+    }
+}
+
+/// The coordinator's part of an event, unless it is a delivery.
+fn work_of(event: &Event) -> Option<NodeWork> {
+    match event {
+        Event::Tick(Addr::Coordinator) => Some(NodeWork::Tick),
+        Event::Suspect(id) => Some(NodeWork::Suspect(*id)),
+        Event::Decide(id) => Some(NodeWork::Decide(*id)),
+        Event::Create { table, owner } => Some(NodeWork::Create {
+            table: *table,
+            owner: *owner,
+        }),
+        Event::Split { table, at } => Some(NodeWork::Split {
+            table: *table,
+            at: *at,
+        }),
+        _ => None,
     }
 }

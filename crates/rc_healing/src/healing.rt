@@ -94,8 +94,17 @@ pub fn heal(alloc: Global, setup: &Setup, events: &[Event], power: bool) -> Resu
 {
     match heal_or_fail(alloc, setup, events, power) {
         Ok(healed) => Ok(healed),
-        Err(Fault::OutOfMemory) => Err(Fault::OutOfMemory),
-        Err(_) => Err(Fault::BadEvent),
+        Err(fault) => Err(told_as(fault)),
+    }
+}
+
+/// Refused memory as such, anything else as an event that is not possible.
+fn told_as(fault: Fault) -> Fault
+    ensures { (result ≡ OutOfMemory) ⊎ (result ≡ BadEvent) }
+{
+    match fault {
+        Fault::OutOfMemory => Fault::OutOfMemory,
+        _ => Fault::BadEvent,
     }
 }
 
@@ -129,9 +138,7 @@ fn heal_or_fail(
         gone,
     } = state;
     let more = copies(alloc, course.world().events(), events.len())?;
-    let world = World::new(alloc, setup.try_clone(alloc)?, alloc);
-    let before = play(alloc, world, events)?;
-    let world = play(alloc, before, more.as_slice())?;
+    let world = played(alloc, setup, events, more.as_slice())?;
     if !have_shown(alloc, setup, &world, &trial)? {
         return Err(Fault::BadEvent);
     }
@@ -152,6 +159,23 @@ fn heal_or_fail(
         gone,
         trial,
     })
+}
+
+/// A world after some events and then others, which can all happen one after another.
+fn played(
+    alloc: Global,
+    setup: &Setup,
+    first: &[Event],
+    then: &[Event],
+) -> Result<World<Global>, Fault>
+    requires { IsWithinLimits setup.now }
+    ensures world { IfOk result (λ after.
+        after ≡ with_events (with_events (opened setup.now) first.now) then.now) }
+    ensures possible { IfOk result (λ _. AllHappen (with_events (opened setup.now) first.now) then.now) }
+{
+    let world = World::new(alloc, setup.try_clone(alloc)?, alloc);
+    let before = play(alloc, world, first)?;
+    play(alloc, before, then)
 }
 
 /// The world after these events, which can all happen one after another.
@@ -177,30 +201,13 @@ fn have_shown(
         (with_events (with_events (opened setup.now) world.now.events) trial.now.events.items)))
         trial.now.served.items) }
 {
-    let tried = tried(alloc, setup, world, trial.events.as_slice())?;
+    let tried = played(alloc, setup, world.events(), trial.events.as_slice())?;
     let sent = tried.sent();
     let from = world.sent().len();
     if from > sent.len() {
         return Err(Fault::BadEvent);
     }
     Ok(are_shown(&sent[from..], trial.served.as_slice()))
-}
-
-/// A world apart, after the events of this one and those of a trial.
-fn tried(
-    alloc: Global,
-    setup: &Setup,
-    world: &World<Global>,
-    trial: &[Event],
-) -> Result<World<Global>, Fault>
-    requires { IsWithinLimits setup.now }
-    ensures world { IfOk result (λ after.
-        after ≡ with_events (with_events (opened setup.now) world.now.events) trial.now) }
-{
-    let apart = World::new(alloc, setup.try_clone(alloc)?, alloc);
-    let before = play(alloc, apart, world.events())?;
-    let after = play(alloc, before, trial)?;
-    Ok(after)
 }
 
 /// What heals the world in which these events have happened.
@@ -214,22 +221,43 @@ fn look_for(alloc: Global, setup: &Setup, events: &[Event], power: bool) -> Resu
     if power && !state.tablets.is_empty() {
         healer.cut_power(alloc)?;
     }
-    let mut rounds = 0;
     for round in 0..MOST_ROUNDS {
-        if !state.is_done() {
-            let stuck = state.stuck(alloc, round)?;
-            healer.round(alloc, stuck.as_slice())?;
-            state = state_of(alloc, setup, &healer)?;
-            rounds = round + 1;
+        if state.is_done() {
+            return Ok(Found::of(healer, state, round));
+        }
+        state = go_round(alloc, setup, &mut healer, &state, round)?;
+    }
+    Ok(Found::of(healer, state, MOST_ROUNDS))
+}
+
+/// One round of the runbook, and what has become of the tablets by then.
+fn go_round(
+    alloc: Global,
+    setup: &Setup,
+    healer: &mut Healer,
+    state: &State,
+    round: u8,
+) -> Result<State, Fault>
+    requires { IsWithinLimits setup.now }
+{
+    let stuck = state.stuck(alloc, round)?;
+    healer.round(alloc, stuck.as_slice())?;
+    state_of(alloc, setup, healer)
+}
+
+impl Found {
+    /// What was found after so many rounds.
+    fn of(healer: Healer, state: State, rounds: u8) -> Found
+        ensures { result.rounds ≡ rounds }
+    {
+        let (course, deeds) = healer.end();
+        Found {
+            course,
+            deeds,
+            rounds,
+            state,
         }
     }
-    let (course, deeds) = healer.end();
-    Ok(Found {
-        course,
-        deeds,
-        rounds,
-        state,
-    })
 }
 
 /// What has become of the tablets by now.

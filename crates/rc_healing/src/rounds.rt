@@ -30,14 +30,6 @@ struct Refusal {
     answers: usize,
 }
 
-/// What is due, by kind: things of one kind are done together.
-#[derive(Clone, Copy, PartialEq, Eq)]
-enum Kind {
-    Restart,
-    Suspect,
-    Decide,
-}
-
 impl Drop for Healer {
     fn drop(self) {
         let Healer {
@@ -158,14 +150,14 @@ impl Healer {
             silent: silent.as_slice(),
             stuck,
         };
-        let mut first = None;
-        let mut list = Vec::new(alloc);
+        let mut list: Vec<Due> = Vec::new(alloc);
         for due in &dues(alloc, self.course.coordinator(), &seen)? {
-            if !self.was_refused(*due) {
-                let kind = kind_of(*due);
-                if *first.get_or_insert(kind) == kind {
-                    list.push(*due)?;
-                }
+            let is_next = match list.first() {
+                Some(first) => is_alike(*first, *due),
+                None => true,
+            };
+            if is_next && !self.was_refused(*due) {
+                list.push(*due)?;
             }
         }
         Ok(list)
@@ -246,12 +238,13 @@ impl Healer {
     }
 }
 
-/// The kind of what is due.
-fn kind_of(due: Due) -> Kind {
-    match due {
-        Due::Restart(_) => Kind::Restart,
-        Due::Suspect(_) => Kind::Suspect,
-        Due::Decide(_) => Kind::Decide,
+/// Whether both are of one kind: things of one kind are done together.
+fn is_alike(due: Due, other: Due) -> bool {
+    match (due, other) {
+        (Due::Restart(_), Due::Restart(_)) => true,
+        (Due::Suspect(_), Due::Suspect(_)) => true,
+        (Due::Decide(_), Due::Decide(_)) => true,
+        _ => false,
     }
 }
 
