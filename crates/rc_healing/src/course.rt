@@ -9,24 +9,14 @@ use rc_world::World;
 use std::alloc::Global;
 
 /// A world that goes on, and its coordinator once more, to be looked at.
+#[derive(Drop)]
 pub(crate) struct Course {
-    world: World<Global>,
-    coordinator: Coordinator<Global>,
+    pub(crate) world: World<Global>,
+    pub(crate) coordinator: Coordinator<Global>,
     /// What the coordinator has sent in the last step: the world has it too.
     echo: Vec<Message>,
     /// The messages from this one on are to be delivered.
     next: usize,
-}
-
-impl Drop for Course {
-    fn drop(self) {
-        let Course {
-            world: _,
-            coordinator: _,
-            echo: _,
-            next: _,
-        } = self;
-    }
 }
 
 impl Course {
@@ -45,16 +35,6 @@ impl Course {
         }
         course.next = course.world.sent().len();
         Ok(course)
-    }
-
-    /// The world.
-    pub(crate) fn world(&self) -> &World<Global> {
-        &self.world
-    }
-
-    /// The coordinator.
-    pub(crate) fn coordinator(&self) -> &Coordinator<Global> {
-        &self.coordinator
     }
 
     /// One more event.
@@ -98,17 +78,12 @@ impl Course {
         self.coordinator.step_into(work, &mut self.echo)
     }
 
-    /// The newest server of a host.
-    pub(crate) fn server(&self, host: u8) -> ServerId {
-        ServerId {
-            index: host,
-            generation: self.world.newest(host),
-        }
-    }
-
     /// The server that runs on a host, if one does.
     pub(crate) fn running(&self, host: u8) -> Option<ServerId> {
-        let id = self.server(host);
+        let id = ServerId {
+            index: host,
+            generation: self.world.newest(host),
+        };
         if self.world.is_running(id) {
             Some(id)
         } else {

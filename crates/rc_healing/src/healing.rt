@@ -57,8 +57,7 @@ impl Drop for Healed {
 /// What was found: nothing is claimed of it.
 #[derive(Drop)]
 struct Found {
-    course: Course,
-    deeds: Vec<Deed>,
+    healer: Healer,
     rounds: u8,
     state: State,
 }
@@ -127,17 +126,17 @@ fn heal_or_fail(
     ensures gone { IfOk result (λ healed. are_all_drops healed.world.events healed.gone.items ≡ true) }
 {
     let Found {
-        course,
-        deeds,
+        healer,
         rounds,
         state,
     } = look_for(alloc, setup, events, power)?;
+    let (course, deeds) = healer.end();
     let State {
         tablets,
         trial,
         gone,
     } = state;
-    let more = copies(alloc, course.world().events(), events.len())?;
+    let more = copies(alloc, course.world.events(), events.len())?;
     let world = played(alloc, setup, events, more.as_slice())?;
     if !have_shown(alloc, setup, &world, &trial)? {
         return Err(Fault::BadEvent);
@@ -175,7 +174,8 @@ fn played(
 {
     let world = World::new(alloc, setup.try_clone(alloc)?, alloc);
     let before = play(alloc, world, first)?;
-    play(alloc, before, then)
+    let after = play(alloc, before, then)?;
+    Ok(after)
 }
 
 /// The world after these events, which can all happen one after another.
@@ -223,11 +223,19 @@ fn look_for(alloc: Global, setup: &Setup, events: &[Event], power: bool) -> Resu
     }
     for round in 0..MOST_ROUNDS {
         if state.is_done() {
-            return Ok(Found::of(healer, state, round));
+            return Ok(Found {
+                healer,
+                rounds: round,
+                state,
+            });
         }
         state = go_round(alloc, setup, &mut healer, &state, round)?;
     }
-    Ok(Found::of(healer, state, MOST_ROUNDS))
+    Ok(Found {
+        healer,
+        rounds: MOST_ROUNDS,
+        state,
+    })
 }
 
 /// One round of the runbook, and what has become of the tablets by then.
@@ -245,27 +253,12 @@ fn go_round(
     state_of(alloc, setup, healer)
 }
 
-impl Found {
-    /// What was found after so many rounds.
-    fn of(healer: Healer, state: State, rounds: u8) -> Found
-        ensures { result.rounds ≡ rounds }
-    {
-        let (course, deeds) = healer.end();
-        Found {
-            course,
-            deeds,
-            rounds,
-            state,
-        }
-    }
-}
-
 /// What has become of the tablets by now.
 fn state_of(alloc: Global, setup: &Setup, healer: &Healer) -> Result<State, Fault>
     requires { IsWithinLimits setup.now }
 {
-    let tablets = healer.course.coordinator().tablets(alloc)?;
-    let events = healer.course.world().events();
+    let tablets = healer.course.coordinator.tablets(alloc)?;
+    let events = healer.course.world.events();
     let trial = try_tablets(alloc, setup, events, tablets.as_slice())?;
     let mut lost: Vec<Gone> = Vec::new(alloc);
     for tablet in &tablets {
@@ -287,7 +280,7 @@ impl State {
     /// Of the tablets nothing is known.
     fn unknown(alloc: Global, healer: &Healer) -> Result<State, Fault> {
         Ok(State {
-            tablets: healer.course.coordinator().tablets(alloc)?,
+            tablets: healer.course.coordinator.tablets(alloc)?,
             trial: Trial::none(alloc),
             gone: Vec::new(alloc),
         })

@@ -41,7 +41,7 @@ pub(crate) fn try_tablets(
     requires { IsWithinLimits setup.now }
 {
     let mut course = Course::of(alloc, setup, events)?;
-    let from = course.world().sent().len();
+    let from = course.world.sent().len();
     let value = format!(in alloc; "{from}")?.into_bytes();
     let mut shown: Vec<Served> = Vec::new(alloc);
     let mut idle = 0;
@@ -55,7 +55,7 @@ pub(crate) fn try_tablets(
         idle = if now.len() > shown.len() { 0 } else { idle + 1 };
         shown = now;
     }
-    let events = copies(alloc, course.world().events(), events.len())?;
+    let events = copies(alloc, course.world.events(), events.len())?;
     Ok(Trial {
         events,
         served: shown,
@@ -87,7 +87,7 @@ fn served_since(
     tablets: &[Tablet],
     value: &[u8],
 ) -> Result<Vec<Served>, Fault> {
-    match course.world().sent().get(from..) {
+    match course.world.sent().get(from..) {
         Some(later) => Ok(served(alloc, later, tablets, value)?),
         None => Err(Fault::BadEvent),
     }
