@@ -1,5 +1,5 @@
 -- What the nodes of a history have done of a workload.
-use Rattle.std.specs.Prelude.{◌≡◌, ◌+◌, ℕ, List, All}
+use Rattle.std.specs.Prelude.{◌≡◌, ℕ, List, All}
 use Rattle.rc_types.specs.declared.events.Setup.{Setup}
 use Rattle.rc_types.specs.declared.events.Event.{Event}
 use Rattle.rc_history.specs.Events.{events_of}

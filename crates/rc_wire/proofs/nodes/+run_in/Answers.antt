@@ -1,6 +1,6 @@
 use Rattle.std.proofs.Common.{rules}
 use Rattle.rc_wire.specs.Ends.{Ends}
-use Rattle.rc_wire.proofs.Stuck.{memory-alone, stuck-back, told-back}
+use Rattle.rc_wire.proofs.Stuck.{stuck-back, told-back}
 use Rattle.rc_wire.proofs.Seating.{grown-back, run-back, idle-rest, idle-popped}
 use Rattle.rc_wire.proofs.nodes.+run_in.Goals as goal
 use Rattle.rc_wire.proofs.nodes.+run_in.Goals.{in-Ok, in-Err}

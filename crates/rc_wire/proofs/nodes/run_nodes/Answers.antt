@@ -1,5 +1,4 @@
-use Rattle.std.proofs.Common.{◌≡◌, inl, true, false, sym, ap, ◌∙◌}
-use Rattle.rc_wire.specs.Ends.{all_seated}
+use Rattle.std.proofs.Common.{inl}
 use Rattle.rc_wire.proofs.Stuck.{seated-not, unseated-not}
 use Rattle.rc_wire.proofs.Seating.{grow-same}
 use Rattle.rc_wire.proofs.nodes.run_nodes.Goals as goal

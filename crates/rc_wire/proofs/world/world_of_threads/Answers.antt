@@ -3,7 +3,7 @@ use Rattle.std.specs.Prelude.{IfOk}
 use Rattle.rc_model.specs.Model.{Setup}
 use Rattle.rc_wire.specs.declared.steps.Step.{Step}
 use Rattle.rc_wire.specs.Worked.{AllHaveWorked}
-use Rattle.rc_wire.specs.Workload.{threads_setup, workload}
+use Rattle.rc_wire.specs.Workload.{workload}
 use Rattle.rc_wire.proofs.Fetching.{steps-none}
 use Rattle.rc_wire.proofs.world.world_of_threads.Goals as goal
 
