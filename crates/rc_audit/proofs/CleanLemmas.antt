@@ -94,7 +94,8 @@ clean_more old new sent key m clean attempt of none before updates =
     some_same : (x y : Clean) → Some x ≡ Some y → x ≡ y
     some_same x y e = cc
 
-    by : (q : CleanKey) (c : Clean) (a : ℕ) (at : Bool) → is_at (clean_order key) q ≡ at → cond at (Some clean) (get clean_order old q) ≡ Some c →
+    by : (q : CleanKey) (c : Clean) (a : ℕ) (at : Bool) → is_at (clean_order key) q ≡ at →
+        cond at (Some clean) (get clean_order old q) ≡ Some c →
         first_missing sent (record { attempt = a; master = q.master; rows = c.rows.now }) (acknowledged sent q.master) ≡ None
     by q c a true e found =
         subst (λ x. first_missing sent (record { attempt = a; master = q.master; rows = x.rows.now })
