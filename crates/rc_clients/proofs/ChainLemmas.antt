@@ -80,16 +80,16 @@ chains_more history m heads heads' nexts nexts' name is was headed followed = re
     next q i p (inl e) = (
       get value_order heads name,
       followed i ∙ ap (λ b. cond b (Some (get value_order heads name)) (get nat_cmp nexts i))
-      (ap is_eq (ap (nat_cmp m) (sym e) ∙ number_itself m)),
+          (ap is_eq (ap (nat_cmp m) (sym e) ∙ number_itself m)),
       subst (IsFirst history q (i + 1)) (sym (get_alike heads name q (both_at history name q m is
-      (subst (IsPendingOf history q) (sym e) p))))
-      (subst (λ n. IsFirst history q (n + 1) (get value_order heads q)) e (was.first q)),
+          (subst (IsPendingOf history q) (sym e) p))))
+          (subst (λ n. IsFirst history q (n + 1) (get value_order heads q)) e (was.first q)),
     )
     next q i p (inr h) =
         let old = was.next q i h p in (
           old.0,
           followed i ∙ ap (λ b. cond b (Some (get value_order heads name)) (get nat_cmp nexts i)) (other (is_at (nat_cmp m) i) refl)
-          ∙ old.1,
+              ∙ old.1,
           old.2,
         )
       where

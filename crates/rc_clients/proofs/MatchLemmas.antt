@@ -197,8 +197,7 @@ module _ (history : List ClientEvent) (firsts : BTreeMap VersionName Operation) 
     (table : name.table ≡ e.1.table) (key : name.key ≡ e.1.key) (value : bytes_in name ≡ value_of history e.1)
     (head : get value_order heads name ≡ Some h) (served : IsPendingWrite history e.1 h)
     (advanced : (q : ValueName) → get value_order heads' q
-      ≡ cond (is_at (value_order name) q) (next_at nexts h) (get value_order heads q)) where
-
+    ≡ cond (is_at (value_order name) q) (next_at nexts h) (get value_order heads q)) where
   named : IsNamed history e
   named = All-head (IsNamed history) e left was.named
 
@@ -268,7 +267,7 @@ module _ (history : List ClientEvent) (firsts : BTreeMap VersionName Operation) 
         h,
         same_served history e.1 a h same (ap (value_of history) first ∙ there.2) served,
         ap (λ c. cond c e.1.version (was.got h)) (ap is_eq (number_itself h))
-        ∙ sym (ap (λ (v : VersionName). v.version) same),
+            ∙ sym (ap (λ (v : VersionName). v.version) same),
         now_used,
       ))
   settled a is false at (inr look) = inr (left_still firsts a e left at look)

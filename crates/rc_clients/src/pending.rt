@@ -27,7 +27,10 @@ pub(crate) struct ValueName<'a> {
 pub(crate) type Pending<'a> = BTreeMap<ValueName<'a>, usize>;
 
 /// Which events are invocations that a response names.
-pub(crate) fn answered_in(alloc: Global, history: &[ClientEvent]) -> Result<BTreeSet<usize>, AllocError>
+pub(crate) fn answered_in(
+    alloc: Global,
+    history: &[ClientEvent],
+) -> Result<BTreeSet<usize>, AllocError>
     ensures { IfOk result (AreAnswered history.now (length history.now)) }
 {
     let mut answered = BTreeSet::new(alloc);

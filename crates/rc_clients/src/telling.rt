@@ -65,7 +65,9 @@ fn add_violation(
         }
         Violation::TooFewWrites(one) => {
             add_operation(text, history, one)?;
-            text.push_str(" has a version for which no write is left: each that can have got it has a lower one\n")?;
+            text.push_str(
+                " has a version for which no write is left: each that can have got it has a lower one\n",
+            )?;
         }
     }
     Ok(())
