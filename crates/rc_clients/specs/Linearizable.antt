@@ -97,8 +97,8 @@ pub record IsLinearizable (history : List ClientEvent) : Type 0 where
 
 -- An operation on this key that wrote or showed this value. Its version is below this one, it is not 0, and no answered
 -- write has it.
-pub record IsWanting (history : List ClientEvent) (table key : ℕ) (value : Option (List ℕ)) (version : ℕ) (op : Operation)
-    : Type 0 where
+pub record IsWanting (history : List ClientEvent) (table key : ℕ) (value : Option (List ℕ)) (version : ℕ)
+    (op : Operation) : Type 0 where
   pub is : IsOperation history op
   pub table_is : op.table ≡ table
   pub key_is : op.key ≡ key

@@ -14,7 +14,7 @@ use Rattle.rc_clients.specs.Linearizable.{AreWanting, HasWrite, IsAmong, IsPendi
 use Rattle.rc_clients.specs.Evidence.{bar_at, is_at_least, version_of, version_order}
 use Rattle.rc_clients.specs.Pending.{IsFirst, IsPendingOf, bytes_in, value_order}
 
--- the first write of this value that is free, where nothing that was answered before it has this version or a greater one
+-- the first write of this value that is free, where what was answered before it has lower versions than this
 abbrev pub first_write : List (Option Top) → Option ℕ → ℕ → Option ℕ
 first_write bars head version =
     option_and_then (λ moment. cond (is_at_least (bar_at bars moment) version) None (Some moment)) head
@@ -42,8 +42,8 @@ pub record AreUsed (history : List ClientEvent) (heads : BTreeMap ValueName ℕ)
   pub above : All (λ (e : VersionName × Operation). e.0.table ≡ q.table → e.0.key ≡ q.key → top ≤ e.0.version) left
 
 -- so far, where these versions are left
-pub record AreMatched (history : List ClientEvent) (firsts : BTreeMap VersionName Operation) (heads : BTreeMap ValueName ℕ)
-    (left : List (VersionName × Operation)) : Type 0 where
+pub record AreMatched (history : List ClientEvent) (firsts : BTreeMap VersionName Operation)
+    (heads : BTreeMap ValueName ℕ) (left : List (VersionName × Operation)) : Type 0 where
   pub got : ℕ → ℕ
   pub settled : (a : Operation) → IsOperation history a → a.version ≢ 0 → IsSettled history heads got a
       ⊎ (lookup (is_at (version_order (version_of a))) left ≡ get version_order firsts (version_of a))

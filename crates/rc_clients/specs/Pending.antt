@@ -41,8 +41,8 @@ IsFirst history name from (Some first) = IsPendingOf history name first × (from
     ((k : ℕ) → IsPendingOf history name k → from ≤ k → first ≤ k)
 
 -- of those that were invoked at this moment or later: of each value the first, and behind each the next of its value
-pub record AreChains (history : List ClientEvent) (from : ℕ) (heads : BTreeMap ValueName ℕ) (nexts : BTreeMap ℕ (Option ℕ))
-    : Type 0 where
+pub record AreChains (history : List ClientEvent) (from : ℕ) (heads : BTreeMap ValueName ℕ)
+    (nexts : BTreeMap ℕ (Option ℕ)) : Type 0 where
   pub first : (q : ValueName) → IsFirst history q from (get value_order heads q)
   pub next : (q : ValueName) (i : ℕ) → from ≤ i → IsPendingOf history q i →
       (o : Option ℕ) × (get nat_cmp nexts i ≡ Some o) × IsFirst history q (i + 1) o
