@@ -1,21 +1,27 @@
 -- Linearizability, in the usual words: operation, invocation, response, the order of time, linearization. A history is
--- a list of messages, as they were sent one after another; the moment of a message is its number, its place there.
+-- a list of messages, as they were sent one after another; the moment of a message is its number in that list.
+--
+-- A master gives each write the next free place of its log, (segment, offset). Then it sends the write to its backups.
+-- It has sent something for a place (HasSentFor) once a message to a backup has an entry there.
 --
 -- What differs from the usual definition:
 --
 -- - The object is one register for each key of a table. It begins with nothing; a write of nothing deletes.
--- - There are no processes: each operation stands for itself, as if each had a client of its own.
+-- - There are no processes: each operation stands for itself, as if each had a client of its own. So histories need not
+--   be well-formed.
 -- - An operation is a write that was acknowledged (IsWrite) or a read that was answered and confirmed (IsRead). Its
 --   invocation is the client's request, a Write or a Read, when that was sent, and its response the master's WriteOk or
 --   ReadOk, when that was sent. The client gets that later. So what is in order for clients is so here, too.
--- - A read that is not confirmed is no operation, and shows what it may. Nor is a request that was refused: a Refused
+-- - Nothing is said here of a read that is not confirmed. Nor is a request that was refused an operation: a Refused
 --   names no request, so a write that was refused counts as pending.
 -- - An answer names no request. A write may have come of each Write with its key and value that its master was sent
---   before anything was sent for its place: what follows is said of each choice. One Write that is delivered twice may
---   be the request of two writes. Each delivery is an operation then, with one invocation.
--- - A pending write, one without a response, takes part where a read has shown it (WasAskedFor), and else nowhere.
---   Pending reads do not take part.
--- - The linearization is no list but the order StandsBefore, by which any finitely many operations can be sorted.
+--   before anything was sent for its place: what follows is said of each choice.
+-- - Two writes may have one request. The usual definition forbids that. By the rules one delivery of a Write makes at
+--   most one write; that is not said here.
+-- - A pending write, one without a response, takes part where a read has shown it (WasAskedFor), and else nowhere. In the
+--   usual words: the completion gives a response to each write that a confirmed read has shown, and leaves out all other
+--   pending ones. Pending reads do not take part.
+-- - The linearization is no list but the order StandsBefore, by which operations with different responses can be sorted.
 --
 -- IsLinearized says that this order keeps the order of time and is legal for a register. The sentence itself stands at
 -- the end: Linearizable.
@@ -76,7 +82,8 @@ pub record IsWrite (sent : List Message) (op : Operation) : Type 0 where
 
 -- A read that was answered, and confirmed: its master has acknowledged a write of any key, for whose place it had sent
 -- nothing before this answer. Which Read it answers is left open: its invocation is any number below its response, and
--- so that of the Read that it was. The later an invocation, the more is answered before it: so this says more of reads.
+-- so that of the Read that it was. This is stronger than the usual definition: even a read that was asked for just before
+-- its answer misses nothing that was answered before it.
 pub record IsRead (sent : List Message) (op : Operation) : Type 0 where
   pub kind : op.kind ≡ ARead
   pub response : IsResponse sent op.response op.master (ReadOk op.table op.key op.version op.value)
@@ -110,8 +117,8 @@ abbrev pub OrderIsStrict : Type 0
 OrderIsStrict = IsStrictOrder StandsBefore
 
 -- The write of an operation's version: a client had asked a master for it, and whatever was answered before it was
--- asked for has a lower version. It may be pending: a write without a response. So it has a place in the order, too:
--- behind all lower versions, and before all that has its version or a greater one.
+-- asked for has a lower version. It may have no response. So it stands in the order, too: behind all lower versions, and
+-- before all that has its version or a greater one.
 pub record WasAskedFor (sent : List Message) (op : Operation) : Type 0 where
   pub master : ServerId
   pub invocation : ℕ

@@ -12,7 +12,11 @@ pub struct Happening {
 }
 
 /// Every event, as `docs/FORMATS.md` lists them.
-pub static EVENTS: [Happening; 11] = [
+pub fn all_events() -> &'static [Happening] {
+    &EVENTS
+}
+
+static EVENTS: [Happening; 11] = [
     Happening {
         name: "start",
         example: r#"{"e":"start","host":0}"#,

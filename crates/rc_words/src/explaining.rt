@@ -1,11 +1,11 @@
 //! The text that is told of a word, or of all.
 
-use crate::events::{EVENTS, Happening};
-use crate::kinds::{KINDS, Kind};
+use crate::events::{Happening, all_events};
+use crate::kinds::{Kind, all_kinds};
 use crate::looking::Found;
 use crate::names::nearest;
-use crate::rules::{RULES, Rule};
-use crate::topics::{TOPICS, Topic};
+use crate::rules::{Rule, all_rules};
+use crate::topics::{Topic, all_topics};
 use rc_pen::{Pen, Piece, Spelling};
 use std::alloc::{AllocError, Global};
 
@@ -86,16 +86,16 @@ fn tell_unknown(alloc: Global, pen: &mut Pen, word: &str) {
 /// The nearest of all names, if one is near.
 fn nearest_of_all(alloc: Global, word: &str) -> Result<Option<&'static str>, AllocError> {
     let mut names = Vec::new(alloc);
-    for topic in &TOPICS {
+    for topic in all_topics() {
         names.push(topic.name)?;
     }
-    for kind in &KINDS {
+    for kind in all_kinds() {
         names.push(kind.name)?;
     }
-    for event in &EVENTS {
+    for event in all_events() {
         names.push(event.name)?;
     }
-    for rule in &RULES {
+    for rule in all_rules() {
         names.push(rule.name)?;
     }
     nearest(alloc, word, names.as_slice())
@@ -103,22 +103,22 @@ fn nearest_of_all(alloc: Global, word: &str) -> Result<Option<&'static str>, All
 
 /// A line for each code, and the names of the rest.
 fn tell_list(pen: &mut Pen) {
-    for topic in &TOPICS {
+    for topic in all_topics() {
         tell_line(pen, topic);
     }
     pen.put("\nMessages\n");
     let mut column = 0usize;
-    for kind in &KINDS {
+    for kind in all_kinds() {
         column = tell_word(pen, kind.name, column);
     }
     pen.put("\n\nEvents\n");
     column = 0;
-    for event in &EVENTS {
+    for event in all_events() {
         column = tell_word(pen, event.name, column);
     }
     pen.put("\n\nRules that can be broken\n");
     column = 0;
-    for rule in &RULES {
+    for rule in all_rules() {
         column = tell_word(pen, rule.name, column);
     }
     pen.put(

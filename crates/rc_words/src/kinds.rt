@@ -16,7 +16,11 @@ pub struct Kind {
 }
 
 /// Every kind, as `docs/PROTOCOL.md` lists them in "Messages".
-pub static KINDS: [Kind; 23] = [
+pub fn all_kinds() -> &'static [Kind] {
+    &KINDS
+}
+
+static KINDS: [Kind; 23] = [
     Kind {
         name: "Write",
         way: "from outside to a master",

@@ -12,10 +12,10 @@ mod rules;
 mod topics;
 
 pub use codes::names_of_codes;
-pub use events::{EVENTS, Happening};
+pub use events::{Happening, all_events};
 pub use explaining::{Explained, explain};
-pub use kinds::{KINDS, Kind};
+pub use kinds::{Kind, all_kinds};
 pub use looking::{Found, topic_of};
 pub use names::nearest;
-pub use rules::{RULES, Rule};
-pub use topics::{TOPICS, Topic};
+pub use rules::{Rule, all_rules};
+pub use topics::{Topic, all_topics};

@@ -1,9 +1,9 @@
 //! What a word may name.
 
-use crate::events::{EVENTS, Happening};
-use crate::kinds::{KINDS, Kind};
-use crate::rules::{RULES, Rule};
-use crate::topics::{TOPICS, Topic};
+use crate::events::{Happening, all_events};
+use crate::kinds::{Kind, all_kinds};
+use crate::rules::{Rule, all_rules};
+use crate::topics::{Topic, all_topics};
 
 /// All that a word names, with letters that are small or capital.
 #[derive(Clone, Copy)]
@@ -37,7 +37,7 @@ impl Found {
 
 /// The code of this number.
 pub fn topic_of(number: u64) -> Option<Topic> {
-    TOPICS
+    all_topics()
         .iter()
         .find(|topic| u64::from(topic.number) == number)
         .copied()
@@ -47,7 +47,7 @@ pub fn topic_of(number: u64) -> Option<Topic> {
 fn code_of(word: &str) -> Option<Topic> {
     match number_in(word) {
         Some(number) => topic_of(number),
-        None => TOPICS
+        None => all_topics()
             .iter()
             .find(|topic| topic.name.eq_ignore_ascii_case(word))
             .copied(),
@@ -65,7 +65,7 @@ fn number_in(word: &str) -> Option<u64> {
 
 /// The kind of message that this word names.
 fn kind_of(word: &str) -> Option<Kind> {
-    KINDS
+    all_kinds()
         .iter()
         .find(|kind| kind.name.eq_ignore_ascii_case(word))
         .copied()
@@ -73,7 +73,7 @@ fn kind_of(word: &str) -> Option<Kind> {
 
 /// The event that this word names.
 fn event_of(word: &str) -> Option<Happening> {
-    EVENTS
+    all_events()
         .iter()
         .find(|event| event.name.eq_ignore_ascii_case(word))
         .copied()
@@ -81,7 +81,7 @@ fn event_of(word: &str) -> Option<Happening> {
 
 /// The rule that this word names.
 fn rule_of(word: &str) -> Option<Rule> {
-    RULES
+    all_rules()
         .iter()
         .find(|rule| rule.name.eq_ignore_ascii_case(word))
         .copied()

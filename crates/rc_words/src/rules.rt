@@ -14,7 +14,11 @@ pub struct Rule {
 }
 
 /// Every rule that can be broken, by names in order.
-pub static RULES: [Rule; 44] = [
+pub fn all_rules() -> &'static [Rule] {
+    &RULES
+}
+
+static RULES: [Rule; 44] = [
     Rule {
         name: "acknowledges_again",
         keeps: "A write is acknowledged once.",

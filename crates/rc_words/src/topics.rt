@@ -16,7 +16,11 @@ pub struct Topic {
 }
 
 /// Every code, in order. "Refusals" in `docs/PROTOCOL.md` has the rules.
-pub static TOPICS: [Topic; 21] = [
+pub fn all_topics() -> &'static [Topic] {
+    &TOPICS
+}
+
+static TOPICS: [Topic; 21] = [
     Topic {
         number: 1,
         name: "OutOfMemory",

@@ -1,6 +1,6 @@
 //! The reads of these runs stand in the order of time.
 //!
-//! `specs/Ordered.antt` has a test of that, on the messages of a run. Under a wrong rule of `wrong-rules/` the test of
+//! `specs/Ordered.antt` has a test of that, on the messages of a run. Under a wrong rule of `wrong/rules/` the test of
 //! the run that its file names by `unorders:` fails, and what else is said here still holds.
 
 ghost use Rattle.rc_worked.specs.Ordered.{TwoHandoversKeepOrder, ZombieKeepsOrder, ZombieBreaksNoOther};

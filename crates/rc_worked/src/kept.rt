@@ -1,7 +1,7 @@
 //! The runs of `specs/Clients.antt` break none of the sentences that a client may rely on.
 //!
 //! `specs/Sentences.antt` has a test for each sentence, on the messages of a run. Under a wrong rule of
-//! `wrong-rules/` the run that its file names breaks just those sentences that stand there.
+//! `wrong/rules/` the run that its file names breaks just those sentences that stand there.
 
 ghost use Rattle.rc_worked.specs.Clients.{OwnerChangesKeeps, TwoHandoversKeep, ZombieIsReadKeeps};
 ghost use Rattle.rc_worked.specs.Clients.{ZombieIsWrittenKeeps, OneValueTwiceKeeps, WriteRepeatedKeeps};
