@@ -13,7 +13,7 @@ mod values;
 mod wires;
 mod worlds;
 
-use rc_types::Fault;
+use rc_types::{Code, Fault};
 use std::alloc::Global;
 use std::io;
 use std::io::ErrorKind;
@@ -23,8 +23,10 @@ use std::thread::Threads;
 fn main(rt: HostRuntime) -> io::Result<()> {
     match call_all(&rt, rt.alloc()) {
         Ok(()) => println!(rt; "called"),
-        Err(Fault::OutOfMemory) => Err(ErrorKind::OutOfMemory.into()),
-        Err(_) => Err(ErrorKind::Other.into()),
+        Err(fault) => match fault.code() {
+            Code::OutOfMemory => Err(ErrorKind::OutOfMemory.into()),
+            _ => Err(ErrorKind::Other.into()),
+        },
     }
 }
 

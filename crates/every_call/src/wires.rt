@@ -1,4 +1,4 @@
-//! `rc_wire`, and what `rc_threads` gives above it.
+//! `rc_wire`.
 
 ghost use Rattle.std.specs.Prelude.{◌≡◌, ◌≤◌, ◌+◌, [], All, IfOk};
 ghost use Rattle.rc_types.specs.declared.limits.TheConstants.{MAX_HOSTS};
@@ -6,9 +6,8 @@ ghost use Rattle.rc_world.specs.HostView.{IsWithinLimits};
 ghost use Rattle.rc_journal.specs.Calls.{IsStep};
 
 use rc_journal::Token;
-use rc_threads::{Gate, Step, run_nodes};
 use rc_types::{Event, Fault, Message, Seq, Setup};
-use rc_wire::{Journal, Naming, Opening, Seat, SeatName, Wire, Work};
+use rc_wire::{Gate, Journal, Naming, Opening, Seat, SeatName, Step, Wire, Work, run_nodes};
 use std::alloc::Global;
 use std::marker::Brand;
 use std::sync::Wait;

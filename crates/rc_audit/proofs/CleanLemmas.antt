@@ -10,8 +10,8 @@ use Rattle.rc_model.specs.Model.{ServerId, PlanRow, Message, Body, Breach, Missi
 use Rattle.rc_model.specs.Model.{is_recovered, all_agree, holds_greater, is_superseded, is_missing, first_missing, missing_of, or_else}
 use Rattle.rc_model.specs.Model.{made, same_id, is_server}
 use Rattle.rc_audit.specs.declared.missing.Clean.{Clean}
-use Rattle.rc_evidence.specs.Places.{id_order}
-use Rattle.rc_audit.specs.Clean.{AreClean}
+use Rattle.rc_audit.specs.declared.missing.CleanKey.{CleanKey}
+use Rattle.rc_audit.specs.Clean.{clean_order, AreClean}
 use Rattle.rc_evidence.proofs.PlaceLemmas.{id_from}
 use Rattle.rc_evidence.proofs.SenderLemmas.{drop_step}
 use Rattle.rc_model.proofs.Ids.{same_id-true}
@@ -78,37 +78,42 @@ rows_same (x ∷ xs) (y ∷ ys) e =
     let first : x ≡ y = row_same x y parts.0 in let rest : xs ≡ ys = rows_same xs ys parts.1 in cc
 
 -- one more recovery that misses nothing
-pub clean_more : (old new : BTreeMap ServerId Clean) (sent : List Message) (m : ServerId) (clean : Clean) (attempt : ℕ) →
+pub clean_more : (old new : BTreeMap CleanKey Clean) (sent : List Message) (key : CleanKey) (m : ServerId) (clean : Clean)
+    (attempt : ℕ) → key.master ≡ m →
     first_missing sent (record { attempt = attempt; master = m; rows = clean.rows.now }) (acknowledged sent m) ≡ None → AreClean old sent →
-    ((q : ServerId) → get id_order new q ≡ cond (is_at (id_order m) q) (Some clean) (get id_order old q)) → AreClean new sent
-clean_more old new sent m clean attempt none before updates =
-    record { each = λ q c found a. by q c a (is_at (id_order m) q) refl (sym (updates q) ∙ found) }
+    ((q : CleanKey) → get clean_order new q ≡ cond (is_at (clean_order key) q) (Some clean) (get clean_order old q)) → AreClean new sent
+clean_more old new sent key m clean attempt of none before updates =
+    record { each = λ q c found a. by q c a (is_at (clean_order key) q) refl (sym (updates q) ∙ found) }
   where
-    same_master : (q : ServerId) → is_at (id_order m) q ≡ true → m ≡ q
+    same_master : (q : CleanKey) → is_at (clean_order key) q ≡ true → m ≡ q.master
     same_master q e =
-        let index : m.index ≡ q.index = grind (arith, nat_tests) in
-        let generation : m.generation ≡ q.generation = grind (arith, nat_tests) in id_from index generation
+        let index : key.master.index ≡ q.master.index = grind (arith, nat_tests) in
+        let generation : key.master.generation ≡ q.master.generation = grind (arith, nat_tests) in
+        sym of ∙ id_from index generation
 
     some_same : (x y : Clean) → Some x ≡ Some y → x ≡ y
     some_same x y e = cc
 
-    by : (q : ServerId) (c : Clean) (a : ℕ) (at : Bool) → is_at (id_order m) q ≡ at → cond at (Some clean) (get id_order old q) ≡ Some c →
-        first_missing sent (record { attempt = a; master = q; rows = c.rows.now }) (acknowledged sent q) ≡ None
+    by : (q : CleanKey) (c : Clean) (a : ℕ) (at : Bool) → is_at (clean_order key) q ≡ at →
+        cond at (Some clean) (get clean_order old q) ≡ Some c →
+        first_missing sent (record { attempt = a; master = q.master; rows = c.rows.now }) (acknowledged sent q.master) ≡ None
     by q c a true e found =
-        subst (λ x. first_missing sent (record { attempt = a; master = q; rows = x.rows.now })
-        (acknowledged sent q) ≡ None) (some_same clean c found)
+        subst (λ x. first_missing sent (record { attempt = a; master = q.master; rows = x.rows.now })
+        (acknowledged sent q.master) ≡ None) (some_same clean c found)
         (subst (λ x. first_missing sent (record { attempt = a; master = x; rows = clean.rows.now })
         (acknowledged sent x) ≡ None) (same_master q e)
         (any_attempt sent m clean.rows.now attempt a (acknowledged sent m) none))
     by q c a false e found = before.each q c found a
 
 -- the rows are those of one that misses nothing
-pub clean_told : (table : BTreeMap ServerId Clean) (sent : List Message) (plan : Accepted) (clean : Clean) →
-    get id_order table plan.master ≡ Some clean → clean.rows.now ≡ plan.rows →
+pub clean_told : (table : BTreeMap CleanKey Clean) (sent : List Message) (key : CleanKey) (plan : Accepted) (clean : Clean) →
+    key.master ≡ plan.master → get clean_order table key ≡ Some clean → clean.rows.now ≡ plan.rows →
     AreClean table sent → first_missing sent plan (acknowledged sent plan.master) ≡ None
-clean_told table sent plan clean found same are =
-    subst (λ rows. first_missing sent (record { attempt = plan.attempt; master = plan.master; rows = rows })
-    (acknowledged sent plan.master) ≡ None) same (are.each plan.master clean found plan.attempt)
+clean_told table sent key plan clean of found same are =
+    subst (λ m. first_missing sent (record { attempt = plan.attempt; master = m; rows = plan.rows })
+    (acknowledged sent m) ≡ None) of
+    (subst (λ rows. first_missing sent (record { attempt = plan.attempt; master = key.master; rows = rows })
+    (acknowledged sent key.master) ≡ None) same (are.each key clean found plan.attempt))
 
 -- the plans from a message on
 pub plans_from : (sent : List Message) (i : ℕ) (message : Message) → i < length sent → message ≡ get_or sent i message →

@@ -26,6 +26,9 @@ use rc_types::{Breach, Fault, PlanRow, ServerId};
 use std::alloc::Global;
 use std::collections::BTreeMap;
 
+/// What the number of rows is made with: odd, and its bits are spread.
+const MIX: u64 = 0x9e37_79b9_7f4a_7c15;
+
 /// Whether each of these offsets is below what is reached of its segment.
 fn is_covered(tops: &BySegment, reaches: &BySegment) -> bool
     ensures { (result ≡ true) ↔ ((s : ℕ) →
@@ -153,19 +156,56 @@ pub struct Clean<'a> {
     pub rows: &'a [PlanRow],
 }
 
-/// Whether these are the rows of the last recovery of this master that was seen to miss nothing.
-fn is_clean(clean: &BTreeMap<ServerId, Clean<'_>>, recovery: &Recovery<'_>) -> bool
+/// Under what a recovery that was seen to miss nothing is found again: its master, and a number made of its rows.
+#[derive(Clone, Copy, PartialEq, Eq, PartialOrd, Ord)]
+pub struct CleanKey {
+    /// The master.
+    pub master: ServerId,
+    /// The number.
+    pub mark: u64,
+}
+
+/// The number goes on by one more number of a row.
+fn mixed(mark: u64, number: u64) -> u64 {
+    (mark ^ number).wrapping_mul(MIX).rotate_left(29)
+}
+
+/// A number made of the rows. Other rows mostly have another one; that they are the same is looked at itself.
+fn mark_of(rows: &[PlanRow]) -> u64 {
+    let mut mark = MIX;
+    for row in rows {
+        let holder = u64::from(row.holder.generation) << 8 | u64::from(row.holder.index);
+        mark = mixed(mark, u64::from(row.seg));
+        mark = mixed(mark, holder);
+        mark = mixed(mark, row.len as u64);
+    }
+    mark
+}
+
+/// Under what this recovery is found again.
+fn key_of(recovery: &Recovery<'_>) -> CleanKey
+    ensures { result.master ≡ recovery.now.master }
+{
+    CleanKey {
+        master: recovery.master,
+        mark: mark_of(recovery.rows),
+    }
+}
+
+/// Whether a recovery of this master with these rows was seen to miss nothing.
+fn is_clean(clean: &BTreeMap<CleanKey, Clean<'_>>, key: CleanKey, recovery: &Recovery<'_>) -> bool
+    requires { key.master ≡ recovery.now.master }
     ensures { result ≡ true → (sent : List Message) → AreClean clean.now sent →
         first_missing_of sent (accepted_of recovery.now) (acknowledged sent recovery.now.master) ≡ None }
 {
-    match clean.get(&recovery.master).copied() {
+    match clean.get(&key).copied() {
         None => false,
         Some(clean) => clean.rows == recovery.rows,
     }
 }
 
 /// The first write that is missing from a recovery, of the first recovery that misses one. A
-/// recovery with the rows of the one before it, of the same master, needs no second look.
+/// recovery with the rows of an earlier one of the same master needs no second look.
 pub fn missing_write(
     alloc: Global,
     evidence: &Evidence<'_>,
@@ -184,7 +224,8 @@ pub fn missing_write(
         let Some(recovery) = recovery_in(&message.body) else {
             continue;
         };
-        if is_clean(&clean, &recovery) {
+        let key = key_of(&recovery);
+        if is_clean(&clean, key, &recovery) {
             continue;
         }
         let missing = missing_from(alloc, evidence, senders, standings, &recovery)?;
@@ -192,7 +233,7 @@ pub fn missing_write(
             return Ok(missing);
         }
         let rows = recovery.rows;
-        clean.insert(recovery.master, Clean { rows })?;
+        clean.insert(key, Clean { rows })?;
     }
     Ok(None)
 }

@@ -3,4 +3,7 @@ pub mod TopLemmas
 pub mod VersionLemmas
 pub mod TimeLemmas
 pub mod PendingLemmas
+pub mod ChainLemmas
+pub mod CountLemmas
+pub mod MatchLemmas
 pub mod JudgeLemmas

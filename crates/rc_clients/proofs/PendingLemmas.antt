@@ -27,12 +27,12 @@ use Rattle.rc_clients.specs.Evidence.{AreAnswered, AreBars, IsTop, bar_at, is_at
 use Rattle.rc_clients.specs.Pending.{ArePending, IsPendingOf, IsWriteOf, value_order}
 use Rattle.rc_clients.proofs.Facts.{below, get_empty, is_operation, key_asked, number_itself, numbers_same, then_equal, told}
 
-no_some : {A : Type 0} (o : Option A) (x : A) → o ≡ None → o ≡ Some x → ⊥
+pub no_some : {A : Type 0} (o : Option A) (x : A) → o ≡ None → o ≡ Some x → ⊥
 no_some o x none some = cc
 
 -- The order of values, on plain data
 
-abbrev bytes : Option (Bor (List ℕ)) → Option (List ℕ)
+abbrev pub bytes : Option (Bor (List ℕ)) → Option (List ℕ)
 bytes value = option_map (λ s. s.now) value
 
 abbrev plain_order : ℕ → ℕ → Option (List ℕ) → ValueName → Ordering
@@ -67,7 +67,7 @@ lookup_alike [] f g same = refl
 lookup_alike (e ∷ entries) f g same =
     ap (λ b. cond b (Some e.1) (lookup f entries)) (same e.0) ∙ ap (λ o. cond (g e.0) (Some e.1) o) (lookup_alike entries f g same)
 
-get_alike : (m : BTreeMap ValueName ℕ) (a b : ValueName) → AreAlike a b → get value_order m a ≡ get value_order m b
+pub get_alike : (m : BTreeMap ValueName ℕ) (a b : ValueName) → AreAlike a b → get value_order m a ≡ get value_order m b
 get_alike m a b h =
     lookup_alike m.entries (is_at (value_order a)) (is_at (value_order b)) (λ q. ap is_eq (alike_orders a b h q))
 
@@ -85,7 +85,7 @@ values_same None (Some y) e = absurd (true≢false (sym e))
 values_same (Some x) None e = absurd (true≢false (sym e))
 values_same (Some x) (Some y) e = ap Some (lists_same x y e)
 
-same_value : (a b : ValueName) → is_at (value_order a) b ≡ true → AreAlike a b
+pub same_value : (a b : ValueName) → is_at (value_order a) b ≡ true → AreAlike a b
 same_value a b e =
     let plain = sym (ap is_eq (order_by a b)) ∙ e in
     let one = then_equal (nat_cmp a.table b.table) (ordering_then (nat_cmp a.key b.key)
@@ -112,7 +112,7 @@ name_itself a = ap is_eq (order_by a a
     ∙ ap (λ o. ordering_then o (option_cmp (slice_cmp nat_cmp) (bytes a.value) (bytes a.value))) (number_itself a.key)
     ∙ value_itself (bytes a.value))
 
-alike_at : (a b : ValueName) → AreAlike a b → is_at (value_order a) b ≡ true
+pub alike_at : (a b : ValueName) → AreAlike a b → is_at (value_order a) b ≡ true
 alike_at a b h = ap is_eq (alike_orders a b h b) ∙ name_itself b
 
 -- What was answered
@@ -188,6 +188,28 @@ pub pending_not : (history : List ClientEvent) (moment : ℕ) (answered : BTreeS
     (q : ValueName) → IsPendingOf history q moment → ⊥
 pending_not history moment answered are there q p = are.found moment there p.unanswered
 
+-- one of a value is one of the other, where they are alike
+pub moved : (history : List ClientEvent) (a b : ValueName) (i : ℕ) → AreAlike a b → IsPendingOf history a i →
+    IsPendingOf history b i
+moved history a b i h p = record {
+  invoked = p.invoked ∙ ap (λ t. Some (Invoked t a.key (request.Write (bytes a.value)))) h.table_is
+      ∙ ap (λ k. Some (Invoked b.table k (request.Write (bytes a.value)))) h.key_is
+      ∙ ap (λ v. Some (Invoked b.table b.key (request.Write v))) h.value_is;
+  unanswered = p.unanswered;
+}
+
+-- of one moment they are alike
+pub both_at : (history : List ClientEvent) (a b : ValueName) (i : ℕ) → IsPendingOf history a i → IsPendingOf history b i →
+    AreAlike a b
+both_at history a b i p q =
+    let parts = same_parts a.table b.table a.key b.key (bytes a.value) (bytes b.value) (sym p.invoked ∙ q.invoked) in
+    record { table_is = parts.0; key_is = parts.1; value_is = parts.2 }
+  where
+    same_parts : (t u k l : ℕ) (v w : Option (List ℕ)) →
+        ◌≡◌ {A = Option ClientEvent} (Some (Invoked t k (request.Write v))) (Some (Invoked u l (request.Write w))) →
+        (t ≡ u) × (k ≡ l) × (v ≡ w)
+    same_parts t u k l v w e = (cc, cc, cc)
+
 -- The pending writes, with one event more
 
 pub pending_begin : (history : List ClientEvent) (pending : BTreeMap ValueName ℕ) → pending.entries ≡ [] →
@@ -226,11 +248,6 @@ pending_more history moment old new name is was updates = record {
     some_number : (x y : ℕ) → ◌≡◌ {A = Option ℕ} (Some x) (Some y) → x ≡ y
     some_number x y e = ap (λ o. unwrap_or o x) e
 
-    moved : (a b : ValueName) (i : ℕ) → AreAlike a b → IsWriteOf history a i → IsWriteOf history b i
-    moved a b i h at = at ∙ ap (λ t. Some (Invoked t a.key (request.Write (bytes a.value)))) h.table_is
-        ∙ ap (λ k. Some (Invoked b.table k (request.Write (bytes a.value)))) h.key_is
-        ∙ ap (λ v. Some (Invoked b.table b.key (request.Write v))) h.value_is
-
     found : (q : ValueName) (i : ℕ) (known at : Bool) → is_at (value_order name) q ≡ at →
         cond known (get value_order old q) (cond at (Some moment) (get value_order old q)) ≡ Some i →
         IsPendingOf history q i × (i < moment + 1)
@@ -239,21 +256,11 @@ pending_more history moment old new name is was updates = record {
     found q i false true e got =
         let same : moment ≡ i = some_number moment i got in (
           subst (IsPendingOf history q) same (record {
-            invoked = moved name q moment (same_value name q e) is.invoked;
+            invoked = (moved history name q moment (same_value name q e) is).invoked;
             unanswered = is.unanswered;
           }),
           omega (arith, same),
         )
-
-    same_parts : (t u k l : ℕ) (v w : Option (List ℕ)) →
-        ◌≡◌ {A = Option ClientEvent} (Some (Invoked t k (request.Write v))) (Some (Invoked u l (request.Write w))) →
-        (t ≡ u) × (k ≡ l) × (v ≡ w)
-    same_parts t u k l v w e = (cc, cc, cc)
-
-    event_alike : (q : ValueName) → IsWriteOf history q moment → AreAlike name q
-    event_alike q at =
-        let parts = same_parts name.table q.table name.key q.key (bytes name.value) (bytes q.value) (sym is.invoked ∙ at) in
-        record { table_is = parts.0; key_is = parts.1; value_is = parts.2 }
 
     -- what the new table has, by what the old one has of the name, and whether the key is the name's
     now : (q : ValueName) (known : Option ℕ) (at : Bool) → get value_order old name ≡ known → is_at (value_order name) q ≡ at →
@@ -282,7 +289,7 @@ pending_more history moment old new name is was updates = record {
         (j : ℕ) × (get value_order new q ≡ Some j) × (j ≤ i)
     kept q i p known k at e (inl h) = before q i p h known k at e (was.kept q i h p)
     kept q i p known k at e (inr same) =
-        let there = here q (event_alike q (subst (IsWriteOf history q) same p.invoked)) known k in
+        let there = here q (both_at history name q moment is (subst (IsPendingOf history q) same p)) known k in
         let level : there.0 ≤ moment = there.2 in (there.0, there.1, omega (arith, level, same))
 
 -- Whether a write without a response can have got a version
@@ -295,22 +302,19 @@ bar_asked history bars table key i value are at =
     are.each i (slice_get_within history i (Invoked table key (request.Write value)) at)
     (record { table = table; key = key }) (key_asked history i (Invoked table key (request.Write value)) at)
 
-pub can_be : (history : List ClientEvent) (bars : List (Option Top)) (pending : BTreeMap ValueName ℕ) (op : Operation)
-    (name : ValueName) (i : ℕ) → AreBars history (length history) bars → ArePending history (length history) pending →
-    name.table ≡ op.table → name.key ≡ op.key → bytes name.value ≡ value_of history op →
-    get value_order pending name ≡ Some i → is_at_least (bar_at bars i) op.version ≡ false → HasPending history op
-can_be history bars pending op name i bar are table key value got low = (
-  i,
-  record {
-    invoked = at;
-    unanswered = (are.found name i got).0.unanswered;
-    in_time = λ a is on early. by a is on early (bar_at bars i) low
-        (bar_asked history bars op.table op.key i (value_of history op) bar at);
-  },
-)
+-- one that was invoked before any such version was answered can have got this one
+pub serves : (history : List ClientEvent) (bars : List (Option Top)) (op : Operation) (name : ValueName) (i : ℕ) →
+    AreBars history (length history) bars → IsPendingOf history name i → name.table ≡ op.table → name.key ≡ op.key →
+    bytes name.value ≡ value_of history op → is_at_least (bar_at bars i) op.version ≡ false → IsPendingWrite history op i
+serves history bars op name i bar pending table key value low = record {
+  invoked = at;
+  unanswered = pending.unanswered;
+  in_time = λ a is on early. by a is on early (bar_at bars i) low
+      (bar_asked history bars op.table op.key i (value_of history op) bar at);
+}
   where
     at : slice_get history i ≡ Some (Invoked op.table op.key (request.Write (value_of history op)))
-    at = (are.found name i got).0.invoked ∙ ap (λ t. Some (Invoked t name.key (request.Write (bytes name.value)))) table
+    at = pending.invoked ∙ ap (λ t. Some (Invoked t name.key (request.Write (bytes name.value)))) table
         ∙ ap (λ k. Some (Invoked op.table k (request.Write (bytes name.value)))) key
         ∙ ap (λ v. Some (Invoked op.table op.key (request.Write v))) value
 
@@ -321,43 +325,38 @@ can_be history bars pending op name i bar are table key value got low = (
         let under : a.version ≤ t.version = top.greatest a is on.table_is on.key_is early in
         let over : t.version < op.version = grind (arith, nat_tests) in omega (arith, under, over)
 
-asked : (history : List ClientEvent) (op : Operation) (name : ValueName) (i : ℕ) → name.table ≡ op.table →
-    name.key ≡ op.key → bytes name.value ≡ value_of history op →
-    slice_get history i ≡ Some (Invoked op.table op.key (request.Write (value_of history op))) → IsWriteOf history name i
-asked history op name i table key value at =
-    at ∙ ap (λ t. Some (Invoked t op.key (request.Write (value_of history op)))) (sym table)
-    ∙ ap (λ k. Some (Invoked name.table k (request.Write (value_of history op)))) (sym key)
-    ∙ ap (λ v. Some (Invoked name.table name.key (request.Write v))) (sym value)
+pub can_be : (history : List ClientEvent) (bars : List (Option Top)) (pending : BTreeMap ValueName ℕ) (op : Operation)
+    (name : ValueName) (i : ℕ) → AreBars history (length history) bars → ArePending history (length history) pending →
+    name.table ≡ op.table → name.key ≡ op.key → bytes name.value ≡ value_of history op →
+    get value_order pending name ≡ Some i → is_at_least (bar_at bars i) op.version ≡ false → HasPending history op
+can_be history bars pending op name i bar are table key value got low =
+    (i, serves history bars op name i bar (are.found name i got).0 table key value low)
+
+-- a write that can have got the version is one of the value
+pub asked : (history : List ClientEvent) (op : Operation) (name : ValueName) (i : ℕ) → name.table ≡ op.table →
+    name.key ≡ op.key → bytes name.value ≡ value_of history op → IsPendingWrite history op i → IsPendingOf history name i
+asked history op name i table key value p = record {
+  invoked = p.invoked ∙ ap (λ t. Some (Invoked t op.key (request.Write (value_of history op)))) (sym table)
+      ∙ ap (λ k. Some (Invoked name.table k (request.Write (value_of history op)))) (sym key)
+      ∙ ap (λ v. Some (Invoked name.table name.key (request.Write v))) (sym value);
+  unanswered = p.unanswered;
+}
 
 -- no write of the value is pending
 pub can_not : (history : List ClientEvent) (pending : BTreeMap ValueName ℕ) (op : Operation) (name : ValueName) →
     ArePending history (length history) pending → name.table ≡ op.table → name.key ≡ op.key →
     bytes name.value ≡ value_of history op → get value_order pending name ≡ None → HasPending history op → ⊥
 can_not history pending op name are table key value none (i, p) =
-    let there = are.kept name i (slice_get_within history i _ p.invoked) (record {
-      invoked = asked history op name i table key value p.invoked;
-      unanswered = p.unanswered;
-    }) in no_some (get value_order pending name) there.0 none there.1
+    let there = are.kept name i (slice_get_within history i _ p.invoked) (asked history op name i table key value p) in
+    no_some (get value_order pending name) there.0 none there.1
 
--- or the first that is was invoked after an answer with no lower version, and so were all
-pub can_not_yet : (history : List ClientEvent) (bars : List (Option Top)) (pending : BTreeMap ValueName ℕ) (op : Operation)
-    (name : ValueName) (i : ℕ) → AreBars history (length history) bars → ArePending history (length history) pending →
-    name.table ≡ op.table → name.key ≡ op.key → bytes name.value ≡ value_of history op →
-    get value_order pending name ≡ Some i → is_at_least (bar_at bars i) op.version ≡ true → HasPending history op → ⊥
-can_not_yet history bars pending op name i bar are table key value got high (n, p) =
-    by (bar_at bars i) high (bar_asked history bars name.table name.key i (bytes name.value) bar (are.found name i got).0.invoked)
+-- one that was invoked after an answer with no lower version can't, nor can any after it
+pub too_late : (history : List ClientEvent) (bars : List (Option Top)) (op : Operation) (name : ValueName) (i n : ℕ) →
+    AreBars history (length history) bars → IsPendingOf history name i → name.table ≡ op.table → name.key ≡ op.key →
+    is_at_least (bar_at bars i) op.version ≡ true → i ≤ n → IsPendingWrite history op n → ⊥
+too_late history bars op name i n bar pending table key high first p =
+    by (bar_at bars i) high (bar_asked history bars name.table name.key i (bytes name.value) bar pending.invoked)
   where
-    there : (j : ℕ) × (get value_order pending name ≡ Some j) × (j ≤ n)
-    there = are.kept name n (slice_get_within history n _ p.invoked) (record {
-      invoked = asked history op name n table key value p.invoked;
-      unanswered = p.unanswered;
-    })
-
-    first : i ≤ n
-    first =
-        let same : i ≡ there.0 = ap (λ o. unwrap_or o i) (sym got ∙ there.1) in
-        let level : there.0 ≤ n = there.2 in omega (arith, same, level)
-
     by : (o : Option Top) → is_at_least o op.version ≡ true → IsTop history name.table name.key i o → ⊥
     by None e top = true≢false (sym e)
     by (Some t) e top =
@@ -366,13 +365,29 @@ can_not_yet history bars pending op name i bar are table key value got high (n, 
         let answered : a.response ≡ t.response = (told history t.response a top.is).response_is in
         let less : a.version < op.version = p.in_time a (is_operation history t.response a top.is)
         (record { table_is = top.table_is ∙ table; key_is = top.key_is ∙ key })
-        (let f = first in omega (arith, early, answered, f)) in
+        (omega (arith, early, answered, first)) in
         let same : a.version ≡ t.version = top.version_is in
         let over : op.version ≤ t.version = grind (arith, nat_tests) in
         no a.version t.version op.version less same over
       where
         no : (a t v : ℕ) → a < v → a ≡ t → v ≤ t → ⊥
         no a t v h e f = omega (arith, h, e, f)
+
+-- or the first that is was invoked too late
+pub can_not_yet : (history : List ClientEvent) (bars : List (Option Top)) (pending : BTreeMap ValueName ℕ) (op : Operation)
+    (name : ValueName) (i : ℕ) → AreBars history (length history) bars → ArePending history (length history) pending →
+    name.table ≡ op.table → name.key ≡ op.key → bytes name.value ≡ value_of history op →
+    get value_order pending name ≡ Some i → is_at_least (bar_at bars i) op.version ≡ true → HasPending history op → ⊥
+can_not_yet history bars pending op name i bar are table key value got high (n, p) =
+    too_late history bars op name i n bar (are.found name i got).0 table key high first p
+  where
+    there : (j : ℕ) × (get value_order pending name ≡ Some j) × (j ≤ n)
+    there = are.kept name n (slice_get_within history n _ p.invoked) (asked history op name n table key value p)
+
+    first : i ≤ n
+    first =
+        let same : i ≡ there.0 = ap (λ o. unwrap_or o i) (sym got ∙ there.1) in
+        let level : there.0 ≤ n = there.2 in omega (arith, same, level)
 
 -- by what was answered before it
 pub can_be_so : (history : List ClientEvent) (bars : List (Option Top)) (pending : BTreeMap ValueName ℕ) (op : Operation)

@@ -11,7 +11,7 @@ use Rattle.rc_clients.specs.declared.bars.Top.{Top}
 use Rattle.rc_clients.specs.declared.judging.Violation.{Violation}
 use Rattle.rc_clients.specs.declared.judging.Violation.TheVariants as violation
 use Rattle.rc_clients.specs.Operations.{operation_at, value_of, IsOperation}
-use Rattle.rc_clients.specs.Linearizable.{AreOnKey, Breaks, HasPending, HasWrite, Precedes, StandsBefore, IsLinearizable, WasWritten}
+use Rattle.rc_clients.specs.Linearizable.{AreOnKey, Breaks, HasPending, HasWrite, Precedes, StandsBefore, IsLinearizable, CanBeWritten}
 use Rattle.rc_clients.specs.Evidence.{Always, AreBars, Else, IsBegunAt, IsBehind, IsTimelyAt, IsTop, IsWrittenAt, IsOneValue}
 use Rattle.rc_clients.specs.Evidence.{ShowsNothing, bar_at, behind_by, key_of}
 use Rattle.rc_clients.proofs.Facts.{below, one_at, told, within}
@@ -171,9 +171,9 @@ written_first history moment op is zero = record {
 }
 
 pub written_so : (history : List ClientEvent) (moment : ℕ) (op : Operation) → operation_at history moment ≡ Some op →
-    WasWritten history op → IsWrittenAt history moment
+    CanBeWritten history op → IsWrittenAt history moment
 written_so history moment op is written = record {
-  each = λ a at later. subst (WasWritten history) (one_at history moment op a is at) written;
+  each = λ a at later. subst (CanBeWritten history) (one_at history moment op a is at) written;
 }
 
 pub not_begun : (history : List ClientEvent) (moment : ℕ) (op : Operation) → operation_at history moment ≡ Some op →
@@ -184,6 +184,6 @@ pub not_written : (history : List ClientEvent) (moment : ℕ) (op : Operation) �
     op.version ≢ 0 → (HasWrite history op → ⊥) → (HasPending history op → ⊥) → Breaks history (violation.NeverWritten moment)
 not_written history moment op is later no_write no_pending = (op, is, later, none)
   where
-    none : WasWritten history op → ⊥
+    none : CanBeWritten history op → ⊥
     none (inl h) = no_write h
     none (inr h) = no_pending h

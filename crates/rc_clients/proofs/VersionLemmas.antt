@@ -22,7 +22,7 @@ version_from a b table key version =
     let whole : ◌≡◌ {A = VersionName} (record { table = a.table; key = a.key; version = a.version })
     (record { table = b.table; key = b.key; version = b.version }) = cc in whole
 
-same_version : (a b : VersionName) → is_at (version_order a) b ≡ true → a ≡ b
+pub same_version : (a b : VersionName) → is_at (version_order a) b ≡ true → a ≡ b
 same_version a b e =
     let one = then_equal (nat_cmp a.table b.table) (ordering_then (nat_cmp a.key b.key) (nat_cmp a.version b.version)) e in
     let two = then_equal (nat_cmp a.key b.key) (nat_cmp a.version b.version) one.1 in

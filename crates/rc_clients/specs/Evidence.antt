@@ -16,7 +16,7 @@ use Rattle.rc_clients.specs.declared.doubled.VersionName.{VersionName}
 use Rattle.rc_clients.specs.declared.judging.Violation.{Violation}
 use Rattle.rc_clients.specs.Operations.{operation_at, IsOperation, value_of}
 use Rattle.rc_clients.specs.Linearizable.{AreOnKey, IsUnanswered, answered_at, Breaks, Precedes, StandsBefore}
-use Rattle.rc_clients.specs.Linearizable.{WasWritten}
+use Rattle.rc_clients.specs.Linearizable.{CanBeWritten, WasWritten}
 
 -- The greatest version
 
@@ -138,9 +138,14 @@ pub record IsBegunAt (history : List ClientEvent) (moment : ℕ) : Type 0 where
   pub each : (a : Operation) → operation_at history moment ≡ Some a → a.version ≡ 0 →
       ShowsNothing history a
 
--- else its version was written
+-- else some write can have got its version
 pub record IsWrittenAt (history : List ClientEvent) (moment : ℕ) : Type 0 where
-  pub each : (a : Operation) → operation_at history moment ≡ Some a → a.version ≢ 0 → WasWritten history a
+  pub each : (a : Operation) → operation_at history moment ≡ Some a → a.version ≢ 0 → CanBeWritten history a
+
+-- and one pending write got one version
+pub record HasChoice (history : List ClientEvent) : Type 0 where
+  pub got : ℕ → ℕ
+  pub written : (a : Operation) → IsOperation history a → a.version ≢ 0 → WasWritten history got a
 
 -- so it is at each moment
 pub record Always (history : List ClientEvent) (P : ℕ → Type 0) : Type 0 where

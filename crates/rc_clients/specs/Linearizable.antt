@@ -4,7 +4,11 @@
 -- The store names with each answer a version of the key. So which linearization is meant need not be looked for: it is
 -- the order of versions, a read behind the write of its version. A history is linearizable by versions where this order
 -- keeps the order of time and is legal for a register that begins with nothing. Each key is judged for itself.
-use Rattle.std.specs.Prelude.{◌≡◌, ◌≢◌, ◌⊎◌, ℕ, ◌<◌, List, Option, Some, None, slice_get, option_and_then}
+--
+-- This asks for more than that some order is a linearization: the order of versions has to be one. So three writes one
+-- after another, the last two with one version, are refused, though without versions they are linearizable, as any
+-- writes are of which nobody reads.
+use Rattle.std.specs.Prelude.{◌≡◌, ◌≢◌, ◌⊎◌, ℕ, ◌<◌, List, [], ◌∷◌, Option, Some, None, slice_get, option_and_then}
 use Rattle.rc_clients.specs.declared.events.ClientEvent.{ClientEvent}
 use Rattle.rc_clients.specs.declared.events.ClientEvent.TheVariants.{Invoked, Written, Shown, Failed}
 use Rattle.rc_clients.specs.declared.events.Request.TheVariants as request
@@ -62,9 +66,18 @@ HasWrite history op = (write : Operation) × IsAnsweredWrite history op write
 abbrev pub HasPending : List ClientEvent → Operation → Type 0
 HasPending history op = (moment : ℕ) × IsPendingWrite history op moment
 
+-- some write can have got the operation's version
+abbrev pub CanBeWritten : List ClientEvent → Operation → Type 0
+CanBeWritten history op = HasWrite history op ⊎ HasPending history op
+
+-- One write has one version. So a choice is made: `got` tells of the invocation of each pending write which version it
+-- got. (Of one that never took place it tells any.)
+abbrev pub HasOwnPending : List ClientEvent → (ℕ → ℕ) → Operation → Type 0
+HasOwnPending history got op = (moment : ℕ) × IsPendingWrite history op moment × (got moment ≡ op.version)
+
 -- the operation's version was written
-abbrev pub WasWritten : List ClientEvent → Operation → Type 0
-WasWritten history op = HasWrite history op ⊎ HasPending history op
+abbrev pub WasWritten : List ClientEvent → (ℕ → ℕ) → Operation → Type 0
+WasWritten history got op = HasWrite history op ⊎ HasOwnPending history got op
 
 pub record IsLinearizable (history : List ClientEvent) : Type 0 where
   -- the order of versions keeps the order of time,
@@ -73,13 +86,43 @@ pub record IsLinearizable (history : List ClientEvent) : Type 0 where
   -- before the first write a read shows nothing;
   pub begins : (a : Operation) → IsOperation history a → a.version ≡ 0 → (a.kind ≡ Read) × (value_of history a ≡ None)
   -- behind one it shows the value of the last: that of the write of its version, of which there is one
-  pub written : (a : Operation) → IsOperation history a → a.version ≢ 0 → WasWritten history a
+  pub got : ℕ → ℕ
+  pub written : (a : Operation) → IsOperation history a → a.version ≢ 0 → WasWritten history got a
   pub one_write : (a b : Operation) → IsOperation history a → IsOperation history b → AreOnKey a b →
       a.version ≡ b.version → a.kind ≡ Write → b.kind ≡ Write → a.response ≡ b.response
   pub one_value : (a b : Operation) → IsOperation history a → IsOperation history b → AreOnKey a b →
       a.version ≡ b.version → value_of history a ≡ value_of history b
 
 -- What breaks it: one operation, or two, named by their responses
+
+-- An operation on this key that wrote or showed this value. Its version is below this one, it is not 0, and no answered
+-- write has it.
+pub record IsWanting (history : List ClientEvent) (table key : ℕ) (value : Option (List ℕ)) (version : ℕ)
+    (op : Operation) : Type 0 where
+  pub is : IsOperation history op
+  pub table_is : op.table ≡ table
+  pub key_is : op.key ≡ key
+  pub value_is : value_of history op ≡ value
+  pub below : op.version < version
+  pub later : op.version ≢ 0
+  pub unwritten : HasWrite history op → ⊥
+
+-- such operations, each of a lower version than the one before it; beside each stands a moment
+abbrev pub AreWanting : List ClientEvent → ℕ → ℕ → Option (List ℕ) → ℕ → List (Operation × ℕ) → Type 0
+AreWanting history table key value version [] = Unit {0}
+AreWanting history table key value version (one ∷ others) =
+    IsWanting history table key value version one.0 × AreWanting history table key value one.0.version others
+
+-- this moment is one of those
+abbrev pub IsAmong : ℕ → List (Operation × ℕ) → Type 0
+IsAmong moment [] = ⊥
+IsAmong moment (one ∷ others) = (one.1 ≡ moment) ⊎ IsAmong moment others
+
+-- Other versions below this operation's want a pending write of the same value, and there are no more such writes than
+-- those versions: none is left for this one.
+pub record IsTooMany (history : List ClientEvent) (op : Operation) (others : List (Operation × ℕ)) : Type 0 where
+  pub wanting : AreWanting history op.table op.key (value_of history op) op.version others
+  pub no_more : (moment : ℕ) → IsPendingWrite history op moment → IsAmong moment others
 
 -- two operations on one key
 pub record ArePair (history : List ClientEvent) (one other : ℕ) (a b : Operation) : Type 0 where
@@ -95,7 +138,9 @@ Breaks history (violation.OutOfTime one other) = (a : Operation) × (b : Operati
 Breaks history (violation.NotNothing one) = (a : Operation) × (operation_at history one ≡ Some a) ×
     (a.version ≡ 0) × ((a.kind ≡ Read) × (value_of history a ≡ None) → ⊥)
 Breaks history (violation.NeverWritten one) = (a : Operation) × (operation_at history one ≡ Some a) ×
-    (a.version ≢ 0) × (WasWritten history a → ⊥)
+    (a.version ≢ 0) × (CanBeWritten history a → ⊥)
+Breaks history (violation.TooFewWrites one) = (a : Operation) × (operation_at history one ≡ Some a) ×
+    (a.version ≢ 0) × (HasWrite history a → ⊥) × (others : List (Operation × ℕ)) × IsTooMany history a others
 Breaks history (violation.TwoWrites one other) = (a : Operation) × (b : Operation) × ArePair history one other a b ×
     (a.version ≡ b.version) × (a.kind ≡ Write) × (b.kind ≡ Write) × (one ≢ other)
 Breaks history (violation.TwoValues one other) = (a : Operation) × (b : Operation) × ArePair history one other a b ×

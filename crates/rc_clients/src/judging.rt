@@ -7,6 +7,7 @@ use crate::bars::bars_in;
 use crate::differing::firsts_in;
 use crate::doubled::writes_in;
 use crate::events::ClientEvent;
+use crate::matching::unmatched_version;
 use crate::timely::{late_operation, wrong_beginning};
 use crate::unwritten::unwritten_read;
 use std::alloc::{AllocError, Global};
@@ -24,6 +25,9 @@ pub enum Violation {
     TwoValues(usize, usize),
     /// It has a version that no write got, and that no write without a response can have got.
     NeverWritten(usize),
+    /// It has a version that no write got. Of this value, more versions up to this one want a write without a response
+    /// than there are writes without a response that can have got one of them.
+    TooFewWrites(usize),
 }
 
 /// What breaks the history, or `None` where it is linearizable by versions. What a violation is refutes that, as
@@ -49,11 +53,14 @@ pub fn check(alloc: Global, history: &[ClientEvent]) -> Result<Option<Violation>
         Ok(writes) => writes,
         Err(doubled) => return Ok(Some(doubled)),
     };
-    let _firsts = match firsts_in(alloc, history)? {
+    let firsts = match firsts_in(alloc, history)? {
         Ok(firsts) => firsts,
         Err(differing) => return Ok(Some(differing)),
     };
-    unwritten_read(alloc, history, bars.as_slice(), &writes)
+    if let Some(unwritten) = unwritten_read(alloc, history, bars.as_slice(), &writes)? {
+        return Ok(Some(unwritten));
+    }
+    unmatched_version(alloc, history, bars.as_slice(), &writes, &firsts)
 }
 
 /// What breaks a history refutes that it is linearizable.

@@ -8,11 +8,13 @@
 
 mod bars;
 mod births;
+mod chains;
 mod differing;
 mod doubled;
 pub mod events;
 mod judging;
 mod lines;
+mod matching;
 mod messages;
 pub mod operations;
 mod pending;

@@ -27,7 +27,10 @@ pub(crate) struct ValueName<'a> {
 pub(crate) type Pending<'a> = BTreeMap<ValueName<'a>, usize>;
 
 /// Which events are invocations that a response names.
-fn answered_in(alloc: Global, history: &[ClientEvent]) -> Result<BTreeSet<usize>, AllocError>
+pub(crate) fn answered_in(
+    alloc: Global,
+    history: &[ClientEvent],
+) -> Result<BTreeSet<usize>, AllocError>
     ensures { IfOk result (AreAnswered history.now (length history.now)) }
 {
     let mut answered = BTreeSet::new(alloc);
@@ -70,7 +73,7 @@ pub(crate) fn pending_in<'a>(
 }
 
 /// What is to be written by the invocation at this moment, if it is that of a write that was never answered.
-fn pending_at<'a>(
+pub(crate) fn pending_at<'a>(
     history: &'a [ClientEvent],
     answered: &BTreeSet<usize>,
     moment: usize,

@@ -63,6 +63,12 @@ fn add_violation(
             add_operation(text, history, one)?;
             text.push_str(" has a version that no write can have got\n")?;
         }
+        Violation::TooFewWrites(one) => {
+            add_operation(text, history, one)?;
+            text.push_str(
+                " has a version for which no write is left: each that can have got it has a lower one\n",
+            )?;
+        }
     }
     Ok(())
 }

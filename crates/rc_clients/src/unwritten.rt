@@ -62,7 +62,7 @@ fn unwritten_at<'a>(
 }
 
 /// Whether a write of the operation's version was answered.
-fn has_write(history: &[ClientEvent], writes: &ByVersion, operation: &Operation) -> bool
+pub(crate) fn has_write(history: &[ClientEvent], writes: &ByVersion, operation: &Operation) -> bool
     requires { AreWrites history.now (length history.now) writes.now }
     ensures { MatchBool result (HasWrite history.now operation.now) (HasWrite history.now operation.now → ⊥) }
 {
@@ -96,7 +96,7 @@ fn can_be_pending<'a>(
 }
 
 /// Whether what was answered before has no version as great as this.
-fn is_below(top: Option<Top>, version: u64) -> bool
+pub(crate) fn is_below(top: Option<Top>, version: u64) -> bool
     ensures { result ≡ not (is_at_least top version) }
 {
     match top {

@@ -9,24 +9,14 @@ use rc_world::World;
 use std::alloc::Global;
 
 /// A world that goes on, and its coordinator once more, to be looked at.
+#[derive(Drop)]
 pub(crate) struct Course {
-    world: World<Global>,
-    coordinator: Coordinator<Global>,
+    pub(crate) world: World<Global>,
+    pub(crate) coordinator: Coordinator<Global>,
     /// What the coordinator has sent in the last step: the world has it too.
     echo: Vec<Message>,
     /// The messages from this one on are to be delivered.
     next: usize,
-}
-
-impl Drop for Course {
-    fn drop(self) {
-        let Course {
-            world: _,
-            coordinator: _,
-            echo: _,
-            next: _,
-        } = self;
-    }
 }
 
 impl Course {
@@ -47,27 +37,6 @@ impl Course {
         Ok(course)
     }
 
-    /// The world.
-    pub(crate) fn world(&self) -> &World<Global> {
-        &self.world
-    }
-
-    /// The world alone.
-    pub(crate) fn into_world(self) -> World<Global> {
-        let Course {
-            world,
-            coordinator: _,
-            echo: _,
-            next: _,
-        } = self;
-        world
-    }
-
-    /// The coordinator.
-    pub(crate) fn coordinator(&self) -> &Coordinator<Global> {
-        &self.coordinator
-    }
-
     /// One more event.
     pub(crate) fn take(&mut self, alloc: Global, event: &Event) -> Result<(), Fault> {
         self.follow(event)?;
@@ -76,20 +45,12 @@ impl Course {
 
     /// The coordinator takes its part of an event.
     fn follow(&mut self, event: &Event) -> Result<(), Fault> {
-        match event {
-            Event::Deliver(number) => self.follow_message(*number),
-            Event::Tick(Addr::Coordinator) => self.tell(&NodeWork::Tick),
-            Event::Suspect(id) => self.tell(&NodeWork::Suspect(*id)),
-            Event::Decide(id) => self.tell(&NodeWork::Decide(*id)),
-            Event::Create { table, owner } => self.tell(&NodeWork::Create {
-                table: *table,
-                owner: *owner,
-            }),
-            Event::Split { table, at } => self.tell(&NodeWork::Split {
-                table: *table,
-                at: *at,
-            }),
-            _ => Ok(()),
+        if let Event::Deliver(number) = event {
+            return self.follow_message(*number);
+        }
+        match work_of(event) {
+            Some(work) => self.tell(&work),
+            None => Ok(()),
         }
     }
 
@@ -117,17 +78,12 @@ impl Course {
         self.coordinator.step_into(work, &mut self.echo)
     }
 
-    /// The newest server of a host.
-    pub(crate) fn server(&self, host: u8) -> ServerId {
-        ServerId {
-            index: host,
-            generation: self.world.newest(host),
-        }
-    }
-
     /// The server that runs on a host, if one does.
     pub(crate) fn running(&self, host: u8) -> Option<ServerId> {
-        let id = self.server(host);
+        let id = ServerId {
+            index: host,
+            generation: self.world.newest(host),
+        };
         if self.world.is_running(id) {
             Some(id)
         } else {
@@ -179,5 +135,23 @@ impl Course {
             self.start(alloc, id.index)?;
         }
         Ok(())
+    }
+}
+
+/// The coordinator's part of an event, unless it is a delivery.
+fn work_of(event: &Event) -> Option<NodeWork> {
+    match event {
+        Event::Tick(Addr::Coordinator) => Some(NodeWork::Tick),
+        Event::Suspect(id) => Some(NodeWork::Suspect(*id)),
+        Event::Decide(id) => Some(NodeWork::Decide(*id)),
+        Event::Create { table, owner } => Some(NodeWork::Create {
+            table: *table,
+            owner: *owner,
+        }),
+        Event::Split { table, at } => Some(NodeWork::Split {
+            table: *table,
+            at: *at,
+        }),
+        _ => None,
     }
 }

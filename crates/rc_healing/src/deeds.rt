@@ -3,7 +3,7 @@
 use rc_types::{ServerId, Tablet};
 
 /// What was done, and why.
-#[derive(Clone, Copy, Debug, PartialEq, Eq)]
+#[derive(Clone, Copy)]
 pub struct Deed {
     /// How many events had happened before it.
     pub after: usize,
@@ -12,7 +12,7 @@ pub struct Deed {
 }
 
 /// Why something was done.
-#[derive(Clone, Copy, Debug, PartialEq, Eq)]
+#[derive(Clone, Copy)]
 pub enum Why {
     /// Power was cut: each server that ran was stopped, and then each host started.
     PowerCut,
@@ -57,7 +57,7 @@ pub struct Gone {
 }
 
 /// A host was started without an open replica that it had.
-#[derive(Clone, Copy, Debug, PartialEq, Eq)]
+#[derive(Clone, Copy)]
 pub struct Dropped {
     /// The member of the segment.
     pub member: ServerId,

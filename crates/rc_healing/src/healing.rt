@@ -57,8 +57,7 @@ impl Drop for Healed {
 /// What was found: nothing is claimed of it.
 #[derive(Drop)]
 struct Found {
-    course: Course,
-    deeds: Vec<Deed>,
+    healer: Healer,
     rounds: u8,
     state: State,
 }
@@ -94,8 +93,17 @@ pub fn heal(alloc: Global, setup: &Setup, events: &[Event], power: bool) -> Resu
 {
     match heal_or_fail(alloc, setup, events, power) {
         Ok(healed) => Ok(healed),
-        Err(Fault::OutOfMemory) => Err(Fault::OutOfMemory),
-        Err(_) => Err(Fault::BadEvent),
+        Err(fault) => Err(told_as(fault)),
+    }
+}
+
+/// Refused memory as such, anything else as an event that is not possible.
+fn told_as(fault: Fault) -> Fault
+    ensures { (result ≡ OutOfMemory) ⊎ (result ≡ BadEvent) }
+{
+    match fault {
+        Fault::OutOfMemory => Fault::OutOfMemory,
+        _ => Fault::BadEvent,
     }
 }
 
@@ -118,20 +126,18 @@ fn heal_or_fail(
     ensures gone { IfOk result (λ healed. are_all_drops healed.world.events healed.gone.items ≡ true) }
 {
     let Found {
-        course,
-        deeds,
+        healer,
         rounds,
         state,
     } = look_for(alloc, setup, events, power)?;
+    let (course, deeds) = healer.end();
     let State {
         tablets,
         trial,
         gone,
     } = state;
-    let more = copies(alloc, course.world().events(), events.len())?;
-    let world = World::new(alloc, setup.try_clone(alloc)?, alloc);
-    let before = play(alloc, world, events)?;
-    let world = play(alloc, before, more.as_slice())?;
+    let more = copies(alloc, course.world.events(), events.len())?;
+    let world = played(alloc, setup, events, more.as_slice())?;
     if !have_shown(alloc, setup, &world, &trial)? {
         return Err(Fault::BadEvent);
     }
@@ -152,6 +158,24 @@ fn heal_or_fail(
         gone,
         trial,
     })
+}
+
+/// A world after some events and then others, which can all happen one after another.
+fn played(
+    alloc: Global,
+    setup: &Setup,
+    first: &[Event],
+    then: &[Event],
+) -> Result<World<Global>, Fault>
+    requires { IsWithinLimits setup.now }
+    ensures world { IfOk result (λ after.
+        after ≡ with_events (with_events (opened setup.now) first.now) then.now) }
+    ensures possible { IfOk result (λ _. AllHappen (with_events (opened setup.now) first.now) then.now) }
+{
+    let world = World::new(alloc, setup.try_clone(alloc)?, alloc);
+    let before = play(alloc, world, first)?;
+    let after = play(alloc, before, then)?;
+    Ok(after)
 }
 
 /// The world after these events, which can all happen one after another.
@@ -177,30 +201,13 @@ fn have_shown(
         (with_events (with_events (opened setup.now) world.now.events) trial.now.events.items)))
         trial.now.served.items) }
 {
-    let tried = tried(alloc, setup, world, trial.events.as_slice())?;
+    let tried = played(alloc, setup, world.events(), trial.events.as_slice())?;
     let sent = tried.sent();
     let from = world.sent().len();
     if from > sent.len() {
         return Err(Fault::BadEvent);
     }
     Ok(are_shown(&sent[from..], trial.served.as_slice()))
-}
-
-/// A world apart, after the events of this one and those of a trial.
-fn tried(
-    alloc: Global,
-    setup: &Setup,
-    world: &World<Global>,
-    trial: &[Event],
-) -> Result<World<Global>, Fault>
-    requires { IsWithinLimits setup.now }
-    ensures world { IfOk result (λ after.
-        after ≡ with_events (with_events (opened setup.now) world.now.events) trial.now) }
-{
-    let apart = World::new(alloc, setup.try_clone(alloc)?, alloc);
-    let before = play(alloc, apart, world.events())?;
-    let after = play(alloc, before, trial)?;
-    Ok(after)
 }
 
 /// What heals the world in which these events have happened.
@@ -214,30 +221,44 @@ fn look_for(alloc: Global, setup: &Setup, events: &[Event], power: bool) -> Resu
     if power && !state.tablets.is_empty() {
         healer.cut_power(alloc)?;
     }
-    let mut rounds = 0;
     for round in 0..MOST_ROUNDS {
-        if !state.is_done() {
-            let stuck = state.stuck(alloc, round)?;
-            healer.round(alloc, stuck.as_slice())?;
-            state = state_of(alloc, setup, &healer)?;
-            rounds = round + 1;
+        if state.is_done() {
+            return Ok(Found {
+                healer,
+                rounds: round,
+                state,
+            });
         }
+        state = go_round(alloc, setup, &mut healer, &state, round)?;
     }
-    let (course, deeds) = healer.end();
     Ok(Found {
-        course,
-        deeds,
-        rounds,
+        healer,
+        rounds: MOST_ROUNDS,
         state,
     })
+}
+
+/// One round of the runbook, and what has become of the tablets by then.
+fn go_round(
+    alloc: Global,
+    setup: &Setup,
+    healer: &mut Healer,
+    state: &State,
+    round: u8,
+) -> Result<State, Fault>
+    requires { IsWithinLimits setup.now }
+{
+    let stuck = state.stuck(alloc, round)?;
+    healer.round(alloc, stuck.as_slice())?;
+    state_of(alloc, setup, healer)
 }
 
 /// What has become of the tablets by now.
 fn state_of(alloc: Global, setup: &Setup, healer: &Healer) -> Result<State, Fault>
     requires { IsWithinLimits setup.now }
 {
-    let tablets = healer.course.coordinator().tablets(alloc)?;
-    let events = healer.course.world().events();
+    let tablets = healer.course.coordinator.tablets(alloc)?;
+    let events = healer.course.world.events();
     let trial = try_tablets(alloc, setup, events, tablets.as_slice())?;
     let mut lost: Vec<Gone> = Vec::new(alloc);
     for tablet in &tablets {
@@ -259,7 +280,7 @@ impl State {
     /// Of the tablets nothing is known.
     fn unknown(alloc: Global, healer: &Healer) -> Result<State, Fault> {
         Ok(State {
-            tablets: healer.course.coordinator().tablets(alloc)?,
+            tablets: healer.course.coordinator.tablets(alloc)?,
             trial: Trial::none(alloc),
             gone: Vec::new(alloc),
         })

@@ -13,6 +13,7 @@ use std::alloc::{AllocError, Global};
 const MOST_STEPS: usize = 256;
 
 /// What a healer does.
+#[derive(Drop)]
 pub(crate) struct Healer {
     pub(crate) course: Course,
     pub(crate) deeds: Vec<Deed>,
@@ -28,25 +29,6 @@ struct Refusal {
     master: ServerId,
     attempt: u32,
     answers: usize,
-}
-
-/// What is due, by kind: things of one kind are done together.
-#[derive(Clone, Copy, PartialEq, Eq)]
-enum Kind {
-    Restart,
-    Suspect,
-    Decide,
-}
-
-impl Drop for Healer {
-    fn drop(self) {
-        let Healer {
-            course: _,
-            deeds: _,
-            wanted: _,
-            refused: _,
-        } = self;
-    }
 }
 
 impl Healer {
@@ -74,14 +56,9 @@ impl Healer {
 
     /// Notes what is done now.
     fn note(&mut self, why: Why) -> Result<(), AllocError> {
-        let after = self.happened();
+        let after = self.course.world.events().len();
         self.deeds.push(Deed { after, why })?;
         Ok(())
-    }
-
-    /// How many events have happened.
-    fn happened(&self) -> usize {
-        self.course.world().events().len()
     }
 
     /// All servers stop, and then all hosts are started.
@@ -93,16 +70,11 @@ impl Healer {
             }
         }
         for host in 0..MAX_HOSTS {
-            if self.stands(host) {
+            if self.course.world.newest(host) > 0 {
                 self.course.start(alloc, host)?;
             }
         }
         Ok(())
-    }
-
-    /// Whether the host was ever started.
-    fn stands(&self, host: u8) -> bool {
-        self.course.world().newest(host) > 0
     }
 
     /// One round: hosts are started, all settles, and then what is due is done, until nothing is. These owners are
@@ -140,7 +112,7 @@ impl Healer {
     fn why_start(&self, host: u8) -> Option<Why> {
         if self.course.running(host).is_some() {
             None
-        } else if self.stands(host) {
+        } else if self.course.world.newest(host) > 0 {
             Some(Why::Stopped(host))
         } else if count_hosts(&self.course) < self.wanted {
             Some(Why::TooFew(host))
@@ -158,14 +130,14 @@ impl Healer {
             silent: silent.as_slice(),
             stuck,
         };
-        let mut first = None;
-        let mut list = Vec::new(alloc);
-        for due in &dues(alloc, self.course.coordinator(), &seen)? {
-            if !self.was_refused(*due) {
-                let kind = kind_of(*due);
-                if *first.get_or_insert(kind) == kind {
-                    list.push(*due)?;
-                }
+        let mut list: Vec<Due> = Vec::new(alloc);
+        for due in &dues(alloc, &self.course.coordinator, &seen)? {
+            let is_next = match list.first() {
+                Some(first) => is_alike(*first, *due),
+                None => true,
+            };
+            if is_next && !self.was_refused(*due) {
+                list.push(*due)?;
             }
         }
         Ok(list)
@@ -184,8 +156,12 @@ impl Healer {
 
     /// The servers that are up and do not run.
     fn silent_ids(&self, alloc: Global) -> Result<Vec<ServerId>, Fault> {
-        let mut ids = self.course.coordinator().servers().up(alloc)?;
-        ids.retain(|id| !self.course.world().is_running(*id));
+        let mut ids = Vec::new(alloc);
+        for id in &self.course.coordinator.servers().up(alloc)? {
+            if !self.course.world.is_running(*id) {
+                ids.push(*id)?;
+            }
+        }
         Ok(ids)
     }
 
@@ -221,7 +197,7 @@ impl Healer {
         match due {
             Due::Restart(id) if stuck.contains(&id) => Why::Stuck(id),
             Due::Restart(id) => Why::Zombie(id),
-            Due::Suspect(id) if self.course.coordinator().servers().is_up(id) => Why::Silent(id),
+            Due::Suspect(id) if self.course.coordinator.servers().is_up(id) => Why::Silent(id),
             Due::Suspect(id) => Why::Again(id),
             Due::Decide(id) => Why::Answered(id),
         }
@@ -230,34 +206,26 @@ impl Healer {
     /// Decides the recovery of a master, and notes where that was refused.
     fn decide(&mut self, alloc: Global, id: ServerId) -> Result<(), Fault> {
         self.course.take(alloc, &Event::Decide(id))?;
-        if let Some(refusal) = self.refusal(id) {
-            self.refused.push(refusal)?;
+        if is_gathering(&self.course, id) {
+            self.refused.push(refusal_of(&self.course, id))?;
         }
         Ok(())
     }
-
-    /// That the recovery of this master was refused, where it is not decided.
-    fn refusal(&self, master: ServerId) -> Option<Refusal> {
-        if is_gathering(&self.course, master) {
-            Some(refusal_of(&self.course, master))
-        } else {
-            None
-        }
-    }
 }
 
-/// The kind of what is due.
-fn kind_of(due: Due) -> Kind {
-    match due {
-        Due::Restart(_) => Kind::Restart,
-        Due::Suspect(_) => Kind::Suspect,
-        Due::Decide(_) => Kind::Decide,
+/// Whether both are of one kind: things of one kind are done together.
+fn is_alike(due: Due, other: Due) -> bool {
+    match (due, other) {
+        (Due::Restart(_), Due::Restart(_)) => true,
+        (Due::Suspect(_), Due::Suspect(_)) => true,
+        (Due::Decide(_), Due::Decide(_)) => true,
+        _ => false,
     }
 }
 
 /// What a refusal of this master's recovery would be now.
 fn refusal_of(course: &Course, master: ServerId) -> Refusal {
-    let coordinator = course.coordinator();
+    let coordinator = &course.coordinator;
     let number = current_number(coordinator.current(), master);
     let answers = match attempt_of(coordinator.attempts(), number) {
         Some(attempt) => attempt.replies().len(),
@@ -272,7 +240,7 @@ fn refusal_of(course: &Course, master: ServerId) -> Refusal {
 
 /// Whether the recovery of this master is not decided.
 fn is_gathering(course: &Course, master: ServerId) -> bool {
-    let coordinator = course.coordinator();
+    let coordinator = &course.coordinator;
     let number = current_number(coordinator.current(), master);
     match attempt_of(coordinator.attempts(), number) {
         Some(attempt) => attempt.is_gathering(),
@@ -282,16 +250,20 @@ fn is_gathering(course: &Course, master: ServerId) -> bool {
 
 /// How many hosts were ever started.
 fn count_hosts(course: &Course) -> usize {
-    (0..MAX_HOSTS)
-        .filter(|host| course.world().newest(*host) > 0)
-        .count()
+    let mut count: usize = 0;
+    for host in 0..MAX_HOSTS {
+        if course.world.newest(host) > 0 {
+            count = count.saturating_add(1);
+        }
+    }
+    count
 }
 
 /// How many servers have to be up: one more than the greatest factor of a host that was ever started.
 fn wanted(setup: &Setup, course: &Course) -> usize {
     let mut most = 0;
     for host in 0..MAX_HOSTS {
-        if course.world().newest(host) > 0 {
+        if course.world.newest(host) > 0 {
             let factor = setup
                 .factors
                 .as_slice()

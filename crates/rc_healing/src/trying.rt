@@ -41,9 +41,8 @@ pub(crate) fn try_tablets(
     requires { IsWithinLimits setup.now }
 {
     let mut course = Course::of(alloc, setup, events)?;
-    let from = course.world().sent().len();
+    let from = course.world.sent().len();
     let value = format!(in alloc; "{from}")?.into_bytes();
-    let shared = Shared::from_vec(alloc, value.clone()?)?;
     let mut shown: Vec<Served> = Vec::new(alloc);
     let mut idle = 0;
     for _ in 0..usize::MAX {
@@ -51,26 +50,47 @@ pub(crate) fn try_tablets(
         if open.is_empty() || idle >= MOST_WRITES {
             break;
         }
-        for tablet in &open {
-            write(alloc, &mut course, tablet, &shared)?;
-        }
-        settle(alloc, &mut course)?;
-        for tablet in &open {
-            read(alloc, &mut course, tablet)?;
-        }
-        course.deliver(alloc)?;
-        let Some(later) = course.world().sent().get(from..) else {
-            return Err(Fault::BadEvent);
-        };
-        let now = served(alloc, later, tablets, value.as_slice())?;
+        ask_all(alloc, &mut course, open.as_slice(), value.as_slice())?;
+        let now = served_since(alloc, &course, from, tablets, value.as_slice())?;
         idle = if now.len() > shown.len() { 0 } else { idle + 1 };
         shown = now;
     }
-    let events = copies(alloc, course.world().events(), events.len())?;
+    let events = copies(alloc, course.world.events(), events.len())?;
     Ok(Trial {
         events,
         served: shown,
     })
+}
+
+/// The first keys of these tablets are written with this value, all settles, and then they are read.
+fn ask_all(
+    alloc: Global,
+    course: &mut Course,
+    tablets: &[Tablet],
+    value: &[u8],
+) -> Result<(), Fault> {
+    for tablet in tablets {
+        write(alloc, course, tablet, value)?;
+    }
+    settle(alloc, course)?;
+    for tablet in tablets {
+        read(alloc, course, tablet)?;
+    }
+    course.deliver(alloc)
+}
+
+/// Those of these tablets that the messages from this one on show to be served with this value.
+fn served_since(
+    alloc: Global,
+    course: &Course,
+    from: usize,
+    tablets: &[Tablet],
+    value: &[u8],
+) -> Result<Vec<Served>, Fault> {
+    match course.world.sent().get(from..) {
+        Some(later) => Ok(served(alloc, later, tablets, value)?),
+        None => Err(Fault::BadEvent),
+    }
 }
 
 /// Those of these tablets that have not crashed and are none of those that are served.
@@ -101,16 +121,11 @@ pub(crate) fn copies(alloc: Global, events: &[Event], first: usize) -> Result<Ve
 }
 
 /// The owner of a tablet is asked to write its first key.
-fn write(
-    alloc: Global,
-    course: &mut Course,
-    tablet: &Tablet,
-    value: &Shared<u8>,
-) -> Result<(), Fault> {
+fn write(alloc: Global, course: &mut Course, tablet: &Tablet, value: &[u8]) -> Result<(), Fault> {
     let body = Body::Write {
         table: tablet.table,
         key: tablet.lo,
-        value: Some(value.try_clone(alloc)?),
+        value: Some(Shared::from_vec(alloc, value.to_vec(alloc)?)?),
     };
     let to = tablet.owner;
     course.take(alloc, &Event::Ask { to, body })

@@ -1,7 +1,7 @@
 //! What there is to be seen of a world, as numbers: it has settled where they stay the same.
 
 use crate::course::Course;
-use rc_coordinator::{Attempt, Coordinator};
+use rc_coordinator::Coordinator;
 use rc_headroll::{LogHead, Segment};
 use rc_master::Master;
 use rc_types::limits::MAX_HOSTS;
@@ -29,11 +29,10 @@ pub(crate) fn settle(alloc: Global, course: &mut Course) -> Result<(), Fault> {
 /// What there is to be seen.
 fn view(alloc: Global, course: &Course) -> Result<Vec<u64>, AllocError> {
     let mut view = Vec::new(alloc);
-    add_coordinator(course.coordinator(), &mut view)?;
+    add_coordinator(&course.coordinator, &mut view)?;
     for host in 0..MAX_HOSTS {
-        if let Some(master) = course.world().master(host) {
-            view.push(u64::from(host))?;
-            view.push(u64::from(course.world().newest(host)))?;
+        if let Some(master) = course.world.master(host) {
+            view.extend_from_slice(&[u64::from(host), u64::from(course.world.newest(host))])?;
             add_master(master, &mut view)?;
         }
     }
@@ -45,35 +44,34 @@ fn add_coordinator(
     coordinator: &Coordinator<Global>,
     view: &mut Vec<u64>,
 ) -> Result<(), AllocError> {
-    view.push(u64::from(coordinator.servers().version()))?;
-    view.push(u64::from(coordinator.last_term()))?;
-    view.push(coordinator.grants().len() as u64)?;
+    view.extend_from_slice(&[
+        u64::from(coordinator.servers().version()),
+        u64::from(coordinator.last_term()),
+        coordinator.grants().len() as u64,
+    ])?;
     for pair in coordinator.least().values() {
-        view.push(u64::from(pair.seg))?;
-        view.push(u64::from(pair.epoch))?;
+        view.extend_from_slice(&[u64::from(pair.seg), u64::from(pair.epoch)])?;
     }
     for attempt in coordinator.attempts() {
-        add_attempt(attempt, view)?;
+        view.extend_from_slice(&[
+            u64::from(attempt.is_gathering()),
+            attempt.replies().len() as u64,
+        ])?;
     }
-    Ok(())
-}
-
-/// What there is to be seen of an attempt.
-fn add_attempt(attempt: &Attempt, view: &mut Vec<u64>) -> Result<(), AllocError> {
-    view.push(u64::from(attempt.is_gathering()))?;
-    view.push(attempt.replies().len() as u64)?;
     Ok(())
 }
 
 /// What there is to be seen of a master.
 fn add_master(master: &Master, view: &mut Vec<u64>) -> Result<(), AllocError> {
     let log = master.log();
-    view.push(u64::from(master.is_deposed()))?;
-    view.push(master.grants().len() as u64)?;
-    view.push(master.count_parts() as u64)?;
-    view.push(master.count_replay() as u64)?;
-    view.push(phase_number(log.phase()))?;
-    view.push(log.durable() as u64)?;
+    view.extend_from_slice(&[
+        u64::from(master.is_deposed()),
+        master.grants().len() as u64,
+        master.count_parts() as u64,
+        master.count_replay() as u64,
+        phase_number(log.phase()),
+        log.durable() as u64,
+    ])?;
     for place in 0..log.head() {
         if let Some(segment) = log.segment(place.saturating_add(1)) {
             add_segment(segment, view)?;
@@ -85,11 +83,13 @@ fn add_master(master: &Master, view: &mut Vec<u64>) -> Result<(), AllocError> {
 /// What there is to be seen of a segment.
 fn add_segment(segment: &Segment, view: &mut Vec<u64>) -> Result<(), AllocError> {
     let config = segment.config();
-    view.push(u64::from(config.epoch()))?;
-    view.push(u64::from(config.is_committed()))?;
-    view.push(u64::from(segment.is_shut()))?;
-    view.push(u64::from(segment.is_freed()))?;
-    view.push(segment.len() as u64)?;
+    view.extend_from_slice(&[
+        u64::from(config.epoch()),
+        u64::from(config.is_committed()),
+        u64::from(segment.is_shut()),
+        u64::from(segment.is_freed()),
+        segment.len() as u64,
+    ])?;
     for member in config.members() {
         view.push(member_number(member))?;
     }

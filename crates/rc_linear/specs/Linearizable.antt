@@ -18,10 +18,10 @@
 --   before anything was sent for its place: what follows is said of each choice.
 -- - Two writes may have one request. The usual definition forbids that. By the rules one delivery of a Write makes at
 --   most one write; that is not said here.
--- - A pending write, one without a response, takes part where a read has shown it (WasAskedFor), and else nowhere. In the
---   usual words: the completion gives a response to each write that a confirmed read has shown, and leaves out all other
---   pending ones. Pending reads do not take part.
--- - The linearization is no list but the order StandsBefore, by which operations with different responses can be sorted.
+-- - A pending write, one without a response, takes part where a read has shown it (WasAskedFor), and else nowhere. In
+--   the usual words: the completion gives a response to each write that a confirmed read has shown, and leaves out all
+--   other pending ones. Pending reads do not take part.
+-- - The linearization is no list but the order StandsBefore, by which operations with different responses are sorted.
 --
 -- IsLinearized says that this order keeps the order of time and is legal for a register. The sentence itself stands at
 -- the end: Linearizable.
@@ -82,8 +82,8 @@ pub record IsWrite (sent : List Message) (op : Operation) : Type 0 where
 
 -- A read that was answered, and confirmed: its master has acknowledged a write of any key, for whose place it had sent
 -- nothing before this answer. Which Read it answers is left open: its invocation is any number below its response, and
--- so that of the Read that it was. This is stronger than the usual definition: even a read that was asked for just before
--- its answer misses nothing that was answered before it.
+-- so that of the Read that it was. This is stronger than the usual definition: even a read that was asked for just
+-- before its answer misses nothing that was answered before it.
 pub record IsRead (sent : List Message) (op : Operation) : Type 0 where
   pub kind : op.kind ≡ ARead
   pub response : IsResponse sent op.response op.master (ReadOk op.table op.key op.version op.value)
@@ -117,8 +117,8 @@ abbrev pub OrderIsStrict : Type 0
 OrderIsStrict = IsStrictOrder StandsBefore
 
 -- The write of an operation's version: a client had asked a master for it, and whatever was answered before it was
--- asked for has a lower version. It may have no response. So it stands in the order, too: behind all lower versions, and
--- before all that has its version or a greater one.
+-- asked for has a lower version. It may have no response. So it stands in the order, too: behind all lower versions,
+-- and before all that has its version or a greater one.
 pub record WasAskedFor (sent : List Message) (op : Operation) : Type 0 where
   pub master : ServerId
   pub invocation : ℕ

@@ -17,3 +17,4 @@ pub mod Refusals
 pub mod Few
 pub mod Decided
 pub mod Fetches
+pub mod Granted

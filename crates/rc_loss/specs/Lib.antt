@@ -1,3 +1,4 @@
 pub mod Loss
 pub mod LossClaims
 pub mod FetchClaims
+pub mod GrantClaims

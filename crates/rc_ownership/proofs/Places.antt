@@ -11,8 +11,8 @@ use Rattle.rc_model.specs.Model.{ServerId, Entry, GrantedRange, Ownership, PartS
 use Rattle.rc_model.specs.Model.{is_complete, is_to_answer, owns_term, grant}
 use Rattle.rc_ownership.specs.Grants.{owner_of}
 use Rattle.rc_ownership.specs.Parts.{AreUnderTheirTerms, parts_in, awaiting_grant}
-use Rattle.rc_ownership.specs.Unfinished.{HoldOthers, HoldUnfinished, is_finished, IsDone, is_unfinished, is_due, is_awaiting}
-use Rattle.rc_ownership.specs.Unfinished.{awaiting_at}
+use Rattle.rc_ownership.specs.Unfinished.{HoldOthers, HoldUntold, is_finished, IsDone, is_unfinished, is_untold, is_due}
+use Rattle.rc_ownership.specs.Unfinished.{is_awaiting, awaiting_at}
 use Rattle.rc_ownership.proofs.PartTables.{awaits-lookup, lookup-at}
 
 -- these stand in a list from a place on
@@ -115,6 +115,32 @@ places-filter grants all at places (entry ∷ entries) stand (inr (others, is, r
           subst (λ ps. HoldOthers (λ state. is_finished grants state ≡ true) (at + 1) ps (parts_in entries)) (sym same) later,
         )
 
+-- the places of parts whose end was told are let go
+pub untold-filter : (all : List (ℕ × PartState)) (at : ℕ) (places : List ℕ)
+    (entries : List (ℕ × PartState)) → Stand all at entries →
+    HoldOthers (λ state. state.answered ≡ true) at places (parts_in entries) →
+    HoldOthers (λ state. state.answered ≡ true) at (filter (is_untold all) places) (parts_in entries)
+untold-filter all at places [] stand none = ap (filter (is_untold all)) none
+untold-filter all at places (entry ∷ entries) stand (inl (held, rest)) =
+    inl (held, untold-filter all (at + 1) places entries (stand-rest all entries entry at stand) rest)
+untold-filter all at places (entry ∷ entries) stand (inr (others, is, rest)) =
+    by (not entry.1.answered) refl
+    (ap (filter (is_untold all)) is
+    ∙ ap (λ b. cond b (at ∷ filter (is_untold all) others) (filter (is_untold all) others))
+    (ap (λ found. option_map_or (λ one. not one.1.answered) found false) (stand-first all entries entry at stand)))
+    (untold-filter all (at + 1) others entries (stand-rest all entries entry at stand) rest)
+  where
+    by : (b : Bool) → not entry.1.answered ≡ b →
+        filter (is_untold all) places ≡ cond b (at ∷ filter (is_untold all) others) (filter (is_untold all) others) →
+        HoldOthers (λ state. state.answered ≡ true) (at + 1) (filter (is_untold all) others) (parts_in entries) →
+        HoldOthers (λ state. state.answered ≡ true) at (filter (is_untold all) places) (parts_in (entry ∷ entries))
+    by true left same later = inr (filter (is_untold all) others, same, later)
+    by false left same later =
+        inl (
+          not_not entry.1.answered left,
+          subst (λ ps. HoldOthers (λ state. state.answered ≡ true) (at + 1) ps (parts_in entries)) (sym same) later,
+        )
+
 -- What is finished
 
 -- a finished part waits for no row, its end was told, and its term is granted
@@ -204,29 +230,28 @@ places-done own all at places (entry ∷ entries) under parts stand (inr (others
 
 -- The first that is due
 
-finished-not_due : (grants : List GrantedRange) (durable : List Entry) (state : PartState) → is_finished grants state ≡ true →
-    is_to_answer durable state ≡ false
-finished-not_due grants durable state is =
-    ap (λ b. is_complete durable state && not b) (finished-parts grants state is).1 ∙ none (is_complete durable state)
+told-not_due : (durable : List Entry) (state : PartState) → state.answered ≡ true → is_to_answer durable state ≡ false
+told-not_due durable state is =
+    ap (λ b. is_complete durable state && not b) is ∙ none (is_complete durable state)
   where
     none : (b : Bool) → (b && false) ≡ false
     none true = refl
     none false = refl
 
 -- the first of the places whose part is due is that of the first part that is
-pub first-due : (grants : List GrantedRange) (durable : List Entry) (all : List (ℕ × PartState)) (at : ℕ) (places : List ℕ)
+pub first-due : (durable : List Entry) (all : List (ℕ × PartState)) (at : ℕ) (places : List ℕ)
     (entries : List (ℕ × PartState)) → Stand all at entries →
-    HoldOthers (λ state. is_finished grants state ≡ true) at places (parts_in entries) →
+    HoldOthers (λ state. state.answered ≡ true) at places (parts_in entries) →
     find (is_to_answer durable) (parts_in entries)
     ≡ option_map_or (λ place. option_map (λ entry. entry.1) (slice_get all place)) (find (is_due durable all) places) None
-first-due grants durable all at places [] stand none =
+first-due durable all at places [] stand none =
     ap (λ ps. option_map_or (λ place. option_map (λ entry. entry.1) (slice_get all place)) (find (is_due durable all) ps) None)
     (sym none)
-first-due grants durable all at places (entry ∷ entries) stand (inl (held, rest)) =
-    ap (λ b. cond b (Some entry.1) (find (is_to_answer durable) (parts_in entries))) (finished-not_due grants durable entry.1 held)
-    ∙ first-due grants durable all (at + 1) places entries (stand-rest all entries entry at stand) rest
-first-due grants durable all at places (entry ∷ entries) stand (inr (others, is, rest)) =
-    by (is_to_answer durable entry.1) (first-due grants durable all (at + 1) others entries (stand-rest all entries entry at stand) rest)
+first-due durable all at places (entry ∷ entries) stand (inl (held, rest)) =
+    ap (λ b. cond b (Some entry.1) (find (is_to_answer durable) (parts_in entries))) (told-not_due durable entry.1 held)
+    ∙ first-due durable all (at + 1) places entries (stand-rest all entries entry at stand) rest
+first-due durable all at places (entry ∷ entries) stand (inr (others, is, rest)) =
+    by (is_to_answer durable entry.1) (first-due durable all (at + 1) others entries (stand-rest all entries entry at stand) rest)
     ∙ ap (λ b. option_map_or (λ place. option_map (λ one. one.1) (slice_get all place))
     (cond b (Some at) (find (is_due durable all) others)) None)
     (sym (ap (λ found. option_map_or (λ one. is_to_answer durable one.1) found false) (stand-first all entries entry at stand)))
@@ -243,14 +268,14 @@ first-due grants durable all at places (entry ∷ entries) stand (inr (others, i
     by false later = later
 
 -- and so is its term
-pub term-due : (grants : List GrantedRange) (durable : List Entry) (entries : List (ℕ × PartState)) (places : List ℕ) (found : Option ℕ) →
-    HoldUnfinished grants places (parts_in entries) → found ≡ find (is_due durable entries) places →
+pub term-due : (durable : List Entry) (entries : List (ℕ × PartState)) (places : List ℕ) (found : Option ℕ) →
+    HoldUntold places (parts_in entries) → found ≡ find (is_due durable entries) places →
     option_map_or (λ place. option_map (λ entry. entry.1.part.term) (slice_get entries place)) found None
     ≡ option_map (λ state. state.part.term) (find (is_to_answer durable) (parts_in entries))
-term-due grants durable entries places found hold searched =
+term-due durable entries places found hold searched =
     ap (λ f. option_map_or (λ place. option_map (λ entry. entry.1.part.term) (slice_get entries place)) f None) searched
     ∙ by (find (is_due durable entries) places)
-    ∙ ap (option_map (λ state. state.part.term)) (sym (first-due grants durable entries 0 places entries (stand-all entries) hold))
+    ∙ ap (option_map (λ state. state.part.term)) (sym (first-due durable entries 0 places entries (stand-all entries) hold))
   where
     inner : (entry : Option (ℕ × PartState)) →
         option_map (λ one. one.1.part.term) entry ≡ option_map (λ state. state.part.term) (option_map (λ one. one.1) entry)

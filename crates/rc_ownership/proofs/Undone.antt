@@ -14,8 +14,8 @@ use Rattle.rc_ownership.specs.Grants.{owner_of}
 use Rattle.rc_ownership.specs.declared.part.Before.{Before}
 use Rattle.rc_ownership.specs.declared.part.Before.TheVariants.{Awaited, Whole, Unanswered}
 use Rattle.rc_ownership.specs.Parts.{Fetched, HasNone, AreUnderTheirTerms, AreOfTheirTerms, IsOfTerm, parts_in, part_before}
-use Rattle.rc_ownership.specs.Parts.{undo_in, undone, IsPartTable}
-use Rattle.rc_ownership.specs.Unfinished.{HoldUnfinished, is_finished}
+use Rattle.rc_ownership.specs.Parts.{undo_in, undone, IsPartTable, HasUntold}
+use Rattle.rc_ownership.specs.Unfinished.{HoldUnfinished, HoldUntold, is_finished}
 use Rattle.rc_ownership.proofs.PartTables.{under-insert, inserted-last}
 use Rattle.rc_ownership.proofs.Places.{places-push, places-set, places-weaker, finished-granted}
 
@@ -370,6 +370,65 @@ table-granted entries changes kept grants after places count granted table is =
           table.places_before;
       places_within = table.places_within;
     })
+
+-- The places of those whose end may be untold
+
+pub untold-begun : (entries : List (ℕ × PartState)) (changes : List (ℕ × Before)) (kept : ℕ) (places : List ℕ) (count : ℕ) →
+    HoldUntold places (parts_in entries) → changes ≡ [] → kept ≡ length entries →
+    count ≡ length places → HasUntold entries changes kept places count
+untold-begun entries changes kept places count hold none all all_places = record {
+  places_now = hold;
+  places_before = subst (λ cs. HoldUntold (take count places) (parts_in (undone cs (take kept entries)))) (sym none)
+      (subst (λ ps. HoldUntold ps (parts_in (take kept entries)))
+      (sym (take_all count places (omega (arith, all_places))))
+      (subst (λ es. HoldUntold places (parts_in es)) (sym (take_all kept entries (omega (arith, all)))) hold));
+  places_within = omega (arith, all_places);
+}
+
+pub untold-insert : {S : Type 0} (old new : IndexMap ℕ PartState S) (term : ℕ) (state : PartState)
+    (changes : List (ℕ × Before)) (kept : ℕ) (places after : List ℕ) (count : ℕ) →
+    AreUnderTheirTerms old.entries → kept ≤ length old.entries → HasUntold old.entries changes kept places count →
+    list_any (λ one. nat_eq one.part.term term) (parts_in old.entries) ≡ false →
+    new.entries ≡ insert_entry nat_eq old.entries term state →
+    after ≡ places ++ length old.entries ∷ [] → HasUntold new.entries changes kept after count
+untold-insert old new term state changes kept places after count under within ends none inserted pushed =
+    let last = inserted-last old new term state under none inserted in
+    record {
+      places_now = subst (λ es. HoldUntold after (parts_in es)) (sym last)
+          (subst (λ ps. HoldUntold ps (parts_in (old.entries ++ (term, state) ∷ [])))
+          (ap (λ n. places ++ n ∷ []) (let e : 0 + length old.entries ≡ length old.entries = omega arith in e) ∙ sym pushed)
+          (places-push (λ state. state.answered ≡ true) 0 places old.entries (term, state) ends.places_now));
+      places_before = subst (λ ps. HoldUntold ps (parts_in (undone changes (take kept new.entries))))
+          (sym (ap (take count) pushed ∙ take-append-le count places (length old.entries ∷ []) ends.places_within))
+          (subst (λ es. HoldUntold (take count places) (parts_in (undone changes es)))
+          (sym (ap (take kept) last ∙ take-append-le kept old.entries ((term, state) ∷ []) within)) ends.places_before);
+      places_within = omega (arith, ends.places_within, ap length pushed, length-append places (length old.entries ∷ []));
+    }
+
+pub untold-change : (entries changed : List (ℕ × PartState)) (changes now : List (ℕ × Before)) (term : ℕ) (before : Before)
+    (old new : PartState) (kept : ℕ) (grants : List GrantedRange) (places : List ℕ) (count : ℕ) →
+    HasUntold entries changes kept places count → IsChange grants entries changed changes now term before old new →
+    (old.answered ≡ true → new.answered ≡ true) → HasUntold changed now kept places count
+untold-change entries changed changes now term before old new kept grants places count ends it told = record {
+  places_now = subst (λ es. HoldUntold places (parts_in es)) (sym it.written)
+      (places-set (λ state. state.answered ≡ true) 0 places (nat_eq term) entries old new it.found told ends.places_now);
+  places_before = subst (λ es. HoldUntold (take count places) (parts_in es))
+      (sym (undone-noted entries changed changes now term before old new kept grants it)) ends.places_before;
+  places_within = ends.places_within;
+}
+
+pub untold-restored : (entries : List (ℕ × PartState)) (changes : List (ℕ × Before)) (now : List (ℕ × PartState))
+    (left : List (ℕ × Before)) (kept : ℕ) (places after : List ℕ) (count : ℕ) → kept ≤ length entries →
+    HasUntold entries changes kept places count → now ≡ take kept (undone changes entries) → left ≡ [] →
+    after ≡ take count places → HasUntold now left kept after count
+untold-restored entries changes now left kept places after count within ends is none cut =
+    let hold : HoldUntold after (parts_in now) = subst (λ ps. HoldUntold ps (parts_in now)) (sym cut)
+    (subst (λ es. HoldUntold (take count places) (parts_in es)) (sym (is ∙ undone-take changes entries kept))
+    ends.places_before) in
+    let all : length now ≡ kept = ap length is ∙ length-take-le kept (undone changes entries)
+    (omega (arith, within, length-undone changes entries)) in
+    let all_places : length after ≡ count = ap length cut ∙ length-take-le count places ends.places_within in
+    untold-begun now left kept after count hold none (sym all) (sym all_places)
 
 -- an end that was told for the first time
 pub answered-back : (old new : PartState) → new ≡ record old { answered = true } → old.answered ≡ false →

@@ -8,7 +8,7 @@ use Rattle.rc_model.specs.Ownership.{Ownership, PartState, is_complete, owns_ter
 use Rattle.rc_ownership.specs.declared.part.Before.{Before}
 use Rattle.rc_ownership.specs.declared.part.Before.TheVariants.{Awaited, Whole, Unanswered}
 use Rattle.rc_ownership.specs.Rows.{awaited_again}
-use Rattle.rc_ownership.specs.Unfinished.{HoldUnfinished}
+use Rattle.rc_ownership.specs.Unfinished.{HoldUnfinished, HoldUntold}
 
 -- no entry of a table has this key
 abbrev pub HasNone : ℕ → List (ℕ × PartState) → Type 0
@@ -87,10 +87,19 @@ abbrev pub count_untold : List PartState → ℕ
 count_untold [] = 0
 count_untold (state ∷ states) = untold state + count_untold states
 
--- such a table, and for its changes room: also to note of each part whose end wasn't told that it is
+-- of the parts whose end may be untold the places, and how many of these there were
+pub record HasUntold (entries : List (ℕ × PartState)) (changes : List (ℕ × Before)) (kept : ℕ)
+    (places : List ℕ) (kept_places : ℕ) : Type 0 where
+  pub places_now : HoldUntold places (parts_in entries)
+  pub places_before : HoldUntold (take kept_places places) (parts_in (undone changes (take kept entries)))
+  pub places_within : kept_places ≤ length places
+
+-- such a table, with such places, and for its changes room: also to note of each part whose end wasn't told that it is
 pub record AreParts (entries : List (ℕ × PartState)) (changes : List (ℕ × Before)) (kept : ℕ)
-    (grants : List GrantedRange) (places : List ℕ) (kept_places room : ℕ) : Type 0 where
+    (grants : List GrantedRange) (places : List ℕ) (kept_places : ℕ) (end_places : List ℕ) (kept_ends room : ℕ) :
+    Type 0 where
   pub table : IsPartTable entries changes kept grants places kept_places
+  pub ends : HasUntold entries changes kept end_places kept_ends
   pub room_to_tell : length changes + count_untold (parts_in entries) ≤ room
 
 -- the terms of the complete parts that aren't granted yet

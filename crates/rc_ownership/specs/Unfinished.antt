@@ -24,6 +24,10 @@ is_finished grants state =
 abbrev pub HoldUnfinished : List GrantedRange → List ℕ → List PartState → Type 0
 HoldUnfinished grants places parts = HoldOthers (λ state. is_finished grants state ≡ true) 0 places parts
 
+-- of each part that is at none of these places the end was told
+abbrev pub HoldUntold : List ℕ → List PartState → Type 0
+HoldUntold places parts = HoldOthers (λ state. state.answered ≡ true) 0 places parts
+
 -- what whoever owns it has done with a part: its end was told, its term is granted, and no row is awaited under it
 pub record IsDone (own : Ownership) (state : PartState) : Type 0 where
   pub told : state.answered ≡ true
@@ -34,6 +38,10 @@ pub record IsDone (own : Ownership) (state : PartState) : Type 0 where
 abbrev pub is_unfinished : List GrantedRange → List (ℕ × PartState) → ℕ → Bool
 is_unfinished grants entries place =
     option_map_or (λ entry. not (is_finished grants entry.1)) (slice_get entries place) false
+
+-- it is there, and its end wasn't told
+abbrev pub is_untold : List (ℕ × PartState) → ℕ → Bool
+is_untold entries place = option_map_or (λ entry. not entry.1.answered) (slice_get entries place) false
 
 -- it is there and complete, and its end wasn't told
 abbrev pub is_due : List Entry → List (ℕ × PartState) → ℕ → Bool

@@ -21,10 +21,10 @@ use std::alloc::{AllocError, Global};
 use std::marker::Model;
 
 /// The parts by term, in the order in which they were begun, and the entries that wait; what changed
-/// since `begin` was called, and how many parts there were then. Beside them what was granted, the places
-/// of those parts that may be unfinished, how many of these places there were, and whether a part may have
-/// been finished since places were last let go. For the changes there is room: also to note of each part whose
-/// end wasn't told that it is.
+/// since `begin` was called, and how many parts there were then. Beside them what was granted; the places
+/// of those parts that may be unfinished, how many of these places there were, and how many parts may have
+/// been finished since places were last let go; and the same of those whose end may be untold. For the changes there
+/// is room: also to note of each part whose end wasn't told that it is.
 #[derive(Drop)]
 pub(crate) struct Parts {
     pub(crate) begun: IndexMap<u32, FetchedPart>,
@@ -33,7 +33,10 @@ pub(crate) struct Parts {
     grants: Grants,
     unfinished: Vec<usize>,
     kept_unfinished: usize,
-    may_finish: bool,
+    finished: usize,
+    untold: Vec<usize>,
+    kept_untold: usize,
+    told: usize,
     pub(crate) replay: Replay,
 }
 
@@ -54,7 +57,7 @@ impl Model for Parts {
     } };
 
     ghost invariant = { λ s. AreParts s.begun.entries s.touched.items s.kept s.grants
-        s.unfinished.items s.kept_unfinished (vec_capacity s.touched) };
+        s.unfinished.items s.kept_unfinished s.untold.items s.kept_untold (vec_capacity s.touched) };
 }
 
 impl Parts {
@@ -69,7 +72,10 @@ impl Parts {
             grants: Grants::new(alloc),
             unfinished: Vec::new(alloc),
             kept_unfinished: 0,
-            may_finish: false,
+            finished: 0,
+            untold: Vec::new(alloc),
+            kept_untold: 0,
+            told: 0,
             replay: Replay::new(alloc),
         }
     }
@@ -78,13 +84,17 @@ impl Parts {
     pub(crate) fn begin(&mut self)
         ensures { self.new ≡ record self.old { parts_before = self.old.parts; replay_before = self.old.replay } }
     {
-        if self.may_finish {
-            unfinished::keep_unfinished(&self.begun, &self.grants, &mut self.unfinished);
-            self.may_finish = false;
-        }
+        unfinished::let_go_finished(
+            &self.begun,
+            &self.grants,
+            &mut self.unfinished,
+            &mut self.finished,
+        );
+        unfinished::let_go_told(&self.begun, &mut self.untold, &mut self.told);
         self.touched.clear();
         self.kept = self.begun.len();
         self.kept_unfinished = self.unfinished.len();
+        self.kept_untold = self.untold.len();
         self.replay.begin();
     }
 
@@ -104,7 +114,7 @@ impl Parts {
         ensures err { OnErr result (self.new ≡ self.old) }
     {
         self.grants.grant(range, term)?;
-        self.may_finish = true;
+        self.finished = self.finished.saturating_add(1);
         Ok(())
     }
 
@@ -115,6 +125,7 @@ impl Parts {
         touched::undo(&mut self.begun, &mut self.touched);
         self.begun.truncate(self.kept);
         self.unfinished.truncate(self.kept_unfinished);
+        self.untold.truncate(self.kept_untold);
         self.replay.restore();
     }
 
@@ -141,10 +152,12 @@ impl Parts {
     {
         let begun = FetchedPart::new(alloc, part, rows)?;
         self.unfinished.reserve(1)?;
+        self.untold.reserve(1)?;
         self.touched.reserve(self.unfinished.len() + 1)?;
         let place = self.begun.len();
         self.begun.insert(part.term, begun)?;
         self.unfinished.push(place).unwrap();
+        self.untold.push(place).unwrap();
         Ok(())
     }
 
@@ -202,8 +215,7 @@ impl Parts {
         self.replay.next(alloc)
     }
 
-    /// The places of the parts that may be unfinished, in order: those that were not finished when `begin`
-    /// was called, and those that were begun since.
+    /// The places of the parts that may be unfinished, in order.
     pub(crate) fn unfinished(&self) -> &[usize]
         ensures { HoldOthers (IsDone (who_fetched self.now)) 0 result.now self.now.parts }
     {
@@ -217,12 +229,12 @@ impl Parts {
         self.begun.get_index_of(&term)
     }
 
-    /// The term of the first complete part whose end wasn't told. It looks at those parts alone that
-    /// may be unfinished.
+    /// The term of the first complete part whose end wasn't told. It looks at those parts alone whose end may be
+    /// untold.
     fn to_answer(&self, notes: &Notes) -> Option<u32>
         ensures { result ≡ owning.to_answer (replayed_in notes.now) (who_fetched self.now) }
     {
-        let places = self.unfinished.as_slice();
+        let places = self.untold.as_slice();
         let Some(place) = unfinished::first_due(&self.begun, notes, places) else {
             return None;
         };
@@ -249,7 +261,8 @@ impl Parts {
         };
         part.answer();
         self.touched.push((term, Before::Unanswered)).unwrap();
-        self.may_finish = true;
+        self.finished = self.finished.saturating_add(1);
+        self.told = self.told.saturating_add(1);
         Some(term)
     }
 

@@ -1,10 +1,12 @@
-//! The places of the parts that may be unfinished: what a step and the timer look at in the place of all
-//! parts that were ever begun.
+//! The places of the parts that may be unfinished, and of those whose end may be untold: what the timer and a step look
+//! at in the place of all parts that were ever begun.
 
 ghost use Rattle.std.specs.Prelude.{◌≡◌, filter, find, IfOk};
 ghost use Rattle.std.specs.List.{filter_map};
 ghost use Rattle.rc_ownership.specs.Notes.{replayed_in};
-ghost use Rattle.rc_ownership.specs.Unfinished.{is_finished, is_unfinished, is_due, is_awaiting, awaiting_at};
+ghost use Rattle.rc_ownership.specs.Parts.{parts_in};
+ghost use Rattle.rc_ownership.specs.Unfinished.{HoldUnfinished, HoldUntold, is_finished, is_unfinished, is_untold};
+ghost use Rattle.rc_ownership.specs.Unfinished.{is_due, is_awaiting, awaiting_at};
 
 use crate::grants::Grants;
 use crate::notes::Notes;
@@ -30,14 +32,66 @@ fn is_unfinished(begun: &IndexMap<u32, FetchedPart>, grants: &Grants, place: usi
 }
 
 /// Keeps the places of the parts that aren't finished.
-pub(crate) fn keep_unfinished(
-    begun: &IndexMap<u32, FetchedPart>,
-    grants: &Grants,
-    places: &mut Vec<usize>,
-)
+fn keep_unfinished(begun: &IndexMap<u32, FetchedPart>, grants: &Grants, places: &mut Vec<usize>)
     ensures { places.new.items ≡ filter (is_unfinished grants.now begun.now.entries) places.old.items }
 {
     places.retain(|place| is_unfinished(begun, grants, *place));
+}
+
+/// Whether so many of some places are enough to go over them all: more than half of them. So two places are looked at
+/// for each that may be let go.
+fn are_many(count: usize, places: usize) -> bool {
+    places / 2 < count
+}
+
+/// Lets go the places of parts that are finished, where as many may be as makes it worth while.
+pub(crate) fn let_go_finished(
+    begun: &IndexMap<u32, FetchedPart>,
+    grants: &Grants,
+    places: &mut Vec<usize>,
+    count: &mut usize,
+)
+    ensures { HoldUnfinished grants.now places.old.items (parts_in begun.now.entries) →
+        HoldUnfinished grants.now places.new.items (parts_in begun.now.entries) }
+{
+    if !are_many(*count, places.len()) {
+        return;
+    }
+    keep_unfinished(begun, grants, places);
+    *count = 0;
+}
+
+/// Whether the end of the part at a place wasn't told.
+fn is_untold(begun: &IndexMap<u32, FetchedPart>, place: usize) -> bool
+    ensures { result ≡ is_untold begun.now.entries place }
+{
+    match begun.get_index(place) {
+        Some((_, part)) => !part.is_answered(),
+        None => false,
+    }
+}
+
+/// Keeps the places of the parts whose end wasn't told.
+fn keep_untold(begun: &IndexMap<u32, FetchedPart>, places: &mut Vec<usize>)
+    ensures { places.new.items ≡ filter (is_untold begun.now.entries) places.old.items }
+{
+    places.retain(|place| is_untold(begun, *place));
+}
+
+/// Lets go the places of parts whose end was told, where as many may be as makes it worth while.
+pub(crate) fn let_go_told(
+    begun: &IndexMap<u32, FetchedPart>,
+    places: &mut Vec<usize>,
+    count: &mut usize,
+)
+    ensures { HoldUntold places.old.items (parts_in begun.now.entries) →
+        HoldUntold places.new.items (parts_in begun.now.entries) }
+{
+    if !are_many(*count, places.len()) {
+        return;
+    }
+    keep_untold(begun, places);
+    *count = 0;
 }
 
 /// Whether the part at a place is complete and its end wasn't told.

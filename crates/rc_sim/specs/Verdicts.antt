@@ -19,8 +19,8 @@ use Rattle.rc_report.specs.declared.judging.Finding.TheVariants as finding
 use Rattle.rc_report.specs.Judged.{finding_of, text_of}
 use Rattle.rc_world.specs.Happened.{Happened, sent_in}
 use Rattle.rc_draw.specs.Draw.{drawn_world, drawn}
-use Rattle.rc_threads.specs.Workload.{threads_setup, workload}
-use Rattle.rc_threads.specs.Worked.{AllHaveWorked}
+use Rattle.rc_wire.specs.Workload.{threads_setup, workload}
+use Rattle.rc_wire.specs.Worked.{AllHaveWorked}
 use Rattle.rc_sim.specs.declared.verdicts.Output.{Output}
 use Rattle.rc_sim.specs.declared.verdicts.Output.TheVariants.{Report, Trace}
 use Rattle.rc_sim.specs.declared.verdicts.Verdict.{Verdict}

@@ -1,8 +1,8 @@
-pub mod Staying
-pub mod Taking
-pub mod Offering
-pub mod Noting
-pub mod Preparing
-pub mod Committing
+pub mod Found
+pub mod Turning
 pub mod Seating
-pub mod Replaying
+pub mod Crossing
+pub mod Fetching
+pub mod Listing
+pub mod Stuck
+pub mod Works

@@ -1,4 +1,4 @@
-//! The rules that can be broken, one place for each: `wrong-code/NAME.edit` breaks it.
+//! The rules that can be broken, one place for each: `wrong/code/NAME.edit` breaks it.
 
 /// What there is to say of a rule.
 #[derive(Clone, Copy)]

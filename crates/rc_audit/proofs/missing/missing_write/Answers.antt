@@ -9,8 +9,8 @@ loop-message-preserved c =
     let sent = c.args.evidence.now.messages.now in
     let none = sym c.in_ok-missing.ensures.found ∙ none_from c.in_ok-missing.missing (sym c.if-is_some.ensures) in
     record {
-      clean = clean_more c.loop-message.clean c.insert.new.self sent c.in-Some.recovery.master
-          (record { rows = c.in-Some.recovery.rows }) c.in-Some.recovery.attempt none
+      clean = clean_more c.loop-message.clean c.insert.new.self sent c.key_of-key.result c.in-Some.recovery.master
+          (record { rows = c.in-Some.recovery.rows }) c.in-Some.recovery.attempt c.key_of-key.ensures none
           c.loop-message.invariant.clean c.in_ok-insert.ensures.updates.0;
       so_far = plan_kept sent c.message-item.result.body (accepted_of c.in-Some.recovery) (accepted sent)
           (accepted (drop c.loop-message.message-index sent))

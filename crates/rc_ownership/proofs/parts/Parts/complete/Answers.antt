@@ -1,4 +1,4 @@
-use Rattle.std.proofs.Common.{◌≡◌, ◌++◌, ◌∷◌, [], vec_capacity, nat_eq, take, find, option_map, ap, sym, ◌∙◌, arith}
+use Rattle.std.proofs.Common.{◌≡◌, ◌++◌, ◌∷◌, [], vec_capacity, nat_eq, find, option_map, ap, sym, ◌∙◌, arith}
 use Rattle.std.proofs.lemmas.Grind.{common_steps}
 use Rattle.std.specs.Map.{set_value}
 use Rattle.rc_model.specs.Ownership.{is_to_answer, answered_in}
@@ -8,7 +8,7 @@ use Rattle.rc_ownership.specs.Parts.{Fetched, parts_in}
 use Rattle.rc_ownership.proofs.PartTables.{answered_in-none, not_told, told, told-first, unmapped}
 use Rattle.rc_ownership.proofs.Places.{finished-answered}
 use Rattle.rc_ownership.proofs.Room.{room-there, room-told}
-use Rattle.rc_ownership.proofs.Undone.{same_fetched, IsChange, answered-back, table-change, undone-noted}
+use Rattle.rc_ownership.proofs.Undone.{same_fetched, IsChange, answered-back, table-change, untold-change, undone-noted}
 use Rattle.rc_ownership.proofs.parts.Parts.complete.Goals as goal
 
 pub returns-in_default-clause-answered : goal.returns-in_default-clause-answered
@@ -65,6 +65,9 @@ invariant_of-self c =
       table = table-change entries changed c.self.inside.touched.items c.push.new.self.items c.in-Some.term Unanswered part
           c.answer.new.self c.self.inside.kept c.self.inside.grants c.self.inside.unfinished.items c.self.inside.kept_unfinished
           c.self.invariant.table it;
+      ends = untold-change entries changed c.self.inside.touched.items c.push.new.self.items c.in-Some.term Unanswered part
+          c.answer.new.self c.self.inside.kept c.self.inside.grants c.self.inside.untold.items c.self.inside.kept_untold
+          c.self.invariant.ends it (λ is. ap (λ state. state.answered) c.answer.ensures);
       room_to_tell = room-told entries changed c.self.inside.touched.items c.push.new.self.items (c.in-Some.term, Unanswered)
           c.in-Some.term part c.answer.new.self (vec_capacity c.self.inside.touched) (vec_capacity c.push.new.self)
           c.self.invariant.room_to_tell found it.written pushed

@@ -3,11 +3,11 @@ use Rattle.std.proofs.lemmas.Grind.{common_steps}
 use Rattle.std.proofs.lemmas.Map.Steps.{set_value_same}
 use Rattle.std.specs.Map.{set_value}
 use Rattle.rc_model.specs.Ownership.{awaits_data, part_with_row, data_in, replay_in}
-use Rattle.rc_ownership.specs.Parts.{who_fetched, parts_in, undone, IsPartTable, count_untold}
+use Rattle.rc_ownership.specs.Parts.{who_fetched, parts_in, undone, IsPartTable, HasUntold, count_untold}
 use Rattle.rc_ownership.proofs.PartTables.{none-awaited, some-awaited, replay_in-set, data-changed, joined-named}
 use Rattle.rc_ownership.proofs.Places.{finished-awaits}
 use Rattle.rc_ownership.proofs.Room.{room-change, joined-answered}
-use Rattle.rc_ownership.proofs.Undone.{same_fetched, IsChange, table-change, undone-noted, on_err}
+use Rattle.rc_ownership.proofs.Undone.{same_fetched, IsChange, table-change, untold-change, undone-noted, on_err}
 use Rattle.rc_ownership.proofs.parts.Parts.put_data.Goals as goal
 
 pub unreachable-requires : goal.unreachable-requires
@@ -36,6 +36,10 @@ invariant_of-self-in_err-before c =
           c.self.inside.unfinished.items c.self.inside.kept_unfinished) (sym same)
           (subst (λ touched. IsPartTable entries touched c.self.inside.kept c.self.inside.grants c.self.inside.unfinished.items
           c.self.inside.kept_unfinished) (sym c.reserve.ensures.items) c.self.invariant.table);
+      ends = subst (λ es. HasUntold es c.reserve.new.self.items c.self.inside.kept c.self.inside.untold.items
+          c.self.inside.kept_untold) (sym same)
+          (subst (λ touched. HasUntold entries touched c.self.inside.kept c.self.inside.untold.items
+          c.self.inside.kept_untold) (sym c.reserve.ensures.items) c.self.invariant.ends);
       room_to_tell = omega (arith, c.self.invariant.room_to_tell, long, ends, c.reserve.ensures.capacity);
     }
 
@@ -76,10 +80,11 @@ invariant_of-self-2 c =
       finished = λ is. absurd (finished-awaits c.self.inside.grants part c.args.seg c.args.from is some);
       named = ap (λ state. state.part.term) c.in_ok-before.ensures.part ∙ joined-named came;
     } in
+    let told = ap (λ state. state.answered) c.in_ok-before.ensures.part ∙ joined-answered came in
     let within = room-change entries changed c.self.inside.touched.items c.push.new.self.items
     (c.args.term, c.in_ok-before.before) c.args.term part c.take_row.new.part c.self.inside.grants
     c.self.inside.unfinished.items (vec_capacity c.reserve.new.self) c.self.invariant.table.places_now found it.written pushed
-    (ap (λ state. state.answered) c.in_ok-before.ensures.part ∙ joined-answered came)
+    told
     (omega (
       arith,
       c.in_ok-reserve.ensures.ok,
@@ -92,6 +97,9 @@ invariant_of-self-2 c =
       table = table-change entries changed c.self.inside.touched.items c.push.new.self.items c.args.term c.in_ok-before.before part
           c.take_row.new.part c.self.inside.kept c.self.inside.grants c.self.inside.unfinished.items c.self.inside.kept_unfinished
           c.self.invariant.table it;
+      ends = untold-change entries changed c.self.inside.touched.items c.push.new.self.items c.args.term c.in_ok-before.before part
+          c.take_row.new.part c.self.inside.kept c.self.inside.grants c.self.inside.untold.items c.self.inside.kept_untold
+          c.self.invariant.ends it (λ is. told ∙ is);
       room_to_tell = omega (arith, within, c.push.ensures.capacity);
     }
 

@@ -2,7 +2,7 @@ use Rattle.std.proofs.Common.{◌≡◌, take, vec_capacity, ap, ◌∙◌, arit
 use Rattle.std.proofs.lemmas.Grind.{common_steps}
 use Rattle.rc_ownership.specs.Parts.{parts_in, undone}
 use Rattle.rc_ownership.proofs.Room.{room-restored}
-use Rattle.rc_ownership.proofs.Undone.{same_fetched, table-restored, undone-restored, undone-take}
+use Rattle.rc_ownership.proofs.Undone.{same_fetched, table-restored, untold-restored, undone-restored, undone-take}
 use Rattle.rc_ownership.proofs.parts.Parts.restore.Goals as goal
 
 pub invariant_of-self : goal.invariant_of-self
@@ -15,6 +15,9 @@ invariant_of-self c =
       table = table-restored entries touched c.truncate.new.self.entries c.undo.new.touched.items c.self.inside.kept
           c.self.inside.grants c.self.inside.unfinished.items c.truncate-2.new.self.items c.self.inside.kept_unfinished
           c.self.invariant.table now c.undo.ensures.none (grind (arith, common_steps));
+      ends = untold-restored entries touched c.truncate.new.self.entries c.undo.new.touched.items c.self.inside.kept
+          c.self.inside.untold.items c.truncate-3.new.self.items c.self.inside.kept_untold c.self.invariant.table.within
+          c.self.invariant.ends now c.undo.ensures.none (grind (arith, common_steps));
       room_to_tell = omega (
         arith,
         room-restored entries c.truncate.new.self.entries touched c.undo.new.touched.items c.self.inside.kept

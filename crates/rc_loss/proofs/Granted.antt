@@ -1,0 +1,215 @@
+-- A part that is complete is told of at each Tick: obeying the list changes nothing that the parts read.
+use Rattle.std.proofs.Common.{◌≡◌, ℕ, Bool, true, false, not, cond, ◌&&◌, List, [], ◌∷◌, ◌++◌, filter, take, Option, Some, None}
+use Rattle.std.proofs.Common.{refl, sym, ap, ◌∙◌, subst}
+use Rattle.std.proofs.lemmas.Bool.{and_parts}
+use Rattle.rc_model.specs.Model.{ServerId, Addr, Server, Setup, Event, Message, Body, Recovered, Enlist, to_coordinator, is_up}
+use Rattle.rc_model.specs.Model.{Part, PartState, LogPlace, Log, Master, Task, owns_term, replayed_at, durable_replayed, places_of}
+use Rattle.rc_model.specs.Model.{then_does, obeys_list, ticks, goes_on, HostNode, host_step, runs, server_of}
+use Rattle.rc_model.specs.Model.{replay, In}
+use Rattle.rc_model.specs.Ids.{is_server}
+use Rattle.rc_model.specs.Ownership.{is_complete}
+use Rattle.rc_model.specs.FollowUps.{attempt_of}
+use Rattle.rc_model.specs.MasterStep.{master_ticks}
+use Rattle.rc_model.specs.MasterTick.{reminds_open, reminds_shut, commits_again, fetches_again, recovered_again, ready_again}
+use Rattle.rc_model.specs.MasterTick.{awaits_grant, reminds}
+use Rattle.rc_model.specs.Log.{numbers_to}
+use Rattle.rc_model.specs.Nodes.{Tick, is_some_master, ticks_if_running}
+use Rattle.rc_model.proofs.Ids.{same_id-true}
+use Rattle.rc_model.proofs.LogSteps.{obeys-leads}
+use Rattle.rc_model.proofs.Members.{In-left, In-right, filter-In, map-In}
+use Rattle.rc_model.proofs.Tests.{true_false}
+use Rattle.rc_model.proofs.Walk.{Joined, Listed, kept-obeys}
+use Rattle.rc_log_laws.proofs.Replays.{GoodWorld, good-world}
+use Rattle.rc_owner_laws.specs.Parts.{part_view, IsPart, WasPlanned, GoodParts}
+use Rattle.rc_owner_laws.specs.Recoveries.{IsPlanned, PlannedPartsCanBeGranted}
+use Rattle.rc_owner_laws.specs.TermClaims.{Issue, issue_of, issues_in, WasIssued}
+use Rattle.rc_owner_laws.proofs.Issued.{terms-are-issued-once}
+use Rattle.rc_owner_laws.proofs.PartPlaces.{same-loses, same-opens}
+use Rattle.rc_owner_laws.proofs.VersionReplays.{all-world}
+use Rattle.rc_loss.specs.GrantClaims.{AwaitsOwn, DurablePartsAreGranted}
+
+-- What the list rules leave
+
+-- the places of the log, how many of them are durable, the parts and the tasks are as they were
+record SameParts (old : Master) (after : Master × List Message) : Type 0 where
+  places : places_of after.0.log ≡ places_of old.log
+  durable : after.0.log.durable ≡ old.log.durable
+  ownership : after.0.ownership ≡ old.ownership
+  tasks : after.0.tasks ≡ old.tasks
+
+parts-joined : Joined SameParts
+parts-joined = record {
+  still = λ master. record { places = refl; durable = refl; ownership = refl; tasks = refl };
+  both = λ one two first after p q. record {
+    places = q.places ∙ p.places;
+    durable = q.durable ∙ p.durable;
+    ownership = q.ownership ∙ p.ownership;
+    tasks = q.tasks ∙ p.tasks;
+  };
+}
+
+parts-listed : Listed SameParts
+parts-listed = record {
+  replaces = λ master seg ids isn't. record {
+    places = (same-loses master.known seg master.log).places;
+    durable = (same-loses master.known seg master.log).durable;
+    ownership = refl;
+    tasks = refl;
+  };
+  opens = λ master ids none chosen. record {
+    places = (same-opens master.log (1 ∷ []) ids).places;
+    durable = (same-opens master.log (1 ∷ []) ids).durable;
+    ownership = refl;
+    tasks = refl;
+  };
+}
+
+same-obeyed : (master : Master) → SameParts master (obeys_list master)
+same-obeyed master = kept-obeys SameParts parts-joined parts-listed master
+
+-- so the same parts await their grant
+same-awaits : (master : Master) (state : PartState) → awaits_grant (obeys_list master).0 state ≡ awaits_grant master state
+same-awaits master state =
+    let same : SameParts master (obeys_list master) = same-obeyed master in
+    let after : Master = (obeys_list master).0 in
+    ap (λ (places : List LogPlace). is_complete (replayed_at (take after.log.durable places)) state
+    && not (owns_term after.ownership state.part.term)) same.places
+    ∙ (ap (λ (n : ℕ). is_complete (replayed_at (take n (places_of master.log))) state
+    && not (owns_term after.ownership state.part.term)) same.durable
+    ∙ ap (λ own. is_complete (durable_replayed master) state && not (owns_term own state.part.term)) same.ownership)
+
+-- What a Tick sends
+
+-- each part that awaits its grant is told of
+again : (master : Master) (state : PartState) → In state master.ownership.parts → awaits_grant master state ≡ true →
+    In (to_coordinator master.log.own (Recovered (attempt_of state.part.term master.tasks) state.part.term))
+    (recovered_again master)
+again master state among awaits =
+    map-In (λ (one : PartState). to_coordinator master.log.own (Recovered (attempt_of one.part.term master.tasks) one.part.term))
+    state (filter (awaits_grant master) master.ownership.parts)
+    (filter-In (awaits_grant master) state master.ownership.parts among awaits)
+
+in-reminds : (before : Log) (master : Master) (message : Message) → In message (recovered_again master) →
+    In message (reminds before master).1
+in-reminds before master message among =
+    In-left message
+    (reminds_open before master.log (numbers_to master.log.head) ++ reminds_shut before master.log (numbers_to master.log.head)
+    ++ commits_again master.log ++ fetches_again master master.tasks ++ recovered_again master) (ready_again master)
+    (In-right message
+    (reminds_open before master.log (numbers_to master.log.head) ++ reminds_shut before master.log (numbers_to master.log.head)
+    ++ commits_again master.log ++ fetches_again master master.tasks) (recovered_again master) among)
+
+-- a master that isn't deposed and is up by its list sends it
+module _ (master : Master) (state : PartState) where
+  abbrev after : Master
+  after = (obeys_list master).0
+
+  abbrev message : Message
+  message = to_coordinator master.log.own (Recovered (attempt_of state.part.term master.tasks) state.part.term)
+
+  same : SameParts master (obeys_list master)
+  same = same-obeyed master
+
+  told-again : In state master.ownership.parts → awaits_grant master state ≡ true → In message (recovered_again after)
+  told-again among awaits = subst (λ (one : Message). In one (recovered_again after))
+      (ap (λ (own : ServerId). to_coordinator own (Recovered (attempt_of state.part.term after.tasks) state.part.term))
+      (obeys-leads master).own
+      ∙ ap (λ (tasks : List Task). to_coordinator master.log.own (Recovered (attempt_of state.part.term tasks) state.part.term))
+      same.tasks)
+      (again after state (subst (λ own. In state own.parts) (sym same.ownership) among) (same-awaits master state ∙ awaits))
+
+  ticked : master.deposed ≡ false → (master_ticks master).1 ≡ (then_does (ticks master) goes_on).1
+  ticked undeposed = ap (λ (b : Bool). (cond b (master, []) (then_does (ticks master) goes_on)).1) undeposed
+
+  obeyed : is_up master.known master.log.own ≡ true → (then_does (ticks master) goes_on).1 ≡
+      (then_does (then_does (obeys_list master) (reminds master.log)) goes_on).1
+  obeyed listed = ap (λ (b : Bool). (then_does (cond b (then_does (obeys_list master) (reminds master.log))
+      (master, to_coordinator master.log.own Enlist ∷ [])) goes_on).1) listed
+
+  in-ticks : master.deposed ≡ false → is_up master.known master.log.own ≡ true → In state master.ownership.parts →
+      awaits_grant master state ≡ true → In message (master_ticks master).1
+  in-ticks undeposed listed among awaits =
+      subst (λ (sent : List Message). In message sent) (sym (ticked undeposed ∙ obeyed listed))
+      (In-left message ((obeys_list master).1 ++ (reminds master.log after).1) (goes_on (reminds master.log after).0).1
+      (In-right message (obeys_list master).1 (reminds master.log after).1
+      (in-reminds master.log after message (told-again among awaits))))
+
+-- All of it
+
+a-master : (found : Option Master) → is_some_master found ≡ true → (master : Master) × (found ≡ Some master)
+a-master None e = true_false (sym e)
+a-master (Some master) e = (master, refl)
+
+module _ (setup : Setup) (events : List Event) (m crashed : ServerId) (number : ℕ) (state : PartState)
+    (plan : IsPlanned (replay setup events).sent m number crashed state.part) (p : AwaitsOwn setup events m state) where
+  abbrev host : HostNode
+  host = (replay setup events).hosts m.index
+
+  abbrev master : Master
+  master = (replay setup events).masters m
+
+  good : GoodWorld (replay setup events)
+  good = good-world setup events
+
+  own : master.log.own ≡ m
+  own = (good.masters_are m).own
+
+  -- its host's master is the last view of it
+  running : host.master ≡ Some master
+  running =
+      let parts : (runs host ≡ true) × (is_server (server_of host) (Server m) ≡ true) =
+      and_parts (runs host) (is_server (server_of host) (Server m)) p.running in
+      let found : (one : Master) × (host.master ≡ Some one) = a-master host.master parts.0 in
+      let last : server_of host ≡ m = same_id-true (server_of host) m parts.1 in
+      found.1 ∙ ap (λ (one : Master). Some one)
+      (sym ((good.hosts_are m.index).runs found.0 found.1) ∙ ap (λ (id : ServerId). (replay setup events).masters id) last)
+
+  -- the attempt that it names is the one in which the part was planned
+  parts-good : GoodParts (replay setup events).sent m (part_view master)
+  parts-good = (all-world setup events).parts.each m
+
+  part : IsPart (replay setup events).sent m (part_view master) state
+  part = parts-good.parts_are state p.among
+
+  was : WasPlanned (replay setup events).sent m part.task
+  was = parts-good.planned part.task part.among
+
+  issued : WasIssued (replay setup events).sent (issue_of (Server m) number state.part)
+  issued = record {
+    message = _;
+    among = plan.planned;
+    says = map-In (issue_of (Server m) number) state.part plan.parts plan.among;
+  }
+
+  issued-too : WasIssued (replay setup events).sent (issue_of (Server m) part.task.attempt part.task.part)
+  issued-too = record {
+    message = was.message;
+    among = was.among;
+    says = subst (λ (to : Addr). In (issue_of (Server m) part.task.attempt part.task.part) (issues_in to was.message.body)) (sym was.to)
+        (subst (λ (body : Body). In (issue_of (Server m) part.task.attempt part.task.part) (issues_in (Server m) body)) (sym was.says)
+        (map-In (issue_of (Server m) part.task.attempt) part.task.part was.parts was.part));
+  }
+
+  once : issue_of (Server m) number state.part ≡ issue_of (Server m) part.task.attempt part.task.part
+  once = terms-are-issued-once setup events _ _ issued issued-too (ap (λ (one : Part). one.term) (sym part.part_is))
+
+  attempt : attempt_of state.part.term master.tasks ≡ number
+  attempt = part.attempt_is ∙ sym (ap (λ (one : Issue). one.attempt) once)
+
+  awaits : awaits_grant master state ≡ true
+  awaits = ap (λ (b : Bool). b && not (owns_term master.ownership state.part.term)) p.complete
+      ∙ ap (λ (b : Bool). not b) p.unowned
+
+  told : In (to_coordinator m (Recovered number state.part.term)) (host_step host (Tick (Server m))).1
+  told = subst (λ (sent : List Message). In (to_coordinator m (Recovered number state.part.term)) sent)
+      (sym (ap (λ (found : Option Master). (ticks_if_running host found).1) running))
+      (subst (λ (message : Message). In message (master_ticks master).1)
+      (ap (λ (id : ServerId). to_coordinator id (Recovered (attempt_of state.part.term master.tasks) state.part.term)) own
+      ∙ ap (λ (n : ℕ). to_coordinator m (Recovered n state.part.term)) attempt)
+      (in-ticks master state p.undeposed (ap (λ (id : ServerId). is_up master.known id) own ∙ p.listed) p.among awaits))
+
+pub durable-parts-are-granted : PlannedPartsCanBeGranted → DurablePartsAreGranted
+durable-parts-are-granted can setup events m crashed number state plan p = record {
+  told = told setup events m crashed number state plan p;
+  granted = can setup events m number crashed state.part plan;
+}

@@ -1,4 +1,0 @@
-use Rattle.rc_threads.proofs.world.world_of_threads.Given as goal
-
-abbrev pub ghosts-run : goal.ghosts-run
-ghosts-run g a = record { wire = a.opening }

@@ -1,4 +1,0 @@
-pub mod Runs
-pub mod Ends
-pub mod Workload
-pub mod Worked

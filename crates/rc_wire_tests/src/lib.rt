@@ -1,0 +1,12 @@
+//! Tests of nodes on threads, of what no clause says: the ledger of `rc_journal`, calls at the wire of `rc_seats`, and
+//! whole runs of `rc_wire`.
+#![tactic(auto)]
+
+#[cfg(test)]
+mod at_the_wire;
+#[cfg(test)]
+mod ledgers;
+#[cfg(test)]
+mod runs;
+#[cfg(test)]
+mod wires;
