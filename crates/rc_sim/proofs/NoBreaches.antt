@@ -1,6 +1,6 @@
 -- No run, no drawing and no story is told as a breach: a trace alone that was given can have one.
 use Rattle.std.proofs.Common.{◌≡◌, ◌≢◌, inl, inr, ℕ, Bool, true, false, true≢false, List, Option, Some, None, Result, Ok}
-use Rattle.std.proofs.Common.{Err, IfOk, refl, sym, ap, ◌∙◌}
+use Rattle.std.proofs.Common.{Err, IfOk, length, refl, sym, ap, ◌∙◌}
 use Rattle.rc_model.specs.Model.{Code, MAX_EVENTS, breach}
 use Rattle.rc_types.specs.declared.faults.Code.TheVariants.{BadEvent, OutOfMemory}
 use Rattle.rc_owner_laws.proofs.VersionReplays.{there-is-no-breach}

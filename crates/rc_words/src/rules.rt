@@ -18,7 +18,7 @@ pub fn all_rules() -> &'static [Rule] {
     &RULES
 }
 
-static RULES: [Rule; 43] = [
+static RULES: [Rule; 44] = [
     Rule {
         name: "acknowledges_again",
         keeps: "A write is acknowledged once.",
@@ -59,6 +59,13 @@ static RULES: [Rule; 43] = [
         name: "closes_before_epoch_committed",
         keeps: "A head is closed only under an epoch that the coordinator has committed.",
         without: "It is closed while replicas of an earlier epoch still count, of which one may lack entries.",
+        example: "",
+    },
+    Rule {
+        name: "closes_before_its_end",
+        keeps: "Close names how many entries the old head has.",
+        without: "It names one less. A backup that has stored all of them does not close, and one that still lacks \
+            the last closes without it: a recovery can miss that entry.",
         example: "",
     },
     Rule {
