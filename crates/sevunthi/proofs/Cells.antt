@@ -59,8 +59,11 @@ and2 false y s t = absurd s
 
 pub cell_typed : (p : Ptr) (h : Val) → Good (layout Z) h →
     T (has_ty ty_ptr (ptr_val p) && (has_ty (layout Z) h && true)) × WT (both (ptr_val p) h)
-cell_typed p h fits = (and2 (has_ty ty_ptr (ptr_val p)) (has_ty (layout Z) h && true) (ptr_typed p).0 (and_tt (has_ty
-    (layout Z) h) fits.0), ((ptr_typed p).1, (fits.1, tt)))
+cell_typed p h fits = (
+  and2 (has_ty ty_ptr (ptr_val p)) (has_ty (layout Z) h && true) (ptr_typed p).0 (and_tt (has_ty
+      (layout Z) h) fits.0),
+  ((ptr_typed p).1, (fits.1, tt)),
+)
 
 module _ {M : Type 1} {𝓤 : Ura M} {𝓛 : Logic 𝓤} {K : Type 0} {Γ : List (Item 𝓤)} {G : Goal 𝓤 𝓛.H} where
   -- a full cell is the box, and the handle

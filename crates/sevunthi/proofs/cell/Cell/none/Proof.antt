@@ -29,10 +29,22 @@ use Rattle.sevunthi.proofs.cell.Cell.none.Code as code
 pub none_spec : {M : Type 1} → statement M
 none_spec 𝓤 𝓛 𝓜 𝓡 wired =
     let H = 𝓛.H in let 𝓣 = tables 𝓤 H 𝓜 𝓡 𝓡.env in let c = clauses 𝓛 𝓜.mem 𝓡.returns in let fn = code.function in
-    let hs : Stays ended.signature.params ended.kept = (stay_dropped (slot_at 0 ended.signature.params) ended.kept.0, (stay_dropped
-    (slot_at 1 ended.signature.params) ended.kept.1.0, tt)) in
-    proved_at 𝓛 ended hs c 𝓜 𝓡 (Goes-dropped 𝓛 0 (slot_at 0 ended.signature.params) ended.kept.0 (λ κs x f. refl), (Goes-dropped 𝓛 0
-    (slot_at 1 ended.signature.params) ended.kept.1.0 (λ κs x f. refl), tt)) #self fn (code.unfolded 𝓤 H 𝓜 𝓡 wired) (λ z are.
+    let hs : Stays ended.signature.params ended.kept = (
+      stay_dropped (slot_at 0 ended.signature.params) ended.kept.0,
+      (
+        stay_dropped
+            (slot_at 1 ended.signature.params) ended.kept.1.0,
+        tt,
+      ),
+    ) in
+    proved_at 𝓛 ended hs c 𝓜 𝓡 (
+      Goes-dropped 𝓛 0 (slot_at 0 ended.signature.params) ended.kept.0 (λ κs x f. refl),
+      (
+        Goes-dropped 𝓛 0
+            (slot_at 1 ended.signature.params) ended.kept.1.0 (λ κs x f. refl),
+        tt,
+      ),
+    ) #self fn (code.unfolded 𝓤 H 𝓜 𝓡 wired) (λ z are.
     let p = z.0.3.0 in let a = z.0.3.1.0 in let Post : Val → SProp 𝓤 = (walk_of 𝓛 ended hs c).post z in let Run : List Val →
     SProp 𝓤 = λ ws. WpFn 𝓤 H 𝓣.C 𝓣.Λ fn ws Post in
     qed 𝓛 ((raw (alive 𝓛 ended.signature z.0.0 z.0.1) ⊛
