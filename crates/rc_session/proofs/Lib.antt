@@ -1,1 +1,5 @@
 pub mod Wholes
+pub mod Leavings
+pub mod Whose
+pub mod Marks
+pub mod Names

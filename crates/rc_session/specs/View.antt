@@ -64,3 +64,8 @@ framed message = four_bytes (length (coded_message message)) ++ coded_message me
 
 abbrev pub all_framed : List Message → List ℕ
 all_framed messages = flat_map framed messages
+
+-- what is in hand, if anything is
+abbrev pub hand_code : Option (List Message) → List ℕ
+hand_code None = []
+hand_code (Some messages) = all_framed messages

@@ -23,6 +23,7 @@ impl Session {
     /// # Errors
     ///
     /// `Refused`: the node is not the coordinator. `Malformed`: a list is none. `NoMemory`.
+    #[tactic(auto, using(crate::proofs::Whose::are_due))]
     pub fn dues(&self, heard: &[u8], silent: &[u8], stuck: &[u8]) -> Result<Vec<u8>, SessionFault>
         ensures { IfOk result (λ code. AreDue heard.now silent.now stuck.now self.now.process.node code.items) }
     {

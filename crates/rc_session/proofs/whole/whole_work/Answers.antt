@@ -7,13 +7,13 @@ use Rattle.rc_session.proofs.whole.whole_work.Goals as goal
 pub returns-else-count-bytes-clause-found : goal.returns-else-count-bytes-clause-found
 returns-else-count-bytes-clause-found c = λ one is.
     let e : c.in-Ok.count ≡ length c.args.bytes.now =
-        found_length coded_work c.args.bytes.now c.in-Ok.work c.in-Ok.count c.in-Ok.ensures.again one is in
+    found_length coded_work c.args.bytes.now c.in-Ok.work c.in-Ok.count c.in-Ok.ensures.again one is in
     absurd (grind (arith, e, c.if-count-bytes.false))
 
 pub returns-else-count-bytes-clause-malformed : goal.returns-else-count-bytes-clause-malformed
 returns-else-count-bytes-clause-malformed c = λ m one is.
     let e : c.in-Ok.count ≡ length c.args.bytes.now =
-        found_length coded_work c.args.bytes.now c.in-Ok.work c.in-Ok.count c.in-Ok.ensures.again one is in
+    found_length coded_work c.args.bytes.now c.in-Ok.work c.in-Ok.count c.in-Ok.ensures.again one is in
     grind (arith, e, c.if-count-bytes.false)
 
 pub returns-in-Err-clause-found : goal.returns-in-Err-clause-found
