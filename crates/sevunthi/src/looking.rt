@@ -143,6 +143,7 @@ pub extern "C" fn sevunthi_tablets(
 }
 
 /// Those of a session.
+#[tactic(auto, using(crate::proofs::Shows::found_is_shown))]
 fn tablets_in(session: &Session, to: &mut [u8], needed: &mut usize) -> u32
     ensures given { result ≡ 0 →
         IsShown (option_map tablets_code (book_in session.now.process.node)) to.old to.new needed.new }
@@ -183,6 +184,7 @@ pub extern "C" fn sevunthi_servers(
 }
 
 /// Those of a session.
+#[tactic(auto, using(crate::proofs::Shows::found_is_shown))]
 fn servers_in(session: &Session, to: &mut [u8], needed: &mut usize) -> u32
     ensures given { result ≡ 0 →
         IsShown (option_map servers_code (book_in session.now.process.node)) to.old to.new needed.new }
@@ -229,6 +231,7 @@ pub extern "C" fn sevunthi_dues(
 }
 
 /// What is due at the coordinator of a session.
+#[tactic(auto, using(crate::proofs::Shows::due_is_given))]
 fn dues_in(
     session: &Session,
     heard: &[u8],
