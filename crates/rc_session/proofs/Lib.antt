@@ -3,3 +3,4 @@ pub mod Leavings
 pub mod Whose
 pub mod Marks
 pub mod Names
+pub mod Firsts

@@ -21,6 +21,7 @@ impl Session {
     ///
     /// `Refused`: what has to be added to the journal was not taken yet, or a save was begun. `NoMemory`. After each
     /// nothing has changed.
+    #[tactic(auto, using(crate::proofs::Firsts::save_is_begun))]
     pub fn save(&mut self) -> Result<(), SessionFault>
         ensures saved { OnOk result (IsSaved self.old.process.node [] self.new.second) }
         ensures begun { OnOk result (session_seen self.new ≡ record (session_seen self.old) {

@@ -104,6 +104,7 @@ impl Session {
     }
 
     /// The session of a new node.
+    #[tactic(auto, using(crate::proofs::Firsts::is_first))]
     fn begin(alloc: Global, node: NodeState<Global>) -> Result<Session, SessionFault>
         ensures new { IfOk result (λ session. IsFirst (node_seen node) session) }
         ensures fault { IfErr result (λ fault. fault ≡ why.NoMemory) }
