@@ -1,10 +1,9 @@
 -- A session that begins, and one whose save is begun.
-use Rattle.std.proofs.Common.{◌≡◌, ◌∙◌, ℕ, ◌-◌, List, [], length, Option, None, ap, refl, sym, subst, arith}
-use Rattle.rc_types.specs.declared.messages.Message.{Message}
+use Rattle.std.proofs.Common.{◌≡◌, ◌∙◌, ℕ, ◌-◌, List, [], length, None, ap, refl, sym, subst, arith}
 use Rattle.rc_world.specs.NodeView.{NodeData, node_seen}
 use Rattle.rc_saves.specs.Claims.{IsSaved}
 use Rattle.rc_process.specs.View.{ProcessData, ProcessView, begun, save_begun}
-use Rattle.rc_session.specs.View.{SessionData, SessionView}
+use Rattle.rc_session.specs.View.{SessionData}
 use Rattle.rc_session.specs.Claims.{IsFirst}
 
 nothing_before : (xs before : List ℕ) → before ≡ [] → length xs - length before ≡ length xs

@@ -1,5 +1,5 @@
 -- What is in hand, and leaves or stays.
-use Rattle.std.proofs.Common.{◌≡◌, ℕ, ◌<◌, List, [], ◌++◌, length, drop, refl, ap, ◌∙◌, subst, sym, Option, Some, None}
+use Rattle.std.proofs.Common.{◌≡◌, ℕ, ◌<◌, List, ◌++◌, length, drop, refl, ap, ◌∙◌, subst, sym, Some, None}
 use Rattle.rc_types.specs.declared.messages.Message.{Message}
 use Rattle.rc_process.specs.View.{Leaves}
 use Rattle.rc_session.specs.View.{SessionView, all_framed, hand_code}

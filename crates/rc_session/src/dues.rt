@@ -1,8 +1,6 @@
 //! What is due, by who was heard.
 
-ghost use Rattle.std.specs.Prelude.{◌≡◌, ◌++◌, ◌∷◌, Err, Some, IfOk, OnOk};
-ghost use Rattle.std.specs.List.{flat_map};
-ghost use Rattle.rc_types.specs.declared.ids.ServerId.{ServerId as Id};
+ghost use Rattle.std.specs.Prelude.{◌≡◌, ◌++◌, Err, Some, IfOk, OnOk};
 ghost use Rattle.rc_codec.specs.Parts.{listed};
 ghost use Rattle.rc_codec.specs.Spelling.{id_code};
 ghost use Rattle.rc_session.specs.Looks.{AreDue, due_code, all_due};

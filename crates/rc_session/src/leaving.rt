@@ -1,8 +1,6 @@
 //! What may leave, coded, into the caller's room.
 
-ghost use Rattle.std.specs.Prelude.{[], ◌≡◌, ◌++◌, ◌<◌, true, false, length, Some, None, OnOk, IfOk, IsTrue};
-ghost use Rattle.std.specs.List.{flat_map};
-ghost use Rattle.rc_codec.specs.Spelling.{coded_message};
+ghost use Rattle.std.specs.Prelude.{◌≡◌, ◌++◌, ◌<◌, true, false, length, Some, None, OnOk, IfOk, IsTrue};
 ghost use Rattle.rc_process.specs.View.{AllWait};
 ghost use Rattle.rc_session.specs.View.{session_seen, framed, all_framed, hand_code};
 ghost use Rattle.rc_session.specs.Claims.{IsInHand, IfLeft, IfNoRoom, HasLeft, HasNoRoom};

@@ -1,8 +1,8 @@
 //! A save of the node takes the journal's place.
 
-ghost use Rattle.std.specs.Prelude.{[], ◌≡◌, ◌↔◌, ◌<◌, ◌++◌, true, false, length, drop, IsTrue, Err, None, OnOk, OnErr};
+ghost use Rattle.std.specs.Prelude.{[], ◌≡◌, ◌↔◌, ◌<◌, ◌++◌, true, false, length, drop, IsTrue, Err, OnOk, OnErr};
 ghost use Rattle.rc_saves.specs.Claims.{IsSaved};
-ghost use Rattle.rc_process.specs.View.{process_seen, save_begun, moved};
+ghost use Rattle.rc_process.specs.View.{save_begun, moved};
 ghost use Rattle.rc_session.specs.View.{session_seen};
 ghost use Rattle.rc_session.specs.Claims.{MaySave, MayEndSave};
 ghost use Rattle.rc_session.specs.declared.faults.SessionFault.TheVariants as why;

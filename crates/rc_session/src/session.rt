@@ -1,8 +1,7 @@
 //! A node in its process, and what has not been taken from it yet.
 
-ghost use Rattle.std.specs.Prelude.{[], ◌≡◌, ◌≤◌, ◌<◌, ◌-◌, ◌↔◌, ◌⊎◌, ◌++◌, true, false, length, drop, IsTrue, not};
+ghost use Rattle.std.specs.Prelude.{[], ◌≡◌, ◌≤◌, ◌<◌, ◌-◌, ◌↔◌, ◌⊎◌, ◌++◌, true, false, length, drop, IsTrue};
 ghost use Rattle.std.specs.Prelude.{ℕ, Err, None, OnOk, OnErr, IfOk, IfErr};
-ghost use Rattle.rc_types.specs.declared.events.NodeWork.{NodeWork as Given};
 ghost use Rattle.rc_model.specs.Coordinator.{new_coordinator};
 ghost use Rattle.rc_history.specs.Nodes.{TheCoordinator, TheHost};
 ghost use Rattle.rc_model.specs.Nodes.{new_host, master_setup};
