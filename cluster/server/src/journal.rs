@@ -166,3 +166,47 @@ impl Journal {
         }
     }
 }
+
+#[cfg(test)]
+mod tests {
+    use super::*;
+
+    fn empty_folder(name: &str) -> PathBuf {
+        let folder = std::env::temp_dir().join(format!("sevunthi-{name}-{}", std::process::id()));
+        let _ = fs::remove_dir_all(&folder);
+        folder
+    }
+
+    #[test]
+    fn a_journal_that_is_gone_is_not_made_anew() -> io::Result<()> {
+        let folder = empty_folder("gone");
+        let journal = Journal::create(&folder, find(&folder)?, b"save")?;
+        assert!(find(&folder).is_err(), "the folder is locked");
+        drop(journal);
+        let found = find(&folder)?;
+        assert_eq!((found.bytes.as_deref(), found.known), (Some(&b"save"[..]), 4));
+        drop(found);
+        fs::remove_file(folder.join("journal"))?;
+        assert!(find(&folder).is_err());
+        fs::remove_dir_all(&folder)
+    }
+
+    #[test]
+    fn a_save_takes_the_place_of_the_journal() -> io::Result<()> {
+        let folder = empty_folder("save");
+        let mut journal = Journal::create(&folder, find(&folder)?, b"first")?;
+        journal.add(b" and more")?;
+        journal.sync()?;
+        journal.replace(b"short")?;
+        journal.add(b" again")?;
+        journal.sync()?;
+        drop(journal);
+        fs::write(folder.join("next"), b"left behind")?;
+        let found = find(&folder)?;
+        assert_eq!((found.bytes.as_deref(), found.known), (Some(&b"short again"[..]), 11));
+        assert!(!folder.join("next").exists());
+        drop(Journal::open(&folder, found, 5)?);
+        assert_eq!(fs::read(folder.join("journal"))?, b"short");
+        fs::remove_dir_all(&folder)
+    }
+}
