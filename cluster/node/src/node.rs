@@ -94,13 +94,13 @@ pub struct Node {
 
 impl Drop for Node {
     fn drop(&mut self) {
-        unsafe { raw::sevunthi_free(&mut self.raw) }
+        raw::sevunthi_free(&mut self.raw);
     }
 }
 
 impl Node {
     fn made(make: impl FnOnce(&mut RawNode) -> u32) -> Result<Node, Fault> {
-        let mut node = Node { raw: RawNode::empty(), room: vec![0; 4096] };
+        let mut node = Node { raw: RawNode::empty(), room: vec![0; LEAST_ROOM] };
         Fault::of(make(&mut node.raw))?;
         Ok(node)
     }
@@ -108,18 +108,19 @@ impl Node {
     /// The coordinator, before anything has happened. It is made once, when the cluster is set up: its [`Ready`] has the
     /// journal's file to begin with, which has to be safe before the node is given anything.
     pub fn coordinator() -> Result<Node, Fault> {
-        Node::made(|raw| unsafe { raw::sevunthi_coordinator(raw) })
+        Node::made(|raw| raw::sevunthi_coordinator(raw))
     }
 
     /// A host that was never started. Its file begins as the coordinator's does.
     pub fn host(shape: Shape) -> Result<Node, Fault> {
         let Shape { index, factor, segment, free } = shape;
-        Node::made(|raw| unsafe { raw::sevunthi_host(raw, index, factor, segment, free) })
+        Node::made(|raw| raw::sevunthi_host(raw, index, factor, segment, free))
     }
 
     /// The node that comes back from its file, of which `known` bytes were known to be safe. A host is stopped. The file
     /// has to be cut to [`Node::good`] bytes; then what [`Ready`] says is added, and all is synced.
     pub fn come_back(file: &[u8], known: usize) -> Result<Node, Fault> {
+        // SAFETY: the pointer and the length are the slice's
         Node::made(|raw| unsafe { raw::sevunthi_come_back(raw, file.as_ptr(), file.len(), known) })
     }
 
@@ -132,17 +133,19 @@ impl Node {
     /// Gives the node a work.
     pub fn step(&mut self, work: Work) -> Result<(), Fault> {
         let code = work.code();
+        // SAFETY: the pointer and the length are the vector's
         Fault::of(unsafe { raw::sevunthi_step(&mut self.raw, code.as_ptr(), code.len()) })
     }
 
     /// Delivers a coded message, which has to be for this node.
     pub fn deliver(&mut self, message: &[u8]) -> Result<(), Fault> {
+        // SAFETY: the pointer and the length are the slice's
         Fault::of(unsafe { raw::sevunthi_deliver(&mut self.raw, message.as_ptr(), message.len()) })
     }
 
     /// Starts the host's server anew: stops it, if it runs, and starts it with all open replicas that the host has.
     pub fn start(&mut self) -> Result<(), Fault> {
-        Fault::of(unsafe { raw::sevunthi_start(&mut self.raw) })
+        Fault::of(raw::sevunthi_start(&mut self.raw))
     }
 
     /// Adds to `ready` what the node wants now.
@@ -161,12 +164,12 @@ impl Node {
 
     /// So many bytes of the journal's file are safe.
     pub fn synced(&mut self, count: usize) -> Result<(), Fault> {
-        Fault::of(unsafe { raw::sevunthi_synced(&mut self.raw, count) })
+        Fault::of(raw::sevunthi_synced(&mut self.raw, count))
     }
 
     /// Begins a save, which is the second file. From now on what [`Ready`] has for the journal belongs at the end of both.
     pub fn save(&mut self) -> Result<Vec<u8>, Fault> {
-        Fault::of(unsafe { raw::sevunthi_save(&mut self.raw) })?;
+        Fault::of(raw::sevunthi_save(&mut self.raw))?;
         let mut second = Vec::new();
         Fault::of(self.take(raw::sevunthi_take_second, &mut second))?;
         Ok(second)
@@ -174,13 +177,13 @@ impl Node {
 
     /// The second file has taken the journal's place, and that is safe.
     pub fn saved(&mut self) -> Result<(), Fault> {
-        Fault::of(unsafe { raw::sevunthi_saved(&mut self.raw) })
+        Fault::of(raw::sevunthi_saved(&mut self.raw))
     }
 
     /// The node at a glance.
     pub fn info(&mut self) -> Info {
         let mut info = RawInfo::default();
-        unsafe { raw::sevunthi_info(&mut self.raw, &mut info) };
+        raw::sevunthi_info(&mut self.raw, &mut info);
         Info {
             server: Id { index: info.index, generation: info.generation },
             runs: info.runs,
@@ -216,6 +219,7 @@ impl Node {
         let (heard, silent, stuck) = (ids_code(heard), ids_code(silent), ids_code(stuck));
         let mut code = Vec::new();
         let Node { raw, room } = self;
+        // SAFETY: each pointer stands before the length of its own vector, and `to` before that of the room
         let number = fill(room, &mut code, |to, room, needed| unsafe {
             raw::sevunthi_dues(
                 raw,
@@ -236,17 +240,25 @@ impl Node {
 
     fn take(&mut self, take: Take, to: &mut Vec<u8>) -> u32 {
         let Node { raw, room } = self;
+        // SAFETY: the pointer and the length are the room's
         fill(room, to, |at, room, needed| unsafe { take(raw, at, room, needed) })
     }
 }
 
+/// How many bytes of room a node has at least, and at most between calls.
+const LEAST_ROOM: usize = 4096;
+const MOST_ROOM: usize = 1 << 20;
+
 /// Adds what a call gives to `to`: it stands in the room first, which grows as the call asks for.
-fn fill(room: &mut Vec<u8>, to: &mut Vec<u8>, mut call: impl FnMut(*mut u8, usize, *mut usize) -> u32) -> u32 {
+fn fill(room: &mut Vec<u8>, to: &mut Vec<u8>, mut call: impl FnMut(*mut u8, usize, &mut usize) -> u32) -> u32 {
     loop {
         let mut needed = 0;
         match call(room.as_mut_ptr(), room.len(), &mut needed) {
             0 => {
                 to.extend_from_slice(&room[..needed]);
+                if MOST_ROOM < room.len() {
+                    *room = vec![0; LEAST_ROOM];
+                }
                 return 0;
             }
             6 => room.resize(needed.next_power_of_two(), 0),
@@ -277,6 +289,7 @@ fn tablet(code: &[u8]) -> Option<Tablet> {
 /// HMAC with SHA-256: a sum over a message that only who has the key can make.
 pub fn mac(key: &[u8], message: &[u8]) -> [u8; 32] {
     let mut sum = [0; 32];
+    // SAFETY: the pointers and the lengths are those of the two slices and of the array
     unsafe { raw::sevunthi_mac(key.as_ptr(), key.len(), message.as_ptr(), message.len(), sum.as_mut_ptr(), sum.len()) };
     sum
 }

@@ -37,7 +37,7 @@ pub fn run(options: &Options, target: &Target) -> Result<bool, String> {
     measured.latencies.sort_unstable();
     let count = measured.latencies.len();
     let at = |part: f64| measured.latencies.get((count as f64 * part) as usize).copied().unwrap_or(0);
-    println!(
+    say!(
         "{clients} clients: {:.0} a second, p50 {} us, p99 {} us, {count} done, {} refused, {:.1} us of server time each",
         count as f64 / measured.seconds,
         at(0.5),

@@ -105,6 +105,11 @@ pub struct Mangle {
 }
 
 impl Mangle {
+    /// Whether nothing is sent to this peer.
+    fn is_deaf(self, place: usize) -> bool {
+        self.deaf.checked_shr(place as u32).is_some_and(|bits| bits & 1 == 1)
+    }
+
     /// A drawn number below this one.
     fn below(&mut self, most: u64) -> u64 {
         self.drawn = self.drawn.wrapping_mul(6_364_136_223_846_793_005).wrapping_add(1_442_695_040_888_963_407);
@@ -122,20 +127,24 @@ impl Core {
     /// Opens the folder, makes the node or has it come back, and listens.
     pub fn open(config: Config) -> io::Result<(Core, Receiver<Event>)> {
         let found = journal::find(&config.folder)?;
-        let (mut node, good) = match &found.bytes {
+        let mut ready = Ready::default();
+        let (mut node, journal) = match &found.bytes {
             Some(bytes) => {
                 let mut node = Node::come_back(bytes, found.known)
                     .unwrap_or_else(|fault| failed("this node must not start", fault));
                 let good = node.good();
-                (node, good)
+                node.ready(&mut ready).map_err(io::Error::other)?;
+                let mut journal = Journal::open(&config.folder, found, good)?;
+                journal.add(&ready.journal)?;
+                journal.sync()?;
+                (node, journal)
             }
-            None => (new_node(&config).map_err(io::Error::other)?, 0),
+            None => {
+                let mut node = new_node(&config).map_err(io::Error::other)?;
+                node.ready(&mut ready).map_err(io::Error::other)?;
+                (node, Journal::create(&config.folder, found, &ready.journal)?)
+            }
         };
-        let mut journal = Journal::open(&config.folder, found, good)?;
-        let mut ready = Ready::default();
-        node.ready(&mut ready).map_err(io::Error::other)?;
-        journal.add(&ready.journal)?;
-        journal.sync()?;
         node.synced(journal.length).map_err(io::Error::other)?;
         ready.journal.clear();
         let (events, from) = channel();
@@ -168,7 +177,7 @@ impl Core {
 
     /// The clock rises with each use, and with time where that is ahead.
     fn tick_clock(&mut self) {
-        self.clock = (self.clock + 1).max(self.base + self.began.elapsed().as_nanos() as u64);
+        self.clock = self.clock.saturating_add(1).max(self.base + self.began.elapsed().as_nanos() as u64);
     }
 
     /// The clock jumps ahead.
@@ -180,7 +189,7 @@ impl Core {
     pub fn each_frame(&mut self, batch: &[u8], mut take: impl FnMut(&mut Core, Frame<'_>)) {
         for (clock, message) in frames(batch) {
             self.counts.frames += 1;
-            self.clock = self.clock.max(clock + 1);
+            self.clock = self.clock.max(clock.saturating_add(1));
             match message.split_first() {
                 Some((&HEARTBEAT, id)) => {
                     if let Some(id) = Id::read(id) {
@@ -251,7 +260,7 @@ impl Core {
             self.local.push_back(message.to_vec());
             return;
         }
-        if self.mangle.deaf >> place & 1 == 1 {
+        if self.mangle.is_deaf(place) {
             return;
         }
         let Some(out) = self.outs.get_mut(place) else { return };

@@ -1,11 +1,11 @@
 //! The process of a host.
 
-use crate::core::{Config, Core, Frame};
+use crate::core::{Config, Core, Frame, failed};
 use crate::net::Event;
 use crate::protocol::{DONE, NO_VALUE, Op, Reply, Request, UNKNOWN, WRONG};
 use crate::wire::HEARTBEAT;
 use sevunthi::message::{self, framed, kind, u32_at, u64_at};
-use sevunthi::{Answer, Envelope, Id, Work};
+use sevunthi::{Answer, Envelope, Fault, Id, Work};
 use std::collections::{HashMap, VecDeque};
 use std::fmt::Write as _;
 use std::io;
@@ -106,8 +106,11 @@ impl Host {
             self.confirm();
             self.settle();
             let info = self.core.node.info();
-            if self.is_replaced || info.is_deposed || LAST_HEAD < info.head {
-                eprintln!("server {} was replaced, or its log is long: it begins anew", self.server);
+            if self.is_replaced || info.is_deposed || LAST_HEAD < info.head || !info.runs {
+                eprintln!(
+                    "server {} was replaced, or its log is long, or it has not started: it begins anew",
+                    self.server
+                );
                 self.begin();
             }
             self.core.shorten();
@@ -139,7 +142,7 @@ impl Host {
                     Frame::Heartbeat(_) => {}
                 });
                 self.is_replaced |= is_replaced;
-                self.grants.append(&mut grants);
+                grants.into_iter().for_each(|grant| self.note_grant(grant));
             }
             Event::Client(client, bytes) => {
                 for bytes in framed(&bytes) {
@@ -189,8 +192,11 @@ impl Host {
             _ => message::write(self.server, table, key, Some(value), &mut code),
         }
         let before = self.core.node.info();
-        let is_taken = self.core.node.deliver(&code).is_ok();
+        let taken = self.core.node.deliver(&code);
         self.code = code;
+        if taken == Err(Fault::UsedUp) {
+            failed("the node's numbers are used up", Fault::UsedUp);
+        }
         self.core.counts.works += 1;
         let place = (before.head, before.entries);
         let mut said = None;
@@ -203,7 +209,8 @@ impl Host {
             }
         }
         let after = self.core.node.info();
-        if is_taken && matches!(op, Op::Put | Op::Delete) && said.is_none() && place != (after.head, after.entries) {
+        if taken.is_ok() && matches!(op, Op::Put | Op::Delete) && said.is_none() && place != (after.head, after.entries)
+        {
             self.next = (place.0, place.1 + 1);
             self.pending.insert(place, asked);
             return true;
@@ -309,9 +316,17 @@ impl Host {
     }
 
     fn take_local(&mut self, message: &[u8]) {
-        if self.core.deliver(message) {
-            self.grants.extend(granted(message, self.server));
+        if self.core.deliver(message)
+            && let Some(grant) = granted(message, self.server)
+        {
+            self.note_grant(grant);
         }
+    }
+
+    /// A range was granted, perhaps again.
+    fn note_grant(&mut self, grant: (u32, u64, u64)) {
+        self.grants.retain(|other| *other != grant);
+        self.grants.push(grant);
     }
 
     fn route(&mut self) {

@@ -44,7 +44,8 @@ pub struct Found {
     lock: File,
 }
 
-/// Locks the folder, and reads what stands there. A second file that was left is removed unread.
+/// Locks the folder, and reads what stands there. A second file that was left is removed unread. A journal that is gone,
+/// though bytes of it were safe, is an error: its node has forgotten what others know.
 pub fn find(folder: &Path) -> io::Result<Found> {
     fs::create_dir_all(folder)?;
     let lock = OpenOptions::new().create(true).append(true).open(folder.join("lock"))?;
@@ -60,8 +61,12 @@ pub fn find(folder: &Path) -> io::Result<Found> {
         Err(error) => return Err(error),
     };
     let known = match fs::read(folder.join("known")) {
-        Ok(bytes) => sevunthi::message::u64_at(&bytes, 0).unwrap_or(0) as usize,
-        Err(_) => 0,
+        Ok(_) if bytes.is_none() => {
+            return Err(io::Error::new(ErrorKind::NotFound, "the journal is gone: this node must not start"));
+        }
+        Ok(known) => sevunthi::message::u64_at(&known, 0).unwrap_or(0) as usize,
+        Err(error) if error.kind() == ErrorKind::NotFound => 0,
+        Err(error) => return Err(error),
     };
     Ok(Found { bytes, known, lock })
 }
@@ -71,9 +76,22 @@ fn sync_folder(folder: &Path) -> io::Result<()> {
 }
 
 impl Journal {
-    /// The journal that was found, cut to its good bytes, or an empty one.
+    /// The first journal of a node, which is these bytes. It stands there whole and safe, or not at all.
+    pub fn create(folder: &Path, found: Found, first: &[u8]) -> io::Result<Journal> {
+        let next = folder.join("next");
+        let mut file = OpenOptions::new().create(true).truncate(true).write(true).open(&next)?;
+        file.write_all(first)?;
+        file.sync_all()?;
+        fs::rename(&next, folder.join("journal"))?;
+        sync_folder(folder)?;
+        let journal = Journal::open(folder, found, first.len())?;
+        journal.note(journal.length)?;
+        Ok(journal)
+    }
+
+    /// The journal that was found, cut to its good bytes.
     pub fn open(folder: &Path, found: Found, good: usize) -> io::Result<Journal> {
-        let file = OpenOptions::new().create(true).append(true).open(folder.join("journal"))?;
+        let file = OpenOptions::new().append(true).open(folder.join("journal"))?;
         file.set_len(good as u64)?;
         file.sync_all()?;
         let known = OpenOptions::new().create(true).truncate(false).write(true).open(folder.join("known"))?;
@@ -146,5 +164,49 @@ impl Journal {
             eprintln!("ends in a save, after step {step}");
             std::process::abort();
         }
+    }
+}
+
+#[cfg(test)]
+mod tests {
+    use super::*;
+
+    fn empty_folder(name: &str) -> PathBuf {
+        let folder = std::env::temp_dir().join(format!("sevunthi-{name}-{}", std::process::id()));
+        let _ = fs::remove_dir_all(&folder);
+        folder
+    }
+
+    #[test]
+    fn a_journal_that_is_gone_is_not_made_anew() -> io::Result<()> {
+        let folder = empty_folder("gone");
+        let journal = Journal::create(&folder, find(&folder)?, b"save")?;
+        assert!(find(&folder).is_err(), "the folder is locked");
+        drop(journal);
+        let found = find(&folder)?;
+        assert_eq!((found.bytes.as_deref(), found.known), (Some(&b"save"[..]), 4));
+        drop(found);
+        fs::remove_file(folder.join("journal"))?;
+        assert!(find(&folder).is_err());
+        fs::remove_dir_all(&folder)
+    }
+
+    #[test]
+    fn a_save_takes_the_place_of_the_journal() -> io::Result<()> {
+        let folder = empty_folder("save");
+        let mut journal = Journal::create(&folder, find(&folder)?, b"first")?;
+        journal.add(b" and more")?;
+        journal.sync()?;
+        journal.replace(b"short")?;
+        journal.add(b" again")?;
+        journal.sync()?;
+        drop(journal);
+        fs::write(folder.join("next"), b"left behind")?;
+        let found = find(&folder)?;
+        assert_eq!((found.bytes.as_deref(), found.known), (Some(&b"short again"[..]), 11));
+        assert!(!folder.join("next").exists());
+        drop(Journal::open(&folder, found, 5)?);
+        assert_eq!(fs::read(folder.join("journal"))?, b"short");
+        fs::remove_dir_all(&folder)
     }
 }

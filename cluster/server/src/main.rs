@@ -1,5 +1,14 @@
 //! A replicated log on sockets and disks: one process for each node, clients, and a supervisor.
 
+/// Prints a line. Where nobody reads any more the program ends.
+macro_rules! say {
+    ($($words:tt)*) => {
+        if std::io::Write::write_fmt(&mut std::io::stdout(), format_args!("{}\n", format_args!($($words)*))).is_err() {
+            std::process::exit(0);
+        }
+    };
+}
+
 mod bench;
 mod client;
 mod coordinator;
@@ -49,11 +58,14 @@ fn main() -> ExitCode {
 }
 
 fn target(options: &Options) -> Result<Target, String> {
-    Ok(Target {
-        address: options.get("--address", "127.0.0.1".to_string())?,
-        port: options.get("--port", 7300)?,
-        hosts: options.get("--hosts", 4)?,
-    })
+    let (port, hosts) = (options.get("--port", 7300)?, options.get("--hosts", 4)?);
+    if !(1..=64).contains(&hosts) {
+        return Err("--hosts is 1 to 64".to_string());
+    }
+    if u16::checked_add(port, u16::from(hosts)).is_none() {
+        return Err("--port is too high: each host has one, and the coordinator the next".to_string());
+    }
+    Ok(Target { address: options.get("--address", "127.0.0.1".to_string())?, port, hosts })
 }
 
 fn run(command: &str, options: &Options) -> Result<bool, String> {
@@ -85,11 +97,11 @@ fn ask(command: &str, options: &Options) -> Result<bool, String> {
         _ => client.put(table, key, options.word(2).ok_or("the value is missing")?.as_bytes()),
     };
     match &outcome {
-        Outcome::Written(version) => println!("version {version}"),
-        Outcome::Read(version, Some(value)) => println!("{} (version {version})", String::from_utf8_lossy(value)),
-        Outcome::Read(version, None) => println!("no value (version {version})"),
-        Outcome::Unknown => println!("unknown: it may have been done, or may still be done"),
-        Outcome::Refused(code) => println!("refused: F{code}"),
+        Outcome::Written(version) => say!("version {version}"),
+        Outcome::Read(version, Some(value)) => say!("{} (version {version})", String::from_utf8_lossy(value)),
+        Outcome::Read(version, None) => say!("no value (version {version})"),
+        Outcome::Unknown => say!("unknown: it may have been done, or may still be done"),
+        Outcome::Refused(code) => say!("refused: F{code}"),
     }
     Ok(matches!(outcome, Outcome::Written(_) | Outcome::Read(..)))
 }
@@ -118,10 +130,10 @@ fn status(target: &Target) -> Result<bool, String> {
     for place in (0..=target.hosts).rev() {
         let name = if place == target.hosts { "coordinator".to_string() } else { format!("host {place}") };
         match client.call(place, Op::Status, 0, 0, &[]) {
-            Ok(reply) => println!("{name}\n{}", indented(&String::from_utf8_lossy(&reply.value))),
+            Ok(reply) => say!("{name}\n{}", indented(&String::from_utf8_lossy(&reply.value))),
             Err(_) => {
                 all = false;
-                println!("{name}\n  does not answer");
+                say!("{name}\n  does not answer");
             }
         }
     }

@@ -69,9 +69,13 @@ pub fn run(options: &Options) -> Result<bool, String> {
     }
     fs::write(folder.join("history"), history.lock().map_err(|_| "no history")?.as_str())
         .map_err(|error| error.to_string())?;
-    println!(
+    say!(
         "seed {seed}: {} faults, {} writes, {} reads, {} unknown, longest gap {} ms",
-        storm.faults, done.writes, done.reads, done.unknown, done.gap
+        storm.faults,
+        done.writes,
+        done.reads,
+        done.unknown,
+        done.gap
     );
     Ok(done.gap <= options.get("--gap", 3000)?)
 }
@@ -87,7 +91,7 @@ struct Storm {
 impl Storm {
     fn say(&mut self, what: &str) {
         self.faults += 1;
-        println!("{:6} ms: {what}", self.began.elapsed().as_millis());
+        say!("{:6} ms: {what}", self.began.elapsed().as_millis());
     }
 
     fn one_fault(&mut self) -> Result<(), String> {
@@ -179,7 +183,7 @@ impl Storm {
 
     fn start_ended(&mut self) -> Result<(), String> {
         for (place, how) in self.cluster.ended() {
-            println!("           {place} has ended: {how}");
+            say!("           {place} has ended: {how}");
             self.cluster.start(place)?;
         }
         Ok(())
@@ -187,7 +191,7 @@ impl Storm {
 
     /// No more faults.
     fn calm(&mut self) -> Result<(), String> {
-        println!("{:6} ms: calm", self.began.elapsed().as_millis());
+        say!("{:6} ms: calm", self.began.elapsed().as_millis());
         for _ in 0..10 {
             self.start_ended()?;
             thread::sleep(Duration::from_millis(300));

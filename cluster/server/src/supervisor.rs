@@ -13,18 +13,25 @@ use std::process::{Child, Command, Stdio};
 use std::thread;
 use std::time::Duration;
 
+/// How many bytes a secret has.
+const SECRET: usize = 32;
+
 /// Runs one node, until its input ends: whoever started it has then ended.
 pub fn serve(options: &Options) -> Result<(), String> {
     let folder: PathBuf = options.get("--folder", String::new())?.into();
     let secret: PathBuf = options.get("--secret", String::new())?.into();
-    let index: i32 = options.get("--index", -1)?;
+    let Target { address, port, hosts } = crate::target(options)?;
+    let index = options.has("--index").then(|| options.get("--index", 0)).transpose()?;
+    if index.is_some_and(|index: u8| hosts <= index) {
+        return Err(format!("--index is below {hosts}, the number of hosts"));
+    }
     let config = Config {
-        index: u8::try_from(index).ok(),
-        hosts: options.get("--hosts", 4)?,
-        address: options.get("--address", "127.0.0.1".to_string())?,
-        port: options.get("--port", 7300)?,
+        index,
+        hosts,
+        address,
+        port,
         folder,
-        secret: fs::read(&secret).map_err(|error| format!("{}: {error}", secret.display()))?,
+        secret: read_secret(&secret)?,
         factor: options.get("--factor", 2)?,
         segment: options.get("--segment", 1024)?,
         tick: options.get("--tick", 200)?,
@@ -40,6 +47,15 @@ pub fn serve(options: &Options) -> Result<(), String> {
     });
     let run = if config.index.is_some() { host::run } else { coordinator::run };
     run(config).map_err(|error| error.to_string())
+}
+
+/// What the peers share, which has to be long enough that nobody guesses it.
+fn read_secret(file: &Path) -> Result<Vec<u8>, String> {
+    let secret = fs::read(file).map_err(|error| format!("{}: {error}", file.display()))?;
+    if secret.len() < SECRET {
+        return Err(format!("{}: a secret has at least {SECRET} bytes", file.display()));
+    }
+    Ok(secret)
 }
 
 /// A cluster of processes on this machine.
@@ -59,7 +75,7 @@ impl Cluster {
         let folder = folder.canonicalize().map_err(told)?;
         let secret = folder.join("secret");
         if !secret.exists() {
-            let mut bytes = [0; 32];
+            let mut bytes = [0; SECRET];
             File::open("/dev/urandom").and_then(|mut file| file.read_exact(&mut bytes)).map_err(told)?;
             let mut file = OpenOptions::new().create_new(true).write(true).mode(0o600).open(&secret).map_err(told)?;
             file.write_all(&bytes).map_err(told)?;
@@ -85,10 +101,12 @@ impl Cluster {
         fs::create_dir_all(&folder).map_err(|error| error.to_string())?;
         let log = OpenOptions::new().create(true).append(true).open(folder.join("log"));
         let log = log.map_err(|error| error.to_string())?;
-        let index = if place + 1 == self.places() { -1 } else { place as i32 };
+        let is_coordinator = place + 1 == self.places();
+        let index = if is_coordinator { Vec::new() } else { vec!["--index".to_string(), place.to_string()] };
         let program = std::env::current_exe().map_err(|error| error.to_string())?;
         let child = Command::new(program)
-            .args(["serve", "--index", &index.to_string(), "--hosts", &self.target.hosts.to_string()])
+            .args(["serve", "--hosts", &self.target.hosts.to_string()])
+            .args(&index)
             .args(["--address", &self.target.address, "--port", &self.target.port.to_string()])
             .arg("--folder")
             .arg(&folder)
@@ -162,19 +180,19 @@ pub fn up(options: &Options) -> Result<(), String> {
     let mut cluster = Cluster::new(crate::target(options)?, &folder, more)?;
     cluster.start_all()?;
     for place in 0..cluster.places() {
-        println!("process {} is {}", cluster.process(place).unwrap_or(0), cluster.folder(place).display());
+        say!("process {} is {}", cluster.process(place).unwrap_or(0), cluster.folder(place).display());
     }
     let mut shown = String::new();
     loop {
         thread::sleep(Duration::from_millis(250));
         for (place, how) in cluster.ended() {
-            println!("{} has ended ({how}), and is started again", cluster.folder(place).display());
+            say!("{} has ended ({how}), and is started again", cluster.folder(place).display());
             thread::sleep(Duration::from_millis(100));
             cluster.start(place)?;
         }
         let now = glance(&cluster.target);
         if now != shown {
-            println!("{now}");
+            say!("{now}");
             shown = now;
         }
     }

@@ -16,7 +16,7 @@ pub fn run(options: &Options) -> Result<bool, String> {
     }
     all.sort_by_key(|&(clock, place, number, _)| (clock, place, number));
     let rows: Vec<String> = all.iter().filter_map(|(.., message)| row(message)).collect();
-    println!("{{\"format\":1,\"messages\":[\n{}\n]}}", rows.join(",\n"));
+    say!("{{\"format\":1,\"messages\":[\n{}\n]}}", rows.join(",\n"));
     eprintln!("{} messages, {} in the trace", all.len(), rows.len());
     Ok(true)
 }

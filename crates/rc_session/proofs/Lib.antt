@@ -1,1 +1,6 @@
 pub mod Wholes
+pub mod Leavings
+pub mod Whose
+pub mod Marks
+pub mod Names
+pub mod Firsts

@@ -1,5 +1,5 @@
 -- Bytes that are one coding, and nothing behind it.
-use Rattle.std.proofs.Common.{◌≡◌, ℕ, List, [], ◌∷◌, ◌++◌, length, ◌⊎◌, inl, inr, ⊎_elim, refl, sym, ap, ◌∙◌, subst, arith, Result, Ok, Err}
+use Rattle.std.proofs.Common.{◌≡◌, ℕ, List, [], ◌∷◌, ◌++◌, length, ◌⊎◌, ⊎_elim, sym, ap, ◌∙◌, arith, Result, Ok, Err}
 use Rattle.std.proofs.Common.{length-append, ◌<◌, OnOk}
 use Rattle.std.proofs.lemmas.List.{append-nil}
 use Rattle.rc_types.specs.declared.events.NodeWork.{NodeWork}

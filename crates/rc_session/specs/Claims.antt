@@ -1,6 +1,6 @@
 -- What calls of a session promise.
-use Rattle.std.specs.Prelude.{◌≡◌, ◌⊎◌, ◌<◌, ◌≤◌, ℕ, Bool, List, [], ◌∷◌, ◌++◌, length, drop, true, false}
-use Rattle.std.specs.Prelude.{Option, Some, None}
+use Rattle.std.specs.Prelude.{◌≡◌, ◌<◌, ◌≤◌, ℕ, Bool, List, [], ◌++◌, length, drop, false}
+use Rattle.std.specs.Prelude.{Some, None}
 use Rattle.rc_types.specs.declared.events.NodeWork.{NodeWork}
 use Rattle.rc_types.specs.declared.events.NodeWork.TheVariants.{Deliver}
 use Rattle.rc_types.specs.declared.limits.TheConstants.{MAX_HOSTS, MAX_FACTOR, MAX_SEGMENT}
@@ -11,7 +11,7 @@ use Rattle.rc_codec.specs.Spelling.{coded_message}
 use Rattle.rc_keeping.specs.Spelling.{coded_work}
 use Rattle.rc_world.specs.NodeView.{NodeData, node_seen, may_take}
 use Rattle.rc_saves.specs.Claims.{IsSaved}
-use Rattle.rc_process.specs.View.{ProcessView, Leaves, begun}
+use Rattle.rc_process.specs.View.{Leaves, begun}
 use Rattle.rc_session.specs.declared.leaving.Leaving.{Leaving}
 use Rattle.rc_session.specs.declared.leaving.Leaving.TheVariants as leaving
 use Rattle.rc_session.specs.View.{SessionView, SessionData, takes, all_framed}

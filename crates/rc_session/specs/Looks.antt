@@ -1,14 +1,12 @@
 -- What is shown of a session to whoever runs it.
-use Rattle.std.specs.Prelude.{◌≡◌, ℕ, ◌-◌, Bool, true, false, ◌||◌, if◌then◌else◌, List, [], ◌∷◌, ◌++◌, length}
-use Rattle.std.specs.Prelude.{Option, Some, None, not, is_some}
+use Rattle.std.specs.Prelude.{◌≡◌, ℕ, Bool, true, false, ◌||◌, if◌then◌else◌, List, [], ◌∷◌, length}
+use Rattle.std.specs.Prelude.{Option, Some, None, is_some}
 use Rattle.std.specs.List.{flat_map}
 use Rattle.rc_types.specs.declared.ids.ServerId.{ServerId}
-use Rattle.rc_types.specs.declared.rows.Tablet.{Tablet}
 use Rattle.rc_model.specs.Log.{Log, has_segment}
 use Rattle.rc_codec.specs.Parts.{listed}
 use Rattle.rc_codec.specs.Spelling.{id_code, tablet_code, up_code}
 use Rattle.rc_coordinator.specs.Book.{Book}
-use Rattle.rc_headroll.specs.LogData.{log_of}
 use Rattle.rc_master.specs.Data.{MasterData, master_of}
 use Rattle.rc_world.specs.NodeView.{NodeData, node_seen, node_runs, own_server, master_in, book_in}
 use Rattle.rc_process.specs.View.{Held}

@@ -1,5 +1,5 @@
 -- A session as its contracts see it, and what becomes of it in each call.
-use Rattle.std.specs.Prelude.{◌≡◌, ℕ, if◌then◌else◌, List, [], ◌∷◌, ◌++◌, length, Option, Some, None}
+use Rattle.std.specs.Prelude.{ℕ, if◌then◌else◌, List, [], ◌++◌, length, Option, Some, None}
 use Rattle.std.specs.List.{flat_map}
 use Rattle.rc_types.specs.declared.ids.ServerId.{ServerId}
 use Rattle.rc_types.specs.declared.events.NodeWork.{NodeWork}
@@ -64,3 +64,8 @@ framed message = four_bytes (length (coded_message message)) ++ coded_message me
 
 abbrev pub all_framed : List Message → List ℕ
 all_framed messages = flat_map framed messages
+
+-- what is in hand, if anything is
+abbrev pub hand_code : Option (List Message) → List ℕ
+hand_code None = []
+hand_code (Some messages) = all_framed messages

@@ -1,8 +1,6 @@
 //! What is due, by who was heard.
 
-ghost use Rattle.std.specs.Prelude.{◌≡◌, ◌++◌, ◌∷◌, Err, Some, IfOk, OnOk};
-ghost use Rattle.std.specs.List.{flat_map};
-ghost use Rattle.rc_types.specs.declared.ids.ServerId.{ServerId as Id};
+ghost use Rattle.std.specs.Prelude.{◌≡◌, ◌++◌, Err, Some, IfOk, OnOk};
 ghost use Rattle.rc_codec.specs.Parts.{listed};
 ghost use Rattle.rc_codec.specs.Spelling.{id_code};
 ghost use Rattle.rc_session.specs.Looks.{AreDue, due_code, all_due};
@@ -23,6 +21,7 @@ impl Session {
     /// # Errors
     ///
     /// `Refused`: the node is not the coordinator. `Malformed`: a list is none. `NoMemory`.
+    #[tactic(auto, using(crate::proofs::Whose::are_due))]
     pub fn dues(&self, heard: &[u8], silent: &[u8], stuck: &[u8]) -> Result<Vec<u8>, SessionFault>
         ensures { IfOk result (λ code. AreDue heard.now silent.now stuck.now self.now.process.node code.items) }
     {

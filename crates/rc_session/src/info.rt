@@ -1,13 +1,15 @@
 //! A node at a glance.
 
-ghost use Rattle.std.specs.Prelude.{◌≡◌, ◌↔◌, true};
+ghost use Rattle.std.specs.Prelude.{◌≡◌, ◌↔◌, ◌||◌, true, is_some};
 ghost use Rattle.rc_master.specs.Data.{master_of};
-ghost use Rattle.rc_world.specs.NodeView.{node_seen, NodeHasRoom};
-ghost use Rattle.rc_session.specs.Looks.{info_of, entries_at};
+ghost use Rattle.rc_world.specs.NodeView.{node_seen, master_in, NodeHasRoom};
+ghost use Rattle.rc_session.specs.Looks.{info_of, entries_at, deposed_of, head_of, entries_of, is_held, is_begun};
 
 use crate::session::Session;
 use rc_master::Master;
 use rc_types::ServerId;
+use rc_world::NodeState;
+use std::alloc::Global;
 
 /// A node at a glance. What only a host or its server has is 0, or does not hold, of another node.
 #[derive(Clone, Copy, Debug, PartialEq, Eq)]
@@ -43,10 +45,7 @@ impl Session {
         ensures room { (result.has_room ≡ true) ↔ NodeHasRoom (node_seen self.now.process.node) }
     {
         let node = self.process.node();
-        let (is_deposed, head, entries) = match node.master() {
-            Some(master) => look_at(master),
-            None => (false, 0, 0),
-        };
+        let (is_deposed, head, entries) = look_in(node);
         Info {
             server: node.server(),
             runs: node.runs(),
@@ -56,10 +55,48 @@ impl Session {
             written: self.process.written(),
             safe: self.process.safe(),
             untaken: self.journal.len(),
-            is_waiting: self.process.is_waiting() || self.hand.is_some(),
-            is_saving: self.process.is_saving(),
+            is_waiting: self.is_waiting(),
+            is_saving: self.is_saving(),
             has_room: node.has_room(),
         }
+    }
+
+    /// Whether something is held back, or in hand.
+    fn is_waiting(&self) -> bool
+        ensures { result ≡ (is_held self.now.process.held || is_some self.now.hand) }
+    {
+        if self.is_holding() {
+            return true;
+        }
+        self.hand.is_some()
+    }
+
+    /// Whether something is held back.
+    #[tactic(auto, using(crate::proofs::Marks::held_is))]
+    fn is_holding(&self) -> bool
+        ensures { result ≡ is_held self.now.process.held }
+    {
+        self.process.is_waiting()
+    }
+
+    /// Whether a save was begun.
+    #[tactic(auto, using(crate::proofs::Marks::begun_is))]
+    fn is_saving(&self) -> bool
+        ensures { result ≡ is_begun self.now.process.saving }
+    {
+        self.process.is_saving()
+    }
+}
+
+/// Whether a node's master is deposed, its head, and how many entries that has.
+fn look_in(node: &NodeState<Global>) -> (bool, u16, usize)
+    ensures deposed { result.0 ≡ deposed_of (master_in node.now) }
+    ensures head { result.1 ≡ head_of (master_in node.now) }
+    ensures entries { result.2 ≡ entries_of (master_in node.now) }
+{
+    match node.master() {
+        Some(master) => look_at(master),
+        None => (false, 0, 0),
     }
 }
 

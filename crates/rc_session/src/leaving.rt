@@ -1,10 +1,8 @@
 //! What may leave, coded, into the caller's room.
 
-ghost use Rattle.std.specs.Prelude.{[], ◌≡◌, ◌++◌, ◌<◌, true, false, length, Some, None, OnOk, IfOk, IsTrue};
-ghost use Rattle.std.specs.List.{flat_map};
-ghost use Rattle.rc_codec.specs.Spelling.{coded_message};
+ghost use Rattle.std.specs.Prelude.{◌≡◌, ◌++◌, ◌<◌, true, false, length, Some, None, OnOk, IfOk, IsTrue};
 ghost use Rattle.rc_process.specs.View.{AllWait};
-ghost use Rattle.rc_session.specs.View.{session_seen, framed, all_framed};
+ghost use Rattle.rc_session.specs.View.{session_seen, framed, all_framed, hand_code};
 ghost use Rattle.rc_session.specs.Claims.{IsInHand, IfLeft, IfNoRoom, HasLeft, HasNoRoom};
 ghost use Rattle.rc_session.specs.declared.leaving.Leaving.TheVariants as leaving;
 
@@ -31,6 +29,7 @@ impl Session {
     /// Lets what one step has sent leave: moves it to the front of the caller's bytes, each message behind its length
     /// in four bytes, if they are enough. A step may have sent nothing, which takes no bytes. Call it until nothing may
     /// leave.
+    #[tactic(auto, using(crate::proofs::Leavings::has_left, crate::proofs::Leavings::has_no_room))]
     pub fn leave(&mut self, to: &mut [u8]) -> Leaving
         ensures left { IfLeft result (HasLeft (session_seen self.old) (session_seen self.new) to.old to.new) }
         ensures stays { IfNoRoom result (HasNoRoom (session_seen self.old) (session_seen self.new) to.old to.new) }
@@ -41,14 +40,9 @@ impl Session {
         if !self.take_in_hand() {
             return Leaving::Waits;
         }
-        let mut code = Vec::new(self.alloc);
-        let coded = match &self.hand {
-            Some(messages) => put_framed(self.alloc, messages.as_slice(), &mut code),
-            None => Ok(()),
-        };
-        if coded.is_err() {
+        let Ok(code) = self.hand_code() else {
             return Leaving::NoMemory;
-        }
+        };
         let count = code.len();
         if !copied(code.as_slice(), to) {
             return Leaving::NoRoom(count);
@@ -57,7 +51,20 @@ impl Session {
         Leaving::Left(count)
     }
 
+    /// What is in hand, coded.
+    fn hand_code(&self) -> Result<Vec<u8>, AllocError>
+        ensures { IfOk result (λ code. code.items ≡ hand_code self.now.hand) }
+    {
+        let mut code = Vec::new(self.alloc);
+        let Some(messages) = &self.hand else {
+            return Ok(code);
+        };
+        put_framed(self.alloc, messages.as_slice(), &mut code)?;
+        Ok(code)
+    }
+
     /// Takes in hand what one step has sent and may leave, if nothing is there. Says whether something is.
+    #[tactic(auto, using(crate::proofs::Leavings::was_in_hand, crate::proofs::Leavings::came_in_hand))]
     fn take_in_hand(&mut self) -> bool
         ensures held { IsTrue result → IsInHand (session_seen self.old) (session_seen self.new) }
         ensures waits { result ≡ false → AllWait (session_seen self.old).process }

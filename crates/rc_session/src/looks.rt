@@ -1,10 +1,10 @@
 //! What the coordinator knows of tablets and servers, coded.
 
-ghost use Rattle.std.specs.Prelude.{◌≡◌, ◌++◌, Err, Some, None, IfOk, OnOk};
+ghost use Rattle.std.specs.Prelude.{◌≡◌, ◌++◌, Err, Some, IfOk, OnOk};
 ghost use Rattle.std.specs.Option.{option_map};
 ghost use Rattle.std.specs.List.{flat_map};
 ghost use Rattle.rc_codec.specs.Parts.{listed};
-ghost use Rattle.rc_codec.specs.Spelling.{tablet_code, up_code};
+ghost use Rattle.rc_codec.specs.Spelling.{tablet_code};
 ghost use Rattle.rc_world.specs.NodeView.{book_in};
 ghost use Rattle.rc_session.specs.Looks.{tablets_code, servers_code};
 
@@ -12,7 +12,7 @@ use crate::faults::SessionFault;
 use crate::session::Session;
 use rc_codec::Put;
 use rc_types::{Seq, Tablet};
-use std::alloc::{AllocError, Global};
+use std::alloc::AllocError;
 
 impl Session {
     /// All tablets in order of table and first key: how many there are, in eight bytes, and of each table, first key,

@@ -1,8 +1,8 @@
 //! A save of the node takes the journal's place.
 
-ghost use Rattle.std.specs.Prelude.{[], ◌≡◌, ◌↔◌, ◌<◌, ◌++◌, true, false, length, drop, IsTrue, Err, None, OnOk, OnErr};
+ghost use Rattle.std.specs.Prelude.{[], ◌≡◌, ◌↔◌, ◌<◌, ◌++◌, true, false, length, drop, IsTrue, Err, OnOk, OnErr};
 ghost use Rattle.rc_saves.specs.Claims.{IsSaved};
-ghost use Rattle.rc_process.specs.View.{process_seen, save_begun, moved};
+ghost use Rattle.rc_process.specs.View.{save_begun, moved};
 ghost use Rattle.rc_session.specs.View.{session_seen};
 ghost use Rattle.rc_session.specs.Claims.{MaySave, MayEndSave};
 ghost use Rattle.rc_session.specs.declared.faults.SessionFault.TheVariants as why;
@@ -21,6 +21,7 @@ impl Session {
     ///
     /// `Refused`: what has to be added to the journal was not taken yet, or a save was begun. `NoMemory`. After each
     /// nothing has changed.
+    #[tactic(auto, using(crate::proofs::Firsts::save_is_begun))]
     pub fn save(&mut self) -> Result<(), SessionFault>
         ensures saved { OnOk result (IsSaved self.old.process.node [] self.new.second) }
         ensures begun { OnOk result (session_seen self.new ≡ record (session_seen self.old) {

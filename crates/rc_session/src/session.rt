@@ -1,11 +1,12 @@
 //! A node in its process, and what has not been taken from it yet.
 
-ghost use Rattle.std.specs.Prelude.{[], ◌≡◌, ◌≤◌, ◌<◌, ◌-◌, ◌↔◌, ◌⊎◌, ◌++◌, true, false, length, drop, IsTrue, not};
-ghost use Rattle.std.specs.Prelude.{Err, None, OnOk, OnErr, IfOk, IfErr};
-ghost use Rattle.rc_types.specs.declared.events.NodeWork.{NodeWork as Given};
+ghost use Rattle.std.specs.Prelude.{[], ◌≡◌, ◌≤◌, ◌<◌, ◌-◌, ◌↔◌, ◌⊎◌, ◌++◌, true, false, length, drop, IsTrue};
+ghost use Rattle.std.specs.Prelude.{ℕ, Err, None, OnOk, OnErr, IfOk, IfErr};
 ghost use Rattle.rc_model.specs.Coordinator.{new_coordinator};
 ghost use Rattle.rc_history.specs.Nodes.{TheCoordinator, TheHost};
-ghost use Rattle.rc_model.specs.Nodes.{new_host};
+ghost use Rattle.rc_model.specs.Nodes.{new_host, master_setup};
+ghost use Rattle.rc_types.specs.declared.limits.TheConstants.{MAX_FACTOR, MAX_SEGMENT};
+ghost use Rattle.rc_world.specs.HostView.{IsWithinLimits};
 ghost use Rattle.rc_world.specs.NodeView.{node_seen, may_take, NodeHasRoom};
 ghost use Rattle.rc_saves.specs.Claims.{BeginsWithNoSave};
 ghost use Rattle.rc_process.specs.View.{IsBack, process_seen};
@@ -94,16 +95,12 @@ impl Session {
         if !are_within(index, factor, segment) {
             return Err(SessionFault::OutOfRange);
         }
-        let setup = Setup {
-            factor,
-            segment,
-            free,
-            factors: Seq::new(alloc),
-        };
+        let setup = setup_for(alloc, factor, segment, free);
         Session::begin(alloc, NodeState::host(alloc, index, &setup))
     }
 
     /// The session of a new node.
+    #[tactic(auto, using(crate::proofs::Firsts::is_first))]
     fn begin(alloc: Global, node: NodeState<Global>) -> Result<Session, SessionFault>
         ensures new { IfOk result (λ session. IsFirst (node_seen node) session) }
         ensures fault { IfErr result (λ fault. fault ≡ why.NoMemory) }
@@ -240,6 +237,21 @@ impl Session {
         }
         self.process.synced(count);
         true
+    }
+}
+
+/// The setup of a host whose numbers are within the limits.
+fn setup_for(alloc: Global, factor: u8, segment: u16, free: bool) -> Setup
+    requires factor { (0 < factor) × (factor ≤ MAX_FACTOR) }
+    requires segment { segment ≤ MAX_SEGMENT }
+    ensures limits { IsWithinLimits result }
+    ensures each { (index : ℕ) → master_setup result index ≡ setup_for factor segment free }
+{
+    Setup {
+        factor,
+        segment,
+        free,
+        factors: Seq::new(alloc),
     }
 }
 

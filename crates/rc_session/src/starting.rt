@@ -54,6 +54,7 @@ impl Session {
 }
 
 /// The open replicas that a host has.
+#[tactic(auto, using(crate::proofs::Names::names_are))]
 fn open_names(node: &NodeState<Global>) -> Result<Seq<(ServerId, u16)>, SessionFault>
     ensures { IfOk result (λ names. names ≡ open_names_at (node_seen node.now)) }
 {

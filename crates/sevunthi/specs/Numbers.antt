@@ -1,5 +1,5 @@
 -- What an export answers, as numbers.
-use Rattle.std.specs.Prelude.{ℕ, Result, Ok, Err}
+use Rattle.std.specs.Prelude.{ℕ}
 use Rattle.rc_session.specs.declared.faults.SessionFault.{SessionFault}
 use Rattle.rc_session.specs.declared.faults.SessionFault.TheVariants as why
 
@@ -11,7 +11,3 @@ number_of why.UsedUp = 5
 number_of why.OutOfRange = 7
 number_of why.NoSave = 9
 number_of why.TooShort = 10
-
-abbrev pub answer_of : {A : Type 0} → Result A SessionFault → ℕ
-answer_of (Ok x) = 0
-answer_of (Err fault) = number_of fault

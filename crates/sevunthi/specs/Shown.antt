@@ -1,5 +1,5 @@
 -- What is shown of a node to a caller of C.
-use Rattle.std.specs.Prelude.{◌≡◌, ℕ, List, ◌++◌, length, drop}
+use Rattle.std.specs.Prelude.{◌≡◌, ℕ, List, ◌++◌, length, drop, Option, Some, None}
 use Rattle.rc_session.specs.declared.info.Info.{Info}
 use Rattle.sevunthi.specs.declared.looking.SevunthiInfo.{SevunthiInfo}
 
@@ -22,3 +22,8 @@ shown info = record {
 -- these bytes stand at the front of the caller's, and are so many
 abbrev pub IsGiven : List ℕ → List ℕ → List ℕ → ℕ → Type 0
 IsGiven code before after count = (after ≡ code ++ drop (length code) before) × (count ≡ length code)
+
+-- so do these, if there are any; and there are
+abbrev pub IsShown : Option (List ℕ) → List ℕ → List ℕ → ℕ → Type 0
+IsShown None before after count = ⊥
+IsShown (Some code) before after count = IsGiven code before after count

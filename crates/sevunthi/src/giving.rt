@@ -9,7 +9,8 @@ ghost use Rattle.rc_process.specs.View.{save_begun, moved};
 ghost use Rattle.rc_session.specs.View.{session_seen, started_anew, stopped};
 
 use crate::handle::SevunthiNode;
-use crate::numbers::{DONE, MISUSED, REFUSED, answer_of};
+use crate::numbers::{DONE, MISUSED, REFUSED, number_of};
+use rc_session::Session;
 use std::alloc::Global;
 
 /// Gives the node the work that these bytes are, as `rc_keeping` codes works.
@@ -30,9 +31,25 @@ pub extern "C" fn sevunthi_step(alloc: Global, node: &mut SevunthiNode, work: &[
         return MISUSED;
     }
     let mut session = node.take(alloc);
-    let answer = session.step(work);
+    let answer = step_in(&mut *session, work);
     *node = SevunthiNode::with(session);
-    answer_of(answer)
+    answer
+}
+
+/// Gives a session the work.
+fn step_in(session: &mut Session, work: &[u8]) -> u32
+    ensures taken { result ≡ 0 → TakesWork work.now (session_seen session.old) (session_seen session.new) }
+    ensures coded { result ≡ 0 → IsNoWork work.now → ⊥ }
+    ensures malformed { result ≡ 3 → IsNoWork work.now }
+    ensures refused { result ≡ 4 → CanNotTake work.now (session_seen session.old) }
+    ensures used_up { result ≡ 5 → NodeHasRoom (node_seen session.old.process.node) → ⊥ }
+    ensures same { (result ≡ 0 → ⊥) → session_seen session.new ≡ session_seen session.old }
+    ensures used { result ≡ 2 → ⊥ }
+{
+    match session.step(work) {
+        Ok(()) => DONE,
+        Err(fault) => number_of(fault),
+    }
 }
 
 /// Delivers the message that these bytes are, as `rc_codec` codes messages. It has to be for this node.
@@ -52,9 +69,24 @@ pub extern "C" fn sevunthi_deliver(alloc: Global, node: &mut SevunthiNode, messa
         return MISUSED;
     }
     let mut session = node.take(alloc);
-    let answer = session.deliver(message);
+    let answer = deliver_in(&mut *session, message);
     *node = SevunthiNode::with(session);
-    answer_of(answer)
+    answer
+}
+
+/// Delivers it to a session.
+fn deliver_in(session: &mut Session, message: &[u8]) -> u32
+    ensures taken { result ≡ 0 → TakesMessage message.now (session_seen session.old) (session_seen session.new) }
+    ensures coded { result ≡ 0 → IsNoMessage message.now → ⊥ }
+    ensures malformed { result ≡ 3 → IsNoMessage message.now }
+    ensures used_up { result ≡ 5 → NodeHasRoom (node_seen session.old.process.node) → ⊥ }
+    ensures same { (result ≡ 0 → ⊥) → session_seen session.new ≡ session_seen session.old }
+    ensures used { result ≡ 2 → ⊥ }
+{
+    match session.deliver(message) {
+        Ok(()) => DONE,
+        Err(fault) => number_of(fault),
+    }
 }
 
 /// Starts the host's server anew: stops it, if it runs, and starts it with all open replicas that the host has.
@@ -72,9 +104,22 @@ pub extern "C" fn sevunthi_start(alloc: Global, node: &mut SevunthiNode) -> u32
         return MISUSED;
     }
     let mut session = node.take(alloc);
-    let answer = session.start();
+    let answer = start_in(&mut *session);
     *node = SevunthiNode::with(session);
-    answer_of(answer)
+    answer
+}
+
+/// Starts the server of a session.
+fn start_in(session: &mut Session) -> u32
+    ensures started { result ≡ 0 → session_seen session.new ≡ started_anew (session_seen session.old) }
+    ensures same { (result ≡ 0 → ⊥) → (session_seen session.new ≡ session_seen session.old)
+        ⊎ (session_seen session.new ≡ stopped (session_seen session.old)) }
+    ensures used { result ≡ 2 → ⊥ }
+{
+    match session.start() {
+        Ok(()) => DONE,
+        Err(fault) => number_of(fault),
+    }
 }
 
 /// So many bytes of the journal's file are safe: they will be there after any crash. Refused below what was safe, and
@@ -122,9 +167,26 @@ pub extern "C" fn sevunthi_save(alloc: Global, node: &mut SevunthiNode) -> u32
         return MISUSED;
     }
     let mut session = node.take(alloc);
-    let answer = session.save();
+    let answer = save_in(&mut *session);
     *node = SevunthiNode::with(session);
-    answer_of(answer)
+    answer
+}
+
+/// Begins the save of a session.
+fn save_in(session: &mut Session) -> u32
+    ensures saved { result ≡ 0 → IsSaved session.old.process.node [] session.new.second }
+    ensures begun { result ≡ 0 → session_seen session.new ≡ record (session_seen session.old) {
+      process = save_begun (session_seen session.old).process (length session.new.second);
+      second = session.new.second;
+    } }
+    ensures refused { result ≡ 4 → MaySave (session_seen session.old) → ⊥ }
+    ensures same { (result ≡ 0 → ⊥) → session_seen session.new ≡ session_seen session.old }
+    ensures used { result ≡ 2 → ⊥ }
+{
+    match session.save() {
+        Ok(()) => DONE,
+        Err(fault) => number_of(fault),
+    }
 }
 
 /// The second file has taken the journal's place, and that is safe. From now on bytes are counted in the new file.

@@ -1,16 +1,16 @@
 //! Looking at a node.
 
-ghost use Rattle.std.specs.Prelude.{◌≡◌, ◌<◌, ◌++◌, ◌↔◌, true, false, length, drop, Some, List, ℕ, IfOk, IsOk};
+ghost use Rattle.std.specs.Prelude.{◌≡◌, ◌<◌, ◌++◌, ◌↔◌, ◌⊎◌, true, false, length, drop, List, ℕ};
 ghost use Rattle.std.specs.Option.{option_map};
 ghost use Rattle.rc_mac.specs.Mac.{hmac_sha256};
 ghost use Rattle.rc_world.specs.NodeView.{node_seen, book_in, NodeHasRoom};
 ghost use Rattle.rc_session.specs.Looks.{info_of, tablets_code, servers_code, AreDue};
-ghost use Rattle.sevunthi.specs.Shown.{shown, IsGiven};
+ghost use Rattle.sevunthi.specs.Shown.{shown, IsGiven, IsShown};
 
 use crate::handle::SevunthiNode;
 use crate::numbers::{DONE, MISUSED, NO_ROOM, number_of};
 use rc_mac::hmac_sha256;
-use rc_session::{Info, SessionFault};
+use rc_session::{Info, Session};
 use std::alloc::Global;
 
 /// A node at a glance. What only a host or its server has is 0, or does not hold, of another node.
@@ -100,24 +100,19 @@ fn shown(info: Info) -> SevunthiInfo
     }
 }
 
-/// Copies bytes to the front of the caller's, if these are enough; or answers why there are none.
-fn give_out(found: Result<Vec<u8>, SessionFault>, to: &mut [u8], needed: &mut usize) -> u32
-    ensures given { result ≡ 0 → IfOk found (λ code. IsGiven code.items to.old to.new needed.new) }
-    ensures some { result ≡ 0 → IsOk found }
-    ensures number { result ≡ 2 → ⊥ }
+/// Copies bytes to the front of the caller's, if these are enough.
+fn put_out(code: &[u8], to: &mut [u8], needed: &mut usize) -> u32
+    ensures given { result ≡ 0 → IsGiven code.now to.old to.new needed.new }
     ensures room { result ≡ 6 → length to.old < needed.new }
     ensures same { (result ≡ 0 → ⊥) → to.new ≡ to.old }
+    ensures answers { (result ≡ 0) ⊎ (result ≡ 6) }
 {
-    let code = match found {
-        Ok(code) => code,
-        Err(fault) => return number_of(fault),
-    };
     *needed = code.len();
     if to.len() < code.len() {
         return NO_ROOM;
     }
     let (front, _) = to.split_at_mut(code.len());
-    front.copy_from_slice(code.as_slice());
+    front.copy_from_slice(code);
     DONE
 }
 
@@ -131,8 +126,7 @@ pub extern "C" fn sevunthi_tablets(
     needed: &mut usize,
 ) -> u32
     ensures given { result ≡ 0 →
-        (code : List ℕ) → option_map tablets_code (book_in node.old.cell.session.process.node) ≡ Some code →
-        IsGiven code to.old to.new needed.new }
+        IsShown (option_map tablets_code (book_in node.old.cell.session.process.node)) to.old to.new needed.new }
     ensures room { result ≡ 6 → length to.old < needed.new }
     ensures same { (result ≡ 0 → ⊥) → to.new ≡ to.old }
     ensures kept { node.old.full ≡ true → node.new.cell.session ≡ node.old.cell.session }
@@ -143,9 +137,24 @@ pub extern "C" fn sevunthi_tablets(
         return MISUSED;
     }
     let session = node.take(alloc);
-    let found = session.tablets();
+    let answer = tablets_in(&*session, to, needed);
     *node = SevunthiNode::with(session);
-    give_out(found, to, needed)
+    answer
+}
+
+/// Those of a session.
+#[tactic(auto, using(crate::proofs::Shows::found_is_shown))]
+fn tablets_in(session: &Session, to: &mut [u8], needed: &mut usize) -> u32
+    ensures given { result ≡ 0 →
+        IsShown (option_map tablets_code (book_in session.now.process.node)) to.old to.new needed.new }
+    ensures room { result ≡ 6 → length to.old < needed.new }
+    ensures same { (result ≡ 0 → ⊥) → to.new ≡ to.old }
+    ensures used { result ≡ 2 → ⊥ }
+{
+    match session.tablets() {
+        Ok(code) => put_out(code.as_slice(), to, needed),
+        Err(fault) => number_of(fault),
+    }
 }
 
 /// The coordinator's servers, in the order of enlisting: how many there are, in eight bytes, and of each the id, and
@@ -158,8 +167,7 @@ pub extern "C" fn sevunthi_servers(
     needed: &mut usize,
 ) -> u32
     ensures given { result ≡ 0 →
-        (code : List ℕ) → option_map servers_code (book_in node.old.cell.session.process.node) ≡ Some code →
-        IsGiven code to.old to.new needed.new }
+        IsShown (option_map servers_code (book_in node.old.cell.session.process.node)) to.old to.new needed.new }
     ensures room { result ≡ 6 → length to.old < needed.new }
     ensures same { (result ≡ 0 → ⊥) → to.new ≡ to.old }
     ensures kept { node.old.full ≡ true → node.new.cell.session ≡ node.old.cell.session }
@@ -170,9 +178,24 @@ pub extern "C" fn sevunthi_servers(
         return MISUSED;
     }
     let session = node.take(alloc);
-    let found = session.servers();
+    let answer = servers_in(&*session, to, needed);
     *node = SevunthiNode::with(session);
-    give_out(found, to, needed)
+    answer
+}
+
+/// Those of a session.
+#[tactic(auto, using(crate::proofs::Shows::found_is_shown))]
+fn servers_in(session: &Session, to: &mut [u8], needed: &mut usize) -> u32
+    ensures given { result ≡ 0 →
+        IsShown (option_map servers_code (book_in session.now.process.node)) to.old to.new needed.new }
+    ensures room { result ≡ 6 → length to.old < needed.new }
+    ensures same { (result ≡ 0 → ⊥) → to.new ≡ to.old }
+    ensures used { result ≡ 2 → ⊥ }
+{
+    match session.servers() {
+        Ok(code) => put_out(code.as_slice(), to, needed),
+        Err(fault) => number_of(fault),
+    }
 }
 
 /// What is due at the coordinator, for who was heard lately, who was silent for longer than one waits, and which owners
@@ -202,9 +225,32 @@ pub extern "C" fn sevunthi_dues(
         return MISUSED;
     }
     let session = node.take(alloc);
-    let found = session.dues(heard, silent, stuck);
+    let answer = dues_in(&*session, heard, silent, stuck, to, needed);
     *node = SevunthiNode::with(session);
-    give_out(found, to, needed)
+    answer
+}
+
+/// What is due at the coordinator of a session.
+#[tactic(auto, using(crate::proofs::Shows::due_is_given))]
+fn dues_in(
+    session: &Session,
+    heard: &[u8],
+    silent: &[u8],
+    stuck: &[u8],
+    to: &mut [u8],
+    needed: &mut usize,
+) -> u32
+    ensures due { result ≡ 0 → (code : List ℕ)
+        × AreDue heard.now silent.now stuck.now session.now.process.node code
+        × IsGiven code to.old to.new needed.new }
+    ensures room { result ≡ 6 → length to.old < needed.new }
+    ensures same { (result ≡ 0 → ⊥) → to.new ≡ to.old }
+    ensures used { result ≡ 2 → ⊥ }
+{
+    match session.dues(heard, silent, stuck) {
+        Ok(code) => put_out(code.as_slice(), to, needed),
+        Err(fault) => number_of(fault),
+    }
 }
 
 /// The sum over a message under a key, HMAC with SHA-256, in the first 32 of the caller's bytes.

@@ -1,6 +1,7 @@
 //! What an export answers.
 
 ghost use Rattle.std.specs.Prelude.{◌≡◌};
+ghost use Rattle.rc_session.specs.declared.faults.SessionFault.TheVariants as why;
 ghost use Rattle.sevunthi.specs.Numbers as spec;
 
 use rc_session::SessionFault;
@@ -40,7 +41,15 @@ pub(crate) const TOO_SHORT: u32 = 10;
 
 /// The number of a fault.
 pub(crate) fn number_of(fault: SessionFault) -> u32
-    ensures { result ≡ spec.number_of fault }
+    ensures number { result ≡ spec.number_of fault }
+    ensures done { result ≡ 0 → ⊥ }
+    ensures misused { result ≡ 2 → ⊥ }
+    ensures malformed { result ≡ 3 → fault ≡ why.Malformed }
+    ensures refused { result ≡ 4 → fault ≡ why.Refused }
+    ensures used_up { result ≡ 5 → fault ≡ why.UsedUp }
+    ensures room { result ≡ 6 → ⊥ }
+    ensures range { result ≡ 7 → fault ≡ why.OutOfRange }
+    ensures save { result ≡ 9 → fault ≡ why.NoSave }
 {
     match fault {
         SessionFault::NoMemory => NO_MEMORY,
@@ -50,15 +59,5 @@ pub(crate) fn number_of(fault: SessionFault) -> u32
         SessionFault::OutOfRange => OUT_OF_RANGE,
         SessionFault::NoSave => NO_SAVE,
         SessionFault::TooShort => TOO_SHORT,
-    }
-}
-
-/// The number of an answer.
-pub(crate) fn answer_of(answer: Result<(), SessionFault>) -> u32
-    ensures { result ≡ spec.answer_of answer }
-{
-    match answer {
-        Ok(()) => DONE,
-        Err(fault) => number_of(fault),
     }
 }

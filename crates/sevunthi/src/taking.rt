@@ -7,7 +7,7 @@ ghost use Rattle.rc_session.specs.Claims.{IsInHand, HasLeft, HasNoRoom};
 
 use crate::handle::SevunthiNode;
 use crate::numbers::{DONE, MISUSED, NO_MEMORY, NO_ROOM, NOTHING};
-use rc_session::Leaving;
+use rc_session::{Leaving, Session};
 use std::alloc::Global;
 
 /// Moves what has to be added to the journal's file to the front of the caller's bytes, if these are enough. `needed`
@@ -93,9 +93,23 @@ pub extern "C" fn sevunthi_leave(
         return MISUSED;
     }
     let mut session = node.take(alloc);
-    let leaving = session.leave(to);
+    let answer = leave_in(&mut *session, to, needed);
     *node = SevunthiNode::with(session);
-    match leaving {
+    answer
+}
+
+/// Lets it leave a session.
+fn leave_in(session: &mut Session, to: &mut [u8], needed: &mut usize) -> u32
+    ensures left { result ≡ 0 →
+        HasLeft (session_seen session.old) (session_seen session.new) to.old to.new needed.new }
+    ensures stays { result ≡ 6 →
+        HasNoRoom (session_seen session.old) (session_seen session.new) to.old to.new needed.new }
+    ensures waits { result ≡ 8 → AllWait (session_seen session.old).process }
+    ensures none { result ≡ 8 → session_seen session.new ≡ session_seen session.old }
+    ensures kept { result ≡ 1 → IsInHand (session_seen session.old) (session_seen session.new) }
+    ensures used { result ≡ 2 → ⊥ }
+{
+    match session.leave(to) {
         Leaving::Left(count) => {
             *needed = count;
             DONE
