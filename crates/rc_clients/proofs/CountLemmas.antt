@@ -5,7 +5,7 @@ use Rattle.rc_clients.specs.declared.events.ClientEvent.TheVariants.{Invoked}
 use Rattle.rc_clients.specs.declared.events.Request.TheVariants as request
 use Rattle.rc_clients.specs.declared.operations.Operation.{Operation}
 use Rattle.rc_clients.specs.Operations.{value_of, IsOperation}
-use Rattle.rc_clients.specs.Linearizable.{AreOnKey, AreWanting, HasWrite, IsAmong, IsLinearizable, IsPendingWrite, IsTooMany}
+use Rattle.rc_clients.specs.Linearizable.{AreWanting, HasWrite, IsAmong, IsLinearizable, IsPendingWrite, IsTooMany}
 use Rattle.rc_clients.specs.Linearizable.{IsWanting, WasWritten}
 
 -- this number is one of those
@@ -23,25 +23,34 @@ record IsWithout (moment : ℕ) (others : List (Operation × ℕ)) : Type 0 wher
   fewer : length rest + 1 ≡ length others
   kept : (n : ℕ) → IsAmong n others → (n ≡ moment → ⊥) → IsAmong n rest
 
-without : (moment : ℕ) (others : List (Operation × ℕ)) → IsAmong moment others → IsWithout moment others
-without moment [] h = absurd h
-without moment (one ∷ others) (inl e) = record { rest = others; fewer = omega arith; kept = λ n at differ. kept n at differ }
-  where
-    kept : (n : ℕ) → IsAmong n (one ∷ others) → (n ≡ moment → ⊥) → IsAmong n others
-    kept n (inl f) differ = absurd (differ (sym f ∙ e))
-    kept n (inr h) differ = h
-without moment (one ∷ others) (inr h) = record {
+without_more : (moment : ℕ) (one : Operation × ℕ) (others : List (Operation × ℕ)) → IsWithout moment others →
+    IsWithout moment (one ∷ others)
+without_more moment one others less = record {
   rest = one ∷ less.rest;
   fewer = let f = less.fewer in omega (arith, f);
   kept = λ n at differ. kept n at differ;
 }
   where
-    less : IsWithout moment others
-    less = without moment others h
-
     kept : (n : ℕ) → IsAmong n (one ∷ others) → (n ≡ moment → ⊥) → IsAmong n (one ∷ less.rest)
     kept n (inl f) differ = inl f
     kept n (inr i) differ = inr (less.kept n i differ)
+
+without_first : (moment : ℕ) (one : Operation × ℕ) (others : List (Operation × ℕ)) → one.1 ≡ moment →
+    IsWithout moment (one ∷ others)
+without_first moment one others e = record {
+  rest = others;
+  fewer = omega arith;
+  kept = λ n at differ. kept n at differ;
+}
+  where
+    kept : (n : ℕ) → IsAmong n (one ∷ others) → (n ≡ moment → ⊥) → IsAmong n others
+    kept n (inl f) differ = absurd (differ (sym f ∙ e))
+    kept n (inr h) differ = h
+
+without : (moment : ℕ) (others : List (Operation × ℕ)) → IsAmong moment others → IsWithout moment others
+without moment [] h = absurd h
+without moment (one ∷ others) (inl e) = without_first moment one others e
+without moment (one ∷ others) (inr h) = without_more moment one others (without moment others h)
 
 -- different numbers that are all among those are no more than those
 fewer : (xs : List ℕ) (others : List (Operation × ℕ)) → AreDifferent xs → ((n : ℕ) → IsIn n xs → IsAmong n others) →
@@ -61,28 +70,15 @@ record HasWrites (history : List ClientEvent) (op : Operation) (got : ℕ → �
   of_lower : (n : ℕ) → IsIn n writes → got n < version
   pending : (n : ℕ) → IsIn n writes → IsPendingWrite history op n
 
-writes_of : (history : List ClientEvent) (op : Operation) (good : IsLinearizable history) (version : ℕ)
-    (others : List (Operation × ℕ)) → version ≤ op.version →
-    AreWanting history op.table op.key (value_of history op) version others →
-    HasWrites history op good.got version (length others)
-writes_of history op good version [] under wanting = record {
-  writes = [];
-  as_many = refl;
-  different = tt;
-  of_lower = λ n at. absurd at;
-  pending = λ n at. absurd at;
-}
-writes_of history op good version (one ∷ others) under wanting =
-    by (good.written one.0 want.is want.later)
+one_more : (history : List ClientEvent) (op : Operation) (good : IsLinearizable history) (version : ℕ)
+    (one : Operation × ℕ) (others : List (Operation × ℕ)) → version ≤ op.version →
+    IsWanting history op.table op.key (value_of history op) version one.0 →
+    HasWrites history op good.got one.0.version (length others) →
+    HasWrites history op good.got version (length (one ∷ others))
+one_more history op good version one others under want more = by (good.written one.0 want.is want.later)
   where
-    want : IsWanting history op.table op.key (value_of history op) version one.0
-    want = wanting.0
-
     low : one.0.version < version
     low = want.below
-
-    more : HasWrites history op good.got one.0.version (length others)
-    more = writes_of history op good one.0.version others (omega (arith, low, under)) wanting.1
 
     serves : (n : ℕ) → IsPendingWrite history one.0 n → IsPendingWrite history op n
     serves n p = record {
@@ -112,6 +108,21 @@ writes_of history op good version (one ∷ others) under wanting =
         is_pending : (n : ℕ) → IsIn n (m ∷ more.writes) → IsPendingWrite history op n
         is_pending n (inl f) = subst (IsPendingWrite history op) f (serves m p)
         is_pending n (inr at) = more.pending n at
+
+writes_of : (history : List ClientEvent) (op : Operation) (good : IsLinearizable history) (version : ℕ)
+    (others : List (Operation × ℕ)) → version ≤ op.version →
+    AreWanting history op.table op.key (value_of history op) version others →
+    HasWrites history op good.got version (length others)
+writes_of history op good version [] under wanting = record {
+  writes = [];
+  as_many = refl;
+  different = tt;
+  of_lower = λ n at. absurd at;
+  pending = λ n at. absurd at;
+}
+writes_of history op good version (one ∷ others) under wanting =
+    one_more history op good version one others under wanting.0
+    (writes_of history op good one.0.version others (let low = wanting.0.below in omega (arith, low, under)) wanting.1)
 
 pub too_many : (history : List ClientEvent) (op : Operation) (others : List (Operation × ℕ)) → IsOperation history op →
     op.version ≢ 0 → (HasWrite history op → ⊥) → IsTooMany history op others → IsLinearizable history → ⊥

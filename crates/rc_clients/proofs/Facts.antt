@@ -7,13 +7,11 @@ use Rattle.std.specs.Ordering.{nat_cmp, ordering_then, is_eq}
 use Rattle.std.specs.Map.{lookup}
 use Rattle.std.specs.BTreeMap.{BTreeMap, get, is_at}
 use Rattle.std.specs.Prelude.{nat_lt, slice_get, option_and_then}
-use Rattle.std.specs.Option.{option_map_or}
 use Rattle.std.proofs.lemmas.Bool.Decides.{nat_tests}
 use Rattle.std.proofs.lemmas.Option.{slice_get_within}
 use Rattle.rc_clients.specs.declared.events.Request.TheVariants as request
 use Rattle.rc_clients.specs.declared.events.ClientEvent.{ClientEvent}
 use Rattle.rc_clients.specs.declared.events.ClientEvent.TheVariants.{Invoked, Written, Shown, Failed}
-use Rattle.rc_clients.specs.declared.operations.Kind.TheVariants as kind
 use Rattle.rc_clients.specs.declared.operations.Operation.{Operation}
 use Rattle.rc_clients.specs.Operations.{answered_by, operation_at, write_by, read_by, IsOperation}
 use Rattle.rc_clients.specs.Evidence.{key_at, key_in, key_of}

@@ -1,13 +1,12 @@
 -- What the judge answers is so, and never both.
-use Rattle.std.proofs.Common.{◌≡◌, ◌≢◌, ◌∙◌, ℕ, List, length, Option, Some, None, sym, ap, subst, inl, inr}
+use Rattle.std.proofs.Common.{◌∙◌, ℕ, List, length, Option, Some, None, sym, inl, inr}
 use Rattle.std.specs.BTreeMap.{BTreeMap}
 use Rattle.rc_clients.specs.declared.events.ClientEvent.{ClientEvent}
 use Rattle.rc_clients.specs.declared.operations.Operation.{Operation}
 use Rattle.rc_clients.specs.declared.doubled.VersionName.{VersionName}
 use Rattle.rc_clients.specs.declared.judging.Violation.{Violation}
 use Rattle.rc_clients.specs.declared.judging.Violation.TheVariants as violation
-use Rattle.rc_clients.specs.Operations.{operation_at, IsOperation}
-use Rattle.rc_clients.specs.Linearizable.{ArePair, AreOnKey, Breaks, BreaksRefute, IsLinearizable, Judged, WasWritten}
+use Rattle.rc_clients.specs.Linearizable.{BreaksRefute, Judged, WasWritten}
 use Rattle.rc_clients.specs.Evidence.{Always, AreFirsts, AreWrites, Else, HasChoice, IsBegunAt, IsTimelyAt}
 use Rattle.rc_clients.proofs.Facts.{is_operation, told, within}
 use Rattle.rc_clients.proofs.CountLemmas.{too_many}

@@ -1,8 +1,7 @@
 -- Versions and pending writes, one after another.
 use Rattle.std.proofs.Common.{◌≡◌, ◌≢◌, ◌⊎◌, ◌∙◌, ℕ, ◌+◌, ◌<◌, ◌≤◌, Bool, true, false, cond, List, [], ◌∷◌, length}
-use Rattle.std.proofs.Common.{Option, Some, None, unwrap_or, refl, sym, ap, subst, inl, inr, true≢false, arith}
+use Rattle.std.proofs.Common.{Option, Some, None, unwrap_or, refl, sym, ap, subst, inl, inr, arith}
 use Rattle.std.specs.Prelude.{nat_lt, option_and_then}
-use Rattle.std.specs.declared.cmp.Ordering.{Ordering}
 use Rattle.std.specs.declared.cmp.Ordering.TheVariants.{Less}
 use Rattle.std.specs.Ordering.{nat_cmp, ordering_then, is_eq, is_lt}
 use Rattle.std.specs.List.{All, AllByRecursion}
@@ -10,7 +9,7 @@ use Rattle.std.specs.List.Sorted.{IsStrictlySortedBy}
 use Rattle.std.specs.Map.{keys_of, lookup}
 use Rattle.std.specs.BTreeMap.{BTreeMap, get, is_at}
 use Rattle.std.proofs.lemmas.Bool.Decides.{nat_tests}
-use Rattle.std.proofs.lemmas.List.Elements.{All-cons, All-from_recursion, All-head, All-nil, All-tail}
+use Rattle.std.proofs.lemmas.List.Elements.{All-cons, All-head, All-nil, All-tail}
 use Rattle.std.proofs.lemmas.Map.Keys.{sorted_head, sorted_tail}
 use Rattle.rc_clients.specs.declared.events.ClientEvent.{ClientEvent}
 use Rattle.rc_clients.specs.declared.events.ClientEvent.TheVariants.{Invoked}
@@ -20,8 +19,8 @@ use Rattle.rc_clients.specs.declared.bars.Top.{Top}
 use Rattle.rc_clients.specs.declared.doubled.VersionName.{VersionName}
 use Rattle.rc_clients.specs.declared.judging.Violation.TheVariants as violation
 use Rattle.rc_clients.specs.declared.pending.ValueName.{ValueName}
-use Rattle.rc_clients.specs.Operations.{operation_at, value_of, IsOperation}
-use Rattle.rc_clients.specs.Linearizable.{AreOnKey, AreWanting, Breaks, HasWrite, IsAmong, IsPendingWrite, IsTooMany, IsWanting}
+use Rattle.rc_clients.specs.Operations.{value_of, IsOperation}
+use Rattle.rc_clients.specs.Linearizable.{AreWanting, Breaks, HasWrite, IsAmong, IsPendingWrite}
 use Rattle.rc_clients.specs.Linearizable.{WasWritten}
 use Rattle.rc_clients.specs.Evidence.{AreBars, AreFirsts, HasChoice, bar_at, is_at_least, version_of, version_order}
 use Rattle.rc_clients.specs.Pending.{AreChains, IsFirst, IsPendingOf, bytes_in, next_at, value_order}

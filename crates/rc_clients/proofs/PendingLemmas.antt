@@ -1,5 +1,5 @@
 -- Writes without a response, by what they are to write.
-use Rattle.std.proofs.Common.{◌≡◌, ◌≢◌, ◌⊎◌, ◌∙◌, ℕ, ◌+◌, ◌<◌, ◌≤◌, Bool, true, false, not, cond, List, [], ◌∷◌, length}
+use Rattle.std.proofs.Common.{◌≡◌, ◌⊎◌, ◌∙◌, ℕ, ◌+◌, ◌<◌, ◌≤◌, Bool, true, false, not, cond, List, [], ◌∷◌, length}
 use Rattle.std.proofs.Common.{Option, Some, None, MatchBool, MatchOption, Bor, is_some, unwrap_or, option_map, refl}
 use Rattle.std.proofs.Common.{sym, ap, subst, inl, inr}
 use Rattle.std.proofs.Common.{true≢false, arith}
@@ -16,14 +16,14 @@ use Rattle.std.specs.BTreeSet.{BTreeSet, contains}
 use Rattle.std.proofs.lemmas.Bool.Decides.{nat_tests}
 use Rattle.std.proofs.lemmas.Option.{slice_get_within}
 use Rattle.rc_clients.specs.declared.events.ClientEvent.{ClientEvent}
-use Rattle.rc_clients.specs.declared.events.ClientEvent.TheVariants.{Invoked, Written, Shown, Failed}
+use Rattle.rc_clients.specs.declared.events.ClientEvent.TheVariants.{Invoked}
 use Rattle.rc_clients.specs.declared.events.Request.TheVariants as request
 use Rattle.rc_clients.specs.declared.operations.Operation.{Operation}
 use Rattle.rc_clients.specs.declared.bars.Top.{Top}
 use Rattle.rc_clients.specs.declared.pending.ValueName.{ValueName}
-use Rattle.rc_clients.specs.Operations.{operation_at, value_of, IsOperation}
+use Rattle.rc_clients.specs.Operations.{value_of, IsOperation}
 use Rattle.rc_clients.specs.Linearizable.{AreOnKey, HasPending, IsPendingWrite, IsUnanswered, answered_at, answered_in}
-use Rattle.rc_clients.specs.Evidence.{AreAnswered, AreBars, IsTop, bar_at, is_at_least, key_at, key_in}
+use Rattle.rc_clients.specs.Evidence.{AreAnswered, AreBars, IsTop, bar_at, is_at_least}
 use Rattle.rc_clients.specs.Pending.{ArePending, IsPendingOf, IsWriteOf, value_order}
 use Rattle.rc_clients.proofs.Facts.{below, get_empty, is_operation, key_asked, number_itself, numbers_same, then_equal, told}
 

@@ -10,9 +10,9 @@ use Rattle.rc_clients.specs.declared.operations.Operation.{Operation}
 use Rattle.rc_clients.specs.declared.bars.Top.{Top}
 use Rattle.rc_clients.specs.declared.judging.Violation.{Violation}
 use Rattle.rc_clients.specs.declared.judging.Violation.TheVariants as violation
-use Rattle.rc_clients.specs.Operations.{operation_at, value_of, IsOperation}
-use Rattle.rc_clients.specs.Linearizable.{AreOnKey, Breaks, HasPending, HasWrite, Precedes, StandsBefore, IsLinearizable, CanBeWritten}
-use Rattle.rc_clients.specs.Evidence.{Always, AreBars, Else, IsBegunAt, IsBehind, IsTimelyAt, IsTop, IsWrittenAt, IsOneValue}
+use Rattle.rc_clients.specs.Operations.{operation_at, IsOperation}
+use Rattle.rc_clients.specs.Linearizable.{AreOnKey, Breaks, HasPending, HasWrite, Precedes, StandsBefore, CanBeWritten}
+use Rattle.rc_clients.specs.Evidence.{AreBars, Else, IsBegunAt, IsBehind, IsTimelyAt, IsTop, IsWrittenAt}
 use Rattle.rc_clients.specs.Evidence.{ShowsNothing, bar_at, behind_by, key_of}
 use Rattle.rc_clients.proofs.Facts.{below, one_at, told, within}
 

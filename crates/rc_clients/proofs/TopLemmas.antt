@@ -1,7 +1,7 @@
 -- The greatest version of each key, with one event more.
 use Rattle.std.proofs.Common.{◌≡◌, ◌⊎◌, ◌∙◌, ℕ, ◌+◌, ◌<◌, ◌≤◌, Bool, true, false, cond, List, [], ◌∷◌, ◌++◌, length}
 use Rattle.std.proofs.Common.{Option, Some, None, unwrap_or, refl, sym, ap, subst, inl, inr, true≢false, arith}
-use Rattle.std.specs.Prelude.{nat_le, nat_lt, slice_get, option_and_then}
+use Rattle.std.specs.Prelude.{nat_le, option_and_then}
 use Rattle.std.specs.Ordering.{nat_cmp, ordering_then, is_eq}
 use Rattle.std.specs.BTreeMap.{BTreeMap, get, is_at}
 use Rattle.std.proofs.lemmas.Bool.Decides.{nat_tests}
@@ -10,10 +10,10 @@ use Rattle.rc_clients.specs.declared.operations.Operation.{Operation}
 use Rattle.rc_clients.specs.declared.bars.KeyName.{KeyName}
 use Rattle.rc_clients.specs.declared.bars.Top.{Top}
 use Rattle.rc_clients.specs.Operations.{operation_at, IsOperation}
-use Rattle.rc_clients.specs.Evidence.{AreBars, AreTops, IsBar, IsGreatest, IsTop, IsUntold, bar_at, is_at_least, key_at, key_of, key_order}
+use Rattle.rc_clients.specs.Evidence.{AreBars, AreTops, IsBar, IsTop, bar_at, is_at_least, key_at, key_of, key_order}
 use Rattle.std.proofs.lemmas.List.{length_push}
-use Rattle.rc_clients.proofs.Facts.{answered_below, below, get_empty, get_front, get_last, is_operation}
-use Rattle.rc_clients.proofs.Facts.{number_itself, numbers_same, one_at, then_equal, told}
+use Rattle.rc_clients.proofs.Facts.{answered_below, below, get_empty, get_front, get_last}
+use Rattle.rc_clients.proofs.Facts.{number_itself, numbers_same, one_at, then_equal}
 
 -- a key by its parts
 pub key_from : (a b : KeyName) → a.table ≡ b.table → a.key ≡ b.key → a ≡ b

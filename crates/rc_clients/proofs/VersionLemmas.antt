@@ -1,10 +1,9 @@
 -- The writes and the values of each version, with one event more.
-use Rattle.std.proofs.Common.{◌≡◌, ◌≢◌, ◌⊎◌, ◌∙◌, ℕ, ◌+◌, ◌<◌, Bool, true, false, cond, List, [], ◌∷◌, length}
+use Rattle.std.proofs.Common.{◌≡◌, ◌≢◌, ◌⊎◌, ◌∙◌, ℕ, ◌+◌, ◌<◌, Bool, true, false, cond, List, [], length}
 use Rattle.std.proofs.Common.{Option, Some, None, unwrap_or, refl, sym, ap, subst, inl, inr, true≢false, arith}
 use Rattle.std.specs.Prelude.{option_and_then}
 use Rattle.std.specs.Ordering.{nat_cmp, ordering_then, is_eq}
 use Rattle.std.specs.BTreeMap.{BTreeMap, get, is_at}
-use Rattle.std.proofs.lemmas.Bool.Decides.{nat_tests}
 use Rattle.rc_clients.specs.declared.events.ClientEvent.{ClientEvent}
 use Rattle.rc_clients.specs.declared.operations.Kind.{Kind}
 use Rattle.rc_clients.specs.declared.operations.Kind.TheVariants.{Write, Read}
@@ -12,7 +11,7 @@ use Rattle.rc_clients.specs.declared.operations.Operation.{Operation}
 use Rattle.rc_clients.specs.declared.doubled.VersionName.{VersionName}
 use Rattle.rc_clients.specs.declared.judging.Violation.TheVariants as violation
 use Rattle.rc_clients.specs.Operations.{operation_at, value_of, IsOperation}
-use Rattle.rc_clients.specs.Linearizable.{AreOnKey, Breaks, IsAnsweredWrite, HasWrite}
+use Rattle.rc_clients.specs.Linearizable.{AreOnKey, Breaks, HasWrite}
 use Rattle.rc_clients.specs.Evidence.{AreFirsts, AreWrites, IsOneValue, if_write, version_of, version_order, write_at}
 use Rattle.rc_clients.proofs.Facts.{answered_below, get_empty, is_operation, number_itself, numbers_same, one_at, then_equal, told, within}
 

@@ -1,4 +1,4 @@
-use Rattle.std.proofs.Common.{◌≡◌, ◌∙◌, ap, sym, refl}
+use Rattle.std.proofs.Common.{◌∙◌, ap, sym, refl}
 use Rattle.rc_clients.specs.Evidence.{is_at_least}
 use Rattle.rc_clients.proofs.TopLemmas.{tops_low, tops_more, tops_none}
 use Rattle.rc_clients.proofs.bars.note_top.Goals as goal

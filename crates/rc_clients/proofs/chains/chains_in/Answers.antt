@@ -3,7 +3,7 @@ use Rattle.std.specs.Ordering.{nat_cmp}
 use Rattle.std.specs.BTreeMap.{get, is_at}
 use Rattle.std.proofs.lemmas.Bool.Decides.{nat_tests}
 use Rattle.rc_clients.specs.Pending.{AreChains}
-use Rattle.rc_clients.proofs.ChainLemmas.{chains_begin, chains_more, chains_skip}
+use Rattle.rc_clients.proofs.ChainLemmas.{chains_more}
 use Rattle.rc_clients.proofs.chains.chains_in.Goals as goal
 
 pub loop-moment-preserved-in_ok-insert-2 : goal.loop-moment-preserved-in_ok-insert-2

@@ -1,5 +1,4 @@
-use Rattle.std.proofs.Common.{sym}
-use Rattle.rc_clients.proofs.PendingLemmas.{answered_begin, answered_more, answered_none}
+use Rattle.rc_clients.proofs.PendingLemmas.{answered_begin}
 use Rattle.rc_clients.proofs.pending.answered_in.Goals as goal
 
 pub loop-moment-init : goal.loop-moment-init

@@ -1,4 +1,4 @@
-use Rattle.std.proofs.Common.{◌≡◌, ◌∙◌, ap, not, sym, refl}
+use Rattle.std.proofs.Common.{◌∙◌, ap, not, sym, refl}
 use Rattle.rc_clients.specs.Evidence.{is_at_least}
 use Rattle.rc_clients.proofs.PendingLemmas.{can_be_so, can_not}
 use Rattle.rc_clients.proofs.unwritten.can_be_pending.Goals as goal
