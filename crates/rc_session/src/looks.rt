@@ -74,14 +74,14 @@ fn put_each(tablets: &[Tablet], out: &mut Vec<u8>) -> Result<(), AllocError>
     ensures { OnOk result (out.new.items ≡ out.old.items ++ flat_map tablet_code tablets.now) }
 {
     for tablet in tablets {
-        put_tablet(*tablet, out)?;
+        put_tablet(tablet, out)?;
     }
     Ok(())
 }
 
 /// One of them.
-fn put_tablet(tablet: Tablet, out: &mut Vec<u8>) -> Result<(), AllocError>
-    ensures { OnOk result (out.new.items ≡ out.old.items ++ tablet_code tablet) }
+fn put_tablet(tablet: &Tablet, out: &mut Vec<u8>) -> Result<(), AllocError>
+    ensures { OnOk result (out.new.items ≡ out.old.items ++ tablet_code tablet.now) }
 {
     let Tablet {
         table,
@@ -90,6 +90,6 @@ fn put_tablet(tablet: Tablet, out: &mut Vec<u8>) -> Result<(), AllocError>
         owner,
         term,
         crashed,
-    } = tablet;
+    } = *tablet;
     (table, lo, hi, owner, term, crashed).put(out)
 }

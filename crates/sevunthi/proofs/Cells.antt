@@ -6,7 +6,6 @@ use seplogic.Ra.Ura.{Ura}
 use mir.Syntax.{impl, tnil, dnil, ty_ptr}
 use mir.Raw.{raw as bare}
 use mir.Val.{Val, vptr, vstruct, vcons, vnil, of_list, has_ty, WT}
-use base.Fml.{ftrue}
 use base.Logic.{never, fst∗, id⊢}
 use types.Logic.{Logic, sem}
 use types.Kit.{Item, Goal, Seq, Step, step, use1, ‵, ◌$◌, move, drop, fsplit, fjoin, fpick, fpack, rewrite, feq_i, feq_l}

@@ -12,4 +12,4 @@ found_is_shown n found code before after count e given done =
 pub due_is_given : (n : ℕ) (heard silent stuck : List ℕ) (node : NodeData) (code before after : List ℕ) (count : ℕ) →
     AreDue heard silent stuck node code → (n ≡ 0 → IsGiven code before after count) → n ≡ 0 →
     (given : List ℕ) × AreDue heard silent stuck node given × IsGiven given before after count
-due_is_given n heard silent stuck node code before after count due given done = (code, (due, given done))
+due_is_given n heard silent stuck node code before after count due given done = (code, due, given done)

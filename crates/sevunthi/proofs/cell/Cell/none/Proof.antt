@@ -19,7 +19,7 @@ use denote.Triple.Entry.{alive}
 use denote.Triple.Walked.{Stays, stay_dropped, walk_of, Goes-dropped}
 use Rattle.core.proofs.alloc.Calls.{handle_tells}
 use Rattle.std.proofs.raw_atomic.Walks.{proved_at, leaves}
-use Rattle.sevunthi.proofs.Cells.{Z, al, both, slot_at, ptr_typed, cell_typed, empty_in}
+use Rattle.sevunthi.proofs.Cells.{al, both, slot_at, ptr_typed, cell_typed, empty_in}
 use Rattle.sevunthi.specs.Held.{nobody}
 use Rattle.sevunthi.specs.contracts.cell.Cell.none.{ended, clauses}
 use Rattle.sevunthi.specs.contracts.cell.Cell.none.Key.{name as #self}

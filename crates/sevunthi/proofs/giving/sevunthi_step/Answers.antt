@@ -1,0 +1,4 @@
+use Rattle.sevunthi.proofs.giving.sevunthi_step.Goals as goal
+
+pub returns-clause-taken : goal.returns-clause-taken
+returns-clause-taken c = λ done work is. cc (c.step_in-answer.ensures.taken done work is)
