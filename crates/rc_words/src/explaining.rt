@@ -4,7 +4,7 @@ use crate::events::{Happening, all_events};
 use crate::kinds::{Kind, all_kinds};
 use crate::looking::Found;
 use crate::names::nearest;
-use crate::rules::{Rule, all_rules};
+use crate::rules::{Rule, first_rules, last_rules};
 use crate::topics::{Topic, all_topics};
 use rc_pen::{Pen, Piece, Spelling};
 use std::alloc::{AllocError, Global};
@@ -95,7 +95,10 @@ fn nearest_of_all(alloc: Global, word: &str) -> Result<Option<&'static str>, All
     for event in all_events() {
         names.push(event.name)?;
     }
-    for rule in all_rules() {
+    for rule in first_rules() {
+        names.push(rule.name)?;
+    }
+    for rule in last_rules() {
         names.push(rule.name)?;
     }
     nearest(alloc, word, names.as_slice())
@@ -118,7 +121,10 @@ fn tell_list(pen: &mut Pen) {
     }
     pen.put("\n\nRules that can be broken\n");
     column = 0;
-    for rule in all_rules() {
+    for rule in first_rules() {
+        column = tell_word(pen, rule.name, column);
+    }
+    for rule in last_rules() {
         column = tell_word(pen, rule.name, column);
     }
     pen.put(

@@ -17,5 +17,5 @@ pub use explaining::{Explained, explain};
 pub use kinds::{Kind, all_kinds};
 pub use looking::{Found, topic_of};
 pub use names::nearest;
-pub use rules::{Rule, all_rules};
+pub use rules::{Rule, first_rules, last_rules};
 pub use topics::{Topic, all_topics};

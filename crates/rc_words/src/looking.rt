@@ -2,7 +2,7 @@
 
 use crate::events::{Happening, all_events};
 use crate::kinds::{Kind, all_kinds};
-use crate::rules::{Rule, all_rules};
+use crate::rules::{Rule, first_rules, last_rules};
 use crate::topics::{Topic, all_topics};
 
 /// All that a word names, with letters that are small or capital.
@@ -81,7 +81,15 @@ fn event_of(word: &str) -> Option<Happening> {
 
 /// The rule that this word names.
 fn rule_of(word: &str) -> Option<Rule> {
-    all_rules()
+    match rule_in(first_rules(), word) {
+        Some(rule) => Some(rule),
+        None => rule_in(last_rules(), word),
+    }
+}
+
+/// The same, of these rules.
+fn rule_in(rules: &[Rule], word: &str) -> Option<Rule> {
+    rules
         .iter()
         .find(|rule| rule.name.eq_ignore_ascii_case(word))
         .copied()

@@ -13,12 +13,17 @@ pub struct Rule {
     pub example: &'static str,
 }
 
-/// Every rule that can be broken, by names in order.
-pub fn all_rules() -> &'static [Rule] {
-    &RULES
+/// The rules that can be broken, by names in order: the first half of them.
+pub fn first_rules() -> &'static [Rule] {
+    &FIRST
 }
 
-static RULES: [Rule; 44] = [
+/// And those behind them. One table of all is more than the prover takes at a time.
+pub fn last_rules() -> &'static [Rule] {
+    &LAST
+}
+
+static FIRST: [Rule; 22] = [
     Rule {
         name: "acknowledges_again",
         keeps: "A write is acknowledged once.",
@@ -163,6 +168,9 @@ static RULES: [Rule; 44] = [
         without: "An open one is left out of the digest.",
         example: "",
     },
+];
+
+static LAST: [Rule; 22] = [
     Rule {
         name: "frees_undurable",
         keeps: "An entry is outdated only by a durable entry of its key with a greater version.",
