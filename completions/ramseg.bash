@@ -1,4 +1,4 @@
-# completions of ramseg for bash; made by scripts/completions
+# completions of ramseg for bash; made by scripts/check/completions
 _ramseg() {
   local word=${COMP_WORDS[COMP_CWORD]} last=${COMP_WORDS[COMP_CWORD - 1]} command= words= i
   for ((i = 1; i < COMP_CWORD; i++)); do

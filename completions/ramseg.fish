@@ -1,4 +1,4 @@
-# completions of ramseg for fish; made by scripts/completions
+# completions of ramseg for fish; made by scripts/check/completions
 complete -c ramseg -n __fish_use_subcommand -f
 complete -c ramseg -n __fish_use_subcommand -a run -d 'Replays a scenario that it reads from standard input, and prints the report'
 complete -c ramseg -n __fish_use_subcommand -a trace -d 'Replays a scenario that it reads from standard input, and prints the trace of what was sent'

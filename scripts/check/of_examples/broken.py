@@ -9,7 +9,7 @@
 #     none is named), and compares what it tells.
 # compare-broken --write [RULE..]   writes it, in place of comparing.
 set -u
-cd "$(dirname "$0")/.." || exit 2
+cd "$(dirname "$0")/../.." || exit 2
 mode='' program=./ramseg
 case ${1:-} in
   --build | --write) mode=$1 && shift && names=("$@") ;;

@@ -1,7 +1,7 @@
 #!/usr/bin/env python3
 """Which of the codes, and which rules of places and of events, have an example.
 
-usage: scripts/compare-codes [PROGRAM]
+usage: scripts/check/examples codes [PROGRAM]
 
 Runs the program (./ramseg, where none is named) on each scenario of examples/codes/, with the `--heap` of NAME.heap
 where there is one, and prints where its report is not NAME.report. Then it prints for each code, and for each rule by
@@ -14,7 +14,7 @@ import re
 import subprocess
 import sys
 
-top = pathlib.Path(__file__).resolve().parent.parent
+top = pathlib.Path(__file__).resolve().parents[3]
 program = pathlib.Path(sys.argv[1] if len(sys.argv) > 1 else top / "ramseg").resolve()
 examples = top / "examples"
 

@@ -1,7 +1,7 @@
 #!/usr/bin/env python3
 """Draws docs/pictures/NAME.svg of some examples, from what `log --json` tells of them.
 
-usage: scripts/draw-examples [--compare] [PROGRAM]
+usage: scripts/check/examples drawings [--compare] [PROGRAM]
 
 Time runs down, a row for each event; an arrow leads from where a message was sent to where it was delivered. The marks
 are those of the page that `picture` makes; the legend at the foot of each has them. With --compare nothing is written,
@@ -14,7 +14,7 @@ import re
 import subprocess
 import sys
 
-TOP = pathlib.Path(__file__).resolve().parent.parent
+TOP = pathlib.Path(__file__).resolve().parents[3]
 DRAWN = ("first-write", "roll", "backup-replaced", "zombie", "recovery")
 ROW, COLUMN, LEFT, TOP_OF_ROWS, FOOT = 17, 150, 126, 46, 44
 # whose set-up, up to the first create, is drawn too

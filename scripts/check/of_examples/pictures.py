@@ -1,7 +1,7 @@
 #!/usr/bin/env python3
 """Checks the logs and the pictures of the examples.
 
-usage: scripts/check-pictures [PROGRAM]
+usage: scripts/check/examples pictures [PROGRAM]
 
 For each scenario of examples/, with PROGRAM (./ramseg, if not given): `log --json` has to fit docs/schemas/log.json and to
 agree with the report of `run` (acknowledgements, where the run stopped), `log` to have a line for each event and each
@@ -20,7 +20,7 @@ import subprocess
 import sys
 import tempfile
 
-TOP = pathlib.Path(__file__).resolve().parent.parent
+TOP = pathlib.Path(__file__).resolve().parents[3]
 BROWSERS = ("chromium", "chromium-browser", "google-chrome")
 
 

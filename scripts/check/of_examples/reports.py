@@ -1,7 +1,7 @@
 #!/usr/bin/env python3
 """Holds the examples against what `ramseg` prints of them.
 
-usage: scripts/compare-examples [PROGRAM]
+usage: scripts/check/examples reports [PROGRAM]
 
 `run` of NAME.json has to print NAME.report, `audit` of NAME.trace NAME.audit, and `trace` and `history` of NAME.json
 NAME.trace and NAME.history, where there are both, with the status of the last lines: 2 for `error` and `stopped`, 1 for
@@ -15,7 +15,7 @@ import pathlib
 import subprocess
 import sys
 
-top = pathlib.Path(__file__).resolve().parent.parent
+top = pathlib.Path(__file__).resolve().parents[3]
 examples = top / "examples"
 program = pathlib.Path(sys.argv[1] if len(sys.argv) > 1 else top / "ramseg").resolve()
 
@@ -76,7 +76,7 @@ for command, given, output in wanted():
         print(f"differs: {command} of {given.name} from {output.name}, with status {status}")
 for script in sorted(examples.glob("*.txt")):
     runs += 1
-    made = subprocess.run([top / "scripts/script-scenario", program, script], capture_output=True, text=True)
+    made = subprocess.run([top / "scripts/ramseg/script-scenario", program, script], capture_output=True, text=True)
     if made.returncode != 0 or json.loads(made.stdout) != json.loads(script.with_suffix(".json").read_text()):
         differ += 1
         print(f"differs: script of {script.name}; {made.stderr}")

@@ -1,7 +1,7 @@
 #!/usr/bin/env python3
 """Compares docs/schemas with what the program takes.
 
-usage: scripts/check-schemas [FOLDER ..]
+usage: scripts/check/examples schemas [FOLDER ..]
 
 Each scenario and trace of examples/ has to fit its schema exactly where its report is no `error`, and each line of its
 histories. A FOLDER has further inputs: NAME.stdin, with the command in NAME.args and what the program prints in NAME.stdout. The library jsonschema
@@ -13,7 +13,7 @@ import pathlib
 import re
 import sys
 
-TOP = pathlib.Path(__file__).resolve().parent.parent
+TOP = pathlib.Path(__file__).resolve().parents[3]
 TYPES = {"object": dict, "array": list, "string": str, "boolean": bool, "integer": int, "null": type(None)}
 
 

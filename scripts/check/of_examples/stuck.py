@@ -2,7 +2,7 @@
 # compare-stuck [PROGRAM]: has the program (./ramseg, where none is named) heal each scenario of examples/stuck/, and prints
 # where what it writes is not NAME.healed, or what it says is not NAME.told. The status has to be 0.
 set -u
-cd "$(dirname "$0")/.." || exit 2
+cd "$(dirname "$0")/../.." || exit 2
 program=$(readlink -f "${1:-./ramseg}")
 cd examples/stuck || exit 2
 number=0 differ=0

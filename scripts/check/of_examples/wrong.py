@@ -4,7 +4,7 @@
 # status has to be 2, and standard output the line of the fault, or a report that ends with the line of the stop. Each
 # scenario of examples/hints/ has to go through, with what NAME.hint has on standard error.
 set -u
-cd "$(dirname "$0")/.." || exit 2
+cd "$(dirname "$0")/../.." || exit 2
 program=$(readlink -f "${1:-./ramseg}")
 cd examples/wrong || exit 2
 number=0 differ=0

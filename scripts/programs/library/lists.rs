@@ -1,4 +1,4 @@
-//! What the memory of a run is compared with, in plain Rust: the events of bench/library, the copy of them that a world
+//! What the memory of a run is compared with, in plain Rust: the events of scripts/measure/library, the copy of them that a world
 //! keeps, and the messages, as lists of the same enums, with no nodes; but a value and the rows of a List are a `Vec`
 //! here, copied wherever they stand, where Sevunthi's have owners in common.
 //! usage: lists EVENTS

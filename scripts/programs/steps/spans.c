@@ -1,4 +1,4 @@
-/* Where the steps of bench/steps begin and end, loaded before the C library. A request of 2^44 and w bytes begins a
+/* Where the steps of scripts/measure/steps begin and end, loaded before the C library. A request of 2^44 and w bytes begins a
    span of steps of the row w, one of 2^45 and n bytes ends it after n steps, and one of 2^46 and w bytes ends a series
    of spans of that row; all are refused. At the end it prints, for each row, how many steps a series had and the least
    of its series, in nanoseconds of processor a step; what an empty span takes is taken off. Under callgrind, which
