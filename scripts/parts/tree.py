@@ -7,6 +7,7 @@ import sys
 
 TOP = pathlib.Path(__file__).resolve().parents[2]
 CRATES = TOP / "crates"
+EXAMPLES = TOP / "examples"
 # a module that is read leaves nothing behind
 sys.dont_write_bytecode = True
 

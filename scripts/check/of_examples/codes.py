@@ -1,22 +1,11 @@
-#!/usr/bin/env python3
-"""Which of the codes, and which rules of places and of events, have an example.
+"""`run` of each scenario of examples/codes/, with the `--heap` of NAME.heap where there is one, prints NAME.report. For each
+code, and for each rule by which a scenario, a trace or an event is refused, one of those that stand in examples/ is told;
+and of a code that no scenario can show, why."""
 
-usage: scripts/check/examples codes [PROGRAM]
-
-Runs the program (./ramseg, where none is named) on each scenario of examples/codes/, with the `--heap` of NAME.heap
-where there is one, and prints where its report is not NAME.report. Then it prints for each code, and for each rule by
-which a scenario, a trace or an event is refused, an example of those that stand in examples/; and of a code that no
-scenario can show, why. The status is 1 where a report differs, or a rule has no example.
-"""
-
-import pathlib
 import re
-import subprocess
-import sys
 
-top = pathlib.Path(__file__).resolve().parents[3]
-program = pathlib.Path(sys.argv[1] if len(sys.argv) > 1 else top / "ramseg").resolve()
-examples = top / "examples"
+from parts.program import ask
+from parts.tree import CRATES, EXAMPLES
 
 # what no scenario can show
 WITHOUT = {
@@ -99,39 +88,39 @@ RULES = [
 ]
 
 
-def differs():
-    """How many reports of examples/codes differ."""
-    count = 0
-    for scenario in sorted((examples / "codes").glob("*.json")):
+def differences(program):
+    """The reports of examples/codes that differ."""
+    for scenario in sorted((EXAMPLES / "codes").glob("*.json")):
         heap = scenario.with_suffix(".heap")
         words = ["--heap", heap.read_text().strip()] if heap.exists() else []
-        run = subprocess.run([program, "run", *words], stdin=scenario.open(), capture_output=True, text=True)
+        status, printed, _ = ask(program, "run", *words, given=scenario)
         report = scenario.with_suffix(".report").read_text()
-        status = 3 if report.splitlines()[-1].startswith("stopped F1 ") else 0
-        if run.stdout != report or run.returncode != status:
-            print(f"differs: {scenario.name}, status {run.returncode}")
-            count += 1
-    return count
+        if printed != report or status != (3 if report.splitlines()[-1].startswith("stopped F1 ") else 0):
+            yield f"{scenario.name}, status {status}"
 
 
 def example_of(code):
     """A file of examples/ that shows this code."""
-    where = [*examples.glob("*.report"), *examples.glob("codes/*.report")]
+    where = [*EXAMPLES.glob("*.report"), *EXAMPLES.glob("codes/*.report")]
     shown = re.compile(rf"^refused {code} from |^(error|stopped) F{code} at ", re.M)
     return next((file for file in sorted(where) if shown.search(file.read_text())), None)
 
 
-bad = differs()
-CODES = len(re.findall(r"^    \w+ = \d+,$", (top / "crates/rc_types/src/faults.rt").read_text(), re.M))
-for code in range(1, CODES + 1):
-    found = example_of(code)
-    bad += found is None and code not in WITHOUT
-    print(f"F{code}: {found.relative_to(examples) if found else WITHOUT.get(code, 'NO EXAMPLE')}")
-texts = {file: file.read_text() for file in sorted((examples / "wrong").glob("*.error"))}
-for rule, said in RULES:
-    found = next((file for file, text in texts.items() if re.search(said, text, re.M)), None)
-    bad += found is None
-    print(f"{rule}: {found.stem if found else 'NO EXAMPLE'}")
-print("0: more than 16,777,216 bytes: no file here, for its size; crates/ramseg_rows has it")
-print(f"{len(WITHOUT)} codes can not be shown, {bad} faults")
-sys.exit(bad != 0)
+def check(program):
+    yield from differences(program)
+    codes = len(re.findall(r"^    \w+ = \d+,$", (CRATES / "rc_types/src/faults.rt").read_text(), re.M))
+    for code in range(1, codes + 1):
+        found = example_of(code)
+        if found is None and code not in WITHOUT:
+            yield f"F{code}: no example"
+        else:
+            print(f"F{code}: {found.relative_to(EXAMPLES) if found else WITHOUT[code]}")
+    texts = {file: file.read_text() for file in sorted((EXAMPLES / "wrong").glob("*.error"))}
+    for rule, said in RULES:
+        found = next((file for file, text in texts.items() if re.search(said, text, re.M)), None)
+        if found is None:
+            yield f"{rule}: no example"
+        else:
+            print(f"{rule}: {found.stem}")
+    print("0: more than 16,777,216 bytes: no file here, for its size; crates/ramseg_rows has it")
+    return f"{codes} codes, of which {len(WITHOUT)} can not be shown"

@@ -1,20 +1,13 @@
-#!/usr/bin/env python3
-"""Draws docs/pictures/NAME.svg of some examples, from what `log --json` tells of them.
-
-usage: scripts/check/examples drawings [--compare] [PROGRAM]
-
-Time runs down, a row for each event; an arrow leads from where a message was sent to where it was delivered. The marks
-are those of the page that `picture` makes; the legend at the foot of each has them. With --compare nothing is written,
-and the status is 1 where a picture is another one than it would be. PROGRAM is ./ramseg, if not given.
-"""
+"""docs/pictures/NAME.svg of some examples is drawn from what `log --json` tells of them. Time runs down, a row for each event;
+an arrow leads from where a message was sent to where it was delivered. The marks are those of the page that `picture` makes;
+the legend at the foot of each has them. With --write they are drawn anew."""
 
 import json
-import pathlib
 import re
-import subprocess
-import sys
 
-TOP = pathlib.Path(__file__).resolve().parents[3]
+from parts.program import ask
+from parts.tree import EXAMPLES, TOP
+
 DRAWN = ("first-write", "roll", "backup-replaced", "zombie", "recovery")
 ROW, COLUMN, LEFT, TOP_OF_ROWS, FOOT = 17, 150, 126, 46, 44
 # whose set-up, up to the first create, is drawn too
@@ -226,23 +219,12 @@ class Picture:
         return "\n".join([*head, *self.lines, "</svg>", ""])
 
 
-def main(words):
-    compare = words[:1] == ["--compare"]
-    words = words[compare:]
-    if len(words) > 1 or words[:1] in (["-h"], ["--help"]):
-        sys.exit(__doc__.rstrip())
-    program, differ = pathlib.Path(words[0] if words else TOP / "ramseg").resolve(), 0
+def check(program, writes=False):
     for name in DRAWN:
-        with open(TOP / f"examples/{name}.json", "rb") as it:
-            told = subprocess.run([program, "log", "--json"], stdin=it, stdout=subprocess.PIPE, check=True).stdout
+        told = ask(program, "log", "--json", given=EXAMPLES / f"{name}.json").printed
         file, text = TOP / f"docs/pictures/{name}.svg", Picture(name, json.loads(told)).text()
-        if compare and (not file.exists() or file.read_text() != text):
-            print(f"{file.name} is another picture than it would be")
-            differ += 1
-        elif not compare:
+        if writes:
             file.write_text(text)
-    print(f"{len(DRAWN)} pictures, {differ} differ")
-    return differ != 0
-
-
-sys.exit(main(sys.argv[1:]))
+        elif not file.exists() or file.read_text() != text:
+            yield f"{file.name} is another picture than it would be"
+    return f"{len(DRAWN)} pictures"

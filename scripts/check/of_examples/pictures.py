@@ -1,49 +1,27 @@
-#!/usr/bin/env python3
-"""Checks the logs and the pictures of the examples.
+"""For each scenario of examples/ `log --json` fits docs/schemas/log.json and agrees with the report of `run`
+(acknowledgements, where the run stopped), `log` has a line for each event and each message, `picture` is a page that holds
+just that JSON and names no other place, and `picture --mermaid` has each message that arrives. Where a browser is there
+(chromium), it loads each page at two widths, and shows no error and all rows."""
 
-usage: scripts/check/examples pictures [PROGRAM]
-
-For each scenario of examples/, with PROGRAM (./ramseg, if not given): `log --json` has to fit docs/schemas/log.json and to
-agree with the report of `run` (acknowledgements, where the run stopped), `log` to have a line for each event and each
-message, `picture` to be a page that holds just that JSON and names no other place, and `picture --mermaid` to have each
-message that arrives. Where a browser is there (chromium), it loads each page at two widths, and has to show no error and
-all rows.
-"""
-
-import importlib.machinery
-import importlib.util
 import json
 import pathlib
 import re
 import shutil
 import subprocess
-import sys
 import tempfile
 
-TOP = pathlib.Path(__file__).resolve().parents[3]
+from of_examples.schemas import judge_of
+from parts.program import ask
+from parts.tree import EXAMPLES, TOP
+
 BROWSERS = ("chromium", "chromium-browser", "google-chrome")
-
-
-def loaded(name):
-    """A script of this folder as a module, without running it."""
-    loader = importlib.machinery.SourceFileLoader(name.replace("-", "_"), str(TOP / "scripts" / name))
-    module = importlib.util.module_from_spec(importlib.util.spec_from_loader(loader.name, loader))
-    sys.dont_write_bytecode = True
-    loader.exec_module(module)
-    return module
-
-
-def said_by(program, scenario, *words):
-    with open(scenario, "rb") as it:
-        ran = subprocess.run([program, *words], stdin=it, stdout=subprocess.PIPE, stderr=subprocess.DEVNULL)
-    return ran.returncode, ran.stdout.decode()
 
 
 def disagreements(program, scenario, fits):
     """What is wrong with the log and the pictures of a scenario."""
     report = scenario.with_suffix(".report").read_text()
     status = 2 if report.startswith(("error", "stopped")) or "\nstopped" in report else 0
-    told = {words: said_by(program, scenario, *words) for words in
+    told = {words: ask(program, *words, given=scenario)[:2] for words in
             (("log",), ("log", "--json"), ("picture",), ("picture", "--mermaid"))}
     for words, (ended, _) in told.items():
         if ended != status:
@@ -92,25 +70,16 @@ def browsed(browser, page, width):
         yield f"at {width} pixels: nothing was drawn"
 
 
-def main(words):
-    if len(words) > 1 or words[:1] in (["-h"], ["--help"]):
-        sys.exit(__doc__.rstrip())
-    program = pathlib.Path(words[0] if words else TOP / "ramseg").resolve()
-    fits = loaded("check-schemas").judge_of(json.loads((TOP / "docs/schemas/log.json").read_text()))
+def check(program):
+    fits = judge_of(json.loads((TOP / "docs/schemas/log.json").read_text()))
     browser = next(filter(None, map(shutil.which, BROWSERS)), None)
-    scenarios, wrong = sorted((TOP / "examples").glob("*.json")), 0
+    scenarios = sorted(EXAMPLES.glob("*.json"))
     with tempfile.TemporaryDirectory() as room:
+        page = pathlib.Path(room, "page.html")
         for scenario in scenarios:
             found = list(disagreements(program, scenario, fits))
             if browser and not scenario.with_suffix(".report").read_text().startswith("error"):
-                page = pathlib.Path(room, "page.html")
-                page.write_text(said_by(program, scenario, "picture")[1])
+                page.write_text(ask(program, "picture", given=scenario).printed)
                 found += [it for width in (375, 1440) for it in browsed(browser, page, width)]
-            for it in found:
-                print(f"{scenario.name}: {it}")
-            wrong += bool(found)
-    print(f"{len(scenarios)} scenarios, {wrong} of them wrong; pages {'loaded' if browser else 'not loaded, as there is no browser'}")
-    return wrong != 0
-
-
-sys.exit(main(sys.argv[1:]))
+            yield from (f"{scenario.name}: {it}" for it in found)
+    return f"{len(scenarios)} scenarios; pages {'loaded' if browser else 'not loaded, as there is no browser'}"

@@ -1,28 +1,18 @@
-#!/usr/bin/env python3
-"""Holds the examples against what `ramseg` prints of them.
-
-usage: scripts/check/examples reports [PROGRAM]
-
-`run` of NAME.json has to print NAME.report, `audit` of NAME.trace NAME.audit, and `trace` and `history` of NAME.json
-NAME.trace and NAME.history, where there are both, with the status of the last lines: 2 for `error` and `stopped`, 1 for
-a breach, else 0. NAME.txt is a script, of which `script` has to make NAME.json. What is a row of
-crates/ramseg_rows, which the gate runs, is compared with that row's answer. Of what is none the program is run
-(./ramseg, where none is named). Prints what differs.
-"""
+"""`run` of NAME.json prints NAME.report, `audit` of NAME.trace NAME.audit, and `trace` and `history` of NAME.json NAME.trace
+and NAME.history, where there are both, with the status of the last lines: 2 for `error` and `stopped`, 1 for a breach, else
+0. NAME.txt is a script, of which `script` makes NAME.json. What is a row of crates/ramseg_rows, which the gate runs, is
+compared with that row's answer."""
 
 import json
-import pathlib
 import subprocess
-import sys
 
-top = pathlib.Path(__file__).resolve().parents[3]
-examples = top / "examples"
-program = pathlib.Path(sys.argv[1] if len(sys.argv) > 1 else top / "ramseg").resolve()
+from parts.program import ask
+from parts.tree import CRATES, EXAMPLES, TOP
 
 
 def sections(name):
     """The texts of the rows that this file has, each from its title on."""
-    return ("\n" + (top / "crates/ramseg_rows" / name).read_text()).split("\n== ")[1:]
+    return ("\n" + (CRATES / "ramseg_rows" / name).read_text()).split("\n== ")[1:]
 
 
 def answers():
@@ -38,14 +28,14 @@ def answers():
 
 def wanted():
     """The command, the input and the output of each example."""
-    for report in sorted(examples.glob("*.report")):
+    for report in sorted(EXAMPLES.glob("*.report")):
         yield "run", report.with_suffix(".json"), report
-    for judged in sorted(examples.glob("*.audit")):
+    for judged in sorted(EXAMPLES.glob("*.audit")):
         trace = judged.with_suffix(".trace")
         yield "audit", trace, judged
         if trace.with_suffix(".json").exists():
             yield "trace", trace.with_suffix(".json"), trace
-    for history in sorted(examples.glob("*.history")):
+    for history in sorted(EXAMPLES.glob("*.history")):
         yield "history", history.with_suffix(".json"), history
 
 
@@ -57,28 +47,24 @@ def status_of(text):
     return int(any(line.startswith("audit breach") for line in lines))
 
 
-rows = answers()
-runs = differ = compared = 0
-for command, given, output in wanted():
-    text = output.read_text()
-    status = status_of(text)
-    whole = f"status {status}\n{text}"
-    row = rows.get((command, given.read_text().rstrip("\n")))
-    if row is not None:
-        compared += 1
-        same = row.rstrip("\n") == whole.rstrip("\n") or row.startswith(whole + "\n")
-    else:
+def check(program):
+    rows, runs, compared = answers(), 0, 0
+    for command, given, output in wanted():
+        text = output.read_text()
+        status = status_of(text)
+        whole = f"status {status}\n{text}"
+        row = rows.get((command, given.read_text().rstrip("\n")))
+        if row is not None:
+            compared += 1
+            same = row.rstrip("\n") == whole.rstrip("\n") or row.startswith(whole + "\n")
+        else:
+            runs += 1
+            same = ask(program, command, given=given)[:2] == (status, text)
+        if not same:
+            yield f"{command} of {given.name} from {output.name}, with status {status}"
+    for script in sorted(EXAMPLES.glob("*.txt")):
         runs += 1
-        run = subprocess.run([program, command], input=given.read_bytes(), capture_output=True)
-        same = run.returncode == status and run.stdout.decode() == text
-    if not same:
-        differ += 1
-        print(f"differs: {command} of {given.name} from {output.name}, with status {status}")
-for script in sorted(examples.glob("*.txt")):
-    runs += 1
-    made = subprocess.run([top / "scripts/ramseg/script-scenario", program, script], capture_output=True, text=True)
-    if made.returncode != 0 or json.loads(made.stdout) != json.loads(script.with_suffix(".json").read_text()):
-        differ += 1
-        print(f"differs: script of {script.name}; {made.stderr}")
-print(f"{compared} compared with rows, {runs} runs, {differ} differ")
-sys.exit(bool(differ))
+        made = subprocess.run([TOP / "scripts/ramseg/script-scenario", program, script], capture_output=True, text=True)
+        if made.returncode != 0 or json.loads(made.stdout) != json.loads(script.with_suffix(".json").read_text()):
+            yield f"script of {script.name}; {made.stderr}"
+    return f"{compared} compared with rows, {runs} runs"

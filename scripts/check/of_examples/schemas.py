@@ -1,19 +1,13 @@
-#!/usr/bin/env python3
-"""Compares docs/schemas with what the program takes.
-
-usage: scripts/check/examples schemas [FOLDER ..]
-
-Each scenario and trace of examples/ has to fit its schema exactly where its report is no `error`, and each line of its
-histories. A FOLDER has further inputs: NAME.stdin, with the command in NAME.args and what the program prints in NAME.stdout. The library jsonschema
-judges where it is there, else the few words that the schemas use are judged here.
-"""
+"""Each scenario and trace of examples/ fits its schema in docs/schemas exactly where its report is no `error`, and so does
+each line of its histories. A FOLDER has further inputs: NAME.stdin, with the command in NAME.args and what the program prints
+in NAME.stdout. The library jsonschema judges where it is there, else the few words that the schemas use are judged here."""
 
 import json
 import pathlib
 import re
-import sys
 
-TOP = pathlib.Path(__file__).resolve().parents[3]
+from parts.tree import EXAMPLES, TOP
+
 TYPES = {"object": dict, "array": list, "string": str, "boolean": bool, "integer": int, "null": type(None)}
 
 
@@ -85,11 +79,11 @@ def value_of(data):
 
 
 def inputs(folders):
-    for file in sorted([*(TOP / "examples").glob("*.json"), *(TOP / "examples" / "codes").glob("*.json")]):
+    for file in sorted([*EXAMPLES.glob("*.json"), *(EXAMPLES / "codes").glob("*.json")]):
         yield "scenario", file, file.with_suffix(".report").read_bytes(), file.read_bytes()
-    for file in sorted((TOP / "examples").glob("*.trace")):
+    for file in sorted(EXAMPLES.glob("*.trace")):
         yield "trace", file, file.with_suffix(".audit").read_bytes(), file.read_bytes()
-    for file in sorted((TOP / "examples").glob("*.history")):
+    for file in sorted(EXAMPLES.glob("*.history")):
         for line in file.read_bytes().splitlines():
             yield "history", file, b"", line
     for folder in folders:
@@ -100,20 +94,14 @@ def inputs(folders):
                 yield kind, file, file.with_suffix(".stdout").read_bytes(), file.read_bytes()
 
 
-def main(folders):
+def check(program, words=()):
     kinds = ("scenario", "trace", "history")
     judges = {kind: judge_of(json.loads((TOP / f"docs/schemas/{kind}.json").read_text())) for kind in kinds}
-    number = wrong = refused = 0
-    for kind, file, printed, data in inputs(folders):
+    number = refused = 0
+    for kind, file, printed, data in inputs(words):
         value = value_of(data)
         taken = not printed.startswith(b"error")
         number, refused = number + 1, refused + (not taken)
         if taken != (value is not None and judges[kind](value)):
-            wrong += 1
-            print(f"{file}: the program {'takes' if taken else 'refuses'} it, the schema does not")
-    print(f"{number} inputs, of which the program refuses {refused}; the schemas differ on {wrong}")
-    return wrong != 0
-
-
-if __name__ == "__main__":
-    sys.exit(main(sys.argv[1:]))
+            yield f"{file}: the program {'takes' if taken else 'refuses'} it, the schema does not"
+    return f"{number} inputs, of which the program refuses {refused}"

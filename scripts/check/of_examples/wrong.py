@@ -1,45 +1,40 @@
-#!/usr/bin/env bash
-# compare-wrong [PROGRAM]: runs the program (./ramseg, where none is named) on each scenario and trace of examples/wrong/,
-# and prints where standard error is not what NAME.error has. Of a scenario, `run` and `trace` have to say the same. The
-# status has to be 2, and standard output the line of the fault, or a report that ends with the line of the stop. Each
-# scenario of examples/hints/ has to go through, with what NAME.hint has on standard error.
-set -u
-cd "$(dirname "$0")/../.." || exit 2
-program=$(readlink -f "${1:-./ramseg}")
-cd examples/wrong || exit 2
-number=0 differ=0
-said=$(mktemp) || exit 2
-trap 'rm -f "$said"' EXIT
+"""For each scenario and trace of examples/wrong/ standard error is what NAME.error has; of a scenario `run` and `trace` say the
+same. The status is 2, and what is printed the line of the fault, or a report that ends with the line of the stop. Each
+scenario of examples/hints/ goes through, with what NAME.hint has on standard error."""
 
-# compare COMMAND FILE
-compare() {
-  local last status
-  last=$("$program" "$1" < "$2" 2> "$said" | tail -n 1; exit "${PIPESTATUS[0]}")
-  status=$?
-  number=$((number + 1))
-  [[ $1 = trace || $last =~ ^(error F17 at|stopped F18 at event)\ [0-9]+$ ]] && [ "$status" = 2 ] &&
-    cmp -s "$said" "${2%.*}.error" && return
-  echo "differs: $1 of $2, status $status, $last"
-  diff "$said" "${2%.*}.error" | sed 's/^/    /'
-  differ=$((differ + 1))
-}
+import difflib
+import re
 
-for scenario in *.json; do
-  compare run "$scenario"
-  compare trace "$scenario"
-done
-for trace in *.trace; do
-  compare audit "$trace"
-done
-cd ../hints || exit 2
-for scenario in *.json; do
-  last=$("$program" run < "$scenario" 2> "$said" | tail -n 1; exit "${PIPESTATUS[0]}") && [ "$last" = "audit clean" ] &&
-    cmp -s "$said" "${scenario%.json}.hint" || {
-    echo "differs: the hints at $scenario, $last"
-    diff "$said" "${scenario%.json}.hint" | sed 's/^/    /'
-    differ=$((differ + 1))
-  }
-  number=$((number + 1))
-done
-echo "$number runs, $differ differ"
-[ "$differ" = 0 ]
+from parts.program import ask
+from parts.tree import EXAMPLES
+
+ENDS = re.compile(r"(error F17 at|stopped F18 at event) \d+")
+
+
+def told(said, wanted):
+    """Where what was said is not what is wanted."""
+    lines = difflib.unified_diff(wanted.splitlines(), said.splitlines(), lineterm="", n=0)
+    return "".join(f"\n    {line}" for line in list(lines)[2:])
+
+
+def last_line(text):
+    return (text.splitlines() or [""])[-1]
+
+
+def check(program):
+    number = 0
+    for file in sorted([*(EXAMPLES / "wrong").glob("*.json"), *(EXAMPLES / "wrong").glob("*.trace")]):
+        wanted = file.with_suffix(".error").read_text()
+        for command in ("run", "trace") if file.suffix == ".json" else ("audit",):
+            number += 1
+            status, printed, said = ask(program, command, given=file)
+            last = last_line(printed)
+            if status != 2 or said != wanted or command != "trace" and not ENDS.fullmatch(last):
+                yield f"{command} of {file.name}, status {status}, {last}{told(said, wanted)}"
+    for file in sorted((EXAMPLES / "hints").glob("*.json")):
+        number += 1
+        wanted = file.with_suffix(".hint").read_text()
+        status, printed, said = ask(program, "run", given=file)
+        if status != 0 or last_line(printed) != "audit clean" or said != wanted:
+            yield f"the hints at {file.name}, {last_line(printed)}{told(said, wanted)}"
+    return f"{number} runs"

@@ -1,4 +1,4 @@
-/* The memory of each decoding of scripts/programs/codec/main.rt, loaded before the C library. A request of 2^44 and n bytes
+/* The memory of each decoding of scripts/programs/codec, loaded before the C library. A request of 2^44 and n bytes
    begins a decoding of n bytes, one of 2^45 ends it; both are refused. What is taken between them is added up, what
    is given back taken off, and the most of it, with the most beyond the input's length, is printed at the end. */
 #define _GNU_SOURCE
