@@ -3,6 +3,8 @@
 import importlib.machinery
 import importlib.util
 import pathlib
+import shutil
+import subprocess
 import sys
 
 TOP = pathlib.Path(__file__).resolve().parents[2]
@@ -29,6 +31,18 @@ def all_below(crate, named):
         if library in named:
             found += [it for it in [*all_below(library, named), library] if it not in found]
     return found
+
+
+def copy_crates(room, crates):
+    """Copies these crates into the folder, with what their checks have kept."""
+    shutil.copy(TOP / "HANDLES", room)
+    lines = [it for it in (TOP / "crates.txt").read_text().splitlines() if it.partition(":")[0].split(" ")[0] in crates]
+    (room / "crates.txt").write_text("\n".join(lines) + "\n")
+    for crate in crates:
+        (room / "crates" / crate).mkdir(parents=True)
+        for part in ("src", "specs", "proofs", "out"):
+            if (CRATES / crate / part).is_dir():
+                subprocess.run(["cp", "-a", "--reflink=auto", CRATES / crate / part, room / "crates" / crate], check=True)
 
 
 def script(path):
