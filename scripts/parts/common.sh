@@ -1,14 +1,14 @@
 # shellcheck shell=bash
-# What scripts in bash begin with, and read by `.`: they go on at the top of the repository, with a folder `room` that goes
-# away at the end; `kit` is where Rattle's kit is.
+# What scripts in bash begin with, and read by `.`: they go on at the top of the repository, with a folder `room` that
+# goes away at the end; `kit` is where Rattle's kit is.
 set -u
 cd "$(dirname "${BASH_SOURCE[0]}")/../.." || exit 2
 room=$(mktemp -d) || exit 2
 trap 'rm -rf "$room"' EXIT
 kit=$(dirname "$(dirname "$(readlink -f "$(command -v rt)")")")
 
-# build [--edit EDIT] (NAME LIBRARY.. | --crate CRATE): builds scripts/programs/NAME over these libraries, or the crate's
-# program, as built/start in the room; what the builder says is in room/log
+# build [--edit EDIT] (NAME LIBRARY.. | --crate CRATE): builds scripts/programs/NAME over these libraries, or the
+# crate's program, as built/start in the room; what the builder says is in room/log
 build() {
   local edit=()
   [ "$1" != --edit ] || { edit=("${@:1:2}") && shift 2; }

@@ -1,17 +1,17 @@
 """Edits, which make a function or a rule wrong: files NAME.edit, read and applied here.
 
-Each line is `KEY: TEXT`. `file:` names a file, `old:` a text of one line that stands in it exactly once, and `new:` what
-is to stand there instead; further pairs, and further files, follow below. Before the first file stand lines for the script
-that tries the edit:
+Each line is `KEY: TEXT`. `file:` names a file, `old:` a text of one line that stands in it exactly once, and `new:`
+what is to stand there instead; further pairs, and further files, follow below. Before the first file stand lines for
+the script that tries the edit:
 
     fails: FUNCTION              whose proof must fail
     refused by: CRATE FUNCTION   a law, or a worked run, that must fail
     breaks: RUN SENTENCE..       just these sentences are broken in this worked run
     unorders: RUN                the reads of this worked run are out of the order of time
 
-A file is named from the crate in whose folder the edit lies: crates/CRATE/must-fail (which the gate reads, and which has
-no such lines), wrong/bodies/CRATE, wrong/rules/CRATE. An edit of wrong/code is one of several crates: its files are named
-from crates/.
+A file is named from the crate in whose folder the edit lies: crates/CRATE/must-fail (which the gate reads, and which
+has no such lines), wrong/bodies/CRATE, wrong/rules/CRATE. An edit of wrong/code is one of several crates: its files are
+named from crates/.
 
 usage: python3 scripts/parts/edits.py EDIT CRATES     puts the edit into the copies of crates in the folder CRATES
 """
@@ -30,13 +30,15 @@ class Unfit(Exception):
 
 
 class Edit:
-    """An edit: its name, the crate in whose folder it lies (none, for wrong/code), what stands before its first file, by
-    key, and its changes, each a file below crates/, the old text and the new one."""
+    """An edit: its name, the crate in whose folder it lies (none, for wrong/code), what stands before its first file,
+    by key, and its changes, each a file below crates/, the old text and the new one."""
 
     def __init__(self, path):
         self.path, self.name = pathlib.Path(path), pathlib.Path(path).stem
         folder = self.path.resolve().parent
-        self.crate = None if folder.name == "code" else folder.parent.name if folder.name == "must-fail" else folder.name
+        if folder.name == "must-fail":
+            folder = folder.parent
+        self.crate = None if folder.name == "code" else folder.name
         self.heads, self.changes = {key: [] for key in HEADS}, []
         file = old = None
         for line in self.path.read_text(encoding="utf-8").splitlines():

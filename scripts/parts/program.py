@@ -9,8 +9,8 @@ Answer = collections.namedtuple("Answer", "status printed said")
 
 
 def ask(program, *words, given=b""):
-    """What the program answers, given a file, a text, bytes, or what is to be written as JSON: its status, what it prints,
-    and what it says on standard error."""
+    """What the program answers, given a file, a text, bytes, or what is to be written as JSON: its status, what it
+    prints, and what it says on standard error."""
     if isinstance(given, pathlib.Path):
         given = given.read_bytes()
     elif not isinstance(given, bytes):

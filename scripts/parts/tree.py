@@ -41,8 +41,9 @@ def copy_crates(room, crates):
     for crate in crates:
         (room / "crates" / crate).mkdir(parents=True)
         for part in ("src", "specs", "proofs", "out"):
-            if (CRATES / crate / part).is_dir():
-                subprocess.run(["cp", "-a", "--reflink=auto", CRATES / crate / part, room / "crates" / crate], check=True)
+            source = CRATES / crate / part
+            if source.is_dir():
+                subprocess.run(["cp", "-a", "--reflink=auto", source, room / "crates" / crate], check=True)
 
 
 def script(path):

@@ -1,9 +1,9 @@
 """examples/broken/ has runs of programs in which a rule is broken. RULE.json is a scenario; RULE.report, RULE.trace and
-RULE.html are what `./ramseg --without RULE` tells of it by `run`, `trace` and `picture`, and RULE.audit is what `audit` finds
-in that trace. These files are there and name their rule. The program, in which no rule is broken, runs each scenario with a
-clean audit, and finds the breach of RULE.audit in each trace. The rules of wrong/code/, and these examples, are those that
-`explain` knows. With --build each RULE that is named, or all, is broken in a program, and what that tells compared; with
---write it is written."""
+RULE.html are what `./ramseg --without RULE` tells of it by `run`, `trace` and `picture`, and RULE.audit is what `audit`
+finds in that trace. These files are there and name their rule. The program, in which no rule is broken, runs each
+scenario with a clean audit, and finds the breach of RULE.audit in each trace. The rules of wrong/code/, and these
+examples, are those that `explain` knows. With --build each RULE that is named, or all, is broken in a program, and what
+that tells compared; with --write it is written."""
 
 import re
 import subprocess

@@ -1,6 +1,6 @@
-"""`run` of each scenario of examples/codes/, with the `--heap` of NAME.heap where there is one, prints NAME.report. For each
-code, and for each rule by which a scenario, a trace or an event is refused, one of those that stand in examples/ is told;
-and of a code that no scenario can show, why."""
+"""`run` of each scenario of examples/codes/, with the `--heap` of NAME.heap where there is one, prints NAME.report. For
+each code, and for each rule by which a scenario, a trace or an event is refused, one of those that stand in examples/
+is told; and of a code that no scenario can show, why."""
 
 import re
 
@@ -9,7 +9,7 @@ from parts.tree import CRATES, EXAMPLES
 
 # what no scenario can show
 WITHOUT = {
-    6: "a log fills after 65,534 rolls of four deliveries or more each, and a world takes 200,000 events; crates/parts_rows",
+    6: "a log fills after 65,534 rolls of four deliveries or more, and a world takes 200,000 events; crates/parts_rows",
     19: "a change of epoch 65,535 is not begun and nobody is told; a world takes 200,000 events; crates/parts_rows",
     20: "a seat alone answers it, whose step is pending; crates/rc_wire_tests",
 }

@@ -1,6 +1,6 @@
-"""docs/pictures/NAME.svg of some examples is drawn from what `log --json` tells of them. Time runs down, a row for each event;
-an arrow leads from where a message was sent to where it was delivered. The marks are those of the page that `picture` makes;
-the legend at the foot of each has them. With --write they are drawn anew."""
+"""docs/pictures/NAME.svg of some examples is drawn from what `log --json` tells of them. Time runs down, a row for each
+event; an arrow leads from where a message was sent to where it was delivered. The marks are those of the page that
+`picture` makes; the legend at the foot of each has them. With --write they are drawn anew."""
 
 import json
 import re

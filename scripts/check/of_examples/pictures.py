@@ -1,7 +1,7 @@
 """For each scenario of examples/ `log --json` fits docs/schemas/log.json and agrees with the report of `run`
-(acknowledgements, where the run stopped), `log` has a line for each event and each message, `picture` is a page that holds
-just that JSON and names no other place, and `picture --mermaid` has each message that arrives. Where a browser is there
-(chromium), it loads each page at two widths, and shows no error and all rows."""
+(acknowledgements, where the run stopped), `log` has a line for each event and each message, `picture` is a page that
+holds just that JSON and names no other place, and `picture --mermaid` has each message that arrives. Where a browser is
+there (chromium), it loads each page at two widths, and shows no error and all rows."""
 
 import json
 import pathlib

@@ -1,7 +1,7 @@
-"""`run` of NAME.json prints NAME.report, `audit` of NAME.trace NAME.audit, and `trace` and `history` of NAME.json NAME.trace
-and NAME.history, where there are both, with the status of the last lines: 2 for `error` and `stopped`, 1 for a breach, else
-0. NAME.txt is a script, of which `script` makes NAME.json. What is a row of crates/ramseg_rows, which the gate runs, is
-compared with that row's answer."""
+"""`run` of NAME.json prints NAME.report, `audit` of NAME.trace NAME.audit, and `trace` and `history` of NAME.json
+NAME.trace and NAME.history, where there are both, with the status of the last lines: 2 for `error` and `stopped`, 1 for
+a breach, else 0. NAME.txt is a script, of which `script` makes NAME.json. What is a row of crates/ramseg_rows, which
+the gate runs, is compared with that row's answer."""
 
 import json
 import subprocess

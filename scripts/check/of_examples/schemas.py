@@ -1,6 +1,7 @@
-"""Each scenario and trace of examples/ fits its schema in docs/schemas exactly where its report is no `error`, and so does
-each line of its histories. A FOLDER has further inputs: NAME.stdin, with the command in NAME.args and what the program prints
-in NAME.stdout. The library jsonschema judges where it is there, else the few words that the schemas use are judged here."""
+"""Each scenario and trace of examples/ fits its schema in docs/schemas exactly where its report is no `error`, and so
+does each line of its histories. A FOLDER has further inputs: NAME.stdin, with the command in NAME.args and what the
+program prints in NAME.stdout. The library jsonschema judges where it is there, else the few words that the schemas use
+are judged here."""
 
 import json
 import pathlib

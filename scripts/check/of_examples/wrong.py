@@ -1,6 +1,6 @@
-"""For each scenario and trace of examples/wrong/ standard error is what NAME.error has; of a scenario `run` and `trace` say the
-same. The status is 2, and what is printed the line of the fault, or a report that ends with the line of the stop. Each
-scenario of examples/hints/ goes through, with what NAME.hint has on standard error."""
+"""For each scenario and trace of examples/wrong/ standard error is what NAME.error has; of a scenario `run` and `trace`
+say the same. The status is 2, and what is printed the line of the fault, or a report that ends with the line of the
+stop. Each scenario of examples/hints/ goes through, with what NAME.hint has on standard error."""
 
 import difflib
 import re
