@@ -5,7 +5,7 @@ what is to stand there instead; further pairs, and further files, follow below. 
 the script that tries the edit:
 
     fails: FUNCTION              whose proof must fail
-    refused by: CRATE FUNCTION   a law, or a worked run, that must fail
+    refused by: CRATE FUNCTION   a law, or a worked run, that must fail; `at LEMMA` behind it names the first that fails
     breaks: RUN SENTENCE..       just these sentences are broken in this worked run
     unorders: RUN                the reads of this worked run are out of the order of time
 
