@@ -86,5 +86,5 @@ def all_edits():
 if __name__ == "__main__":
     try:
         Edit(sys.argv[1]).apply(pathlib.Path(sys.argv[2]))
-    except Unfit as why:
+    except (OSError, Unfit) as why:
         sys.exit(f"{sys.argv[1]}: {why}")
