@@ -1,8 +1,17 @@
 //! What ran in the course of a run, and what was delivered.
 
 use rc_types::limits::MAX_HOSTS;
-use rc_types::{Addr, Event, Message, ServerId};
+use rc_types::{Addr, Body, Event, Message, ServerId};
 use std::alloc::{AllocError, Global};
+
+/// What was asked for at a server that was not ready.
+#[derive(Clone, Copy)]
+pub(crate) enum Early {
+    /// This table was created for it.
+    Create(u32, ServerId),
+    /// A write came to it.
+    Write(ServerId),
+}
 
 /// What ran, and what was delivered.
 #[derive(Drop)]
@@ -13,8 +22,12 @@ pub(crate) struct Course {
     generations: [u32; MAX_HOSTS as usize],
     /// The newest generation of each host that was suspected.
     suspected: [u32; MAX_HOSTS as usize],
+    /// The newest generation of each host whose Ready has reached the coordinator.
+    ready: [u32; MAX_HOSTS as usize],
     /// Whether each host runs.
     running: [bool; MAX_HOSTS as usize],
+    /// The first create or write that came before its server was ready.
+    pub(crate) early: Option<Early>,
     /// The first server that was suspected and had never been started.
     pub(crate) unstarted: Option<ServerId>,
     /// The first server that was asked while it did not run.
@@ -30,7 +43,9 @@ impl Course {
             delivered: Vec::new(alloc),
             generations: [0; MAX_HOSTS as usize],
             suspected: [0; MAX_HOSTS as usize],
+            ready: [0; MAX_HOSTS as usize],
             running: [false; MAX_HOSTS as usize],
+            early: None,
             unstarted: None,
             unheard: None,
             requests: 0,
@@ -43,17 +58,21 @@ impl Course {
         Ok(())
     }
 
-    /// These events have happened.
-    pub(crate) fn take_all(&mut self, events: &[Event]) {
+    /// These events have happened, and sent these messages.
+    pub(crate) fn take_all(&mut self, events: &[Event], messages: &[Message]) {
         for event in events {
-            self.take(event);
+            self.take(event, messages);
         }
     }
 
     /// An event has happened.
-    fn take(&mut self, event: &Event) {
+    fn take(&mut self, event: &Event, messages: &[Message]) {
         match event {
-            Event::Deliver(number) => self.deliver(*number),
+            Event::Deliver(number) => {
+                self.deliver(*number);
+                self.arrive(messages.get(*number));
+            }
+            Event::Create { table, owner } => self.ask(Early::Create(*table, *owner), *owner),
             Event::Start { host, .. } => self.start(*host),
             Event::Stop(id) => self.stop(id.index),
             Event::Suspect(id) => self.suspect(*id),
@@ -66,6 +85,33 @@ impl Course {
     fn deliver(&mut self, number: usize) {
         if let Some(mark) = self.delivered.get_mut(number) {
             *mark = true;
+        }
+    }
+
+    /// A message has arrived.
+    fn arrive(&mut self, message: Option<&Message>) {
+        let Some(message) = message else {
+            return;
+        };
+        match (message.from, &message.body, message.to) {
+            (Addr::Server(id), Body::Ready, _) => self.ready(id),
+            (_, Body::Write { .. }, Addr::Server(id)) => self.ask(Early::Write(id), id),
+            _ => {}
+        }
+    }
+
+    /// The coordinator has heard that a server is ready.
+    fn ready(&mut self, id: ServerId) {
+        if let Some(generation) = self.ready.get_mut(usize::from(id.index)) {
+            *generation = id.generation;
+        }
+    }
+
+    /// Something is asked for at a server that may not be ready.
+    fn ask(&mut self, early: Early, id: ServerId) {
+        let ready = self.ready.get(usize::from(id.index)).copied();
+        if self.runs(id) && ready != Some(id.generation) && self.early.is_none() {
+            self.early = Some(early);
         }
     }
 
