@@ -9,7 +9,8 @@
 //! `waits`, what a master waits for; `writes`, what became of those that were not acknowledged; then the four ways to
 //! tell it: `logs` with `standings`, `json` with `json_standing`, `diagrams` and `pages`. `tables` has what all of them
 //! put into maps, and `verdict` the words of the audit.
-//! Apart from all this stands `hinting`, with `course`, `stale` and `recoveries`: what may not have been meant in a run.
+//! Apart from all this stands `hinting`, with `course`, `stale` and `recoveries`: what may not have been meant in a
+//! run.
 #![tactic(auto)]
 
 mod changes;

@@ -218,8 +218,8 @@ function lifelines(height, parts) {
   for (const doubt of doubts) {
     const span = spanned(doubt.id, doubt.from, doubt.until, height);
     if (span) {
-      parts.push(`<rect class="doubt ${doubt.name}" x="${x(doubt.id) - width * 0.42}" y="${span.top}" width="${width * 0.84}" ` +
-        `height="${span.tall}"><title>${doubt.id} ${doubt.text}</title></rect>`);
+      parts.push(`<rect class="doubt ${doubt.name}" x="${x(doubt.id) - width * 0.42}" y="${span.top}" ` +
+        `width="${width * 0.84}" height="${span.tall}"><title>${doubt.id} ${doubt.text}</title></rect>`);
     }
   }
   for (const name of columns) {
@@ -245,8 +245,8 @@ function ownings(height, parts) {
       const span = beside < width * 0.42 && spanned(owner.id, from, until, height);
       if (span) {
         parts.push(`<rect class="owner${former}" x="${x(owner.id) - beside}" y="${span.top}" width="4" ` +
-          `height="${span.tall}"><title>${owner.id}${former ? " owned" : " owns"} ${keysText(owner)} of table ${owner.table}, ` +
-          `term ${owner.term}</title></rect>`);
+          `height="${span.tall}"><title>${owner.id}${former ? " owned" : " owns"} ${keysText(owner)} of ` +
+          `table ${owner.table}, term ${owner.term}</title></rect>`);
       }
     }
   }

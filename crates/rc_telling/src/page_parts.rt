@@ -39,10 +39,11 @@ button, select, input { font: inherit; color: var(--ink); background: var(--pane
 #findings a { color: var(--message); }
 #marks { margin-bottom: 8px; color: var(--soft); }
 #marks summary { cursor: pointer; }
-#view { position: relative; overflow: auto; overflow-y: scroll; height: 62vh; min-height: 260px; border: 1px solid var(--line);
-  border-radius: 8px; }
+#view { position: relative; overflow: auto; overflow-y: scroll; height: 62vh; min-height: 260px;
+  border: 1px solid var(--line); border-radius: 8px; }
 #view svg { position: sticky; top: 0; display: block; }
-#view:focus-visible, summary:focus-visible, a:focus-visible, button:focus-visible, select:focus-visible, input:focus-visible {
+#view:focus-visible, summary:focus-visible, a:focus-visible, button:focus-visible, select:focus-visible,
+input:focus-visible {
   outline: 2px solid var(--message); outline-offset: 1px; }
 #details { display: block; margin: 8px 0 14px; padding: 8px 10px; height: 112px; overflow: auto;
   background: var(--panel); border-radius: 8px; overflow-wrap: anywhere; white-space: pre-line; }
@@ -225,7 +226,8 @@ for (const message of messages.filter((message) => message.kind === "Own")) {
     continue;
   }
   const grant = { id: message.to, table, lo: BigInt(lo), hi: BigInt(hi), term: Number(term),
-    granted: message.sent, from: message.delivered[0], until: stops.get(message.to), former: stops.get(message.to), lane: 0 };
+    granted: message.sent, from: message.delivered[0], until: stops.get(message.to), former: stops.get(message.to),
+    lane: 0 };
   for (const owner of owners.filter((owner) => owner.table === table && owner.term < grant.term &&
       owner.lo <= grant.hi && grant.lo <= owner.hi && owner.until > message.sent)) {
     owner.until = Math.max(message.sent, owner.from);
