@@ -7,14 +7,24 @@ const MOST = 4;
 const at = (event) => `<a href="#event-${event}">event ${event}</a>`;
 const keyText = (table, key) => `key ${key} of table ${table}`;
 
+const answerOf = (words, id) => messages.find((message) => message.kind === "WriteOk" &&
+  (id === undefined || message.from === id) && message.text.includes(words));
+
+function fallText() {
+  const [table, key, earlier, before, later, after] = story.audit.match(/\d+/g);
+  const answered = (term, version) => {
+    const answer = answerOf(`term ${term} table ${table} key ${key} version ${version}`);
+    return answer ? `${answer.from} had acknowledged version ${version} under term ${term} at ${at(answer.sent)}` : "";
+  };
+  return `versions of ${keyText(table, key)} do not rise: ${answered(earlier, before)}, and ${answered(later, after)}`;
+}
+
 function breachText() {
   const [, attempt, id, seg, offset] = story.audit.match(/attempt (\d+) of (\S+) seg (\d+) at (\d+)/) || [];
   if (attempt === undefined) {
-    return "a later owner has acknowledged no greater version of a key than an earlier one";
+    return fallText();
   }
-  const place = `segment ${seg}, place ${offset}`;
-  const answer = messages.find((message) => message.kind === "WriteOk" && message.from === id &&
-    message.text.startsWith(`seg ${seg} offset ${offset} `));
+  const place = `segment ${seg}, place ${offset}`, answer = answerOf(`seg ${seg} offset ${offset} `, id);
   return story.audit.startsWith("breach missing") ?
     `attempt ${attempt} recovers ${id} without the write that it acknowledged` +
       `${answer ? ` at ${at(answer.sent)}` : ""} (${place})` :
@@ -35,9 +45,10 @@ function replacedText(id, { loss, knows, stages }) {
 
 function staleText(message) {
   const { table, key, version, value, known, owner } = message.misses;
-  return `<b>Stale read</b> at ${at(message.sent)}: ${message.from} shows version ${version} ` +
-    `${escaped(shortened(value))} of ${keyText(table, key)}; ${known.by} had acknowledged version ${known.version} ` +
-    `${escaped(shortened(known.value))} under term ${known.term} at ${at(known.message.sent)}` +
+  const shown = (number, what) => `version ${number}${what ? ` (${escaped(shortened(what))})` : ""}`;
+  return `<b>Stale read</b> at ${at(message.sent)}: ${message.from} shows ${shown(version, value)} of ` +
+    `${keyText(table, key)}; ${known.by} had acknowledged ${shown(known.version, known.value)} under term ` +
+    `${known.term} at ${at(known.message.sent)}` +
     (owner ? `, and ${owner.id} owns the key since ${at(owner.granted)}` : "");
 }
 

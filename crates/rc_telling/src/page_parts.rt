@@ -229,9 +229,10 @@ for (const message of messages.filter((message) => message.kind === "Own")) {
     granted: message.sent, from: message.delivered[0], until: stops.get(message.to), former: stops.get(message.to),
     lane: 0 };
   for (const owner of owners.filter((owner) => owner.table === table && owner.term < grant.term &&
-      owner.lo <= grant.hi && grant.lo <= owner.hi && owner.until > message.sent)) {
-    owner.until = Math.max(message.sent, owner.from);
+      owner.lo <= grant.hi && grant.lo <= owner.hi && owner.next === undefined)) {
     owner.next = message.to;
+    owner.lost = Math.max(message.sent, owner.from);
+    owner.until = Math.min(owner.until, owner.lost);
   }
   grant.lane = owners.filter((owner) => owner.id === grant.id).length;
   owners.push(grant);
@@ -248,7 +249,7 @@ const first = (list) => list.reduce((least, it) => least && least.event <= it.ev
 const becomes = new Map(story.servers.map((server) => {
   const id = server.id, fence = first(locks.filter((lock) => lock.of === id));
   const loss = first(owners.filter((owner) => owner.id === id && owner.next)
-    .map((owner) => ({ event: owner.until, owner })));
+    .map((owner) => ({ event: owner.lost, owner })));
   const knows = story.phases.find((phase) => phase.id === id && phase.phase === "deposed");
   const stages = [
     server.suspected !== null && { event: server.suspected, name: "suspected", text: "suspected" },
