@@ -112,10 +112,10 @@ impl Course {
         let Some(message) = message else {
             return;
         };
-        match (message.from, &message.body, message.to) {
-            (Addr::Server(id), Body::Ready, _) => self.ready(id),
-            (_, Body::Write { .. }, Addr::Server(id)) => self.ask(Early::Write(id), id),
-            _ => {}
+        if let (Body::Ready, Addr::Server(id)) = (&message.body, message.from) {
+            self.ready(id);
+        } else if let (Body::Write { .. }, Addr::Server(id)) = (&message.body, message.to) {
+            self.ask(Early::Write(id), id);
         }
     }
 
