@@ -58,22 +58,24 @@ const PATTERNS = '<defs><pattern id="hatched" width="4" height="4" patternUnits=
 
 // The picture. Only the rows that can be seen are drawn.
 const view = byId("view"), picture = byId("picture"), space = byId("space");
-const ROW = 28, TOP = 44, RIGHT = 36, LONG = 400, NARROWEST = 76, FOLD = 22;
-let left = 84, width = 0, full = 0, scrolled = 0, aside = 0, places = new Map();
+const ROW = 28, TOP = 44, RIGHT = 36, LONG = 400, NARROWEST = 76, FOLD = 22, FOLDS = 220;
+let left = 84, width = 0, thin = FOLD, full = 0, scrolled = 0, aside = 0, places = new Map();
 const x = (name) => places.get(name);
 const yOf = (row) => TOP + ROW * (row + 0.5) - scrolled;
 const y = (event) => yOf(rowOf[event]);
 
-// Where each column stands: one of a server that does not run while these events happen is folded.
+// Where each column stands: one of a server that does not run while these events happen is folded, and all that are
+// folded share a few pixels.
 function spread(firstEvent, lastEvent) {
   const isAway = (name) => starts.has(name) && (starts.get(name) > lastEvent || stops.get(name) < firstEvent);
   const away = columns.filter(isAway).length;
   left = view.clientWidth < 600 ? 58 : 84;
-  width = Math.max(NARROWEST, (view.clientWidth - left - RIGHT - FOLD * away) / Math.max(1, columns.length - away));
+  thin = Math.min(FOLD, FOLDS / Math.max(1, away));
+  width = Math.max(NARROWEST, (view.clientWidth - left - RIGHT - thin * away) / Math.max(1, columns.length - away));
   places = new Map();
   full = left;
   for (const name of columns) {
-    const wide = isAway(name) ? FOLD : width;
+    const wide = isAway(name) ? thin : width;
     places.set(name, full + wide / 2);
     full += wide;
   }
@@ -292,7 +294,7 @@ function copyText(bar) {
 function heads(isAway, event, parts) {
   parts.push(`<rect class="ground" width="${full}" height="${TOP}"/>`);
   for (const name of columns) {
-    const text = isAway(name) ? "·" : title(name);
+    const text = !isAway(name) ? title(name) : thin < FOLD ? "" : "·";
     parts.push(`<text class="name" x="${x(name)}" y="17">${text}<title>${title(name)}</title></text>`);
     const stage = doubts.find((doubt) => doubt.id === name && doubt.from <= event && event < doubt.until);
     if (stage && !isAway(name)) {

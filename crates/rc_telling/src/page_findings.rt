@@ -54,7 +54,8 @@ function staleText(message) {
 
 function tellFindings() {
   const replaced = [...becomes].filter(([, { loss }]) => loss);
-  const onlySuspected = [...becomes].filter(([, { loss, stages }]) => !loss && stages.length > 0);
+  const onlySuspected = [...becomes].filter(([id, { loss, stages }]) =>
+    !loss && stages.length > 0 && stops.get(id) === events.length);
   const some = (list, text, rest) => [...list.slice(0, MOST).map(text),
     ...list.length > MOST ? [`and ${list.length - MOST} more ${rest}`] : []];
   const lines = [
