@@ -15,6 +15,8 @@ from of_examples.schemas import judge_of
 from parts.program import ask
 from parts.tree import EXAMPLES, TOP
 
+# drawn by `drawings`, with the same marks
+DRAWN = ("first-write", "roll", "backup-replaced", "zombie", "recovery")
 BROWSERS = ("chromium", "chromium-browser", "google-chrome")
 
 
@@ -93,6 +95,13 @@ def browsed(browser, page, width, story):
     dom = ran.stdout.decode(errors="replace")
     if f": audit {story['audit']}" not in re.search("<title>(.*)</title>", dom)[1]:
         yield f"at {width} pixels: the title has no verdict"
+    marks = re.findall("</svg>([^<]*)</span>", re.search('<div id="legend">(.*?)</div>', dom, re.S)[1])
+    drawn = [(TOP / f"docs/pictures/{name}.svg").read_text() for name in DRAWN]
+    for mark in marks:
+        if not all(f">{mark}</text>" in picture for picture in drawn):
+            yield f"a picture that was drawn has no mark: {mark}"
+    if len(marks) < 10:
+        yield f"at {width} pixels: a legend of {len(marks)} marks"
     head = re.sub("<[^>]*>", "", re.search('<ul id="findings">(.*?)</ul>', dom, re.S)[1])
     for words in findings(story):
         if words not in head:
