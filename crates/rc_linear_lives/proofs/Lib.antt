@@ -1,0 +1,4 @@
+pub mod Lasting
+pub mod Cuts
+pub mod OfProcesses
+pub mod Script

@@ -1,0 +1,3 @@
+pub mod Linearized
+pub mod OfProcesses
+pub mod Script
