@@ -8,7 +8,7 @@ use Rattle.std.proofs.lemmas.Bool.{le-leb, leb-true, and_parts}
 use Rattle.rc_types.specs.declared.events.Setup.{Setup}
 use Rattle.rc_types.specs.declared.messages.Message.{Message}
 use Rattle.rc_model.specs.Headline.{In}
-use Rattle.rc_model.specs.Model.{Work, HostNode}
+use Rattle.rc_model.specs.Model.{Work}
 use Rattle.rc_model.specs.World.{NodeName, same_node}
 use Rattle.rc_model.specs.Nodes.{runs}
 use Rattle.rc_model.proofs.Ids.{same_node-true, same_node-refl}
@@ -17,12 +17,12 @@ use Rattle.rc_model.proofs.Tests.{true_false}
 use Rattle.rc_step_laws.proofs.Lists.{get-append}
 use Rattle.rc_history.specs.Nodes.{Node}
 use Rattle.rc_history.specs.Nodes as node
-use Rattle.rc_lives.specs.Lives.{Life, stops, replayed, remade, life_next}
+use Rattle.rc_lives.specs.Lives.{stops, replayed, remade, life_next}
 use Rattle.rc_lives.specs.Processes.{Deed, Process, Processes, new_processes, Happening, Takes, Syncs, Leaves, Falls, deed_of, is_left}
 use Rattle.rc_lives.specs.Processes.{stop_deeds, after, MayLeave, safe_at, MayAll, after_all}
 use Rattle.rc_lives.proofs.Global.{Goes, goes-after, goes-new, left-passes, put-safe}
 use Rattle.rc_lives.proofs.Telling.{in-said}
-use Rattle.rc_linear_lives.specs.OfProcesses.{sent_by_deeds, at_moment}
+use Rattle.rc_linear_lives.specs.OfProcesses.{sent_by_deeds, at_moment, IsDone}
 use Rattle.rc_linear.proofs.Standing.{take-get}
 
 -- no end of a process among these happenings makes it forgotten
@@ -124,7 +124,26 @@ before-rest setup all (one ∷ more) (suc k) =
 pub record DoneFrom (setup : Setup) (all : Processes) (happenings : List Happening) (number : ℕ) (deed : Deed) : Type 0 where
   pub takes : slice_get happenings number ≡ Some (Takes deed.node deed.work)
   pub does : deed ≡ deed_of deed.node ((after_all setup all (take number happenings)).at deed.node).life deed.work
-  pub stays : (count : ℕ) → In (Falls deed.node count) (drop (number + 1) happenings) → deed.rests ≤ count
+  pub stays : (count : ℕ) → In (Falls deed.node count) (drop (suc number) happenings) → deed.rests ≤ count
+
+next : (k : ℕ) → k + 1 ≡ suc k
+next k = omega arith
+
+pub is-done : (setup : Setup) (happenings : List Happening) (k : ℕ) (deed : Deed) →
+    DoneFrom setup (new_processes setup) happenings k deed → IsDone setup happenings k deed
+is-done setup happenings k deed done = record {
+  takes = done.takes;
+  does = done.does;
+  stays = λ count at. done.stays count (subst (λ n. In (Falls deed.node count) (drop n happenings)) (next k) at);
+}
+
+pub done-from : (setup : Setup) (happenings : List Happening) (k : ℕ) (deed : Deed) → IsDone setup happenings k deed →
+    DoneFrom setup (new_processes setup) happenings k deed
+done-from setup happenings k deed done = record {
+  takes = done.takes;
+  does = done.does;
+  stays = λ count at. done.stays count (subst (λ n. In (Falls deed.node count) (drop n happenings)) (sym (next k)) at);
+}
 
 pub outlasts : (more : List Happening) (deed : Deed) → ((count : ℕ) → In (Falls deed.node count) more → deed.rests ≤ count) →
     outlives more deed ≡ true
@@ -250,21 +269,28 @@ pub find : (setup : Setup) (all : Processes) (happenings : List Happening) (n i 
 find setup all happenings zero i message e = (let never : slice_get [] i ≡ Some message = e in cc)
 find setup all [] (suc n) i message e = (let never : slice_get [] i ≡ Some message = e in cc)
 find setup all (one ∷ more) (suc n) i message e =
-    by (get-append (sent_by_deeds (added setup all one more)) (sent_by_deeds (before setup (after setup all one) more n)) i message
-    (ap (λ l. slice_get l i) (sym (flat_map-append (λ (d : Deed). d.sent) (added setup all one more) (before setup (after setup all one) more n))) ∙ e))
+    by (λ j there. find setup (after setup all one) more n j message there)
+    (get-append (sent_by_deeds (added setup all one more)) (sent_by_deeds (before setup (after setup all one) more n)) i message
+    (ap (λ l. slice_get l i) (sym (flat_map-append (λ (d : Deed). d.sent) (added setup all one more)
+    (before setup (after setup all one) more n))) ∙ e))
   where
-    by : (slice_get (sent_by_deeds (added setup all one more)) i ≡ Some message)
+    by : ((j : ℕ) → slice_get (sent_by_deeds (before setup (after setup all one) more n)) j ≡ Some message →
+        Found setup (after setup all one) more n j message) →
+        (slice_get (sent_by_deeds (added setup all one more)) i ≡ Some message)
         ⊎ ((j : ℕ) × (i ≡ length (sent_by_deeds (added setup all one more)) + j)
         × (slice_get (sent_by_deeds (before setup (after setup all one) more n)) j ≡ Some message)) →
         Found setup all (one ∷ more) (suc n) i message
-    by (inl here) = found-first setup all one more n i message here
-    by (inr (j, same, there)) =
-        let found : Found setup (after setup all one) more n j message = find setup (after setup all one) more n j message there in
+    by later (inl here) = found-first setup all one more n i message here
+    by later (inr (j, same, there)) =
+        let found : Found setup (after setup all one) more n j message = later j there in
         let below = found.below in
         let long : length (sent_by_deeds (added setup all one more ++ before setup (after setup all one) more found.moment))
-        ≡ length (sent_by_deeds (added setup all one more)) + length (sent_by_deeds (before setup (after setup all one) more found.moment)) =
-        ap length (flat_map-append (λ (d : Deed). d.sent) (added setup all one more) (before setup (after setup all one) more found.moment))
-        ∙ length-append (sent_by_deeds (added setup all one more)) (sent_by_deeds (before setup (after setup all one) more found.moment)) in
+        ≡ length (sent_by_deeds (added setup all one more))
+        + length (sent_by_deeds (before setup (after setup all one) more found.moment)) =
+        ap length (flat_map-append (λ (d : Deed). d.sent) (added setup all one more)
+        (before setup (after setup all one) more found.moment))
+        ∙ length-append (sent_by_deeds (added setup all one more))
+        (sent_by_deeds (before setup (after setup all one) more found.moment)) in
         record {
           moment = suc found.moment;
           deed = found.deed;
@@ -274,7 +300,8 @@ find setup all (one ∷ more) (suc n) i message e =
           at = found.at;
           place = sums i (length (sent_by_deeds (added setup all one more))) j
               (length (sent_by_deeds (before setup (after setup all one) more found.moment))) found.number
-              (length (sent_by_deeds (added setup all one more ++ before setup (after setup all one) more found.moment))) same found.place long;
+              (length (sent_by_deeds (added setup all one more ++ before setup (after setup all one) more found.moment)))
+              same found.place long;
         }
 
 -- What has left
@@ -362,10 +389,15 @@ pub first-left : (setup : Setup) (all : Processes) (happenings : List Happening)
     In message (after_all setup all happenings).left → test message ≡ true →
     ((one : Message) → In one all.left → test one ≡ true → ⊥) → FirstLeft setup all happenings test
 first-left setup all [] test message at passes none = absurd (none message at passes)
-first-left setup all (one ∷ more) test message at passes none = by one at none
+first-left setup all (one ∷ more) test message at passes none =
+    by (λ h at none. first-left setup (after setup all h) more test message at passes none) one at none
   where
-    later : (h : Happening) → FirstLeft setup (after setup all h) more test → FirstLeft setup all (h ∷ more) test
-    later h first = record {
+    Later : Type 0
+    Later = (h : Happening) → In message (after_all setup (after setup all h) more).left →
+        ((one : Message) → In one (after setup all h).left → test one ≡ true → ⊥) → FirstLeft setup (after setup all h) more test
+
+    further : (h : Happening) → FirstLeft setup (after setup all h) more test → FirstLeft setup all (h ∷ more) test
+    further h first = record {
       number = suc first.number;
       message = first.message;
       leaves = first.leaves;
@@ -373,19 +405,16 @@ first-left setup all (one ∷ more) test message at passes none = by one at none
       none = first.none;
     }
 
-    by : (h : Happening) → In message (after_all setup (after setup all h) more).left →
+    by : Later → (h : Happening) → In message (after_all setup (after setup all h) more).left →
         ((one : Message) → In one all.left → test one ≡ true → ⊥) → FirstLeft setup all (h ∷ more) test
-    by (Takes name work) at none = later (Takes name work)
-        (first-left setup (after setup all (Takes name work)) more test message at passes none)
-    by (Syncs name count) at none = later (Syncs name count)
-        (first-left setup (after setup all (Syncs name count)) more test message at passes none)
-    by (Falls name count) at none = later (Falls name count)
-        (first-left setup (after setup all (Falls name count)) more test message at passes none)
-    by (Leaves left) at none = which (test left) refl
+    by later (Takes name work) at none = further (Takes name work) (later (Takes name work) at none)
+    by later (Syncs name count) at none = further (Syncs name count) (later (Syncs name count) at none)
+    by later (Falls name count) at none = further (Falls name count) (later (Falls name count) at none)
+    by later (Leaves left) at none = which (test left) refl
       where
         which : (b : Bool) → test left ≡ b → FirstLeft setup all (Leaves left ∷ more) test
         which true e = record { number = 0; message = left; leaves = refl; passes = e; none = none }
-        which false e = later (Leaves left) (first-left setup (after setup all (Leaves left)) more test message at passes
+        which false e = further (Leaves left) (later (Leaves left) at
             (λ one at too. new one (In-append one all.left (left ∷ []) at) too))
           where
             new : (one : Message) → In one all.left ⊎ In one (left ∷ []) → test one ≡ true → ⊥

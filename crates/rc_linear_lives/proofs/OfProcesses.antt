@@ -1,13 +1,13 @@
 -- What processes that end at any moment do is linearizable: its history is, and each operation stands in it between the
 -- steps that were done before its invocation and what had left by its response.
-use Rattle.std.proofs.Common.{◌≡◌, ◌⊎◌, ℕ, zero, suc, ◌+◌, ◌<◌, ◌≤◌, true, Bool, List, [], ◌∷◌, ◌++◌, length, filter, take, Some, None}
+use Rattle.std.proofs.Common.{◌≡◌, ◌⊎◌, ℕ, zero, suc, ◌+◌, ◌<◌, ◌≤◌, true, List, [], ◌∷◌, ◌++◌, length, filter, take, Some, None}
 use Rattle.std.proofs.Common.{◌&&◌, nat_eq, slice_get, refl, sym, ap, ◌∙◌, subst, inl, inr, arith, append_assoc}
-use Rattle.std.proofs.lemmas.List.{length-append, take-append-le}
+use Rattle.std.proofs.lemmas.List.{take-append-le}
 use Rattle.std.proofs.lemmas.Bool.{eq-eqb}
 use Rattle.std.proofs.lemmas.Grind.{flat_map-append}
 use Rattle.rc_types.specs.declared.events.Setup.{Setup}
 use Rattle.rc_model.specs.Model.{ServerId, Addr, Server, Entry, Event, Message, Body, Write, WriteOk, ReadOk, Ack, to_outside, replay}
-use Rattle.rc_model.specs.Model.{In, HasMade, HasAcknowledged}
+use Rattle.rc_model.specs.Model.{In, HasAcknowledged}
 use Rattle.rc_model.proofs.Ids.{same_id-refl}
 use Rattle.rc_model.proofs.Members.{In-get, In-left, In-right, place_of, filter-In}
 use Rattle.rc_step_laws.proofs.Lists.{get-left, get-within}
@@ -19,9 +19,9 @@ use Rattle.rc_write_laws.proofs.Once.{acknowledged-once}
 use Rattle.rc_promises.specs.Service.{IsWritten, IsOneWrite, IsOfKey, Answer, HasRead, MissesOnlyLater}
 use Rattle.rc_promises.proofs.Once.{three, one-version-is-one-write}
 use Rattle.rc_promises.proofs.Reading.{reads-see-acknowledged-writes}
-use Rattle.rc_linear.specs.Confirmed.{HasSentFor, IsConfirmed}
-use Rattle.rc_linear.specs.Linearizable.{AWrite, ARead, Operation, IsRequest, IsWrite, IsRead, IsOn, StandsBefore, WasAskedFor}
-use Rattle.rc_linear.specs.Linearizable.{IsLinearized, IsLinearizable, HasReplicas, IsResponseOf}
+use Rattle.rc_linear.specs.Confirmed.{HasSentFor}
+use Rattle.rc_linear.specs.Linearizable.{AWrite, ARead, Operation, IsWrite, IsRead, IsOn, StandsBefore, WasAskedFor}
+use Rattle.rc_linear.specs.Linearizable.{IsLinearizable, HasReplicas, IsResponseOf}
 use Rattle.rc_linear_lives.specs.Linearized.{AreLinearized, SaysTheSame}
 use Rattle.rc_linear_lives.specs.OfProcesses.{at_moment, sent_by_deeds, IsDone, IsUnsent, request_to, asked, IsOfStep}
 use Rattle.rc_linear_lives.specs.OfProcesses.{LinearizableOfProcesses, EachWriteOfProcesses, WhatLeavesWasDone}
@@ -32,7 +32,7 @@ use Rattle.rc_linear.proofs.Following.{writes-follow-reads}
 use Rattle.rc_linear.proofs.Fresh.{sent-of-take}
 use Rattle.rc_linear.proofs.Standing.{read-at}
 use Rattle.rc_linear.proofs.Linear.{linearized, sees, rises-from, each-write}
-use Rattle.rc_linear_lives.proofs.Lasting.{before, before-rest, done-lasts, deed-stands, DoneFrom, Found, find, left-by, left-in}
+use Rattle.rc_linear_lives.proofs.Lasting.{before, before-rest, done-lasts, deed-stands, is-done, done-from, Found, find, left-by, left-in}
 use Rattle.rc_linear_lives.proofs.Lasting.{left-was-sent, FirstLeft, first-left}
 use Rattle.rc_linear_lives.proofs.Cuts.{Cut, cut}
 
@@ -47,8 +47,10 @@ under-place a b c i less is = omega (arith, less, is)
 -- Lists
 
 get-behind : {X : Type 0} (xs ys : List X) (j : ℕ) (x : X) → slice_get ys j ≡ Some x → slice_get (xs ++ ys) (length xs + j) ≡ Some x
-get-behind [] ys j x e = e
-get-behind (y ∷ xs) ys j x e = get-behind xs ys j x e
+get-behind [] ys j x e = subst (λ k. slice_get ys k ≡ Some x) (let none : j ≡ 0 + j = omega arith in none) e
+get-behind (y ∷ xs) ys j x e =
+    subst (λ k. slice_get (y ∷ (xs ++ ys)) k ≡ Some x)
+    (let one : suc (length xs + j) ≡ suc (length xs) + j = omega arith in one) (get-behind xs ys j x e)
 
 In-take-first : {X : Type 0} (xs ys : List X) (n : ℕ) (x : X) → length xs ≤ n → In x xs → In x (take n (xs ++ ys))
 In-take-first [] ys n x less at = absurd at
@@ -209,12 +211,6 @@ module _ (setup : Setup) (happenings : List Happening) (may : MayAll setup (new_
 
     -- Steps
 
-    is-done : (k : ℕ) (deed : Deed) → DoneFrom setup (new_processes setup) happenings k deed → IsDone setup happenings k deed
-    is-done k deed done = record { takes = done.takes; does = done.does; stays = done.stays }
-
-    done-from : (k : ℕ) (deed : Deed) → IsDone setup happenings k deed → DoneFrom setup (new_processes setup) happenings k deed
-    done-from k deed done = record { takes = done.takes; does = done.does; stays = done.stays }
-
     find-at : (n i : ℕ) (message : Message) → slice_get (upto n) i ≡ Some message →
         Found setup (new_processes setup) happenings n i message
     find-at n i message e = find setup (new_processes setup) happenings n i message e
@@ -227,7 +223,7 @@ module _ (setup : Setup) (happenings : List Happening) (may : MayAll setup (new_
 
     not-sent : (n : ℕ) (m : ServerId) (s o : ℕ) → IsUnsent setup happenings n m s o → HasSentFor (upto n) m s o → ⊥
     not-sent n m s o unsent (entry, made) =
-        unsent found.moment found.deed found.below (is-done found.moment found.deed found.done) (
+        unsent found.moment found.deed found.below (is-done setup happenings found.moment found.deed found.done) (
           entry,
           record {
             message = made.message;
@@ -247,7 +243,7 @@ module _ (setup : Setup) (happenings : List Happening) (may : MayAll setup (new_
     stands-at : (k n : ℕ) (deed : Deed) → k < n → IsDone setup happenings k deed →
         (rest : List Message) × (upto n ≡ (upto k ++ deed.sent) ++ rest)
     stands-at k n deed less done =
-        let it = deed-stands setup (new_processes setup) happenings k n deed less (done-from k deed done) in (
+        let it = deed-stands setup (new_processes setup) happenings k n deed less (done-from setup happenings k deed done) in (
           sent_by_deeds it.0,
           ap sent_by_deeds it.1
               ∙ (flat_map-append (λ (d : Deed). d.sent) (before setup (new_processes setup) happenings k) (deed ∷ it.0)
@@ -630,7 +626,7 @@ module _ (setup : Setup) (happenings : List Happening) (may : MayAll setup (new_
       read-asked = record {
         master = was-asked.master;
         invocation = step.moment;
-        request = asked step.deed (is-done step.moment step.deed step.done) (In-get step.deed.sent step.number _ step.at);
+        request = asked step.deed (is-done setup happenings step.moment step.deed step.done) (In-get step.deed.sent step.number _ step.at);
         in_time = λ a on less. below-shown a on.is on.table_is on.key_is less;
       }
 
@@ -722,7 +718,7 @@ module _ (setup : Setup) (happenings : List Happening) (may : MayAll setup (new_
           seg = response.is.seg;
           offset = response.is.offset;
           term = response.is.term;
-          request = asked step-of.deed (is-done step-of.moment step-of.deed step-of.done)
+          request = asked step-of.deed (is-done setup happenings step-of.moment step-of.deed step-of.done)
               (In-get step-of.deed.sent step-of.number _ step-of.at);
           response = leaves-first ∙ ap (λ (message : Message). Some (Leaves message)) says-so;
           first = λ at. leaving.none p.message
@@ -747,7 +743,7 @@ pub what-leaves-was-done : WhatLeavesWasDone
 what-leaves-was-done setup happenings may number message e = record {
   moment = found.moment;
   deed = found.deed;
-  done = record { takes = found.done.takes; does = found.done.does; stays = found.done.stays };
+  done = is-done setup happenings found.moment found.deed found.done;
   before = (let below = found.below in other (less-or-same found.moment number (omega (arith, below))));
   sends = In-get found.deed.sent found.number message found.at;
 }

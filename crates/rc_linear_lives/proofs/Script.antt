@@ -1,15 +1,15 @@
 -- What is written down in pieces may happen, where a test of its lines says so.
-use Rattle.std.proofs.Common.{◌≡◌, ℕ, Bool, true, false, ◌&&◌, nat_le, List, [], ◌∷◌, length, Option, Some, None, slice_get, refl, sym, ap}
-use Rattle.std.proofs.Common.{◌∙◌, subst}
+use Rattle.std.proofs.Common.{◌≡◌, ℕ, Bool, true, false, ◌&&◌, nat_le, List, [], ◌∷◌, length, Option, Some, None, slice_get, refl, sym}
+use Rattle.std.proofs.Common.{arith}
 use Rattle.std.proofs.lemmas.Bool.{and_parts, leb-true}
 use Rattle.rc_types.specs.declared.events.Setup.{Setup}
 use Rattle.rc_types.specs.declared.messages.Message.{Message}
 use Rattle.rc_model.specs.Nodes.{Work, Take, Tick, Stop, Start, Ask, Create, Split, Suspect, Decide}
-use Rattle.rc_model.specs.World.{NodeName, TheHost, node_of}
+use Rattle.rc_model.specs.World.{NodeName, node_of}
 use Rattle.rc_model.proofs.Members.{In-get}
 use Rattle.rc_model.proofs.Tests.{true_false}
 use Rattle.rc_history.specs.Nodes.{node_can}
-use Rattle.rc_lives.specs.Processes.{Deed, Processes, Takes, Leaves, MayTake, May, MayAll, IsAddressed, IsBrought, after}
+use Rattle.rc_lives.specs.Processes.{Deed, Processes, MayTake, May, MayAll, after}
 use Rattle.rc_linear_lives.specs.Script.{Line, Gives, Brings, AllIsSafe, Lets, Ends, brings, lets_go, message_of, happening_of, happenings_of}
 
 -- such a work names its node, or none

@@ -1,3 +1,4 @@
 pub mod Linearized
 pub mod OfProcesses
 pub mod Script
+pub mod Worked

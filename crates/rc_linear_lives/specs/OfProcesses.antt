@@ -12,7 +12,7 @@
 --   invocation any moment up to that step, and so that of the Read which was brought by it.
 -- - A read is confirmed where a WriteOk of its master has left for whose place nothing had been sent when the step was
 --   done that answers the read. What the master sends for it can only have left later, and so can that WriteOk.
-use Rattle.std.specs.Prelude.{◌≡◌, ◌≢◌, ◌⊎◌, ℕ, ◌+◌, ◌<◌, ◌≤◌, List, take, drop, Option, Some, slice_get}
+use Rattle.std.specs.Prelude.{◌≡◌, ◌⊎◌, ℕ, ◌+◌, ◌<◌, ◌≤◌, List, take, drop, Some, slice_get}
 use Rattle.std.specs.List.{flat_map}
 use Rattle.rc_types.specs.declared.ids.ServerId.{ServerId}
 use Rattle.rc_types.specs.declared.ids.Addr.TheVariants.{Server, Outside}
