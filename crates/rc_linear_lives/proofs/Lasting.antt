@@ -78,7 +78,8 @@ filter-both {X} p q (x ∷ xs) = by (p x) (filter-both p q xs)
 -- What is done is what lasts
 
 step-lasts : (setup : Setup) (all : Processes) (one : Happening) (more : List Happening) →
-    filter (outlives more) (after setup all one).done ≡ filter (outlives (one ∷ more)) all.done ++ filter (outlives more) (adds setup all one)
+    filter (outlives more) (after setup all one).done
+    ≡ filter (outlives (one ∷ more)) all.done ++ filter (outlives more) (adds setup all one)
 step-lasts setup all (Takes name work) more = filter-append (outlives more) all.done (deed_of name (all.at name).life work ∷ [])
 step-lasts setup all (Syncs name count) more = sym (append-nil (filter (outlives more) all.done))
 step-lasts setup all (Leaves message) more = sym (append-nil (filter (outlives more) all.done))
@@ -167,7 +168,8 @@ lasts (Syncs name all ∷ more) deed e count (inl same) = cc
 lasts (Syncs name all ∷ more) deed e count (inr at) = lasts more deed e count at
 lasts (Leaves message ∷ more) deed e count (inl same) = cc
 lasts (Leaves message ∷ more) deed e count (inr at) = lasts more deed e count at
-lasts (Falls name left ∷ more) deed e count (inr at) = lasts more deed (and_parts (is_left name left deed) (outlives more deed) e).1 count at
+lasts (Falls name left ∷ more) deed e count (inr at) =
+    lasts more deed (and_parts (is_left name left deed) (outlives more deed) e).1 count at
 lasts (Falls name left ∷ more) deed e count (inl same) =
     leb-true deed.rests count (by count its (and_parts (is_left name left deed) (outlives more deed) e).0)
   where
@@ -178,7 +180,8 @@ lasts (Falls name left ∷ more) deed e count (inl same) =
         nat_le deed.rests c ≡ true
     by c (named, lefts) passes =
         subst (λ k. nat_le deed.rests k ≡ true) lefts
-        (ap (λ b. cond b (nat_le deed.rests left) true) (sym (ap (λ (n : NodeName). same_node deed.node n) named ∙ same_node-refl deed.node))
+        (ap (λ b. cond b (nat_le deed.rests left) true)
+        (sym (ap (λ (n : NodeName). same_node deed.node n) named ∙ same_node-refl deed.node))
         ∙ passes)
 
 -- such a step stands in what lasts, behind what was done before it

@@ -669,7 +669,8 @@ module _ (setup : Setup) (happenings : List Happening) (may : MayAll setup (new_
       same-message : leaving.message ≡ p.message
       same-message = only-one (filter (acks_place m ack.seg ack.offset) sent) leaving.message p.message (once m ack.seg ack.offset)
           (filter-In (acks_place m ack.seg ack.offset) leaving.message sent
-          (left-sent leaving.message (left-in setup (new_processes setup) happenings leaving.number leaving.message leaving.leaves)) leaving.passes)
+          (left-sent leaving.message
+          (left-in setup (new_processes setup) happenings leaving.number leaving.message leaving.leaves)) leaving.passes)
           (filter-In (acks_place m ack.seg ack.offset) p.message sent (left-sent p.message p.among) passing)
 
       leaves-first : slice_get happenings leaving.number ≡ Some (Leaves p.message)

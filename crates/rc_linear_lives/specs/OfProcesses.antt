@@ -1,17 +1,17 @@
 -- Linearizability of processes that end at any moment, by the rules of `rc_lives`. The words are those of rc_linear's
--- `specs/Linearizable.antt`. But a moment is the number of a happening, and what a client sees are messages that leave.
+-- `specs/Linearizable.antt`. But a moment is the number of a happening, and what clients see are messages that leave.
 --
 -- - What happened is a list of happenings. The processes of a moment are those before the happening of this number.
 -- - A step is done (IsDone) where a process gave its node a work in this moment, and has not forgotten it since: each
---   later end of the process has left all works of its journal that the step rests on.
--- - The invocation of a write is any moment at which its request was made, left the client, or was brought to the
---   master, so long as no step that was done before has sent anything for its place. What follows is said of each
---   choice, so of the latest one. A master that forgot a request can be brought it again.
+--   later end of the process has left all works of its journal on which the step rests.
+-- - The invocation of a write is any moment at which its request is made, leaves the client, or is brought to the
+--   master, where no step that was done before has sent anything for its place. What follows is said of each choice,
+--   so of the latest one. What a process has forgotten does not count, and a request can be brought to it again.
 -- - Its response is the moment at which its WriteOk leaves for the first time.
--- - A read is answered by a step, and its ReadOk leaves later. Its response is a moment at which that leaves, its
---   invocation any moment up to that step, and so that of the Read which was brought by it.
--- - A read is confirmed where a WriteOk of its master has left for whose place nothing had been sent when the step was
---   done that answers the read. What the master sends for it can only have left later, and so can that WriteOk.
+-- - A read is answered by a step, and the ReadOk leaves later. Its response is any moment at which that leaves. Its
+--   invocation is any moment up to that step, and so that at which its Read was brought.
+-- - A read is confirmed where a WriteOk of its master has left for whose place nothing had been sent by then: neither
+--   by the step that answers the read, nor by one that was done before.
 use Rattle.std.specs.Prelude.{◌≡◌, ◌⊎◌, ℕ, ◌+◌, ◌<◌, ◌≤◌, List, take, drop, Some, slice_get}
 use Rattle.std.specs.List.{flat_map}
 use Rattle.rc_types.specs.declared.ids.ServerId.{ServerId}
@@ -25,7 +25,8 @@ use Rattle.rc_model.specs.Nodes.{Take}
 use Rattle.rc_model.specs.World.{TheHost}
 use Rattle.rc_model.specs.Recovered.{Ack}
 use Rattle.rc_model.specs.Headline.{In, HasMade, HasAcknowledged}
-use Rattle.rc_lives.specs.Processes.{Deed, Processes, Happening, Takes, Leaves, Falls, new_processes, deed_of, MayAll, after_all}
+use Rattle.rc_lives.specs.Processes.{Deed, Processes, Happening, Takes, Leaves, Falls, new_processes, deed_of, MayAll}
+use Rattle.rc_lives.specs.Processes.{after_all}
 use Rattle.rc_linear.specs.Confirmed.{HasSentFor}
 use Rattle.rc_linear.specs.Linearizable.{Operation, AWrite, ARead, HasReplicas}
 use Rattle.rc_linear_lives.specs.Linearized.{AreLinearized}
@@ -36,10 +37,11 @@ use Rattle.rc_linear_lives.specs.Linearized.{AreLinearized}
 abbrev pub at_moment : Setup → List Happening → ℕ → Processes
 at_moment setup happenings number = after_all setup (new_processes setup) (take number happenings)
 
--- the processes in the end, and what they have sent that is not forgotten
+-- and those after all happenings
 abbrev pub in_the_end : Setup → List Happening → Processes
 in_the_end setup happenings = after_all setup (new_processes setup) happenings
 
+-- what these deeds have sent
 abbrev pub sent_by_deeds : List Deed → List Message
 sent_by_deeds deeds = flat_map (λ deed. deed.sent) deeds
 
@@ -60,10 +62,12 @@ abbrev pub request_to : ServerId → Body → Message
 request_to m body = record { from = Outside; to = Server m; body = body }
 
 -- in this moment a client's request to the master is made, leaves, or is brought to the master
-pub data IsRequest (setup : Setup) (happenings : List Happening) (number : ℕ) (m : ServerId) (body : Body) : Type 0 where
+pub data IsRequest (setup : Setup) (happenings : List Happening) (number : ℕ) (m : ServerId) (body : Body)
+    : Type 0 where
   asked : (deed : Deed) → IsDone setup happenings number deed → In (request_to m body) deed.sent →
       IsRequest setup happenings number m body
-  leaves : slice_get happenings number ≡ Some (Leaves (request_to m body)) → IsRequest setup happenings number m body
+  leaves : slice_get happenings number ≡ Some (Leaves (request_to m body)) →
+      IsRequest setup happenings number m body
   brought : slice_get happenings number ≡ Some (Takes (TheHost m.index) (Take (request_to m body))) →
       IsRequest setup happenings number m body
 
@@ -114,7 +118,8 @@ pub record WasAskedFor (setup : Setup) (happenings : List Happening) (op : Opera
   pub in_time : (a : Operation) → IsOn setup happenings op.table op.key a → a.response < invocation →
       a.version < op.version
 
--- The sentence: the operations on each key are linearized, by the same order and the same words as in a list of messages
+-- The sentence: the operations on each key are linearized, in the same words and by the same order as in a list of
+-- messages
 abbrev pub LinearizableOfProcesses : Type 0
 LinearizableOfProcesses = (setup : Setup) (happenings : List Happening) →
     MayAll setup (new_processes setup) happenings → HasReplicas setup → (table key : ℕ) →
