@@ -227,9 +227,11 @@ module _ (T : Option Asked → Bool) (none : T None ≡ false) where
     by_format f no (Some json) = no json
 
     by_goal : (rows : List Row) (goal : Option Text) → T (explore_by goal rows) ≡ false
-    by_goal rows None = by_format _ (λ json. drawn_none json rows (seeds_given rows)) (json_given rows)
+    by_goal rows None = by_format (λ json. option_and_then (λ seeds. drawn_by json seeds rows) (seeds_given rows))
+        (λ json. drawn_none json rows (seeds_given rows)) (json_given rows)
     by_goal rows (Some goal) = unless (line_of.has_option (codes "seed") rows) _
-        (by_format _ (λ json. sought_none json goal rows (seeds_given rows)) (json_given rows))
+        (by_format (λ json. option_and_then (λ seeds. sought_in json (unwrap_or seeds first_seeds) goal rows)
+        (seeds_given rows)) (λ json. sought_none json goal rows (seeds_given rows)) (json_given rows))
 
     pub no_explore : (rest : List Text) → T (asked_in (codes "explore" ∷ rest)) ≡ false
     no_explore rest = ap T (asked_explore rest) ∙ never _ _ (by_goal (rows_at (leaf command.explore.top) rest).1

@@ -2,7 +2,6 @@
 
 use rc_pen::{Pen, Spelling};
 use std::alloc::{AllocError, Global};
-use std::str::Split;
 
 /// What a text tells of.
 #[derive(Clone, Copy)]
@@ -107,14 +106,19 @@ fn is_of_message(kind: &str, rest: &str) -> bool {
 fn put_line(pen: &mut Pen, kind: &str, rest: &str) {
     pen.put("{\"line\":");
     put_value(pen, kind);
-    let mut words = rest.split(' ');
-    match kind {
-        "plan" => put_next(pen, "attempt", &mut words),
-        "refused" => put_next(pen, "code", &mut words),
-        "split" => {}
-        _ => put_next(pen, "id", &mut words),
+    let pairs = match kind {
+        "plan" => put_first(pen, "attempt", rest),
+        "refused" => put_first(pen, "code", rest),
+        "split" => rest,
+        _ => put_first(pen, "id", rest),
+    };
+    match pairs.split_once(" rows") {
+        Some((pairs, rows)) => {
+            put_pairs(pen, pairs);
+            put_rows(pen, rows);
+        }
+        None => put_pairs(pen, pairs),
     }
-    put_pairs(pen, &mut words);
     pen.put("}");
 }
 
@@ -124,19 +128,18 @@ fn put_member(pen: &mut Pen, kind: &str, rest: &str) {
         "" | "seed" => {}
         "audit" => put_audit(pen, rest),
         "stopped" => {
-            let mut words = rest.split(' ');
+            let (code, place) = parts_of(rest);
             pen.put(",\"stopped\":{\"code\":");
-            put_value(pen, words.next().unwrap_or(""));
+            put_value(pen, code);
             // `at event N`
-            let _ = words.next();
-            put_pairs(pen, &mut words);
+            let (_, event) = parts_of(place);
+            put_pairs(pen, event);
             pen.put("}");
         }
         "drawn" => put_drawn(pen, rest),
         "until" => {
-            let mut words = rest.split(' ');
-            put_next(pen, "until", &mut words);
-            put_pairs(pen, &mut words);
+            let pairs = put_first(pen, "until", rest);
+            put_pairs(pen, pairs);
         }
         "unreached" | "unreached-rules" => put_names(pen, kind, rest),
         _ => put_counts(pen, kind, rest),
@@ -151,17 +154,20 @@ fn put_counts(pen: &mut Pen, kind: &str, rest: &str) {
         return;
     }
     pen.put("{");
-    let mut words = rest.split(' ');
-    let mut is_first = true;
-    while let Some(name) = words.next() {
-        if name.is_empty() {
-            break;
-        }
-        pen.put_either(is_first, "", ",");
-        put_value(pen, name);
-        pen.put(":");
-        put_value(pen, words.next().unwrap_or("0"));
-        is_first = false;
+    let mut name = None;
+    let mut count = 0usize;
+    for word in rest.split(' ') {
+        name = match name {
+            None => Some(word),
+            Some(name) => {
+                pen.put_either(count > 0, ",", "");
+                put_value(pen, name);
+                pen.put(":");
+                put_value(pen, word);
+                count = count.saturating_add(1);
+                None
+            }
+        };
     }
     pen.put("}");
 }
@@ -183,22 +189,29 @@ fn put_names(pen: &mut Pen, kind: &str, rest: &str) {
 /// What an audit found: `clean`, or the breach with what it names. Of two writes the first comes with `term` and
 /// `version`, the later one with `later-term` and `later-version`.
 fn put_audit(pen: &mut Pen, rest: &str) {
-    let mut words = rest.split(' ');
-    let found = words.next().unwrap_or("");
+    let (found, breach) = parts_of(rest);
     if found != "breach" {
         put_name(pen, "audit");
         put_value(pen, found);
         return;
     }
+    let (clause, words) = parts_of(breach);
     pen.put(",\"audit\":{\"breach\":");
-    put_value(pen, words.next().unwrap_or(""));
+    put_value(pen, clause);
+    let mut name = None;
     let mut is_later = false;
-    while let Some(name) = words.next() {
-        pen.put_either(is_later, ",\"later-", ",\"");
-        pen.say(name);
-        pen.put("\":");
-        put_value(pen, words.next().unwrap_or(""));
-        is_later = is_later || name == "version";
+    for word in words.split(' ') {
+        name = match name {
+            None => Some(word),
+            Some(name) => {
+                pen.put_either(is_later, ",\"later-", ",\"");
+                pen.say(name);
+                pen.put("\":");
+                put_value(pen, word);
+                is_later = is_later || name == "version";
+                None
+            }
+        };
     }
     pen.put("}");
 }
@@ -207,7 +220,7 @@ fn put_audit(pen: &mut Pen, rest: &str) {
 fn put_drawn(pen: &mut Pen, rest: &str) {
     pen.put(",\"drawn\":{\"free\":");
     pen.put_either(rest.ends_with(" free"), "true", "false");
-    put_pairs(pen, &mut rest.split(' '));
+    put_pairs(pen, rest);
     pen.put("}");
 }
 
@@ -219,11 +232,11 @@ fn put_seeds(pen: &mut Pen, text: &str) {
         let (kind, rest) = parts_of(line);
         if kind == "seed" {
             pen.put_either(count > 0, ",{\"seed\":", "{\"seed\":");
-            let mut words = rest.split(' ');
-            put_value(pen, words.next().unwrap_or(""));
-            put_pairs(pen, &mut words);
+            let (seed, pairs) = parts_of(rest);
+            put_value(pen, seed);
+            put_pairs(pen, pairs);
             put_name(pen, "audit");
-            put_value(pen, rest.rsplit(' ').next().unwrap_or(""));
+            pen.put_either(rest.ends_with(" breach"), "\"breach\"", "\"clean\"");
             pen.put("}");
             count = count.saturating_add(1);
         }
@@ -250,49 +263,48 @@ fn put_name(pen: &mut Pen, name: &str) {
     pen.put("\":");
 }
 
-/// A member of this name with the next of the words.
-fn put_next(pen: &mut Pen, name: &str, words: &mut Split<'_, char>) {
+/// A member of this name with the first of the words; gives the others.
+fn put_first<'a>(pen: &mut Pen, name: &str, words: &'a str) -> &'a str {
+    let (first, rest) = parts_of(words);
     put_name(pen, name);
-    put_value(pen, words.next().unwrap_or(""));
+    put_value(pen, first);
+    rest
 }
 
-/// Members of names and values that take turns. What a plan has for its rows are all words that follow. A name
-/// without a value is none.
-fn put_pairs(pen: &mut Pen, words: &mut Split<'_, char>) {
-    while let Some(name) = words.next() {
-        if name == "rows" {
-            put_rows(pen, words);
-            return;
-        }
-        let Some(value) = words.next() else {
-            return;
+/// Members of names and values that take turns. A name without a value is none.
+fn put_pairs(pen: &mut Pen, words: &str) {
+    let mut name = None;
+    for word in words.split(' ') {
+        name = match name {
+            None => Some(word),
+            Some(name) => {
+                put_name(pen, name);
+                put_value(pen, word);
+                None
+            }
         };
-        put_name(pen, name);
-        put_value(pen, value);
     }
 }
 
 /// The rows of a plan, each of a segment, who has it, and how long it is.
-fn put_rows(pen: &mut Pen, words: &mut Split<'_, char>) {
+fn put_rows(pen: &mut Pen, words: &str) {
     put_name(pen, "rows");
     pen.put("[");
-    let mut is_first = true;
-    while let Some(row) = words.next() {
-        let mut parts = row.split(':');
-        pen.put_either(is_first, "{\"seg\":", ",{\"seg\":");
-        put_value(pen, parts.next().unwrap_or(""));
-        put_next_part(pen, "holder", parts.next());
-        put_next_part(pen, "length", parts.next());
-        pen.put("}");
-        is_first = false;
+    let mut count = 0usize;
+    for row in words.split(' ') {
+        if let Some((seg, rest)) = row.split_once(':') {
+            let (holder, length) = rest.split_once(':').unwrap_or((rest, "0"));
+            pen.put_either(count > 0, ",{\"seg\":", "{\"seg\":");
+            put_value(pen, seg);
+            put_name(pen, "holder");
+            put_value(pen, holder);
+            put_name(pen, "length");
+            put_value(pen, length);
+            pen.put("}");
+            count = count.saturating_add(1);
+        }
     }
     pen.put("]");
-}
-
-/// A member with a part of a row.
-fn put_next_part(pen: &mut Pen, name: &str, part: Option<&str>) {
-    put_name(pen, name);
-    put_value(pen, part.unwrap_or(""));
 }
 
 /// A word: a number, where it is digits alone, the digits before a stroke, a range of seeds as two numbers, or a text.
