@@ -261,7 +261,7 @@ module _ (T : Option Asked → Bool) (none : T None ≡ false) where
       T (asked_in (codes "explain" ∷ rest)) ≡ false
   no_explain each rest = ap T (asked_explain rest) ∙ never _ _ (go _ _)
     where
-      go : (word : Option Text) (j : Option Bool) → T (option_map (λ json. asked.Explain word json) j) ≡ false
+      go : (word : Option Text) (j : Option Bool) → T (option_and_then (λ json. Some (asked.Explain word json)) j) ≡ false
       go word None = none
       go word (Some json) = each word json
 

@@ -187,8 +187,11 @@ abbrev pub heal_in : List Row → Option Asked
 heal_in rows = Some (asked.Heal (has_flag (codes "power-cycle") rows))
 
 -- `explain` with the word that was given, if one was
+abbrev pub explained_in : Bool → List Row → Option Asked
+explained_in json rows = Some (asked.Explain (first_of (codes "word") rows) json)
+
 abbrev pub explain_in : List Row → Option Asked
-explain_in rows = option_map (λ json. asked.Explain (first_of (codes "word") rows) json) (json_given rows)
+explain_in rows = option_and_then (λ json. explained_in json rows) (json_given rows)
 
 -- the command of this name, with what was given for its options; first of those that read nothing
 abbrev pub unread_in : Text → List Row → Option Asked

@@ -6,7 +6,7 @@ ghost use Rattle.clap.specs.Faults.{fault_of};
 ghost use Rattle.clap.specs.Words.{app_of, found_of, kind_of, rows_of, subcommand_rows_of};
 ghost use Rattle.rc_types.specs.declared.faults.Fault.TheVariants.{OutOfMemory};
 ghost use Rattle.rc_commands.specs.Asking.{IsInRange, Tells, as_command, asked_in, asks_for_text, audit_in, command_in};
-ghost use Rattle.rc_commands.specs.Asking.{drawn_in, explain_in, explore_in, fuzz_in, fuzz_line, heap_line, is_alone};
+ghost use Rattle.rc_commands.specs.Asking.{drawn_in, explain_in, explained_in, explore_in, fuzz_in, fuzz_line, heap_line, is_alone};
 ghost use Rattle.rc_commands.specs.Asking.{is_plain, is_request, is_text, named_in, option_zip_with, run_in, shrink_in};
 ghost use Rattle.rc_commands.specs.Asking.{single_in, sought_in, stops_in, stops_line, survey_in, threads_in, unread_in, until_in};
 ghost use Rattle.rc_commands.specs.Asking.{IsFew};
@@ -352,14 +352,34 @@ fn explore_of(alloc: Global, given: &ArgMatches<'_>) -> Result<Asked, Fault>
     ensures ranges { IfOk result IsInRange }
     ensures memory { IfErr result (λ e. e ≡ OutOfMemory) }
 {
-    let Some(text) = given.get_str("until") else {
-        return match drawn_of(given) {
-            Ok(command) => Ok(command),
-            Err(word) => wrong(alloc, &word),
-        };
-    };
-    let goal = Seq::from_vec(text.as_bytes().to_vec(alloc)?);
+    match given.get_str("until") {
+        Some(goal) => until_named(alloc, given, goal),
+        None => drawn(alloc, given),
+    }
+}
+
+/// `explore` of several seeds until one reaches what is named so.
+fn until_named(alloc: Global, given: &ArgMatches<'_>, name: &str) -> Result<Asked, Fault>
+    ensures command { IfOk result (λ a. as_command a ≡ until_in name.now (rows_of (found_of given.now))) }
+    ensures text { IfOk result (λ a. is_text a ≡ false) }
+    ensures ranges { IfOk result IsInRange }
+    ensures memory { IfErr result (λ e. e ≡ OutOfMemory) }
+{
+    let goal = Seq::from_vec(name.as_bytes().to_vec(alloc)?);
     match until_of(given, goal) {
+        Ok(command) => Ok(command),
+        Err(word) => wrong(alloc, &word),
+    }
+}
+
+/// `explore` of one seed or of several, or what is wrong with it.
+fn drawn(alloc: Global, given: &ArgMatches<'_>) -> Result<Asked, Fault>
+    ensures command { IfOk result (λ a. as_command a ≡ drawn_in (rows_of (found_of given.now))) }
+    ensures text { IfOk result (λ a. is_text a ≡ false) }
+    ensures ranges { IfOk result IsInRange }
+    ensures memory { IfErr result (λ e. e ≡ OutOfMemory) }
+{
+    match drawn_of(given) {
         Ok(command) => Ok(command),
         Err(word) => wrong(alloc, &word),
     }
@@ -496,17 +516,26 @@ fn sought_of<'a>(
     })
 }
 
-/// `explain` with its word.
+/// `explain` with its option and its word.
 fn explain_of(alloc: Global, given: &ArgMatches<'_>) -> Result<Asked, Fault>
     ensures command { IfOk result (λ a. as_command a ≡ explain_in (rows_of (found_of given.now))) }
     ensures text { IfOk result (λ a. is_text a ≡ false) }
     ensures ranges { IfOk result IsInRange }
     ensures memory { IfErr result (λ e. e ≡ OutOfMemory) }
 {
-    let json = match json_of(given) {
-        Ok(json) => json,
-        Err(word) => return wrong(alloc, &word),
-    };
+    match json_of(given) {
+        Ok(json) => explained_of(alloc, given, json),
+        Err(word) => wrong(alloc, &word),
+    }
+}
+
+/// `explain` with its word.
+fn explained_of(alloc: Global, given: &ArgMatches<'_>, json: bool) -> Result<Asked, Fault>
+    ensures command { IfOk result (λ a. as_command a ≡ explained_in json (rows_of (found_of given.now))) }
+    ensures text { IfOk result (λ a. is_text a ≡ false) }
+    ensures ranges { IfOk result IsInRange }
+    ensures memory { IfErr result (λ e. e ≡ OutOfMemory) }
+{
     let Some(text) = given.get_str("word") else {
         return Ok(Asked::Explain { word: None, json });
     };

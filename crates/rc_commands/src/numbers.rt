@@ -121,7 +121,7 @@ pub fn has_option(given: &ArgMatches<'_>, name: &str) -> bool
 
 /// Whether JSON is asked for.
 pub fn json_of<'a>(given: &ArgMatches<'a>) -> Result<bool, BadWord<'a>>
-    ensures json { let json = json_given (rows_of (found_of given.now)) in
+    ensures { let json = json_given (rows_of (found_of given.now)) in
         MatchResult result (λ found. json ≡ Some found) (λ _. json ≡ None) }
 {
     let Some(text) = given.get_str("format") else {
