@@ -156,7 +156,9 @@ module _ (which : Bool) (rows : List Row) (position : ℕ) (word : Text) where
     position = position;
     is_trailing = false;
     is = refl;
-    has = format_is _ (has_value false (reading_by format) CommandLine v []
+    has = format_is (with_values (codes "format") (reading_by format) CommandLine (v ∷ [])
+        (without (codes "format") (settled rules (held which rows values)).rows))
+        (has_value false (reading_by format) CommandLine v []
         (without (codes "format") (settled rules (held which rows values)).rows));
   })
   out_found waits values true is_heap is_help None = inr (record {
@@ -177,7 +179,9 @@ module _ (which : Bool) (rows : List Row) (position : ℕ) (word : Text) where
     position = position;
     is_trailing = false;
     is = refl;
-    has = heap_is _ (has_value true (reading_by heap) CommandLine v []
+    has = heap_is (with_values (codes "heap") (reading_by heap) CommandLine (v ∷ [])
+        (without (codes "heap") (settled rules (held which rows values)).rows))
+        (has_value true (reading_by heap) CommandLine v []
         (without (codes "heap") (settled rules (held which rows values)).rows));
   })
   out_found waits values false true is_help None = inr (record {
@@ -377,9 +381,12 @@ ends w st e = subst (λ v. settle_fault rules false v.held ≡ [] → given (fin
     go which None has none = has
     go true (Some []) has none = absurd (true≢false (ap fails none))
     go false (Some []) has none = absurd (true≢false (ap fails none))
-    go true (Some (v ∷ vs)) has none = heap_is _ (has_value true (reading_by heap) CommandLine v vs (without (codes "heap") st.rows))
+    go true (Some (v ∷ vs)) has none =
+        heap_is (with_values (codes "heap") (reading_by heap) CommandLine (v ∷ vs) (without (codes "heap") st.rows))
+        (has_value true (reading_by heap) CommandLine v vs (without (codes "heap") st.rows))
     go false (Some (v ∷ vs)) has none =
-        format_is _ (has_value false (reading_by format) CommandLine v vs (without (codes "format") st.rows))
+        format_is (with_values (codes "format") (reading_by format) CommandLine (v ∷ vs) (without (codes "format") st.rows))
+        (has_value false (reading_by format) CommandLine v vs (without (codes "format") st.rows))
 
 pub options_given : (word : Text) (rest : List Text) → bytes_eq word (codes "--") ≡ false →
     level_fault level [] nothing_held (word ∷ rest) false [] ≡ []

@@ -186,11 +186,11 @@ module _ (T : Option Asked → Bool) (none : T None ≡ false) where
         (steps hosts factor segment : Option ℕ) →
         T (option_and_then (λ b. option_and_then (λ c. option_and_then (λ d. option_map
         (λ e. f b c d e) segment) factor) hosts) steps) ≡ false
-    of_sizes f no None hosts factor segment = none
-    of_sizes f no (Some b) None factor segment = none
-    of_sizes f no (Some b) (Some c) None segment = none
-    of_sizes f no (Some b) (Some c) (Some d) None = none
-    of_sizes f no (Some b) (Some c) (Some d) (Some e) = no b c d e
+    of_sizes f each_is None hosts factor segment = none
+    of_sizes f each_is (Some b) None factor segment = none
+    of_sizes f each_is (Some b) (Some c) None segment = none
+    of_sizes f each_is (Some b) (Some c) (Some d) None = none
+    of_sizes f each_is (Some b) (Some c) (Some d) (Some e) = each_is b c d e
 
     unless : (apart : Bool) (x : Option Asked) → T x ≡ false → T (cond apart None x) ≡ false
     unless true x e = none
@@ -212,7 +212,8 @@ module _ (T : Option Asked → Bool) (none : T None ≡ false) where
         (line_of.number_or 2 (codes "factor") 1 5 rows) (line_of.number_or 2 (codes "segment") 1 1024 rows))
 
     sought_none : (json : Bool) (goal : Text) (rows : List Row) (given : Option (Option (ℕ × ℕ))) →
-        T (option_and_then (λ seeds. sought_in json (unwrap_or seeds first_seeds) goal rows) given) ≡ false
+        T (option_and_then (λ seeds. sought_in json seeds goal rows)
+        (option_map (λ seeds. unwrap_or seeds first_seeds) given)) ≡ false
     sought_none json goal rows None = none
     sought_none json goal rows (Some seeds) =
         of_sizes (λ b c d e. asked.Until goal (unwrap_or seeds first_seeds).0 (unwrap_or seeds first_seeds).1 b c d e
@@ -223,15 +224,15 @@ module _ (T : Option Asked → Bool) (none : T None ≡ false) where
 
     by_format : (f : Bool → Option Asked) → ((json : Bool) → T (f json) ≡ false) → (j : Option Bool) →
         T (option_and_then f j) ≡ false
-    by_format f no None = none
-    by_format f no (Some json) = no json
+    by_format f each_is None = none
+    by_format f each_is (Some json) = each_is json
 
     by_goal : (rows : List Row) (goal : Option Text) → T (explore_by goal rows) ≡ false
     by_goal rows None = by_format (λ json. option_and_then (λ seeds. drawn_by json seeds rows) (seeds_given rows))
         (λ json. drawn_none json rows (seeds_given rows)) (json_given rows)
     by_goal rows (Some goal) = unless (line_of.has_option (codes "seed") rows) _
-        (by_format (λ json. option_and_then (λ seeds. sought_in json (unwrap_or seeds first_seeds) goal rows)
-        (seeds_given rows)) (λ json. sought_none json goal rows (seeds_given rows)) (json_given rows))
+        (by_format (λ json. option_and_then (λ seeds. sought_in json seeds goal rows)
+        (line_of.seeds_or_first rows)) (λ json. sought_none json goal rows (seeds_given rows)) (json_given rows))
 
     pub no_explore : (rest : List Text) → T (asked_in (codes "explore" ∷ rest)) ≡ false
     no_explore rest = ap T (asked_explore rest) ∙ never _ _ (by_goal (rows_at (leaf command.explore.top) rest).1

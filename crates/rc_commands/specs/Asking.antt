@@ -143,6 +143,9 @@ survey_in json seeds rows = if has_option (codes "seed") rows || has_flag (codes
 abbrev pub first_seeds : ℕ × ℕ
 first_seeds = (1, 10000)
 
+abbrev pub seeds_or_first : List Row → Option (ℕ × ℕ)
+seeds_or_first rows = option_map (λ seeds. unwrap_or seeds first_seeds) (seeds_given rows)
+
 -- the first of these seeds that reaches what is named
 abbrev pub sought_in : Bool → ℕ × ℕ → Text → List Row → Option Asked
 sought_in json seeds goal rows =
@@ -155,8 +158,8 @@ sought_in json seeds goal rows =
 -- `explore` until a seed reaches what is named, which does not go with `--seed`
 abbrev pub until_in : Text → List Row → Option Asked
 until_in goal rows = if has_option (codes "seed") rows then None else
-    option_and_then (λ json. option_and_then
-    (λ seeds. sought_in json (unwrap_or seeds first_seeds) goal rows) (seeds_given rows)) (json_given rows)
+    option_and_then (λ json. option_and_then (λ seeds. sought_in json seeds goal rows) (seeds_or_first rows))
+    (json_given rows)
 
 abbrev pub drawn_by : Bool → Option (ℕ × ℕ) → List Row → Option Asked
 drawn_by json None rows = single_in json rows

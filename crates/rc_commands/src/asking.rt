@@ -5,11 +5,12 @@ ghost use Rattle.std.specs.Prelude.{option_map, MatchResult, option_and_then, Li
 ghost use Rattle.clap.specs.Faults.{fault_of};
 ghost use Rattle.clap.specs.Words.{app_of, found_of, kind_of, rows_of, subcommand_rows_of};
 ghost use Rattle.rc_types.specs.declared.faults.Fault.TheVariants.{OutOfMemory};
-ghost use Rattle.rc_commands.specs.Asking.{IsInRange, Tells, as_command, asked_in, asks_for_text, audit_in, command_in};
-ghost use Rattle.rc_commands.specs.Asking.{drawn_in, explain_in, explained_in, explore_in, fuzz_in, fuzz_line, heap_line, is_alone};
-ghost use Rattle.rc_commands.specs.Asking.{is_plain, is_request, is_text, named_in, option_zip_with, run_in, shrink_in};
-ghost use Rattle.rc_commands.specs.Asking.{single_in, sought_in, stops_in, stops_line, survey_in, threads_in, unread_in, until_in};
-ghost use Rattle.rc_commands.specs.Asking.{IsFew};
+ghost use Rattle.rc_commands.specs.Asking.{IsInRange, Tells, as_command, asked_in, asks_for_text, audit_in};
+ghost use Rattle.rc_commands.specs.Asking.{command_in, drawn_in, explain_in, explained_in, explore_in, fuzz_in};
+ghost use Rattle.rc_commands.specs.Asking.{fuzz_line, heap_line, is_alone, is_plain, is_request, is_text, named_in};
+ghost use Rattle.rc_commands.specs.Asking.{option_zip_with, run_in, shrink_in, seeds_or_first, single_in};
+ghost use Rattle.rc_commands.specs.Asking.{sought_in, stops_in, stops_line, survey_in, threads_in, unread_in};
+ghost use Rattle.rc_commands.specs.Asking.{until_in, IsFew};
 ghost use Rattle.rc_commands.specs.Numbers.{decimal_in};
 ghost use Rattle.rc_commands.specs.Commands.{ramseg};
 
@@ -473,11 +474,20 @@ fn until_of<'a>(given: &ArgMatches<'a>, goal: Seq<u8>) -> Result<Asked, BadWord<
         return Err(BadWord::NoSeed);
     }
     let json = json_of(given)?;
-    let seeds = match seeds_of(given)? {
-        Some(seeds) => seeds,
-        None => (1, 10_000),
-    };
+    let seeds = seeds_sought(given)?;
     sought_of(given, goal, json, seeds)
+}
+
+/// The seeds that are looked through: those that were given, or else the first ones.
+fn seeds_sought<'a>(given: &ArgMatches<'a>) -> Result<(u64, u64), BadWord<'a>>
+    ensures seeds { let seeds = seeds_or_first (rows_of (found_of given.now)) in
+        MatchResult result (λ found. seeds ≡ Some found) (λ _. seeds ≡ None) }
+    ensures few { IfOk result IsFew }
+{
+    match seeds_of(given)? {
+        Some(seeds) => Ok(seeds),
+        None => Ok((1, 10_000)),
+    }
 }
 
 /// `explore` of these seeds until one reaches this, with its other options.
