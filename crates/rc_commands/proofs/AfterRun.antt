@@ -118,20 +118,25 @@ format_is rows e = ap (λ b. is_some (first_of (codes "heap") rows) || b) e ∙ 
 
 module _ (which : Bool) (rows : List Row) (position : ℕ) (word : Text) where
   abbrev by_step : Bool → Option (List Text) → Kinds → Held × Step → Kinds × Walk
-  by_step waits values faults met =
-      (or_else faults (step_fault level position met.0 met.1), after_step rules word (at which rows values waits position false) met.0 met.1)
+  by_step waits values faults met = (
+    or_else faults (step_fault level position met.0 met.1),
+    after_step rules word (at which rows values waits position false) met.0 met.1,
+  )
 
   abbrev by_flag : Bool → Option (List Text) → Option (Text × Option Text) → Kinds × Walk
   by_flag waits values o = by_step waits values (flag_word_fault rules false o word (held which rows values))
       (long_or_other rules (waiting which waits) word o (held which rows values))
 
   abbrev by_dashes : Bool → Option (List Text) → Bool → Kinds × Walk
-  by_dashes waits values b = by_step waits values (if b then [] else flag_word_fault rules false (long_of word) word (held which rows values))
-      (if b then (held which rows values, trailing position) else long_or_other rules (waiting which waits) word (long_of word) (held which rows values))
+  by_dashes waits values b =
+      by_step waits values (if b then [] else flag_word_fault rules false (long_of word) word (held which rows values))
+      (if b then (held which rows values, trailing position)
+      else long_or_other rules (waiting which waits) word (long_of word) (held which rows values))
 
   abbrev by_found : Bool → Option (List Text) → Option Rule → Option Text → Kinds × Walk
   by_found waits values found v = by_step waits values (long_fault rules false found v (held which rows values))
-      (after_flag rules (waiting which waits) word (long_met rules found v (held which rows values)).0 (long_met rules found v (held which rows values)).1)
+      (after_flag rules (waiting which waits) word (long_met rules found v (held which rows values)).0
+      (long_met rules found v (held which rows values)).1)
 
   abbrev by_letters : Bool → Option (List Text) → Option Text → Kinds × Walk
   by_letters waits values o = by_step waits values (option_map_or (λ flags. bundle_fault rules false flags (held which rows values)) o [])
@@ -201,15 +206,18 @@ module _ (which : Bool) (rows : List Row) (position : ℕ) (word : Text) where
 
   -- a word that is no flag
   -- a value of the option that waits for one
-  out_value : (values : Option (List Text)) → Out (by_step true values [] (plain_word rules (waiting which true) word (held which rows values)))
+  out_value : (values : Option (List Text)) →
+      Out (by_step true values [] (plain_word rules (waiting which true) word (held which rows values)))
   out_value values = by_name which values
     where
       by_name : (it : Bool) (values : Option (List Text)) →
-          Out (or_else [] (step_fault level position (plain_word rules (waiting it true) word (held it rows values)).0
-          (plain_word rules (waiting it true) word (held it rows values)).1),
-          after_step rules word (at it rows values true position false)
-          (plain_word rules (waiting it true) word (held it rows values)).0
-          (plain_word rules (waiting it true) word (held it rows values)).1)
+          Out (
+            or_else [] (step_fault level position (plain_word rules (waiting it true) word (held it rows values)).0
+                (plain_word rules (waiting it true) word (held it rows values)).1),
+            after_step rules word (at it rows values true position false)
+                (plain_word rules (waiting it true) word (held it rows values)).0
+                (plain_word rules (waiting it true) word (held it rows values)).1,
+          )
       by_name true None = inr (record {
         which = true;
         rows = rows;

@@ -167,7 +167,11 @@ module _ (words : List Text) (a : Asked) (asks : as_command a ≡ asked_in words
   )
 
   pub audit_told : (a ≡ asked.Audit false) ↔ (is_alone (codes "audit") words ≡ true)
-  audit_told = (λ e. audit_only words (ap is_audit (sym asks ∙ ap as_command e)), λ h. is_answer a (asked.Audit false) (asks ∙ audit_gives words h))
+  audit_told = (
+    λ e. audit_only words (ap is_audit (sym asks ∙ ap as_command e)),
+    λ h.
+        is_answer a (asked.Audit false) (asks ∙ audit_gives words h),
+  )
 
   pub fuzz_told : is_alone (codes "fuzz") words ≡ true → a ≡ asked.Fuzz 1 1000 false false
   fuzz_told h = is_answer a (asked.Fuzz 1 1000 false false) (asks ∙ fuzz_gives words h)
@@ -204,7 +208,8 @@ module _ (words : List Text) (a : Asked) (asks : as_command a ≡ asked_in words
   heap_told bytes e = asks ∙ ap asked_in e ∙ heap_asked bytes
 
   pub drawn_told : (seed steps : Text) → words ≡ line_of.fuzz_line seed steps
-      → as_command a ≡ option_zip_with (λ s n. asked.Fuzz s n true false) (decimal_in 0 18446744073709551615 seed) (decimal_in 0 100000 steps)
+      → as_command a ≡ option_zip_with (λ s n. asked.Fuzz s n true false) (decimal_in 0 18446744073709551615 seed)
+      (decimal_in 0 100000 steps)
   drawn_told seed steps e = asks ∙ ap asked_in e ∙ fuzz_asked seed steps
 
   pub cut_told : (seed steps : Text) → words ≡ line_of.stops_line seed steps

@@ -224,7 +224,8 @@ pub fuzz_is : IsLevel (leaf command.fuzz.top) false (codes "format" ∷ codes "s
 unfolding clap_on_literals
 fuzz_is = record { long = long; short = λ x. refl; strays = refl; positional = refl }
   where
-    long : (name : Text) → list_any (λ option. bytes_eq option name) (codes "format" ∷ codes "seed" ∷ codes "steps" ∷ codes "free" ∷ []) ≡ false
+    long : (name : Text) →
+        list_any (λ option. bytes_eq option name) (codes "format" ∷ codes "seed" ∷ codes "steps" ∷ codes "free" ∷ []) ≡ false
         → arg_by_long (leaf command.fuzz.top).rules name ≡ flag_of (bytes_eq (codes "help") name) false
     long name e =
         let p = or_parts _ _ e in

@@ -21,8 +21,8 @@ use clap::{ArgMatches, Error};
 use rc_types::{Fault, Seq};
 use std::alloc::Global;
 
-/// What a command line asks for. Where a command has `json`, that says whether a JSON document is wanted in place of the
-/// text.
+/// What a command line asks for. Where a command has `json`, that says whether a JSON document is wanted in place of
+/// the text.
 #[derive(Drop)]
 pub enum Asked {
     /// Replay a scenario; where a heap is given, the coordinator's tree stands in one of so many bytes.

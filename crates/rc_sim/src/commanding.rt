@@ -140,10 +140,11 @@ fn done<H: thread::Threads + Wait + Sync, R: Read, W: Write, E: Write>(
         Asked::History => narrated(alloc, Telling::History, reader, writer, errors),
         Asked::Check => checked(alloc, reader, writer, errors),
         Asked::Fuzz {
-            seed, steps, free, ..
-        } => {
-            fuzz(alloc, seed, steps as usize, free, writer, errors)
-        }
+            seed,
+            steps,
+            free,
+            ..
+        } => { fuzz(alloc, seed, steps as usize, free, writer, errors) }
         Asked::Stops { seed, steps, .. } => {
             tell_stake_of_drawn(alloc, seed, steps as usize, errors);
             cut_powers(alloc, seed, steps as usize, writer)

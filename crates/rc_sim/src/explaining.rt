@@ -18,8 +18,8 @@ use rc_words::{explain, explain_json};
 use std::alloc::Global;
 use std::io::Write;
 
-/// Writes what a word means, or which words there are; with `json` as a JSON document. Of one that names nothing nothing is written, and `errors` is
-/// told which may have been meant.
+/// Writes what a word means, or which words there are; with `json` as a JSON document. Of one that names nothing
+/// nothing is written, and `errors` is told which may have been meant.
 pub(crate) fn explained<W: Write, E: Write>(
     alloc: Global,
     word: Option<Seq<u8>>,

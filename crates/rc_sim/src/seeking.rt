@@ -119,10 +119,7 @@ fn first_of<E: Write>(
 ) -> Result<Option<String>, SimFault>
     ensures fault { IfErr result (λ fault. fault ≡ Memory) }
 {
-    let count = search
-        .last
-        .saturating_sub(options.seed)
-        .saturating_add(1);
+    let count = search.last.saturating_sub(options.seed).saturating_add(1);
     for number in 0..count {
         let mut options = *options;
         options.seed = options.seed.saturating_add(number);
@@ -214,7 +211,10 @@ fn tell_event(text: &mut String, event: &Event, sent: &[Message]) -> Result<(), 
 /// That a word names nothing that can be reached, and what may have been meant.
 fn unknown(alloc: Global, word: &str) -> Result<String, AllocError> {
     let mut text = String::new(alloc);
-    write!(text, "error: '{word}' is no rule, kind of event or kind of message")?;
+    write!(
+        text,
+        "error: '{word}' is no rule, kind of event or kind of message"
+    )?;
     let names = Goal::names(alloc)?;
     if let Some(near) = nearest(alloc, word, names.as_slice())? {
         write!(text, "; did you mean '{near}'?")?;
