@@ -1,4 +1,4 @@
--- A run that the definitions compute.
+-- Runs that the definitions compute.
 use Rattle.std.proofs.Common.{◌≡◌, ◌+◌, ℕ, true, false, List, [], ◌∷◌, ◌++◌, filter, drop}
 use Rattle.std.proofs.Common.{Some, slice_get, refl, sym, ap, ◌∙◌, subst, inl, codes}
 use Rattle.std.proofs.lemmas.Bool.{leb-true, ltb-true}
@@ -18,6 +18,7 @@ use Rattle.rc_write_laws.specs.AckClaims.{acks_place}
 use Rattle.rc_lives.specs.Processes.{Deed, Happening, Takes, deed_of, new_processes}
 use Rattle.rc_linear_lives.specs.OfProcesses.{IsDone, IsUnsent, IsWrite, IsRead, asked, at_moment, in_the_end, sent_by_deeds, request_to}
 use Rattle.rc_linear_lives.specs.Script.{lines_of}
+use Rattle.rc_linear_lives.specs.Worked.{holding, held_run, held_read, answered_b, HoldingMayHappen, ItIsHeldBack}
 use Rattle.rc_linear_lives.specs.Worked.{id, setup, forgetting, run, ItMayHappen, ItForgets, ItShowsWhatWasAcknowledged, append_b}
 use Rattle.rc_linear_lives.specs.Worked.{first_of, is_ask, brings_read, brings_append, lets_write_ok_go, lets_read_ok_go, write_a, read_a}
 use Rattle.rc_linear_lives.proofs.Lasting.{before, outlives, lasts, outlasts, deed-stands, done-from}
@@ -146,4 +147,40 @@ it-shows-what-was-acknowledged = record {
   write = it-is-a-write;
   read = it-is-a-read;
   in_turn = ltb-true (first_of lets_write_ok_go run) (first_of brings_read run) refl;
+}
+
+-- The read that is held back
+
+pub holding-may-happen : HoldingMayHappen
+holding-may-happen = may-lines setup (new_processes setup) (lines_of setup holding) refl
+
+abbrev b_ok : Message
+b_ok = to_outside (id 0 1) (WriteOk 1 1 1 7 5 2)
+
+b-left : In b_ok (in_the_end setup held_run).left
+b-left = (In-filter (acks_place (id 0 1) 1 1) b_ok (in_the_end setup held_run).left (inl refl)).0
+
+abbrev early_read : Work
+early_read = Take (request_to (id 0 1) (Read 7 5))
+
+held-is-a-read : IsRead setup held_run held_read
+held-is-a-read = record {
+  kind = refl;
+  moment = first_of brings_read held_run;
+  deed = deed_of (TheHost 0) ((at_moment setup held_run (first_of brings_read held_run)).at (TheHost 0)).life early_read;
+  done = done-at setup held_run (first_of brings_read held_run) (TheHost 0) early_read refl refl;
+  answers = inl refl;
+  response = refl;
+  asked_before = leb-true (first_of brings_read held_run) (first_of brings_read held_run) refl;
+  leaves_after = ltb-true (first_of brings_read held_run) (first_of lets_read_ok_go held_run) refl;
+  ack = record { seg = 1; offset = 1; term = 1; table = 7; key = 5; version = 2 };
+  acknowledged = record { message = b_ok; among = b-left; from = refl; says = refl };
+  unsent = none-sent setup held_run (first_of brings_read held_run + 1) (id 0 1) 1 1 refl;
+}
+
+pub it-is-held-back : ItIsHeldBack
+it-is-held-back = record {
+  read = held-is-a-read;
+  later = ltb-true answered_b (first_of lets_read_ok_go held_run) refl;
+  less = ltb-true 1 2 refl;
 }

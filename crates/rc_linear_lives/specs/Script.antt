@@ -63,6 +63,8 @@ pub data Piece : Type 0 where
   Settle : Piece
   -- the next message is brought, and nothing is made safe, nor leaves
   Taken : Piece
+  -- of the messages that this deed has sent the one of this number leaves
+  Late : (deed number : ℕ) → Piece
   -- these processes end
   End : (names : List NodeName) → Piece
 
@@ -111,6 +113,8 @@ lines_from setup number all (Settle ∷ pieces) =
     played_then setup all (settles setup many number all) (λ next. lines_from setup (length next.left) next pieces)
 lines_from setup number all (Taken ∷ pieces) =
     played_then setup all (Brings number ∷ []) (λ next. lines_from setup (number + 1) next pieces)
+lines_from setup number all (Late deed message ∷ pieces) =
+    played_then setup all (Lets deed message ∷ []) (λ next. lines_from setup number next pieces)
 lines_from setup number all (End names ∷ pieces) =
     played_then setup all (ends names) (λ next. lines_from setup number next pieces)
 

@@ -1,5 +1,5 @@
--- A run in which processes end, and a write is forgotten: what is said of processes is about something.
-use Rattle.std.specs.Prelude.{◌≡◌, ℕ, ◌+◌, Bool, true, false, if◌then◌else◌, nat_eq, List, [], ◌∷◌, ◌++◌, Some}
+-- Runs of processes: what is said of them is about something. In the first one processes end, and a write is forgotten.
+use Rattle.std.specs.Prelude.{◌≡◌, ℕ, ◌+◌, ◌<◌, Bool, true, false, if◌then◌else◌, nat_eq, List, [], ◌∷◌, ◌++◌, Some}
 use Rattle.std.specs.Prelude.{codes, slice_get}
 use Rattle.rc_types.specs.declared.ids.ServerId.{ServerId}
 use Rattle.rc_types.specs.declared.events.Setup.{Setup}
@@ -14,7 +14,7 @@ use Rattle.rc_model.specs.Report.{message_lines}
 use Rattle.rc_lives.specs.Processes.{Deed, Happening, Takes, Leaves, new_processes, MayAll, after_all}
 use Rattle.rc_linear.specs.Linearizable.{Operation, AWrite, ARead, Precedes}
 use Rattle.rc_linear_lives.specs.OfProcesses.{IsDone, IsWrite, IsRead}
-use Rattle.rc_linear_lives.specs.Script.{Piece, Whole, Next, Settle, Taken, End, run_of}
+use Rattle.rc_linear_lives.specs.Script.{Piece, Whole, Next, Settle, Taken, Late, End, run_of}
 
 abbrev pub id : ℕ → ℕ → ServerId
 id index generation = record { index = index; generation = generation }
@@ -159,3 +159,54 @@ pub record AreInTurn (a b : Operation) : Type 0 where
 
 abbrev pub ItShowsWhatWasAcknowledged : Type 0
 ItShowsWhatWasAcknowledged = AreInTurn write_a read_a
+
+-- A read that is held back
+
+-- Server 0.1 answers a read; that is held back until a later write is acknowledged, which confirms the read.
+abbrev pub holding : List Piece
+holding =
+    Whole (TheHost 0) (Start []) ∷ Whole (TheHost 1) (Start []) ∷ Settle ∷
+    Whole TheCoordinator (Create 7 (id 0 1)) ∷ Settle ∷
+    write (id 0 1) (codes "a") ∷ Settle ∷
+    read (id 0 1) ∷ Taken ∷ write (id 0 1) (codes "b") ∷ Settle ∷ Late 20 0 ∷ []
+
+abbrev pub held_run : List Happening
+held_run = run_of setup holding
+
+-- a WriteOk of version 2 leaves
+abbrev pub is_second_ok : Body → Bool
+is_second_ok (WriteOk seg offset term table key version) = nat_eq version 2
+is_second_ok _ = false
+
+abbrev pub lets_second_ok_go : Happening → Bool
+lets_second_ok_go (Leaves message) = is_second_ok message.body
+lets_second_ok_go _ = false
+
+-- the write of b is answered when this has left
+abbrev pub answered_b : ℕ
+answered_b = first_of lets_second_ok_go held_run
+
+abbrev pub held_read : Operation
+held_read = record {
+  kind = ARead;
+  master = id 0 1;
+  table = 7;
+  key = 5;
+  value = Some (codes "a");
+  version = 1;
+  invocation = first_of brings_read held_run;
+  response = first_of lets_read_ok_go held_run;
+}
+
+-- The read's answer leaves after that of a write with a greater version. So it has to be asked for before its step:
+-- what is asked for before its answer leaves may miss something.
+pub record IsHeldBack (answered : ℕ) (r : Operation) : Type 0 where
+  pub read : IsRead setup held_run r
+  pub later : answered < r.response
+  pub less : r.version < 2
+
+abbrev pub ItIsHeldBack : Type 0
+ItIsHeldBack = IsHeldBack answered_b held_read
+
+abbrev pub HoldingMayHappen : Type 0
+HoldingMayHappen = MayAll setup (new_processes setup) held_run

@@ -3,7 +3,7 @@
 //!
 //! To be read in this order, behind `specs/Linearizable.antt` of `rc_linear` and `specs/Processes.antt` of `rc_lives`:
 //! `specs/Linearized.antt`, the same words of operations of any kind; `specs/OfProcesses.antt`, which operations
-//! processes have, and the sentence; `laws`; and `specs/Worked.antt`, a run (`worked`), written down as
+//! processes have, and the sentence; `laws`; and `specs/Worked.antt`, two runs (`worked`), written down as
 //! `specs/Script.antt` says.
 #![tactic(auto)]
 

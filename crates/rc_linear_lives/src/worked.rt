@@ -1,6 +1,7 @@
-//! A run in which processes end: what is said of them is about something.
+//! Runs of processes: what is said of them is about something.
 
 ghost use Rattle.rc_linear_lives.specs.Worked.{ItMayHappen, ItTells, ItForgets, ItShowsWhatWasAcknowledged};
+ghost use Rattle.rc_linear_lives.specs.Worked.{HoldingMayHappen, ItIsHeldBack};
 
 /// Server 0.1 has acknowledged a write of a, and taken one of b, when its process and that of its backup end. What the
 /// backup had taken of b was not safe, so it is forgotten. Both come back, the table goes to server 0.2, and a read
@@ -12,4 +13,11 @@ pub fn what_is_forgotten_is_not_shown()
     ensures told { ItTells }
     ensures forgotten { ItForgets }
     ensures shown { ItShowsWhatWasAcknowledged }
+{}
+
+/// The answer to a read is held back, and leaves after a write with a greater version was acknowledged, which confirms
+/// the read. So a read has to be asked for before the step that answers it, and not just before its answer leaves.
+pub fn what_is_held_back_is_old()
+    ensures may { HoldingMayHappen }
+    ensures held { ItIsHeldBack }
 {}
