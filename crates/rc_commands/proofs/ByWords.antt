@@ -19,7 +19,7 @@ use Rattle.rc_commands.specs.declared.asking.Asked.TheVariants as asked
 use Rattle.rc_commands.specs.Asking.{Tells, as_command, asked_in, asks_for_text, begins_with_help, command_in, explain_in, heal_in}
 use Rattle.rc_commands.specs.Asking.{explore_by, explore_in, exploring, fuzz_in, log_in, picture_in, seeds_given, shrink_in}
 use Rattle.rc_commands.specs.Asking.{is_alone, is_command, is_end, is_help, is_option, is_plain, is_request, is_text}
-use Rattle.rc_commands.specs.Asking.{is_version, run_in, stops_in, threads_in, where_taken, heap_line, option_zip_with}
+use Rattle.rc_commands.specs.Asking.{is_version, run_in, stopping, stops_in, threads_in, where_taken, heap_line, option_zip_with}
 use Rattle.rc_commands.specs.Asking as line_of
 use Rattle.rc_commands.specs.Commands as command
 use Rattle.rc_commands.specs.Commands.{ramseg}
@@ -243,8 +243,8 @@ line word rest plain = by_command (λ w. is_plain (w ∷ rest) ≡ true → Agre
     ∙ after command.fuzz.top (codes "seed" ∷ codes "steps" ∷ codes "free" ∷ []) fuzz_is fuzz_alone fuzz_ended rest
     (plain_after (codes "seed" ∷ codes "steps" ∷ codes "free" ∷ []) rest (codes "fuzz") (λ w more h. not_true _ h) e))
     (λ e. ap (agrees (is_end rest) (begins_with_help rest)) (stops_line rest)
-    ∙ after command.stops.top (codes "seed" ∷ codes "steps" ∷ []) stops_is stops_alone stops_ended rest
-    (plain_after (codes "seed" ∷ codes "steps" ∷ []) rest (codes "stops") (λ w more h. not_true _ h) e))
+    ∙ after command.stops.top stopping stops_is stops_alone stops_ended rest
+    (plain_after stopping rest (codes "stops") (λ w more h. not_true _ h) e))
     (λ e. ap (agrees (is_end rest) (begins_with_help rest)) (threads_line rest)
     ∙ after command.threads.top (codes "hosts" ∷ codes "writes" ∷ []) threads_is threads_alone threads_ended rest
     (plain_after (codes "hosts" ∷ codes "writes" ∷ []) rest (codes "threads") (λ w more h. not_true _ h) e))
@@ -401,9 +401,11 @@ module _ (T : Option Asked → Bool) (none : T None ≡ false) where
       go free (Some seed) None = none
       go free (Some seed) (Some steps) = each _ _ _
 
-  pub no_stops : ((seed steps : ℕ) → T (Some (asked.Stops seed steps)) ≡ false) → (rest : List Text) →
+  pub no_stops : ((seed steps : ℕ) → T (Some (asked.Stops seed steps)) ≡ false) →
+      ((seed steps hosts factor segment : ℕ) (free : Bool) →
+      T (Some (asked.StopsExplored seed steps hosts factor segment free)) ≡ false) → (rest : List Text) →
       T (asked_in (codes "stops" ∷ rest)) ≡ false
-  no_stops each rest = ap T (asked_stops rest) ∙ never _ _ (go _ _)
+  no_stops each all rest = ap T (asked_stops rest) ∙ never _ _ (by_rows (rows_at (leaf command.stops.top) rest).1)
     where
       go : (o p : Option (Option ℕ)) →
           T (option_and_then (λ seed. option_map (λ steps. asked.Stops (unwrap_or seed 1) (unwrap_or steps 300)) p) o) ≡
@@ -411,6 +413,29 @@ module _ (T : Option Asked → Bool) (none : T None ≡ false) where
       go None p = none
       go (Some seed) None = none
       go (Some seed) (Some steps) = each _ _
+
+      many : (free : Bool) (seed steps hosts factor segment : Option ℕ) →
+          T (option_and_then (λ a. option_and_then (λ b. option_and_then (λ c. option_and_then (λ d. option_map
+          (λ e. asked.StopsExplored a b c d e free) segment) factor) hosts) steps) seed) ≡ false
+      many free None steps hosts factor segment = none
+      many free (Some a) None hosts factor segment = none
+      many free (Some a) (Some b) None factor segment = none
+      many free (Some a) (Some b) (Some c) None segment = none
+      many free (Some a) (Some b) (Some c) (Some d) None = none
+      many free (Some a) (Some b) (Some c) (Some d) (Some e) = all _ _ _ _ _ _
+
+      either : (explored sized : Bool) (x y : Option Asked) → T x ≡ false → T y ≡ false →
+          T (cond explored x (cond sized None y)) ≡ false
+      either true sized x y e f = e
+      either false true x y e f = none
+      either false false x y e f = f
+
+      by_rows : (rows : List Row) → T (stops_in rows) ≡ false
+      by_rows rows = either (line_of.has_flag (codes "explored") rows) (line_of.is_sized rows) _ _
+          (many (line_of.has_flag (codes "free") rows) (line_of.number_or 1 (codes "seed") 0 18446744073709551615 rows)
+          (line_of.number_or 300 (codes "steps") 0 1000 rows) (line_of.number_or 5 (codes "hosts") 1 16 rows)
+          (line_of.number_or 2 (codes "factor") 1 5 rows) (line_of.number_or 2 (codes "segment") 1 1024 rows))
+          (go (line_of.seed_given rows) (line_of.number_given (codes "steps") 0 1000 rows))
 
   pub no_threads : ((hosts writes : ℕ) → T (Some (asked.Threads hosts writes)) ≡ false) → (rest : List Text) →
       T (asked_in (codes "threads" ∷ rest)) ≡ false
@@ -529,7 +554,7 @@ trace_only (word ∷ rest) h = by_command (λ w. is_trace (asked_in (w ∷ rest)
     (sym (ap is_trace (asked_trace rest)) ∙ e))
     (λ e. absurd (true≢false (sym e ∙ no_audit is_trace refl refl rest)))
     (λ e. absurd (true≢false (sym e ∙ no_fuzz is_trace refl (λ seed steps free. refl) rest)))
-    (λ e. absurd (true≢false (sym e ∙ no_stops is_trace refl (λ seed steps. refl) rest)))
+    (λ e. absurd (true≢false (sym e ∙ no_stops is_trace refl (λ seed steps. refl) (λ seed steps hosts factor segment free. refl) rest)))
     (λ e. absurd (true≢false (sym e ∙ no_threads is_trace refl (λ hosts writes. refl) rest)))
     (λ e. absurd (true≢false (sym e ∙ no_explore is_trace refl
     (λ seed steps hosts factor segment free save progress. refl)
@@ -579,7 +604,7 @@ run_only (word ∷ rest) h = by_command (λ w. is_bare_run (asked_in (w ∷ rest
     (λ e. absurd (true≢false (sym e ∙ no_trace is_bare_run refl refl rest)))
     (λ e. absurd (true≢false (sym e ∙ no_audit is_bare_run refl refl rest)))
     (λ e. absurd (true≢false (sym e ∙ no_fuzz is_bare_run refl (λ seed steps free. refl) rest)))
-    (λ e. absurd (true≢false (sym e ∙ no_stops is_bare_run refl (λ seed steps. refl) rest)))
+    (λ e. absurd (true≢false (sym e ∙ no_stops is_bare_run refl (λ seed steps. refl) (λ seed steps hosts factor segment free. refl) rest)))
     (λ e. absurd (true≢false (sym e ∙ no_threads is_bare_run refl (λ hosts writes. refl) rest)))
     (λ e. absurd (true≢false (sym e ∙ no_explore is_bare_run refl
     (λ seed steps hosts factor segment free save progress. refl)
@@ -602,7 +627,7 @@ audit_only (word ∷ rest) h = by_command (λ w. is_audit (asked_in (w ∷ rest)
     (λ e. clean is_audit refl (is_end rest) (begins_with_help rest) _ (Some asked.Audit) (after_audit rest)
     (sym (ap is_audit (asked_audit rest)) ∙ e))
     (λ e. absurd (true≢false (sym e ∙ no_fuzz is_audit refl (λ seed steps free. refl) rest)))
-    (λ e. absurd (true≢false (sym e ∙ no_stops is_audit refl (λ seed steps. refl) rest)))
+    (λ e. absurd (true≢false (sym e ∙ no_stops is_audit refl (λ seed steps. refl) (λ seed steps hosts factor segment free. refl) rest)))
     (λ e. absurd (true≢false (sym e ∙ no_threads is_audit refl (λ hosts writes. refl) rest)))
     (λ e. absurd (true≢false (sym e ∙ no_explore is_audit refl
     (λ seed steps hosts factor segment free save progress. refl)
@@ -740,6 +765,7 @@ is_answer a b e = go a e
     go asked.Audit e = ap (λ o. unwrap_or o b) e
     go (asked.Fuzz seed steps free) e = ap (λ o. unwrap_or o b) e
     go (asked.Stops seed steps) e = ap (λ o. unwrap_or o b) e
+    go (asked.StopsExplored seed steps hosts factor segment free) e = ap (λ o. unwrap_or o b) e
     go (asked.Threads hosts writes) e = ap (λ o. unwrap_or o b) e
     go (asked.Explore seed steps hosts factor segment free save progress) e = ap (λ o. unwrap_or o b) e
     go (asked.Survey first last steps hosts factor segment free progress) e = ap (λ o. unwrap_or o b) e

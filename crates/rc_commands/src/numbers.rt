@@ -25,6 +25,8 @@ pub enum BadWord<'a> {
     },
     /// Options that do not go with a range of seeds.
     NotTogether,
+    /// Options of `stops` that go with `--explored`.
+    OnlyExplored,
     /// `shrink` without its text.
     NoText,
     /// There is no command.
@@ -50,6 +52,10 @@ impl fmt::Display for BadWord<'_> {
             BadWord::NotTogether => write!(
                 f,
                 "error: neither '--seed' nor '--save' goes with '--seeds'\n"
+            )?,
+            BadWord::OnlyExplored => write!(
+                f,
+                "error: '--hosts', '--factor', '--segment' and '--free' go with '--explored'\n"
             )?,
             BadWord::NoText => write!(f, "error: '--keep' with a text is wanted\n")?,
             BadWord::NoCommand => write!(f, "error: a command is wanted\n")?,
