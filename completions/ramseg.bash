@@ -16,7 +16,7 @@ _ramseg() {
     log) words="--json --help --output" ;;
     picture) words="--mermaid --help --output" ;;
     fuzz) words="--seed --steps --free --help" ;;
-    stops) words="--seed --steps --help" ;;
+    stops) words="--seed --steps --hosts --factor --segment --free --explored --help" ;;
     threads) words="--hosts --writes --help" ;;
     explore) words="--seed --steps --hosts --factor --segment --free --save --seeds --progress --help" ;;
     shrink) words="--keep --help --output" ;;
