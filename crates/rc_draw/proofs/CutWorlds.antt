@@ -50,13 +50,23 @@ cut_is hosts keeping before seen after scene same made ran =
     ran ∙ ap (λ (s : List ScenarioEvent). played (replayed before) s)
     (made ∙ ap (λ (w : Happened). cut_scene hosts keeping (replayed w)) same)
 
--- where the hosts start as they do where all is kept, that is the same
-pub alike : (setup : Setup) (hosts : ℕ) (keeping : Keeping) (events : List Event) (world : World) (all : ℕ)
-    → world ≡ replay setup events → gathered (start_of keeping world) hosts ≡ gathered (start_of All world) hosts
-    → all ≡ breaks (cut_from hosts All world) → all ≡ breaks (cut_world setup hosts keeping events)
+-- how many breaches there are after the events
+pub counted_after : (setup : Setup) (hosts : ℕ) (keeping : Keeping) (events : List Event) (before : Happened) (count : ℕ)
+    → replayed before ≡ replay setup events → count ≡ breaks (cut_from hosts keeping (replayed before))
+    → count ≡ breaks (cut_world setup hosts keeping events)
 unfolding cut_world
-alike setup hosts keeping events world all is same counted =
-    counted
-    ∙ ap (λ (starts : List ScenarioEvent). breaks (played world (gathered (stop_of world) hosts ++ starts
-    ++ settled ∷ Core (Tick Coordinator) ∷ settled ∷ [] ++ gathered (decisions_of world) hosts ++ settled ∷ []))) (sym same)
-    ∙ ap (λ (w : World). breaks (cut_from hosts keeping w)) is
+counted_after setup hosts keeping events before count is counted =
+    counted ∙ ap (λ (w : World). breaks (cut_from hosts keeping w)) is
+
+-- where the hosts start as they do where all is kept, it is the same number
+pub counted_alike : (setup : Setup) (hosts : ℕ) (keeping : Keeping) (events : List Event) (before seen : Happened) (all : ℕ)
+    → replayed before ≡ replay setup events → seen ≡ before
+    → gathered (start_of keeping (replayed seen)) hosts ≡ gathered (start_of All (replayed seen)) hosts
+    → all ≡ breaks (cut_from hosts All (replayed before)) → all ≡ breaks (cut_world setup hosts keeping events)
+counted_alike setup hosts keeping events before seen all is same starts counted =
+    counted_after setup hosts keeping events before all is
+    (counted
+    ∙ ap (λ (w : Happened). breaks (cut_from hosts All (replayed w))) (sym same)
+    ∙ ap (λ (first : List ScenarioEvent). breaks (played (replayed seen) (gathered (stop_of (replayed seen)) hosts ++ first
+    ++ settled ∷ Core (Tick Coordinator) ∷ settled ∷ [] ++ gathered (decisions_of (replayed seen)) hosts ++ settled ∷ []))) (sym starts)
+    ∙ ap (λ (w : Happened). breaks (cut_from hosts keeping (replayed w))) same)

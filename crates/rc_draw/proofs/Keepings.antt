@@ -15,12 +15,12 @@ use Rattle.rc_draw.proofs.Gathering.{gathered_none, gathered_more}
 -- all elements pass, where no fewer do
 all_pass : {X : Type 0} (p : X → Bool) (xs : List X) → length xs ≤ length (filter p xs) → filter p xs ≡ xs
 all_pass p [] many = refl
-all_pass p (x ∷ xs) many = by_test (p x) many
+all_pass p (x ∷ xs) many = by_test (p x) many (all_pass p xs)
   where
     by_test : (b : Bool) → length (x ∷ xs) ≤ length (cond b (x ∷ filter p xs) (filter p xs)) →
-        cond b (x ∷ filter p xs) (filter p xs) ≡ x ∷ xs
-    by_test true h = ap (λ ys. x ∷ ys) (all_pass p xs (omega (arith, h)))
-    by_test false h = absurd (omega (arith, h, length-filter_both p (λ y. not (p y)) (λ y. refl) xs))
+        (length xs ≤ length (filter p xs) → filter p xs ≡ xs) → cond b (x ∷ filter p xs) (filter p xs) ≡ x ∷ xs
+    by_test true h rest = ap (λ ys. x ∷ ys) (rest (omega (arith, h)))
+    by_test false h rest = absurd (omega (arith, h, length-filter_both p (λ y. not (p y)) (λ y. refl) xs))
 
 pub keeps_each : (keeping : Keeping) (names : List (ServerId × ℕ)) → length names ≤ length (keeps keeping names) → keeps keeping names ≡ names
 keeps_each All names many = refl

@@ -110,9 +110,9 @@ fn keeps_line(
     };
     let mut run = Run::new(alloc, setup, alloc);
     match play_left(alloc, task, course, cut, &mut run, moved) {
-        Ok(Played::Told) => Ok(true),
-        Ok(Played::Through) => task.goal.is_reported(alloc, run.world().sent(), None),
-        Ok(Played::Stopped(place)) => {
+        Ok(Reached::Told) => Ok(true),
+        Ok(Reached::Through) => task.goal.is_reported(alloc, run.world().sent(), None),
+        Ok(Reached::Stopped(place)) => {
             task.goal
                 .is_reported(alloc, run.world().sent(), Some(place))
         }
@@ -122,7 +122,7 @@ fn keeps_line(
 
 /// How far a run was played.
 #[derive(Clone, Copy)]
-enum Played {
+enum Reached {
     /// To a message that has such a line.
     Told,
     /// To its end.
@@ -139,7 +139,7 @@ fn play_left(
     cut: Cut,
     run: &mut Run<Global>,
     moved: &mut Move,
-) -> Result<Played, Fault> {
+) -> Result<Reached, Fault> {
     let mut seen = 0usize;
     for at in 0..course.items.len() {
         let item = course.items[at];
@@ -147,16 +147,16 @@ fn play_left(
             let sent = run.world().sent();
             moved.sent(sent.len())?;
             if seen < sent.len() && task.goal.is_told(alloc, &sent[seen..])? {
-                return Ok(Played::Told);
+                return Ok(Reached::Told);
             }
             seen = sent.len();
         } else if moved.is_stopped {
-            return Ok(Played::Stopped(moved.next.len().saturating_sub(1)));
+            return Ok(Reached::Stopped(moved.next.len().saturating_sub(1)));
         } else {
             moved.leave_out()?;
         }
     }
-    Ok(Played::Through)
+    Ok(Reached::Through)
 }
 
 /// Plays this event, if it is not a delivery of a message that is gone: whether it has happened.

@@ -3,5 +3,5 @@ use Rattle.rc_draw.proofs.stopping.run_of.Goals as goal
 
 pub returns-in-Ok-take_all-clause-ok : goal.returns-in-Ok-take_all-clause-ok
 returns-in-Ok-take_all-clause-ok c =
-    run_is c.args.events.now c.args.setup.now c.in-Ok.field-0 c.new-run.result c.take_all.new.run
+    run_is c.args.events.now c.args.setup.now c.in-Ok.setup c.new-run.result c.take_all.new.run
     c.in-Ok.ensures.copy c.new-run.ensures c.in-Ok-take_all.ensures.ok
