@@ -5,6 +5,7 @@
 mod answers;
 mod commanding;
 mod counted;
+mod cutting;
 mod documents;
 mod drawing;
 mod explaining;
