@@ -22,31 +22,14 @@ pub(crate) struct Birth<'a> {
     pub(crate) response: Option<usize>,
 }
 
-/// What a server is asked to write.
-#[derive(Clone, Copy, PartialEq, Eq, PartialOrd, Ord)]
-struct Wanted<'a> {
-    master: ServerId,
-    table: u32,
-    key: u64,
-    value: Option<&'a [u8]>,
-}
+/// What a server is asked to write: the server, the table, the key and the value.
+type Wanted<'a> = (ServerId, u32, u64, Option<&'a [u8]>);
 
-/// What an entry has, whoever wrote or replayed it.
-#[derive(Clone, Copy, PartialEq, Eq, PartialOrd, Ord)]
-struct Name<'a> {
-    table: u32,
-    key: u64,
-    version: u64,
-    value: Option<&'a [u8]>,
-}
+/// What an entry has, whoever wrote or replayed it: the table, the key, the version and the value.
+type Name<'a> = (u32, u64, u64, Option<&'a [u8]>);
 
-/// A place of a log.
-#[derive(Clone, Copy, PartialEq, Eq, PartialOrd, Ord)]
-struct Spot {
-    master: ServerId,
-    seg: u16,
-    offset: usize,
-}
+/// A place of a log: the master, the segment and the offset.
+type Spot = (ServerId, u16, usize);
 
 /// When something was first sent for a place, and which write stands there.
 #[derive(Clone, Copy)]
@@ -98,12 +81,7 @@ impl<'a> Births<'a> {
         key: u64,
         value: &'a Option<Shared<u8>>,
     ) -> Result<(), AllocError> {
-        let wanted = Wanted {
-            master,
-            table,
-            key,
-            value: bytes_of(value),
-        };
+        let wanted = (master, table, key, bytes_of(value));
         if let Some(requests) = self.wanted.get_mut(&wanted) {
             requests.waiting.push(number)?;
             requests.last = number;
@@ -131,11 +109,7 @@ impl<'a> Births<'a> {
     ) -> Result<(), AllocError> {
         for (place, entry) in entries.iter().enumerate() {
             let offset = offset.saturating_add(place);
-            let spot = Spot {
-                master,
-                seg,
-                offset,
-            };
+            let spot = (master, seg, offset);
             if self.firsts.get(&spot).is_none() {
                 let birth = self.birth_of(master, entry)?;
                 self.firsts.insert(spot, First { number, birth })?;
@@ -150,12 +124,8 @@ impl<'a> Births<'a> {
         master: ServerId,
         entry: &'a Entry,
     ) -> Result<Option<usize>, AllocError> {
-        let name = Name {
-            table: entry.table,
-            key: entry.key,
-            version: entry.version,
-            value: bytes_of(&entry.value),
-        };
+        let value = bytes_of(&entry.value);
+        let name = (entry.table, entry.key, entry.version, value);
         if let Some(birth) = self.named.get(&name).copied() {
             return Ok(Some(birth));
         }
@@ -177,12 +147,8 @@ impl<'a> Births<'a> {
 
     /// The last Write of this value that no entry comes of so far; or the last of all, which was delivered twice then.
     fn request_of(&mut self, master: ServerId, entry: &'a Entry) -> Option<usize> {
-        let wanted = Wanted {
-            master,
-            table: entry.table,
-            key: entry.key,
-            value: bytes_of(&entry.value),
-        };
+        let value = bytes_of(&entry.value);
+        let wanted = (master, entry.table, entry.key, value);
         let requests = self.wanted.get_mut(&wanted)?;
         Some(requests.waiting.pop().unwrap_or(requests.last))
     }
@@ -195,11 +161,7 @@ impl<'a> Births<'a> {
         seg: u16,
         offset: usize,
     ) -> Result<(), AllocError> {
-        let spot = Spot {
-            master,
-            seg,
-            offset,
-        };
+        let spot = (master, seg, offset);
         let Some(first) = self.firsts.get(&spot).copied() else {
             return Ok(());
         };
@@ -224,11 +186,11 @@ impl<'a> Births<'a> {
 
     /// Makes writes of the requests that no entry came of.
     pub(crate) fn forget_requests(&mut self) -> Result<(), AllocError> {
-        for (wanted, requests) in &self.wanted {
+        for ((_, table, key, _), requests) in &self.wanted {
             for number in &requests.waiting {
                 self.all.push(Birth {
-                    table: wanted.table,
-                    key: wanted.key,
+                    table: *table,
+                    key: *key,
                     value: requests.value,
                     version: 0,
                     invocation: *number,

@@ -13,7 +13,7 @@ use crate::unwritten::unwritten_read;
 use std::alloc::{AllocError, Global};
 
 /// What breaks a history: operations of one key, named by the moments of their responses.
-#[derive(Clone, Copy, Debug, Drop, PartialEq)]
+#[derive(Clone, Copy, Drop)]
 pub enum Violation {
     /// The first was answered before the second was invoked, and has a greater version, or the same one as that write.
     OutOfTime(usize, usize),

@@ -34,7 +34,7 @@ pub(crate) struct Said {
 }
 
 /// What is wrong with a line.
-#[derive(Clone, Copy, Debug, Drop, PartialEq)]
+#[derive(Clone, Copy, Drop)]
 pub enum LineFault {
     /// Memory was refused.
     OutOfMemory,

@@ -7,7 +7,7 @@ use crate::events::{ClientEvent, Request};
 use rc_types::Shared;
 
 /// What an operation is.
-#[derive(Clone, Copy, Debug, PartialEq)]
+#[derive(Clone, Copy, PartialEq)]
 pub enum Kind {
     /// A write.
     Write,
@@ -16,7 +16,7 @@ pub enum Kind {
 }
 
 /// An operation that was answered.
-#[derive(Clone, Copy, Debug)]
+#[derive(Clone, Copy)]
 pub struct Operation {
     /// Whether it writes or reads.
     pub kind: Kind,

@@ -17,7 +17,7 @@ pub struct ReadHistory {
 }
 
 /// Why no history was read.
-#[derive(Debug, Drop)]
+#[derive(Drop)]
 pub enum HistoryFault {
     /// Memory was refused (F1).
     OutOfMemory,

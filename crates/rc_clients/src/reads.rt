@@ -23,13 +23,8 @@ pub(crate) struct Read<'a> {
     pub(crate) response: usize,
 }
 
-/// A key that a server is asked for.
-#[derive(Clone, Copy, PartialEq, Eq, PartialOrd, Ord)]
-struct Asked {
-    master: ServerId,
-    table: u32,
-    key: u64,
-}
+/// A key that a server is asked for: the server, the table and the key.
+type Asked = (ServerId, u32, u64);
 
 /// The reads so far, and for each key at each server the last Read.
 #[derive(Drop)]
@@ -55,7 +50,7 @@ impl<'a> Reads<'a> {
         table: u32,
         key: u64,
     ) -> Result<(), AllocError> {
-        self.asked.insert(Asked { master, table, key }, number)?;
+        self.asked.insert((master, table, key), number)?;
         Ok(())
     }
 
@@ -69,7 +64,7 @@ impl<'a> Reads<'a> {
         version: u64,
         value: &'a Option<Shared<u8>>,
     ) -> Result<(), AllocError> {
-        let Some(invocation) = self.asked.get(&Asked { master, table, key }).copied() else {
+        let Some(invocation) = self.asked.get(&(master, table, key)).copied() else {
             return Ok(());
         };
         self.answered.push(Read {
