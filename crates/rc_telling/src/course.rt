@@ -1,20 +1,55 @@
 //! What ran in the course of a run, and what was delivered.
 
 use rc_types::limits::MAX_HOSTS;
-use rc_types::{Addr, Event, Message, ServerId};
+use rc_types::{Addr, Body, Event, Message, ServerId};
 use std::alloc::{AllocError, Global};
+
+/// What was asked for at a server that was not ready.
+#[derive(Clone, Copy)]
+pub(crate) enum Early {
+    /// This table was created for it.
+    Create(u32, ServerId),
+    /// A write came to it.
+    Write(ServerId),
+}
+
+/// What has become of a host.
+#[derive(Clone, Copy)]
+struct Host {
+    /// How often it was started.
+    generation: u32,
+    /// The newest of its generations that was suspected.
+    suspected: u32,
+    /// The newest of its generations whose Ready has reached the coordinator.
+    ready: u32,
+    /// Whether it runs.
+    runs: bool,
+}
+
+impl Host {
+    /// It was never started.
+    const NEW: Host = Host {
+        generation: 0,
+        suspected: 0,
+        ready: 0,
+        runs: false,
+    };
+
+    /// Whether it runs, and its server was not suspected.
+    fn is_up(&self) -> bool {
+        self.runs && self.suspected != self.generation
+    }
+}
 
 /// What ran, and what was delivered.
 #[derive(Drop)]
 pub(crate) struct Course {
     /// Of each message, whether it was delivered.
     pub(crate) delivered: Vec<bool>,
-    /// How often each host was started.
-    generations: [u32; MAX_HOSTS as usize],
-    /// The newest generation of each host that was suspected.
-    suspected: [u32; MAX_HOSTS as usize],
-    /// Whether each host runs.
-    running: [bool; MAX_HOSTS as usize],
+    /// What has become of each host.
+    hosts: [Host; MAX_HOSTS as usize],
+    /// The first create or write that came before its server was ready.
+    pub(crate) early: Option<Early>,
     /// The first server that was suspected and had never been started.
     pub(crate) unstarted: Option<ServerId>,
     /// The first server that was asked while it did not run.
@@ -28,9 +63,8 @@ impl Course {
     pub(crate) fn new(alloc: Global) -> Course {
         Course {
             delivered: Vec::new(alloc),
-            generations: [0; MAX_HOSTS as usize],
-            suspected: [0; MAX_HOSTS as usize],
-            running: [false; MAX_HOSTS as usize],
+            hosts: [Host::NEW; MAX_HOSTS as usize],
+            early: None,
             unstarted: None,
             unheard: None,
             requests: 0,
@@ -43,17 +77,21 @@ impl Course {
         Ok(())
     }
 
-    /// These events have happened.
-    pub(crate) fn take_all(&mut self, events: &[Event]) {
+    /// These events have happened, and sent these messages.
+    pub(crate) fn take_all(&mut self, events: &[Event], messages: &[Message]) {
         for event in events {
-            self.take(event);
+            self.take(event, messages);
         }
     }
 
     /// An event has happened.
-    fn take(&mut self, event: &Event) {
+    fn take(&mut self, event: &Event, messages: &[Message]) {
         match event {
-            Event::Deliver(number) => self.deliver(*number),
+            Event::Deliver(number) => {
+                self.deliver(*number);
+                self.arrive(messages.get(*number));
+            }
+            Event::Create { table, owner } => self.ask(Early::Create(*table, *owner), *owner),
             Event::Start { host, .. } => self.start(*host),
             Event::Stop(id) => self.stop(id.index),
             Event::Suspect(id) => self.suspect(*id),
@@ -69,74 +107,83 @@ impl Course {
         }
     }
 
-    /// A host was started.
-    fn start(&mut self, host: u8) {
-        let host = usize::from(host);
-        if let Some(generation) = self.generations.get_mut(host) {
-            *generation = generation.saturating_add(1);
+    /// A message has arrived.
+    fn arrive(&mut self, message: Option<&Message>) {
+        let Some(message) = message else {
+            return;
+        };
+        if let (Body::Ready, Addr::Server(id)) = (&message.body, message.from) {
+            self.ready(id);
+        } else if let (Body::Write { .. }, Addr::Server(id)) = (&message.body, message.to) {
+            self.ask(Early::Write(id), id);
         }
-        if let Some(mark) = self.running.get_mut(host) {
-            *mark = true;
+    }
+
+    /// The coordinator has heard that a server is ready.
+    fn ready(&mut self, id: ServerId) {
+        if let Some(host) = self.hosts.get_mut(usize::from(id.index)) {
+            host.ready = id.generation;
+        }
+    }
+
+    /// Something is asked for at a server that may not be ready.
+    fn ask(&mut self, early: Early, id: ServerId) {
+        if self.runs(id) && self.host(id.index).ready != id.generation {
+            self.early = self.early.or(Some(early));
+        }
+    }
+
+    /// A host was started.
+    fn start(&mut self, index: u8) {
+        if let Some(host) = self.hosts.get_mut(usize::from(index)) {
+            host.generation = host.generation.saturating_add(1);
+            host.runs = true;
         }
     }
 
     /// A host was stopped.
-    fn stop(&mut self, host: u8) {
-        if let Some(mark) = self.running.get_mut(usize::from(host)) {
-            *mark = false;
+    fn stop(&mut self, index: u8) {
+        if let Some(host) = self.hosts.get_mut(usize::from(index)) {
+            host.runs = false;
         }
     }
 
     /// A server was suspected.
     fn suspect(&mut self, id: ServerId) {
-        if self.generation(id.index) < id.generation {
+        if self.host(id.index).generation < id.generation {
             self.unstarted = self.unstarted.or(Some(id));
-            return;
-        }
-        if let Some(generation) = self.suspected.get_mut(usize::from(id.index)) {
-            if *generation < id.generation {
-                *generation = id.generation;
-            }
+        } else if let Some(host) = self.hosts.get_mut(usize::from(id.index)) {
+            host.suspected = host.suspected.max(id.generation);
         }
     }
 
-    /// How often a host was started.
-    fn generation(&self, host: u8) -> u32 {
-        self.generations
-            .get(usize::from(host))
+    /// What has become of a host.
+    fn host(&self, index: u8) -> Host {
+        self.hosts
+            .get(usize::from(index))
             .copied()
-            .unwrap_or(0)
-    }
-
-    /// Whether a host runs.
-    fn is_running(&self, host: u8) -> bool {
-        self.running
-            .get(usize::from(host))
-            .copied()
-            .unwrap_or(false)
-    }
-
-    /// Whether the newest server of a host was suspected.
-    fn is_suspected(&self, host: u8) -> bool {
-        self.suspected.get(usize::from(host)).copied().unwrap_or(0) == self.generation(host)
+            .unwrap_or(Host::NEW)
     }
 
     /// Whether a host runs, and its server was not suspected.
-    pub(crate) fn is_up(&self, host: u8) -> bool {
-        self.is_running(host) && !self.is_suspected(host)
+    pub(crate) fn is_up(&self, index: u8) -> bool {
+        self.host(index).is_up()
     }
 
     /// How many hosts run whose servers were not suspected.
     pub(crate) fn count_up(&self) -> usize {
-        (0..MAX_HOSTS).filter(|host| self.is_up(*host)).count()
+        self.hosts.iter().filter(|host| host.is_up()).count()
     }
 
     /// The first host's newest server that has stopped and was not suspected.
     pub(crate) fn unsuspected(&self) -> Option<ServerId> {
         for index in 0..MAX_HOSTS {
-            let generation = self.generation(index);
-            if generation > 0 && !self.is_running(index) && !self.is_suspected(index) {
-                return Some(ServerId { index, generation });
+            let host = self.host(index);
+            if host.generation != host.suspected && !host.runs {
+                return Some(ServerId {
+                    index,
+                    generation: host.generation,
+                });
             }
         }
         None
@@ -145,9 +192,12 @@ impl Course {
     /// The first host's newest server that runs and was suspected.
     pub(crate) fn zombie(&self) -> Option<ServerId> {
         for index in 0..MAX_HOSTS {
-            if self.is_running(index) && self.is_suspected(index) {
-                let generation = self.generation(index);
-                return Some(ServerId { index, generation });
+            let host = self.host(index);
+            if host.runs && !host.is_up() {
+                return Some(ServerId {
+                    index,
+                    generation: host.generation,
+                });
             }
         }
         None
@@ -155,7 +205,8 @@ impl Course {
 
     /// Whether a server runs.
     pub(crate) fn runs(&self, id: ServerId) -> bool {
-        self.is_running(id.index) && self.generation(id.index) == id.generation
+        let host = self.host(id.index);
+        host.runs && host.generation == id.generation
     }
 
     /// A server was asked that does not run.
@@ -178,6 +229,6 @@ impl Course {
 
     /// How many hosts run.
     pub(crate) fn running(&self) -> usize {
-        self.running.iter().filter(|runs| **runs).count()
+        self.hosts.iter().filter(|host| host.runs).count()
     }
 }

@@ -161,32 +161,8 @@ impl Ending {
                 };
                 self.ranges.put((*table, *lo, *hi), range)
             }
-            Body::WriteOk {
-                term,
-                table,
-                key,
-                version,
-                ..
-            } => self.acknowledge(Newest {
-                table: *table,
-                key: *key,
-                version: *version,
-                term: *term,
-                by: message.from,
-            }),
-            _ => Ok(()),
+            _ => acknowledge(&mut self.newest, message),
         }
-    }
-
-    /// A version of a key was acknowledged. It counts where no greater one was.
-    fn acknowledge(&mut self, newest: Newest) -> Result<(), AllocError> {
-        let place = (newest.table, newest.key);
-        if let Some(before) = self.newest.find(place) {
-            if before.version > newest.version {
-                return Ok(());
-            }
-        }
-        self.newest.put(place, newest)
     }
 
     /// What was never delivered to a server or to the coordinator, by kind and addressee.
@@ -221,6 +197,37 @@ impl Ending {
     /// The newest acknowledged version of each key, in order of its first one.
     pub(crate) fn newest(&self) -> &Table<(u32, u64), Newest> {
         &self.newest
+    }
+}
+
+/// Notes which version of its key a message acknowledges, if it does. It counts where no greater one was.
+pub(crate) fn acknowledge(
+    newest: &mut Table<(u32, u64), Newest>,
+    message: &Message,
+) -> Result<(), AllocError> {
+    let Body::WriteOk {
+        term,
+        table,
+        key,
+        version,
+        ..
+    } = &message.body
+    else {
+        return Ok(());
+    };
+    let place = (*table, *key);
+    match newest.find(place) {
+        Some(before) if before.version > *version => Ok(()),
+        _ => newest.put(
+            place,
+            Newest {
+                table: *table,
+                key: *key,
+                version: *version,
+                term: *term,
+                by: message.from,
+            },
+        ),
     }
 }
 

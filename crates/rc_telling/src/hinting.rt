@@ -1,9 +1,11 @@
 //! What may not have been meant in a run that went through: messages that wait at its end, requests to servers that do
-//! not run, suspected servers that never ran, too few hosts, and recoveries that are not at their end.
+//! not run or are not up yet, suspected servers that never ran, too few hosts, stale reads, and recoveries that are not
+//! at their end.
 
-use crate::course::Course;
+use crate::course::{Course, Early};
 use crate::ending::{Group, count, total_of};
 use crate::recoveries::{Recoveries, tell_recoveries};
+use crate::stale::tell_stale;
 use crate::tables::Table;
 use rc_pen::{Pen, Piece, Spelling};
 use rc_types::limits::MAX_HOSTS;
@@ -65,12 +67,14 @@ fn tell_hints(
 ) {
     let mut course = Course::new(alloc);
     pen.take(course.begin(messages.len()));
-    course.take_all(events);
+    course.take_all(events, messages);
+    tell_early(&course, pen);
     tell_waiting(&course, alloc, pen, messages);
     tell_lost_own(&course, pen, messages);
     tell_unheard(&course, pen);
     tell_unstarted(&course, pen);
     tell_few(&course, pen, factors);
+    tell_stale(alloc, pen, messages);
     tell_unrecovered(&course, alloc, pen, messages);
 }
 
@@ -83,6 +87,22 @@ fn tell_unrecovered(course: &Course, alloc: Global, pen: &mut Pen, messages: &[M
         .enumerate()
         .any(|(number, message)| course.waits(number, message));
     tell_recoveries(pen, &recoveries, course, waits);
+}
+
+/// What was asked for before its server was ready.
+fn tell_early(course: &Course, pen: &mut Pen) {
+    match course.early {
+        Some(Early::Create(table, id)) => pen.say_all(
+            "hint: the create of table % came before % was ready",
+            &[Piece::U32(table), Piece::Id(id)],
+        ),
+        Some(Early::Write(id)) => pen.say_all(
+            "hint: a write came to % before that was ready",
+            &[Piece::Id(id)],
+        ),
+        None => return,
+    }
+    pen.say(", so it was refused: it takes a settle behind the starts, and enough hosts\n");
 }
 
 /// Messages that wait.

@@ -9,6 +9,7 @@ use crate::servers::Server;
 use crate::silences::{Silence, tell_silence};
 use crate::story::{Step, Story, Turn};
 use crate::tables::Table;
+use crate::verdict::tell_verdict;
 use crate::writes::{Unanswered, Writes, tell_fate};
 use rc_pen::{Pen, Piece, Spelling};
 use rc_types::{Addr, Event, Message};
@@ -35,6 +36,7 @@ pub(crate) fn put_story(alloc: Global, pen: &mut Pen, story: &Story<'_>) {
     let mut writes = Writes::new(alloc);
     pen.take(writes.note_all(story));
     put_ending(pen, story, &ending, &writes);
+    put_audit(alloc, pen, story);
 }
 
 /// All events.
@@ -163,12 +165,18 @@ fn put_ending(pen: &mut Pen, story: &Story<'_>, ending: &Ending, writes: &Writes
     put_ranges(pen, ending);
     put_keys(pen, ending);
     put_writes(pen, writes);
+}
+
+/// What the audit finds, and where the run stopped.
+fn put_audit(alloc: Global, pen: &mut Pen, story: &Story<'_>) {
+    pen.put("],\"audit\":\"");
+    tell_verdict(alloc, pen, story.breach);
     match story.stopped {
         Some((place, code)) => pen.put_all(
-            "],\"stopped\":{\"code\":\"%\",\"place\":%}}\n",
+            "\",\"stopped\":{\"code\":\"%\",\"place\":%}}\n",
             &[Piece::Code(code), Piece::Size(place)],
         ),
-        None => pen.put("],\"stopped\":null}\n"),
+        None => pen.put("\",\"stopped\":null}\n"),
     }
 }
 

@@ -8,8 +8,9 @@
 //! the way; `story`, the whole; `kinds` and `fields`, a message as text; `ending`, what else stands at the end;
 //! `waits`, what a master waits for; `writes`, what became of those that were not acknowledged; then the four ways to
 //! tell it: `logs` with `standings`, `json` with `json_standing`, `diagrams` and `pages`. `tables` has what all of them
-//! put into maps.
-//! Apart from all this stands `hinting`, with `course` and `recoveries`: what may not have been meant in a run.
+//! put into maps, and `verdict` the words of the audit.
+//! Apart from all this stands `hinting`, with `course`, `stale` and `recoveries`: what may not have been meant in a
+//! run.
 #![tactic(auto)]
 
 mod changes;
@@ -23,16 +24,19 @@ mod json_standing;
 mod kinds;
 mod logs;
 mod page_drawing;
+mod page_findings;
 mod page_parts;
 mod pages;
 mod passages;
 mod recoveries;
 mod servers;
 mod silences;
+mod stale;
 mod standing;
 mod standings;
 mod story;
 mod tables;
+mod verdict;
 mod waits;
 mod writes;
 

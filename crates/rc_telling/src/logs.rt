@@ -8,6 +8,7 @@ use crate::silences::tell_silence;
 use crate::standings::tell_standing;
 use crate::story::{Step, Story, Turn};
 use crate::tables::Table;
+use crate::verdict::tell_verdict;
 use crate::writes::{Writes, tell_fate};
 use rc_pen::{Pen, Piece, Spelling};
 use rc_types::{Addr, Body, Event, Message};
@@ -27,6 +28,7 @@ pub fn log(alloc: Global, story: &Story<'_>) -> Result<String, AllocError> {
     let mut writes = Writes::new(alloc);
     pen.take(writes.note_all(story));
     tell_ending(&mut pen, story, &ending, &writes);
+    tell_audit(alloc, &mut pen, story);
     pen.end()
 }
 
@@ -122,6 +124,12 @@ fn tell_ending(pen: &mut Pen, story: &Story<'_>, ending: &Ending, writes: &Write
     tell_ranges(pen, story, ending);
     tell_keys(pen, ending);
     tell_writes(pen, story, writes);
+}
+
+/// What the audit finds, and where the run stopped.
+fn tell_audit(alloc: Global, pen: &mut Pen, story: &Story<'_>) {
+    pen.say("\naudit ");
+    tell_verdict(alloc, pen, story.breach);
     if let Some((place, code)) = story.stopped {
         pen.say_all(
             "\nstopped % at event % of the scenario",

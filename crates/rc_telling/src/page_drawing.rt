@@ -50,26 +50,32 @@ for (const event of events) {
 const PATTERNS = '<defs><pattern id="hatched" width="4" height="4" patternUnits="userSpaceOnUse" ' +
   'patternTransform="rotate(45)"><rect width="2" height="4" fill="var(--copy)"/></pattern>' +
   '<pattern id="doubtful" width="9" height="9" patternUnits="userSpaceOnUse" patternTransform="rotate(45)">' +
-  '<rect width="4" height="9" fill="var(--doubt)"/></pattern></defs>';
+  '<rect width="4" height="9" fill="var(--doubt)"/></pattern>' +
+  '<pattern id="fenced" width="9" height="9" patternUnits="userSpaceOnUse" patternTransform="rotate(45)">' +
+  '<rect width="4" height="9" fill="var(--doubt)"/><rect width="9" height="4" fill="var(--doubt)"/></pattern>' +
+  '<pattern id="replaced" width="9" height="9" patternUnits="userSpaceOnUse" ' +
+  'patternTransform="rotate(45)"><rect width="6" height="9" fill="var(--replaced)"/></pattern></defs>';
 
 // The picture. Only the rows that can be seen are drawn.
 const view = byId("view"), picture = byId("picture"), space = byId("space");
-const ROW = 28, TOP = 30, RIGHT = 36, NARROWEST = 76, FOLD = 22;
-let left = 84, width = 0, full = 0, scrolled = 0, places = new Map();
+const ROW = 28, TOP = 44, RIGHT = 36, LONG = 400, NARROWEST = 76, FOLD = 22, FOLDS = 220;
+let left = 84, width = 0, thin = FOLD, full = 0, scrolled = 0, aside = 0, places = new Map();
 const x = (name) => places.get(name);
 const yOf = (row) => TOP + ROW * (row + 0.5) - scrolled;
 const y = (event) => yOf(rowOf[event]);
 
-// Where each column stands: one of a server that does not run while these events happen is folded.
+// Where each column stands: one of a server that does not run while these events happen is folded, and all that are
+// folded share a few pixels.
 function spread(firstEvent, lastEvent) {
   const isAway = (name) => starts.has(name) && (starts.get(name) > lastEvent || stops.get(name) < firstEvent);
   const away = columns.filter(isAway).length;
   left = view.clientWidth < 600 ? 58 : 84;
-  width = Math.max(NARROWEST, (view.clientWidth - left - RIGHT - FOLD * away) / Math.max(1, columns.length - away));
+  thin = Math.min(FOLD, FOLDS / Math.max(1, away));
+  width = Math.max(NARROWEST, (view.clientWidth - left - RIGHT - thin * away) / Math.max(1, columns.length - away));
   places = new Map();
   full = left;
   for (const name of columns) {
-    const wide = isAway(name) ? FOLD : width;
+    const wide = isAway(name) ? thin : width;
     places.set(name, full + wide / 2);
     full += wide;
   }
@@ -130,16 +136,22 @@ function lostArrow(message, layers) {
   layers.words.push(words(message, toX + step * 8, toY + 4, step > 0, false));
 }
 
+// The messages whose arrows can be seen in these rows: those that were under way for long are looked at one by one, of
+// the others those that were sent shortly before.
+const lasting = messages.filter((message) => message.delivered.some((event) => event - message.sent > LONG));
+function underWay(first, last) {
+  const begin = Math.max(0, (first > 0 ? shown[first - 1].event + 1 : 0) - LONG);
+  const found = lasting.filter((message) => message.sent < begin);
+  for (let event = begin; event < events.length && rowOf[event] <= last; event += 1) {
+    found.push(...events[event].sent.map((number) => messages[number]));
+  }
+  return found;
+}
+
 // Of an arrow both ends of which lie in the folded row nothing is drawn.
 function arrows(first, last, layers) {
-  for (const message of messages) {
+  for (const message of underWay(first, last).filter(isShown)) {
     const from = rowOf[message.sent];
-    if (from > last) {
-      break;
-    }
-    if (!isShown(message)) {
-      continue;
-    }
     if (message.lost || message.outward) {
       if (from >= first && !isFolded(from)) {
         if (message.lost) {
@@ -174,17 +186,26 @@ function fold(row, until) {
 
 function rows(first, last, parts) {
   for (let row = first; row <= last; row += 1) {
-    const event = events[shown[row].event], before = row > 0 && !isFolded(row - 1) ? shown[row - 1].event : -1;
+    const event = events[shown[row].event];
     if (isFolded(row)) {
       parts.push(fold(row, shown[row].until));
       continue;
     }
-    parts.push(`<text class="number" x="${left - 8}" y="${yOf(row) + 4}">${event.n}</text>`);
-    if (before < 0 || events[before].place !== event.place) {
-      parts.push(`<text class="place" x="6" y="${yOf(row) + 4}">${event.place}</text>`);
-    }
     if (event.kind !== "deliver" && places.has(event.at)) {
       parts.push(note(event));
+    }
+  }
+}
+
+// The numbers of the events, and their places in the scenario: they stay at the left.
+function numbers(first, last, parts) {
+  for (let row = first; row <= last; row += 1) {
+    const event = events[shown[row].event], before = row > 0 && !isFolded(row - 1) ? shown[row - 1].event : -1;
+    if (!isFolded(row)) {
+      parts.push(`<text class="number" x="${aside + left - 8}" y="${yOf(row) + 4}">${event.n}</text>`);
+      if (before < 0 || events[before].place !== event.place) {
+        parts.push(`<text class="place" x="${aside + 6}" y="${yOf(row) + 4}">${event.place}</text>`);
+      }
     }
   }
 }
@@ -199,8 +220,8 @@ function lifelines(height, parts) {
   for (const doubt of doubts) {
     const span = spanned(doubt.id, doubt.from, doubt.until, height);
     if (span) {
-      parts.push(`<rect class="doubt" x="${x(doubt.id) - width * 0.42}" y="${span.top}" width="${width * 0.84}" ` +
-        `height="${span.tall}"><title>${doubt.id} is suspected</title></rect>`);
+      parts.push(`<rect class="doubt ${doubt.name}" x="${x(doubt.id) - width * 0.42}" y="${span.top}" ` +
+        `width="${width * 0.84}" height="${span.tall}"><title>${doubt.id} ${doubt.text}</title></rect>`);
     }
   }
   for (const name of columns) {
@@ -215,17 +236,19 @@ function lifelines(height, parts) {
   }
 }
 
+const keysText = (range) => range.lo === 0n && range.hi === 18446744073709551615n ? "all keys" :
+  `keys ${range.lo} to ${range.hi}`;
+
 // The ranges that a server owns, on the left of its line; a former owner's bar goes on, hollow.
 function ownings(height, parts) {
   for (const owner of owners) {
-    const aside = 12 + owner.lane * 6, keys = owner.lo === 0n && owner.hi === 18446744073709551615n ? "all keys" :
-      `keys ${owner.lo} to ${owner.hi}`;
+    const beside = 12 + owner.lane * 6;
     for (const [from, until, former] of [[owner.from, owner.until, ""], [owner.until, owner.former, " former"]]) {
-      const span = aside < width * 0.42 && spanned(owner.id, from, until, height);
+      const span = beside < width * 0.42 && spanned(owner.id, from, until, height);
       if (span) {
-        parts.push(`<rect class="owner${former}" x="${x(owner.id) - aside}" y="${span.top}" width="4" ` +
-          `height="${span.tall}"><title>${owner.id}${former ? " owned" : " owns"} ${keys} of table ${owner.table}, ` +
-          `term ${owner.term}</title></rect>`);
+        parts.push(`<rect class="owner${former}" x="${x(owner.id) - beside}" y="${span.top}" width="4" ` +
+          `height="${span.tall}"><title>${owner.id}${former ? " owned" : " owns"} ${keysText(owner)} of ` +
+          `table ${owner.table}, term ${owner.term}</title></rect>`);
       }
     }
   }
@@ -238,7 +261,7 @@ const lockAt = (atX, atY, text) => `<g class="lock"><path d="M${atX - 3} ${atY -
 function becomings(first, last, parts) {
   for (const lock of locks) {
     if (rowOf[lock.event] >= first && rowOf[lock.event] <= last && places.has(lock.id)) {
-      parts.push(lockAt(x(lock.id), y(lock.event), lock.text));
+      parts.push(lockAt(x(lock.id), y(lock.event), `${lock.id} fences ${lock.of}`));
     }
   }
   for (const tag of tags) {
@@ -253,10 +276,10 @@ function becomings(first, last, parts) {
 // The replicas of a host beside its line, as far as there is room.
 function copies(height, parts) {
   for (const bar of bars) {
-    const aside = 8 + bar.lane * 6, span = aside < width * 0.42 && spanned(bar.at, bar.from, bar.until, height);
+    const beside = 8 + bar.lane * 6, span = beside < width * 0.42 && spanned(bar.at, bar.from, bar.until, height);
     if (span) {
       const state = (bar.closed ? " closed" : "") + (bar.fenced ? " fenced" : "");
-      parts.push(`<rect class="copy${state}" x="${x(bar.at) + aside}" y="${span.top}" width="4" ` +
+      parts.push(`<rect class="copy${state}" x="${x(bar.at) + beside}" y="${span.top}" width="4" ` +
         `height="${span.tall}"><title>${copyText(bar)}</title></rect>`);
     }
   }
@@ -267,18 +290,26 @@ function copyText(bar) {
     (bar.closed ? "closed" : "open") + (bar.fenced ? ", fenced" : "");
 }
 
-function heads(isAway, parts) {
-  parts.push(`<rect class="ground" width="${full}" height="${TOP}"/><text class="place" x="6" y="19">at</text>`);
-  parts.push(`<text class="number" x="${left - 8}" y="19">event</text>`);
+// The heads have what the servers are in the first row that is seen.
+function heads(isAway, event, parts) {
+  parts.push(`<rect class="ground" width="${full}" height="${TOP}"/>`);
   for (const name of columns) {
-    const text = isAway(name) ? "·" : title(name);
-    parts.push(`<text class="name" x="${x(name)}" y="19">${text}<title>${title(name)}</title></text>`);
+    const text = !isAway(name) ? title(name) : thin < FOLD ? "" : "·";
+    parts.push(`<text class="name" x="${x(name)}" y="17">${text}<title>${title(name)}</title></text>`);
+    const stage = doubts.find((doubt) => doubt.id === name && doubt.from <= event && event < doubt.until);
+    if (stage && !isAway(name)) {
+      parts.push(`<text class="state" x="${x(name)}" y="33">${stage.name}</text>`);
+    }
   }
+  parts.push(`<rect class="ground" x="${aside}" width="${left - 4}" height="${TOP}"/>` +
+    `<text class="place" x="${aside + 6}" y="${left < 84 ? 33 : 17}">at</text>` +
+    `<text class="number" x="${aside + left - 8}" y="17">event</text>`);
 }
 
 function draw() {
   const height = view.clientHeight;
   scrolled = view.scrollTop;
+  aside = view.scrollLeft;
   const first = Math.max(0, Math.floor((scrolled - TOP) / ROW) - 1);
   const last = Math.min(shown.length - 1, Math.ceil((scrolled + height) / ROW) + 1);
   const isAway = spread(shown.length ? shown[Math.min(first, last)].event : 0, shown.length ? shown[last].event : 0);
@@ -297,7 +328,9 @@ function draw() {
   rows(first, last, parts);
   parts.push(...layers.words);
   becomings(first, last, parts);
-  heads(isAway, parts);
+  parts.push(`<rect class="ground" x="${aside}" width="${left - 4}" height="${height}"/>`);
+  numbers(first, last, parts);
+  heads(isAway, shown.length ? shown[Math.min(Math.ceil(scrolled / ROW), last)].event : 0, parts);
   space.style.height = `${Math.max(TOP + ROW * (shown.length + 1), height)}px`;
   space.style.width = `${full}px`;
   picture.setAttribute("width", full);
@@ -315,13 +348,16 @@ function mark(shape, text) {
 }
 const line = (tone, more, end) => `<g class="message ${tone}${more}"><path class="way" d="M1 7L14 7"/>${end}</g>`;
 const tip = (hollow) => `<path class="head${hollow}" d="M21 7L13 11L13 3Z"/>`;
+byId("marks").open = innerWidth >= 600;
 byId("legend").innerHTML = [["opening", "opening"], ["closing", "closing"], ["", "writing"],
   ["deposed", "deposed"]].map(([name, text]) =>
   mark(`<rect class="band ${name}" x="6" width="10" height="14"/>`, text)).join("") +
   mark('<rect class="doubt" width="22" height="14"/>', "suspected") +
-  mark(lockAt(11, 7, ""), "fences") +
+  mark('<rect class="doubt fenced" width="22" height="14"/>', "fenced") +
+  mark('<rect class="doubt replaced" width="22" height="14"/>', "replaced") +
+  mark(lockAt(11, 7, ""), "fences another") +
   mark('<rect class="owner" x="9" width="4" height="14"/>', "owns a range") +
-  mark('<rect class="owner former" x="9" y="1" width="4" height="12"/>', "was replaced") +
+  mark('<rect class="owner former" x="9" y="1" width="4" height="12"/>', "owned it") +
   mark('<rect class="copy" x="9" y="1" width="4" height="12"/>', "open replica") +
   mark('<rect class="copy closed" x="9" y="1" width="4" height="12"/>', "closed") +
   mark('<rect class="copy fenced" x="9" y="1" width="4" height="12"/>', "of a fenced master") +
@@ -354,7 +390,7 @@ function show(event) {
 
 function showColumn(name) {
   const at = x(name);
-  if (at < view.scrollLeft + left || at > view.scrollLeft + view.clientWidth - RIGHT) {
+  if (at < view.scrollLeft + left + width / 3 || at > view.scrollLeft + view.clientWidth - RIGHT) {
     view.scrollLeft = Math.max(0, at - view.clientWidth / 2);
   }
 }
@@ -546,18 +582,26 @@ function memberText(member) {
   return `${member.id} ${member.lost ? "lost" : told}`;
 }
 
-table("Owners, by the last grant of each range", ["Table", "Keys", "Term", "Owner", ""],
-  story.ranges.map((range) => [range.table, keysOf(range), range.term, range.owner,
+// The event that granted a range.
+function since(range) {
+  const form = `table ${range.table} keys ${range.lo}..${range.hi} term ${range.term} `;
+  const grant = messages.find((message) => message.kind === "Own" && message.text.startsWith(form));
+  return grant ? `event ${grant.sent}` : "";
+}
+
+const eventOf = (change) => change ? change.event : "";
+table("Owners, by the last grant of each range", ["Table", "Keys", "Term", "Owner", "Since", ""],
+  story.ranges.map((range) => [range.table, keysOf(range), range.term, range.owner, since(range),
     stands(range) ? ownerText(range.owner) : "passed on"]));
 table("Last acknowledged version of each key", ["Table", "Key", "Version", "Term", "By"],
   story.keys.map((key) => [key.table, key.key, key.version, key.term, key.by]));
 table("Writes delivered and not acknowledged", ["Message", "", "Delivered", "What became of it"],
   story.unacknowledged.map((write) => [write.message,
     `to ${messages[write.message].to} ${messages[write.message].text}`, `event ${write.event}`, write.fate]));
-table("Servers", ["Server", "Started", "Stopped", "Suspected", "Acknowledged"],
-  story.servers.map((server) => [server.id, `event ${server.started}`,
-    server.stopped === null ? "runs" : `event ${server.stopped}`,
-    server.suspected === null ? "" : `event ${server.suspected}`, server.acknowledged]));
+table("Servers, by event", ["Server", "Started", "Suspected", "Fenced", "Replaced", "Stopped", "Acknowledged"],
+  story.servers.map((server) => [server.id, server.started, server.suspected === null ? "" : server.suspected,
+    eventOf(becomes.get(server.id).fence), eventOf(becomes.get(server.id).loss),
+    server.stopped === null ? "runs" : server.stopped, `${server.acknowledged} writes`]));
 table("Masters", ["Server", "Phase", "Head", "Durable places", "Waits"],
   story.masters.map((master) => [master.id, master.phase, master.head, master.durable, master.waits || ""]));
 table("Segments", ["Segment", "Epoch", "Entries", "", "Members, and what they have told"],
@@ -570,9 +614,6 @@ table("Replicas", ["At", "Of", "Segment", "Epoch", "Entries", ""],
 table("Never delivered", ["Kind", "To", "Messages"],
   story.lost.map((group) => [group.kind, group.to, messages.filter((message) => message.lost &&
     message.kind === group.kind && message.to === group.to).map((message) => message.n).join(" ")]));
-byId("summary").textContent = `${events.length} events, ${messages.length} messages, ` +
-  `${story.servers.length} servers` +
-  (story.stopped ? `; stopped ${story.stopped.code} at event ${story.stopped.place} of the scenario` : "");
 lay();
 draw();
 follow();

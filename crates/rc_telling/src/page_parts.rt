@@ -13,12 +13,12 @@ pub(crate) const HEAD: &str = r##"<!DOCTYPE html>
 :root { color-scheme: light dark; --ground: #ffffff; --ink: #1b2130; --soft: #586174; --line: #c6ccd8;
   --band: #b9d0f4; --opening: #e6e9ef; --closing: #f3d9a4; --deposed: #f2c2be;
   --copy: #6d7689; --message: #3b5c9f; --good: #0f7a43; --bad: #b3261e; --grant: #7b3aa5; --chosen: #fdeeb5;
-  --stale: #a35a00; --doubt: #f6ddb8; --panel: #f3f5f9; }
+  --stale: #a35a00; --doubt: #f6ddb8; --replaced: #f0b8b3; --panel: #f3f5f9; }
 @media (prefers-color-scheme: dark) {
   :root { --ground: #13161c; --ink: #e6e9f0; --soft: #9aa3b5; --line: #3a4150; --band: #2f4a76; --opening: #2a303b;
     --closing: #6b5220; --deposed: #6b2b27; --copy: #8d97ab; --message: #8fb0f0;
     --good: #5fcf92; --bad: #ff8a80; --grant: #cf9cf2; --chosen: #4a3f12; --stale: #ffb454; --doubt: #4a3517;
-    --panel: #1c2129; }
+    --replaced: #5e2723; --panel: #1c2129; }
 }
 * { box-sizing: border-box; }
 body { margin: 0; padding: 12px; background: var(--ground); color: var(--ink);
@@ -31,10 +31,19 @@ p { margin: 0 0 8px; color: var(--soft); }
 button, select, input { font: inherit; color: var(--ink); background: var(--panel); border: 1px solid var(--line);
   border-radius: 6px; padding: 3px 8px; }
 #search { width: 150px; }
-#view { position: relative; overflow: auto; height: 62vh; min-height: 260px; border: 1px solid var(--line);
-  border-radius: 8px; }
+#verdict { font-weight: 600; color: var(--good); }
+#verdict.bad { color: var(--bad); }
+#findings { margin: 0 0 8px; padding: 0 0 0 18px; }
+#findings:empty { display: none; }
+#findings b { color: var(--stale); }
+#findings a { color: var(--message); }
+#marks { margin-bottom: 8px; color: var(--soft); }
+#marks summary { cursor: pointer; }
+#view { position: relative; overflow: auto; overflow-y: scroll; height: 62vh; min-height: 260px;
+  border: 1px solid var(--line); border-radius: 8px; }
 #view svg { position: sticky; top: 0; display: block; }
-#view:focus-visible, button:focus-visible, select:focus-visible, input:focus-visible {
+#view:focus-visible, summary:focus-visible, a:focus-visible, button:focus-visible, select:focus-visible,
+input:focus-visible {
   outline: 2px solid var(--message); outline-offset: 1px; }
 #details { display: block; margin: 8px 0 14px; padding: 8px 10px; height: 112px; overflow: auto;
   background: var(--panel); border-radius: 8px; overflow-wrap: anywhere; white-space: pre-line; }
@@ -63,6 +72,9 @@ svg .copy.closed { fill: var(--copy); }
 svg .copy.fenced { stroke-dasharray: 3 3; }
 svg .copy.fenced.closed { fill: url(#hatched); }
 svg .doubt { fill: url(#doubtful); }
+svg .doubt.fenced { fill: url(#fenced); }
+svg .doubt.replaced { fill: url(#replaced); }
+svg .state { fill: var(--stale); text-anchor: middle; font-weight: 600; }
 svg .owner { fill: var(--grant); }
 svg .owner.former { fill: var(--ground); stroke: var(--grant); stroke-dasharray: 3 2; }
 svg .lock { fill: var(--ground); stroke: var(--ink); stroke-width: 1.3; }
@@ -99,8 +111,9 @@ svg .message:focus-visible path.touch { stroke: var(--chosen); }
 </head>
 <body>
 <h1>Story of a run</h1>
-<p id="summary"></p>
-<p id="legend"></p>
+<p><span id="verdict"></span> <span id="summary"></span></p>
+<ul id="findings"></ul>
+<details id="marks"><summary>Marks</summary><div id="legend"></div></details>
 <div id="tools">
 <button id="previous" type="button">Previous (k)</button>
 <button id="next" type="button">Next (j)</button>
@@ -176,7 +189,7 @@ function messageText(message) {
   } else if (message.lost) {
     fate = "never delivered";
   }
-  const stale = message.misses ? `\nstale: ${message.misses}` : "";
+  const stale = message.misses ? `\nstale: ${missedText(message)}` : "";
   return `${messageLine(message)}${stale}\nsent by event ${message.sent}, ${causeText(events[message.sent])}\n${fate}`;
 }
 
@@ -202,9 +215,7 @@ const told = (message, form) => (message.text.match(form) || []).slice(1);
 const stops = new Map(story.servers.map((server) =>
   [server.id, server.stopped === null ? events.length : server.stopped]));
 const starts = new Map(story.servers.map((server) => [server.id, server.started]));
-const doubts = story.servers.filter((server) => server.suspected !== null && server.suspected < stops.get(server.id))
-  .map((server) => ({ id: server.id, from: server.suspected, until: stops.get(server.id) }));
-const tags = doubts.map((doubt) => ({ id: doubt.id, event: doubt.from, text: "suspected" }));
+const tags = [];
 
 // Each grant as a bar: an owner's until a later term of a key of its range is granted, and a former owner's after it.
 const owners = [];
@@ -215,44 +226,77 @@ for (const message of messages.filter((message) => message.kind === "Own")) {
     continue;
   }
   const grant = { id: message.to, table, lo: BigInt(lo), hi: BigInt(hi), term: Number(term),
-    from: message.delivered[0], until: stops.get(message.to), former: stops.get(message.to), lane: 0 };
+    granted: message.sent, from: message.delivered[0], until: stops.get(message.to), former: stops.get(message.to),
+    lane: 0 };
   for (const owner of owners.filter((owner) => owner.table === table && owner.term < grant.term &&
-      owner.lo <= grant.hi && grant.lo <= owner.hi && owner.until > message.sent)) {
-    owner.until = Math.max(message.sent, owner.from);
-    if (owner.until < owner.former) {
-      tags.push({ id: owner.id, event: owner.until, text: `replaced by ${message.to}` });
-    }
+      owner.lo <= grant.hi && grant.lo <= owner.hi && owner.next === undefined)) {
+    owner.next = message.to;
+    owner.lost = Math.max(message.sent, owner.from);
+    owner.until = Math.min(owner.until, owner.lost);
   }
   grant.lane = owners.filter((owner) => owner.id === grant.id).length;
   owners.push(grant);
-}
-for (const phase of story.phases.filter((phase) => phase.phase === "deposed")) {
-  tags.push({ id: phase.id, event: phase.event, text: "deposed" });
 }
 
 // A fence, at each delivery of a Gather that had an effect.
 const locks = messages.filter((message) => message.kind === "Gather").flatMap((message) =>
   message.delivered.filter((event) => events[event].why === undefined).map((event) =>
-    ({ id: message.to, event, text: `${message.to} fences ${told(message, /of (\S+)/)[0]}` })));
+    ({ id: message.to, event, of: told(message, /of (\S+)/)[0] })));
+
+// What becomes of a server that runs on: it is suspected, then fenced by a first backup, then replaced as an owner, and
+// at last it learns of it.
+const first = (list) => list.reduce((least, it) => least && least.event <= it.event ? least : it, null);
+const becomes = new Map(story.servers.map((server) => {
+  const id = server.id, fence = first(locks.filter((lock) => lock.of === id));
+  const loss = first(owners.filter((owner) => owner.id === id && owner.next)
+    .map((owner) => ({ event: owner.lost, owner })));
+  const knows = story.phases.find((phase) => phase.id === id && phase.phase === "deposed");
+  const stages = [
+    server.suspected !== null && { event: server.suspected, name: "suspected", text: "suspected" },
+    fence && { event: fence.event, name: "fenced", text: `fenced by ${fence.id}` },
+    loss && { event: loss.event, name: "replaced", text: `replaced by ${loss.owner.next}` },
+    knows && { event: knows.event, name: "deposed", text: "deposed" },
+  ].filter((stage) => stage && stage.event < stops.get(id)).sort((one, other) => one.event - other.event);
+  tags.push(...stages.map((stage) => ({ ...stage, id })));
+  return [id, { fence, loss, knows, stages }];
+}));
+const doubts = [...becomes].flatMap(([id, { stages }]) => stages.map((stage, place) =>
+  ({ id, ...stage, from: stage.event, until: place + 1 < stages.length ? stages[place + 1].event : stops.get(id) })));
 
 // A read is stale where a greater version had been acknowledged when it was answered.
-const acknowledged = new Map();
+const acknowledged = new Map(), values = new Map(), stales = [];
+const shortened = (value) => value && value.length > 14 ? `${value.slice(0, 13)}…` : value;
+function ownerOf(table, key, event) {
+  return owners.filter((owner) => owner.table === table && owner.lo <= BigInt(key) && BigInt(key) <= owner.hi &&
+    owner.granted <= event).reduce((last, owner) => last && last.term > owner.term ? last : owner, null);
+}
 for (const message of messages) {
-  const [table, key, version] = told(message, /table (\d+) key (\d+) version (\d+)/);
+  if (message.kind === "Append") {
+    for (const [, place, value] of message.text.matchAll(/table (\d+ key \d+ version \d+) ([^;]*)/g)) {
+      values.set(`${message.from} ${place}`, value);
+    }
+  }
+  if (!["WriteOk", "ReadOk"].includes(message.kind)) {
+    continue;
+  }
+  const [table, key, version, value] = told(message, /table (\d+) key (\d+) version (\d+) ?(.*)$/);
   const known = acknowledged.get(`${table} ${key}`);
-  if (message.kind === "WriteOk" && !(known && known.version >= BigInt(version))) {
+  message.shows = ` v${version}${value ? ` ${shortened(value)}` : ""}`;
+  if (message.kind === "WriteOk" && !(known && known.version > BigInt(version))) {
     const [term] = told(message, /term (\d+)/);
-    acknowledged.set(`${table} ${key}`, { version: BigInt(version), by: message.from, term, n: message.n });
+    acknowledged.set(`${table} ${key}`, { version: BigInt(version), by: message.from, term, message,
+      value: values.get(`${message.from} ${table} key ${key} version ${version}`) || "" });
   }
   if (message.kind === "ReadOk" && known && known.version > BigInt(version)) {
-    message.misses = `it misses version ${known.version}, which ${known.by} had acknowledged ` +
-      `under term ${known.term} (message ${known.n})`;
+    const owner = ownerOf(table, key, message.sent);
+    message.misses = { table, key, version, value, known, owner };
+    stales.push(message);
   }
-  if (["WriteOk", "ReadOk"].includes(message.kind)) {
-    const [value] = told(message, /version \d+ (.*)$/);
-    const short = value && value.length > 14 ? `${value.slice(0, 13)}…` : value;
-    message.shows = ` v${version}${short ? ` ${short}` : ""}`;
-  }
+}
+function missedText({ misses: { version, value, known, owner } }) {
+  return `it shows version ${version} ${value}`.trim() + `; it misses version ${known.version} ${known.value}`.trim() +
+    `, which ${known.by} had acknowledged under term ${known.term} at event ${known.message.sent}` +
+    (owner ? `; ${owner.id} owns the key since event ${owner.granted}` : "");
 }
 
 // The rows: one for each event that is shown. The set-up, up to the first create, is one row while it is folded. Of one

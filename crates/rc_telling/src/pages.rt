@@ -2,6 +2,7 @@
 
 use crate::json::put_story;
 use crate::page_drawing::{DRAWING, ENDING, MOVING};
+use crate::page_findings::FINDINGS;
 use crate::page_parts::{HEAD, MARKS, MIDDLE};
 use crate::story::Story;
 use rc_pen::{Pen, Spelling};
@@ -19,6 +20,7 @@ pub fn page(alloc: Global, story: &Story<'_>) -> Result<String, AllocError> {
     pen.put(MIDDLE);
     pen.put(MARKS);
     pen.put(DRAWING);
+    pen.put(FINDINGS);
     pen.put(MOVING);
     pen.put(ENDING);
     pen.end()

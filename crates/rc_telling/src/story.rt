@@ -5,7 +5,7 @@ use crate::passages::Passages;
 use crate::servers::Servers;
 use crate::silences::{Known, Silence};
 use crate::standing::Standing;
-use rc_types::{Body, Code, Event, Message, ServerId};
+use rc_types::{Body, Breach, Code, Event, Message, ServerId};
 use std::alloc::{AllocError, Global};
 
 /// One event of the world, and what it did.
@@ -199,6 +199,8 @@ pub struct Story<'a> {
     pub standing: &'a Standing,
     /// How they have changed.
     pub changes: &'a Changes,
+    /// What the audit finds in the messages.
+    pub breach: Option<Breach>,
     /// The event of the scenario at which the run stopped, by place from 0, and why.
     pub stopped: Option<(usize, Code)>,
 }

@@ -1,7 +1,8 @@
 """For each scenario of examples/ `log --json` fits docs/schemas/log.json and agrees with the report of `run`
 (acknowledgements, where the run stopped), `log` has a line for each event and each message, `picture` is a page that
 holds just that JSON and names no other place, and `picture --mermaid` has each message that arrives. Where a browser is
-there (chromium), it loads each page at two widths, and shows no error and all rows."""
+there (chromium), it loads each page at two widths, and shows no error, the rows, the verdict in the title, and at the head
+each zombie and the first stale reads."""
 
 import json
 import pathlib
@@ -14,6 +15,8 @@ from of_examples.schemas import judge_of
 from parts.program import ask
 from parts.tree import EXAMPLES, TOP
 
+# drawn by `drawings`, with the same marks
+DRAWN = ("first-write", "roll", "backup-replaced", "zombie", "recovery")
 BROWSERS = ("chromium", "chromium-browser", "google-chrome")
 
 
@@ -39,6 +42,8 @@ def disagreements(program, scenario, fits):
         yield "log --json does not fit its schema"
     if [it for event in story["events"] for it in event["sent"]] != [it["n"] for it in story["messages"]]:
         yield "the events do not send the messages in order"
+    if f"audit {story['audit']}" not in report.splitlines() or f"audit {story['audit']}" not in told["log",][1]:
+        yield "another verdict than in the report"
     acknowledged = sum(it["kind"] == "WriteOk" for it in story["messages"])
     if acknowledged != len(re.findall("^ack ", report, re.M)):
         yield "other acknowledgements than in the report"
@@ -58,8 +63,27 @@ def disagreements(program, scenario, fits):
         yield f"the diagram has {arrows} arrows that arrive, and not {arrived - crossed}"
 
 
-def browsed(browser, page, width):
-    """What is wrong with a page in a browser of this width."""
+def findings(story):
+    """What the head of a page has to say of a story."""
+    owners, known, wanted = {}, {}, set()
+    runs = {it["id"] for it in story["servers"] if it["stopped"] is None}
+    deposed = {it["id"] for it in story["phases"] if it["phase"] == "deposed"}
+    for message in story["messages"]:
+        found = re.search(r"table (\d+) key (\d+) version (\d+)", message["text"])
+        if message["kind"] == "Own" and message["delivered"]:
+            keys = re.search(r"table \d+ keys \S+", message["text"])[0]
+            if owners.get(keys, message["to"]) != message["to"] and owners[keys] in runs - deposed:
+                wanted.add(f"{owners[keys]} is a zombie:")
+            owners[keys] = message["to"]
+        elif message["kind"] == "WriteOk" and found:
+            known[found.group(1, 2)] = max(int(found[3]), known.get(found.group(1, 2), 0))
+        elif message["kind"] == "ReadOk" and known.get(found.group(1, 2), 0) > int(found[3]):
+            wanted.add(f"{message['from']} shows version {found[3]} ")
+    return wanted
+
+
+def browsed(browser, page, width, story):
+    """What is wrong with the page of a story in a browser of this width."""
     words = [browser, "--headless=new", "--no-sandbox", "--disable-gpu", "--enable-logging=stderr", "--v=0",
              "--virtual-time-budget=3000", f"--window-size={width},900", "--dump-dom", page.as_uri()]
     ran = subprocess.run(words, stdout=subprocess.PIPE, stderr=subprocess.PIPE, timeout=120)
@@ -68,6 +92,20 @@ def browsed(browser, page, width):
             yield f"at {width} pixels: {line}"
     if b"<svg" not in ran.stdout or b"class=\"name\"" not in ran.stdout:
         yield f"at {width} pixels: nothing was drawn"
+    dom = ran.stdout.decode(errors="replace")
+    if f": audit {story['audit']}" not in re.search("<title>(.*)</title>", dom)[1]:
+        yield f"at {width} pixels: the title has no verdict"
+    marks = re.findall("</svg>([^<]*)</span>", re.search('<div id="legend">(.*?)</div>', dom, re.S)[1])
+    drawn = [(TOP / f"docs/pictures/{name}.svg").read_text() for name in DRAWN]
+    for mark in marks:
+        if not all(f">{mark}</text>" in picture for picture in drawn):
+            yield f"a picture that was drawn has no mark: {mark}"
+    if len(marks) < 10:
+        yield f"at {width} pixels: a legend of {len(marks)} marks"
+    head = re.sub("<[^>]*>", "", re.search('<ul id="findings">(.*?)</ul>', dom, re.S)[1])
+    for words in findings(story):
+        if words not in head:
+            yield f"at {width} pixels: the head does not say: {words}"
 
 
 def check(program):
@@ -80,6 +118,7 @@ def check(program):
             found = list(disagreements(program, scenario, fits))
             if browser and not scenario.with_suffix(".report").read_text().startswith("error"):
                 page.write_text(ask(program, "picture", given=scenario).printed)
-                found += [it for width in (375, 1440) for it in browsed(browser, page, width)]
+                story = json.loads(ask(program, "log", "--json", given=scenario).printed)
+                found += [it for width in (375, 1440) for it in browsed(browser, page, width, story)]
             yield from (f"{scenario.name}: {it}" for it in found)
     return f"{len(scenarios)} scenarios; pages {'loaded' if browser else 'not loaded, as there is no browser'}"

@@ -5,10 +5,11 @@ ghost use Rattle.rc_world.specs.HostView.{IsWithinLimits};
 
 use crate::telling::retelling::{Retold, retell};
 use crate::telling::standing::add_standing;
+use rc_audit::audit;
 use rc_reading::ScenarioEvent;
 use rc_runs::Run;
 use rc_telling::{Standing, Story};
-use rc_types::{Code, Fault, Setup, TryClone};
+use rc_types::{Breach, Code, Fault, Setup, TryClone};
 use rc_world::World;
 use std::alloc::{AllocError, Global};
 use std::slice;
@@ -23,6 +24,8 @@ pub struct Played {
     world: World<Global>,
     retold: Retold,
     standing: Standing,
+    /// What the audit finds in what was sent.
+    breach: Option<Breach>,
 }
 
 impl Drop for Played {
@@ -34,6 +37,7 @@ impl Drop for Played {
             world: _,
             retold: _,
             standing: _,
+            breach: _,
         } = self;
     }
 }
@@ -67,12 +71,14 @@ impl Played {
             world: World::new(alloc, second, alloc),
             retold: Retold::new(alloc),
             standing: Standing::new(alloc),
+            breach: None,
         })
     }
 
-    /// Plays these events, and then notes what they did.
+    /// Plays these events, judges what they sent, and notes what they did.
     fn play(&mut self, alloc: Global, events: &[ScenarioEvent]) -> Result<(), AllocError> {
         self.stopped = play_through(alloc, &mut self.run, &mut self.places, events)?;
+        self.breach = audit(alloc, self.run.world().sent()).map_err(|_| AllocError)?;
         let happened = self.run.world().events();
         retell(
             alloc,
@@ -102,6 +108,7 @@ impl Played {
             notes: self.retold.notes(),
             changes: self.retold.changes(),
             standing: &self.standing,
+            breach: self.breach,
             stopped: self.stopped,
         }
     }

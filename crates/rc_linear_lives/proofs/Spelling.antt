@@ -1,0 +1,2 @@
+-- What a computed run spells its numbers with.
+pub use Rattle.std.specs.Fmt.{digits}

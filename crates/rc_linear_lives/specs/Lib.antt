@@ -1,0 +1,4 @@
+pub mod Linearized
+pub mod OfProcesses
+pub mod Script
+pub mod Worked
