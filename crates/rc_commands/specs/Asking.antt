@@ -43,7 +43,8 @@ abbrev pub IsInRange : Asked → Type 0
 IsInRange (asked.Run heap) = IsWithin 16 1048576 heap
 IsInRange (asked.Fuzz seed steps free) = steps ≤ 100000
 IsInRange (asked.Stops seed steps) = steps ≤ 1000
-IsInRange (asked.StopsExplored seed steps hosts factor segment free) = (steps ≤ 1000) × IsSized steps hosts factor segment
+IsInRange (asked.StopsExplored seed steps hosts factor segment free) =
+    (steps ≤ 1000) × IsSized steps hosts factor segment
 IsInRange (asked.Threads hosts writes) = (3 ≤ hosts) × (hosts ≤ 16) × (writes ≤ 1000)
 IsInRange (asked.Explore seed steps hosts factor segment free save progress) = IsSized steps hosts factor segment
 IsInRange (asked.Survey first last steps hosts factor segment free progress) =
