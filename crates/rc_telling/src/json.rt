@@ -1,16 +1,15 @@
 //! The story as one JSON value.
 
-use crate::ending::{Ending, Group, Newest, Range};
+use crate::ending::{Ending, Group};
 use crate::fields::{tell_event, tell_fields};
 use crate::json_standing::{put_changes, put_standing};
 use crate::kinds::{body_name, event_name};
-use crate::passages::Passage;
 use crate::servers::Server;
 use crate::silences::{Silence, tell_silence};
 use crate::story::{Step, Story, Turn};
 use crate::tables::Table;
 use crate::verdict::tell_verdict;
-use crate::writes::{Unanswered, Writes, tell_fate};
+use crate::writes::{Writes, tell_fate};
 use rc_pen::{Pen, Piece, Spelling};
 use rc_types::{Addr, Event, Message};
 use std::alloc::{AllocError, Global};
@@ -52,7 +51,23 @@ fn put_messages(pen: &mut Pen, story: &Story<'_>) {
     pen.put("],\"messages\":[");
     let passages = story.notes.passages().as_slice();
     for (number, (message, passage)) in story.messages.iter().zip(passages).enumerate() {
-        put_message(pen, number, message, passage);
+        pen.put_all(
+            "%|,|\n{\"n\":%,\"kind\":\"%\",\"from\":\"%\",\"to\":\"%\",\"text\":\"",
+            &[
+                Piece::Flag(number == 0),
+                Piece::Size(number),
+                Piece::Words(body_name(&message.body)),
+                Piece::Node(message.from),
+                Piece::Node(message.to),
+            ],
+        );
+        tell_fields(pen, &message.body);
+        pen.put_all(
+            "\",\"sent\":%,\"delivered\":[",
+            &[Piece::Size(passage.sent)],
+        );
+        put_numbers(pen, passage.delivered.as_slice());
+        pen.put("]}");
     }
 }
 
@@ -130,32 +145,6 @@ fn node_of(event: &Event, step: &Step) -> Addr {
     }
 }
 
-/// A message: its number, its kind, from where to where, what it says, and the events that sent and delivered it.
-fn put_message(pen: &mut Pen, number: usize, message: &Message, passage: &Passage) {
-    pen.put_all(
-        "%|,|\n{\"n\":%,\"kind\":\"%\",\"from\":\"%\",\"to\":\"%\",\"text\":\"",
-        &[
-            Piece::Flag(number == 0),
-            Piece::Size(number),
-            Piece::Words(body_name(&message.body)),
-            Piece::Node(message.from),
-            Piece::Node(message.to),
-        ],
-    );
-    tell_fields(pen, &message.body);
-    put_passage(pen, passage);
-}
-
-/// The events that sent and delivered a message.
-fn put_passage(pen: &mut Pen, passage: &Passage) {
-    pen.put_all(
-        "\",\"sent\":%,\"delivered\":[",
-        &[Piece::Size(passage.sent)],
-    );
-    put_numbers(pen, passage.delivered.as_slice());
-    pen.put("]}");
-}
-
 /// How things stand at the end.
 fn put_ending(pen: &mut Pen, story: &Story<'_>, ending: &Ending, writes: &Writes) {
     put_groups(pen, ending.lost());
@@ -184,44 +173,34 @@ fn put_audit(alloc: Global, pen: &mut Pen, story: &Story<'_>) {
 fn put_groups(pen: &mut Pen, groups: &Table<(usize, Addr), Group>) {
     pen.put("],\"lost\":[");
     for (place, group) in groups.entries.values().enumerate() {
-        put_group(pen, place, group);
+        pen.put_all(
+            "%|,|\n{\"kind\":\"%\",\"to\":\"%\",\"count\":%}",
+            &[
+                Piece::Flag(place == 0),
+                Piece::Words(group.kind),
+                Piece::Node(group.to),
+                Piece::U64(group.count),
+            ],
+        );
     }
-}
-
-/// A group of messages.
-fn put_group(pen: &mut Pen, place: usize, group: &Group) {
-    pen.put_all(
-        "%|,|\n{\"kind\":\"%\",\"to\":\"%\",\"count\":%}",
-        &[
-            Piece::Flag(place == 0),
-            Piece::Words(group.kind),
-            Piece::Node(group.to),
-            Piece::U64(group.count),
-        ],
-    );
 }
 
 /// The servers.
 fn put_servers(pen: &mut Pen, servers: &[Server]) {
     pen.put("],\"servers\":[");
     for (place, server) in servers.iter().enumerate() {
-        put_server(pen, place, server);
+        pen.put_all(
+            "%|,|\n{\"id\":\"%\",\"started\":%,\"stopped\":%,\"suspected\":%,\"acknowledged\":%}",
+            &[
+                Piece::Flag(place == 0),
+                Piece::Id(server.id),
+                Piece::Size(server.started),
+                number_or_null(server.stopped),
+                number_or_null(server.suspected),
+                Piece::U64(server.acknowledged),
+            ],
+        );
     }
-}
-
-/// One of the servers.
-fn put_server(pen: &mut Pen, place: usize, server: &Server) {
-    pen.put_all(
-        "%|,|\n{\"id\":\"%\",\"started\":%,\"stopped\":%,\"suspected\":%,\"acknowledged\":%}",
-        &[
-            Piece::Flag(place == 0),
-            Piece::Id(server.id),
-            Piece::Size(server.started),
-            number_or_null(server.stopped),
-            number_or_null(server.suspected),
-            Piece::U64(server.acknowledged),
-        ],
-    );
 }
 
 /// A number that there may not be.
@@ -236,66 +215,51 @@ fn number_or_null(number: Option<usize>) -> Piece {
 fn put_ranges(pen: &mut Pen, ending: &Ending) {
     pen.put("],\"ranges\":[");
     for (place, range) in ending.ranges().entries.values().enumerate() {
-        put_range(pen, place, range);
+        pen.put_all(
+            "%|,|\n{\"table\":%,\"lo\":\"%\",\"hi\":\"%\",\"term\":%,\"owner\":\"%\"}",
+            &[
+                Piece::Flag(place == 0),
+                Piece::U32(range.table),
+                Piece::U64(range.lo),
+                Piece::U64(range.hi),
+                Piece::U32(range.term),
+                Piece::Node(range.owner),
+            ],
+        );
     }
-}
-
-/// A range and its owner.
-fn put_range(pen: &mut Pen, place: usize, range: &Range) {
-    pen.put_all(
-        "%|,|\n{\"table\":%,\"lo\":\"%\",\"hi\":\"%\",\"term\":%,\"owner\":\"%\"}",
-        &[
-            Piece::Flag(place == 0),
-            Piece::U32(range.table),
-            Piece::U64(range.lo),
-            Piece::U64(range.hi),
-            Piece::U32(range.term),
-            Piece::Node(range.owner),
-        ],
-    );
 }
 
 /// The newest acknowledged version of each key.
 fn put_keys(pen: &mut Pen, ending: &Ending) {
     pen.put("],\"keys\":[");
     for (place, newest) in ending.newest().entries.values().enumerate() {
-        put_newest(pen, place, newest);
+        pen.put_all(
+            "%|,|\n{\"table\":%,\"key\":\"%\",\"version\":\"%\",\"term\":%,\"by\":\"%\"}",
+            &[
+                Piece::Flag(place == 0),
+                Piece::U32(newest.table),
+                Piece::U64(newest.key),
+                Piece::U64(newest.version),
+                Piece::U32(newest.term),
+                Piece::Node(newest.by),
+            ],
+        );
     }
-}
-
-/// The newest version of a key.
-fn put_newest(pen: &mut Pen, place: usize, newest: &Newest) {
-    pen.put_all(
-        "%|,|\n{\"table\":%,\"key\":\"%\",\"version\":\"%\",\"term\":%,\"by\":\"%\"}",
-        &[
-            Piece::Flag(place == 0),
-            Piece::U32(newest.table),
-            Piece::U64(newest.key),
-            Piece::U64(newest.version),
-            Piece::U32(newest.term),
-            Piece::Node(newest.by),
-        ],
-    );
 }
 
 /// The writes that were not acknowledged, and what became of them.
 fn put_writes(pen: &mut Pen, writes: &Writes) {
     pen.put("],\"unacknowledged\":[");
     for (place, write) in writes.unanswered().iter().enumerate() {
-        put_write(pen, place, write);
+        pen.put_all(
+            "%|,|\n{\"event\":%,\"message\":%,\"fate\":\"",
+            &[
+                Piece::Flag(place == 0),
+                Piece::Size(write.event),
+                Piece::Size(write.message),
+            ],
+        );
+        tell_fate(pen, write);
+        pen.put("\"}");
     }
-}
-
-/// A write, and what became of it.
-fn put_write(pen: &mut Pen, place: usize, write: &Unanswered) {
-    pen.put_all(
-        "%|,|\n{\"event\":%,\"message\":%,\"fate\":\"",
-        &[
-            Piece::Flag(place == 0),
-            Piece::Size(write.event),
-            Piece::Size(write.message),
-        ],
-    );
-    tell_fate(pen, write);
-    pen.put("\"}");
 }

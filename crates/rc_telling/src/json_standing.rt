@@ -1,17 +1,25 @@
 //! How the masters and the backups stand at the end, and how they came to it, as JSON.
 
-use crate::changes::{Changes, PhaseChange, ReplicaChange};
+use crate::changes::{Changes, PhaseChange};
 use crate::standing::{MasterStanding, ReplicaStanding, SegmentStanding};
 use crate::story::Story;
 use crate::waits::{tell_wait, wait_of};
 use rc_pen::{Pen, Piece};
-use rc_types::Member;
 
 /// The masters with their segments, and the replicas.
 pub(crate) fn put_standing(pen: &mut Pen, story: &Story<'_>) {
     pen.put("],\"masters\":[");
     for (place, master) in story.standing.masters.iter().enumerate() {
-        put_master(pen, place, master);
+        pen.put_all(
+            "%|,|\n{\"id\":\"%\",\"phase\":\"%\",\"head\":%,\"durable\":%",
+            &[
+                Piece::Flag(place == 0),
+                Piece::Id(master.id),
+                Piece::Words(master.phase_name()),
+                Piece::U16(master.head),
+                Piece::Size(master.durable),
+            ],
+        );
         put_wait(pen, story, master);
         put_segments(pen, story.standing.segments_of(master));
     }
@@ -32,7 +40,15 @@ pub(crate) fn put_changes(pen: &mut Pen, changes: &Changes) {
     put_phases(pen, changes.phases());
     pen.put("],\"copies\":[");
     for (place, change) in changes.replicas().iter().enumerate() {
-        put_change(pen, place, change);
+        pen.put_all(
+            "%|,|\n{\"event\":%,\"gone\":%true|false|,",
+            &[
+                Piece::Flag(place == 0),
+                Piece::Size(change.event),
+                Piece::Flag(change.is_gone),
+            ],
+        );
+        put_replica(pen, &change.replica);
     }
 }
 
@@ -40,48 +56,16 @@ pub(crate) fn put_changes(pen: &mut Pen, changes: &Changes) {
 fn put_phases(pen: &mut Pen, phases: &[PhaseChange]) {
     pen.put("],\"phases\":[");
     for (place, change) in phases.iter().enumerate() {
-        put_phase(pen, place, change);
+        pen.put_all(
+            "%|,|\n{\"event\":%,\"id\":\"%\",\"phase\":\"%\"}",
+            &[
+                Piece::Flag(place == 0),
+                Piece::Size(change.event),
+                Piece::Id(change.id),
+                Piece::Words(change.phase),
+            ],
+        );
     }
-}
-
-/// A change of a phase.
-fn put_phase(pen: &mut Pen, place: usize, change: &PhaseChange) {
-    pen.put_all(
-        "%|,|\n{\"event\":%,\"id\":\"%\",\"phase\":\"%\"}",
-        &[
-            Piece::Flag(place == 0),
-            Piece::Size(change.event),
-            Piece::Id(change.id),
-            Piece::Words(change.phase),
-        ],
-    );
-}
-
-/// A change of a replica.
-fn put_change(pen: &mut Pen, place: usize, change: &ReplicaChange) {
-    pen.put_all(
-        "%|,|\n{\"event\":%,\"gone\":%true|false|,",
-        &[
-            Piece::Flag(place == 0),
-            Piece::Size(change.event),
-            Piece::Flag(change.is_gone),
-        ],
-    );
-    put_replica(pen, &change.replica);
-}
-
-/// A master, up to its segments.
-fn put_master(pen: &mut Pen, place: usize, master: &MasterStanding) {
-    pen.put_all(
-        "%|,|\n{\"id\":\"%\",\"phase\":\"%\",\"head\":%,\"durable\":%",
-        &[
-            Piece::Flag(place == 0),
-            Piece::Id(master.id),
-            Piece::Words(master.phase_name()),
-            Piece::U16(master.head),
-            Piece::Size(master.durable),
-        ],
-    );
 }
 
 /// What a master waits for, and the beginning of its segments.
@@ -100,25 +84,20 @@ fn put_wait(pen: &mut Pen, story: &Story<'_>, master: &MasterStanding) {
 /// The segments of a master, and its end.
 fn put_segments(pen: &mut Pen, segments: &[SegmentStanding]) {
     for (place, segment) in segments.iter().enumerate() {
-        put_segment(pen, place, segment);
+        pen.put_all(
+            "%|,|\n{\"seg\":%,\"epoch\":%,\"committed\":%true|false|,\"len\":%,\"shut\":%true|false|,\"members\":[",
+            &[
+                Piece::Flag(place == 0),
+                Piece::U16(segment.seg),
+                Piece::U16(segment.epoch),
+                Piece::Flag(segment.is_committed),
+                Piece::Size(segment.len),
+                Piece::Flag(segment.is_shut),
+            ],
+        );
         put_members(pen, segment);
     }
     pen.put("]}");
-}
-
-/// A segment, up to its members.
-fn put_segment(pen: &mut Pen, place: usize, segment: &SegmentStanding) {
-    pen.put_all(
-        "%|,|\n{\"seg\":%,\"epoch\":%,\"committed\":%true|false|,\"len\":%,\"shut\":%true|false|,\"members\":[",
-        &[
-            Piece::Flag(place == 0),
-            Piece::U16(segment.seg),
-            Piece::U16(segment.epoch),
-            Piece::Flag(segment.is_committed),
-            Piece::Size(segment.len),
-            Piece::Flag(segment.is_shut),
-        ],
-    );
 }
 
 /// The members of a segment, and its end.
@@ -126,29 +105,24 @@ fn put_members(pen: &mut Pen, segment: &SegmentStanding) {
     let mut is_first = true;
     for slot in &segment.members {
         if let Some(member) = slot {
-            put_member(pen, is_first, member);
+            let (told, is_closed) = match member.told {
+                Some(told) => (Piece::Size(told.len), told.closed),
+                None => (Piece::Words("null"), false),
+            };
+            pen.put_all(
+                "%|,|{\"id\":\"%\",\"lost\":%true|false|,\"told\":%,\"closed\":%true|false|}",
+                &[
+                    Piece::Flag(is_first),
+                    Piece::Id(member.id),
+                    Piece::Flag(member.lost),
+                    told,
+                    Piece::Flag(is_closed),
+                ],
+            );
             is_first = false;
         }
     }
     pen.put("]}");
-}
-
-/// A member, and what it has told.
-fn put_member(pen: &mut Pen, is_first: bool, member: &Member) {
-    let (told, is_closed) = match member.told {
-        Some(told) => (Piece::Size(told.len), told.closed),
-        None => (Piece::Words("null"), false),
-    };
-    pen.put_all(
-        "%|,|{\"id\":\"%\",\"lost\":%true|false|,\"told\":%,\"closed\":%true|false|}",
-        &[
-            Piece::Flag(is_first),
-            Piece::Id(member.id),
-            Piece::Flag(member.lost),
-            told,
-            Piece::Flag(is_closed),
-        ],
-    );
 }
 
 /// The members of a replica, and its end.

@@ -1,7 +1,7 @@
 //! The story as lines for a reader.
 
 use crate::changes::PhaseChange;
-use crate::ending::{Ending, Group, Newest, Range, total_of};
+use crate::ending::{Ending, Group, total_of};
 use crate::fields::{tell_event, tell_message};
 use crate::servers::Server;
 use crate::silences::tell_silence;
@@ -144,82 +144,62 @@ fn tell_groups(pen: &mut Pen, title: &str, groups: &Table<(usize, Addr), Group>)
     pen.number(title, total_of(groups));
     pen.say("\n");
     for group in groups.entries.values() {
-        tell_group(pen, group);
+        pen.say_all(
+            "    % % to %",
+            &[
+                Piece::U64(group.count),
+                Piece::Words(group.kind),
+                Piece::Node(group.to),
+            ],
+        );
+        let numbers = group.numbers();
+        pen.say(":");
+        for number in numbers {
+            pen.number(" ", *number as u64);
+        }
+        pen.either(group.count > numbers.len() as u64, " ..\n", "\n");
     }
-}
-
-/// A group.
-fn tell_group(pen: &mut Pen, group: &Group) {
-    pen.say_all(
-        "    % % to %",
-        &[
-            Piece::U64(group.count),
-            Piece::Words(group.kind),
-            Piece::Node(group.to),
-        ],
-    );
-    tell_numbers(pen, group);
-}
-
-/// The numbers of the first messages of a group.
-fn tell_numbers(pen: &mut Pen, group: &Group) {
-    let numbers = group.numbers();
-    pen.say(":");
-    for number in numbers {
-        pen.number(" ", *number as u64);
-    }
-    pen.either(group.count > numbers.len() as u64, " ..\n", "\n");
 }
 
 /// The servers.
 fn tell_servers(pen: &mut Pen, servers: &[Server]) {
     pen.number("servers ", servers.len() as u64);
     for server in servers {
-        tell_server(pen, server);
+        pen.say_all(
+            "\n    % started at event %",
+            &[Piece::Id(server.id), Piece::Size(server.started)],
+        );
+        match server.stopped {
+            Some(event) => pen.number(", stopped at event ", event as u64),
+            None => pen.say(", runs"),
+        }
+        if let Some(event) = server.suspected {
+            pen.number(", suspected at event ", event as u64);
+        }
+        pen.number(", acknowledged ", server.acknowledged);
     }
-}
-
-/// One of the servers.
-fn tell_server(pen: &mut Pen, server: &Server) {
-    pen.say_all(
-        "\n    % started at event %",
-        &[Piece::Id(server.id), Piece::Size(server.started)],
-    );
-    match server.stopped {
-        Some(event) => pen.number(", stopped at event ", event as u64),
-        None => pen.say(", runs"),
-    }
-    if let Some(event) = server.suspected {
-        pen.number(", suspected at event ", event as u64);
-    }
-    pen.number(", acknowledged ", server.acknowledged);
 }
 
 /// The last grant of each range, and whether its owner was suspected, or it was granted once more in other ranges.
 fn tell_ranges(pen: &mut Pen, story: &Story<'_>, ending: &Ending) {
     pen.number("\nranges ", ending.ranges().entries.len() as u64);
     for range in ending.ranges().entries.values() {
-        tell_range(pen, range);
+        pen.say_all(
+            "\n    table % keys %..% term % owner %",
+            &[
+                Piece::U32(range.table),
+                Piece::U64(range.lo),
+                Piece::U64(range.hi),
+                Piece::U32(range.term),
+                Piece::Node(range.owner),
+            ],
+        );
         if ending.is_passed_on(range) {
             pen.say(", passed on");
         } else {
             tell_owner(pen, story, range.owner);
         }
     }
-}
-
-/// A range and its owner.
-fn tell_range(pen: &mut Pen, range: &Range) {
-    pen.say_all(
-        "\n    table % keys %..% term % owner %",
-        &[
-            Piece::U32(range.table),
-            Piece::U64(range.lo),
-            Piece::U64(range.hi),
-            Piece::U32(range.term),
-            Piece::Node(range.owner),
-        ],
-    );
 }
 
 /// Whether the owner of a range was suspected, or does not run.
@@ -241,22 +221,17 @@ fn tell_owner(pen: &mut Pen, story: &Story<'_>, owner: Addr) {
 fn tell_keys(pen: &mut Pen, ending: &Ending) {
     pen.number("\nkeys ", ending.newest().entries.len() as u64);
     for newest in ending.newest().entries.values() {
-        tell_newest(pen, newest);
+        pen.say_all(
+            "\n    table % key % version % term % by %",
+            &[
+                Piece::U32(newest.table),
+                Piece::U64(newest.key),
+                Piece::U64(newest.version),
+                Piece::U32(newest.term),
+                Piece::Node(newest.by),
+            ],
+        );
     }
-}
-
-/// The newest version of a key.
-fn tell_newest(pen: &mut Pen, newest: &Newest) {
-    pen.say_all(
-        "\n    table % key % version % term % by %",
-        &[
-            Piece::U32(newest.table),
-            Piece::U64(newest.key),
-            Piece::U64(newest.version),
-            Piece::U32(newest.term),
-            Piece::Node(newest.by),
-        ],
-    );
 }
 
 /// The writes that were not acknowledged, and what became of them.

@@ -69,7 +69,7 @@ const y = (event) => yOf(rowOf[event]);
 function spread(firstEvent, lastEvent) {
   const isAway = (name) => starts.has(name) && (starts.get(name) > lastEvent || stops.get(name) < firstEvent);
   const away = columns.filter(isAway).length;
-  left = view.clientWidth < 600 ? 58 : 84;
+  left = Math.max(view.clientWidth < 600 ? 58 : 84, 26 + 14 * String(events.length).length);
   thin = Math.min(FOLD, FOLDS / Math.max(1, away));
   width = Math.max(NARROWEST, (view.clientWidth - left - RIGHT - thin * away) / Math.max(1, columns.length - away));
   places = new Map();
@@ -413,6 +413,7 @@ function chooseEvent(event) {
     const happened = events[chosen.event];
     byId("details").textContent = eventText(happened);
     show(chosen.event);
+    draw();
     showColumn(happened.kind === "deliver" ? messages[happened.message].to : happened.at);
     link(`event-${chosen.event}`);
     redraw();
@@ -476,6 +477,7 @@ function chooseMessage(number) {
     unfold(message.sent);
     byId("details").textContent = messageText(message);
     show(message.sent);
+    draw();
     showColumn(message.from);
     link(`message-${number}`);
     redraw();

@@ -53,10 +53,6 @@ table { border-collapse: collapse; font-variant-numeric: tabular-nums; }
 th, td { text-align: left; padding: 2px 12px 2px 0; border-bottom: 1px solid var(--line); vertical-align: top; }
 td { white-space: nowrap; }
 td.long { white-space: normal; min-width: 13em; }
-@media (max-width: 600px) {
-  td { white-space: normal; }
-  td.long { min-width: 0; }
-}
 th { color: var(--soft); font-weight: 600; white-space: nowrap; }
 svg text { font: 11px system-ui, sans-serif; fill: var(--ink); }
 svg .number { fill: var(--soft); text-anchor: end; }

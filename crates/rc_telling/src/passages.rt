@@ -11,14 +11,6 @@ pub(crate) struct Passage {
     pub(crate) delivered: Vec<usize>,
 }
 
-impl Passage {
-    /// An event delivered it.
-    fn deliver(&mut self, event: usize) -> Result<(), AllocError> {
-        self.delivered.push(event)?;
-        Ok(())
-    }
-}
-
 /// What became of all messages, by number.
 #[derive(Drop)]
 pub(crate) struct Passages {
@@ -52,7 +44,10 @@ impl Passages {
     /// An event delivered the message of this number.
     pub(crate) fn deliver(&mut self, number: usize, event: usize) -> Result<(), AllocError> {
         match self.items.get_mut(number) {
-            Some(passage) => passage.deliver(event),
+            Some(passage) => {
+                passage.delivered.push(event)?;
+                Ok(())
+            }
             None => Ok(()),
         }
     }

@@ -101,7 +101,9 @@ impl Recoveries {
             }
             Body::Plan { attempt, parts, .. } => self.plan(*attempt, message.to, parts.as_slice()),
             Body::Own { term, .. } => {
-                self.grant(*term);
+                if let Some(part) = self.parts.get_mut(*term) {
+                    part.is_granted = true;
+                }
                 Ok(())
             }
             _ => self.note_data(message, is_delivered),
@@ -111,35 +113,23 @@ impl Recoveries {
     /// Notes a message about the data of a part.
     fn note_data(&mut self, message: &Message, is_delivered: bool) -> Result<(), AllocError> {
         match &message.body {
-            Body::Fetch { seg, part, .. } => self.fetch(part.term, *seg, message.to),
+            Body::Fetch { seg, part, .. } => {
+                let place = (part.term, *seg);
+                self.fetches.put_first(place, (message.to, false))
+            }
             Body::Data { term, seg, .. } if is_delivered => {
-                self.come(*term, *seg);
+                if let Some(fetch) = self.fetches.get_mut((*term, *seg)) {
+                    fetch.1 = true;
+                }
                 Ok(())
             }
             Body::Recovered { term, .. } => {
-                self.recover(*term);
+                if let Some(part) = self.parts.get_mut(*term) {
+                    part.is_recovered = true;
+                }
                 Ok(())
             }
             _ => Ok(()),
-        }
-    }
-
-    /// A segment is fetched for a part.
-    fn fetch(&mut self, term: u32, seg: u16, from: Addr) -> Result<(), AllocError> {
-        self.fetches.put_first((term, seg), (from, false))
-    }
-
-    /// A segment has come for a part.
-    fn come(&mut self, term: u32, seg: u16) {
-        if let Some(fetch) = self.fetches.get_mut((term, seg)) {
-            fetch.1 = true;
-        }
-    }
-
-    /// A part is recovered.
-    fn recover(&mut self, term: u32) {
-        if let Some(part) = self.parts.get_mut(term) {
-            part.is_recovered = true;
         }
     }
 
@@ -199,13 +189,6 @@ impl Recoveries {
             is_granted: false,
         };
         self.parts.put_first(term, given)
-    }
-
-    /// A part is granted.
-    fn grant(&mut self, term: u32) {
-        if let Some(part) = self.parts.get_mut(term) {
-            part.is_granted = true;
-        }
     }
 
     /// How many parts of this attempt were not granted, and the first of them by its term.

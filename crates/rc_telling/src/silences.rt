@@ -77,22 +77,14 @@ impl Known {
     pub(crate) fn send(&mut self, message: &Message) -> Result<(), AllocError> {
         match (message.from, &message.body) {
             (Addr::Server(master), Body::Place { seg, epoch, .. }) => {
-                self.place(master, *seg, *epoch)
+                self.epochs.put((master, *seg), *epoch)
             }
-            (_, Body::Gather { attempt, master }) => self.attempt(*attempt, *master),
+            (_, Body::Gather { attempt, master }) => {
+                self.attempts.put(*attempt, *master)?;
+                self.newest.put(*master, *attempt)
+            }
             _ => Ok(()),
         }
-    }
-
-    /// A master places a segment under this epoch.
-    fn place(&mut self, master: ServerId, seg: u16, epoch: u16) -> Result<(), AllocError> {
-        self.epochs.put((master, seg), epoch)
-    }
-
-    /// An attempt asks for replicas of this master.
-    fn attempt(&mut self, attempt: u32, master: ServerId) -> Result<(), AllocError> {
-        self.attempts.put(attempt, master)?;
-        self.newest.put(master, attempt)
     }
 
     /// A message has reached its addressee, which runs.
@@ -101,7 +93,9 @@ impl Known {
             return Ok(());
         };
         match (message.from, &message.body) {
-            (_, Body::Gather { attempt, master }) => self.fence(to, *master, *attempt),
+            (_, Body::Gather { attempt, master }) => {
+                self.fences.put_first((to, *master), *attempt)
+            }
             (Addr::Server(master), Body::Free { seg }) => self.free(to, master, *seg),
             (_, Body::List { version, .. }) => self.list(to, *version),
             (
@@ -109,19 +103,9 @@ impl Known {
                 Body::Refused {
                     code: Code::Deposed,
                 },
-            ) => self.depose(to),
+            ) => self.deposed.put(to, true),
             _ => Ok(()),
         }
-    }
-
-    /// A backup fences a master.
-    fn fence(
-        &mut self,
-        backup: ServerId,
-        master: ServerId,
-        attempt: u32,
-    ) -> Result<(), AllocError> {
-        self.fences.put_first((backup, master), attempt)
     }
 
     /// A backup frees a segment, if it has not fenced its master.
@@ -138,11 +122,6 @@ impl Known {
             return Ok(());
         }
         self.lists.put(to, version)
-    }
-
-    /// A server learns that it was replaced.
-    fn depose(&mut self, id: ServerId) -> Result<(), AllocError> {
-        self.deposed.put(id, true)
     }
 
     /// Whether a backup has fenced a master.

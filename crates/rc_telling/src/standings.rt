@@ -11,7 +11,15 @@ pub(crate) fn tell_standing(pen: &mut Pen, story: &Story<'_>) {
     let standing = story.standing;
     pen.number("\nmasters ", standing.masters.len() as u64);
     for master in &standing.masters {
-        tell_master(pen, master);
+        pen.say_all(
+            "\n    % %, head %, durable places %",
+            &[
+                Piece::Id(master.id),
+                Piece::Words(master.phase_name()),
+                Piece::U16(master.head),
+                Piece::Size(master.durable),
+            ],
+        );
         tell_waits(pen, story, master);
         tell_segments(pen, standing.segments_of(master));
     }
@@ -21,7 +29,21 @@ pub(crate) fn tell_standing(pen: &mut Pen, story: &Story<'_>) {
 /// The segments of a master.
 fn tell_segments(pen: &mut Pen, segments: &[SegmentStanding]) {
     for segment in segments {
-        tell_segment(pen, segment);
+        pen.say_all(
+            "\n        segment % epoch %%| not committed|, entries %%, shut|, open|, members",
+            &[
+                Piece::U16(segment.seg),
+                Piece::U16(segment.epoch),
+                Piece::Flag(segment.is_committed),
+                Piece::Size(segment.len),
+                Piece::Flag(segment.is_shut),
+            ],
+        );
+        for slot in &segment.members {
+            if let Some(member) = slot {
+                tell_member(pen, member);
+            }
+        }
     }
 }
 
@@ -29,21 +51,19 @@ fn tell_segments(pen: &mut Pen, segments: &[SegmentStanding]) {
 fn tell_replicas(pen: &mut Pen, replicas: &[ReplicaStanding]) {
     pen.number("\nreplicas ", replicas.len() as u64);
     for replica in replicas {
-        tell_replica(pen, replica);
+        pen.say_all(
+            "\n    at % of % segment % epoch %, entries %%, closed|, open|%, fenced||",
+            &[
+                Piece::Id(replica.holder),
+                Piece::Id(replica.master),
+                Piece::U16(replica.seg),
+                Piece::U16(replica.epoch),
+                Piece::Size(replica.len),
+                Piece::Flag(replica.is_closed),
+                Piece::Flag(replica.is_fenced),
+            ],
+        );
     }
-}
-
-/// A master.
-fn tell_master(pen: &mut Pen, master: &MasterStanding) {
-    pen.say_all(
-        "\n    % %, head %, durable places %",
-        &[
-            Piece::Id(master.id),
-            Piece::Words(master.phase_name()),
-            Piece::U16(master.head),
-            Piece::Size(master.durable),
-        ],
-    );
 }
 
 /// What a master waits for, if it waits for something.
@@ -51,25 +71,6 @@ fn tell_waits(pen: &mut Pen, story: &Story<'_>, master: &MasterStanding) {
     if let Some(wait) = wait_of(master, story.standing.segments_of(master)) {
         pen.say(", waits ");
         tell_wait(pen, wait, master.id, story.notes);
-    }
-}
-
-/// A segment, and its members.
-fn tell_segment(pen: &mut Pen, segment: &SegmentStanding) {
-    pen.say_all(
-        "\n        segment % epoch %%| not committed|, entries %%, shut|, open|, members",
-        &[
-            Piece::U16(segment.seg),
-            Piece::U16(segment.epoch),
-            Piece::Flag(segment.is_committed),
-            Piece::Size(segment.len),
-            Piece::Flag(segment.is_shut),
-        ],
-    );
-    for slot in &segment.members {
-        if let Some(member) = slot {
-            tell_member(pen, member);
-        }
     }
 }
 
@@ -86,20 +87,4 @@ fn tell_member(pen: &mut Pen, member: &Member) {
         }
         None => pen.say(":nothing"),
     }
-}
-
-/// A replica.
-fn tell_replica(pen: &mut Pen, replica: &ReplicaStanding) {
-    pen.say_all(
-        "\n    at % of % segment % epoch %, entries %%, closed|, open|%, fenced||",
-        &[
-            Piece::Id(replica.holder),
-            Piece::Id(replica.master),
-            Piece::U16(replica.seg),
-            Piece::U16(replica.epoch),
-            Piece::Size(replica.len),
-            Piece::Flag(replica.is_closed),
-            Piece::Flag(replica.is_fenced),
-        ],
-    );
 }
