@@ -1,6 +1,6 @@
 //! The process of a host.
 
-use crate::core::{Config, Core, Frame, failed};
+use crate::core::{Config, Core, Frame, failed, tell};
 use crate::net::Event;
 use crate::protocol::{DONE, NO_VALUE, Op, Reply, Request, UNKNOWN, WRONG};
 use crate::wire::HEARTBEAT;
@@ -68,7 +68,7 @@ impl Host {
     /// Starts the server anew. What was asked of the old one is unknown.
     fn begin(&mut self) {
         if let Err(fault) = self.core.node.start() {
-            eprintln!("the server did not start: {fault}");
+            tell(format_args!("the server did not start: {fault}"));
         }
         self.server = self.core.node.info().server;
         self.is_replaced = false;
@@ -82,7 +82,7 @@ impl Host {
             self.core.answer(client, &Reply::bare(5, reply.number));
         }
         self.settle();
-        eprintln!("server {} begins", self.server);
+        tell(format_args!("server {} begins", self.server));
     }
 
     fn serve(&mut self, events: &Receiver<Event>) {
@@ -107,10 +107,10 @@ impl Host {
             self.settle();
             let info = self.core.node.info();
             if self.is_replaced || info.is_deposed || LAST_HEAD < info.head || !info.runs {
-                eprintln!(
+                tell(format_args!(
                     "server {} was replaced, or its log is long, or it has not started: it begins anew",
                     self.server
-                );
+                ));
                 self.begin();
             }
             self.core.shorten();
@@ -129,7 +129,7 @@ impl Host {
 
     fn take(&mut self, event: Event) {
         match event {
-            Event::Peer(batch) => {
+            Event::Peer(_, batch) => {
                 let server = self.server;
                 let (mut is_replaced, mut grants) = (false, Vec::new());
                 self.core.each_frame(&batch, |core, frame| match frame {
@@ -154,6 +154,7 @@ impl Host {
             }
             Event::ClientUp(client, writer) => self.core.set_client(client, Some(writer)),
             Event::ClientDown(client) => self.core.set_client(client, None),
+            Event::PeerDown(_) => {}
         }
     }
 

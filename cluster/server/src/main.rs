@@ -9,15 +9,20 @@ macro_rules! say {
     };
 }
 
+mod awake;
 mod bench;
 mod client;
 mod coordinator;
 mod core;
+mod dice;
+mod etcd;
+mod faults;
 mod host;
 mod journal;
 mod net;
 mod options;
 mod protocol;
+mod record;
 mod storm;
 mod supervisor;
 mod trace;

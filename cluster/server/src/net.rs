@@ -13,8 +13,10 @@ use std::time::Duration;
 
 /// What comes to the node's thread.
 pub enum Event {
-    /// The frames of a peer's batch.
-    Peer(Vec<u8>),
+    /// The frames of a batch that came on the peer's connection of this number.
+    Peer(u64, Vec<u8>),
+    /// That connection has ended.
+    PeerDown(u64),
     /// Whole requests of a client, each behind its length.
     Client(u64, Vec<u8>),
     /// A client is there, to be answered here.
@@ -161,7 +163,7 @@ fn serve(
     let mut kind = [0];
     stream.read_exact(&mut kind)?;
     match kind[0] {
-        b'P' => serve_peer(stream, secret, events),
+        b'P' => serve_peer(stream, number, secret, events),
         b'C' => {
             let up = Event::ClientUp(number, Writer::to_client(stream.try_clone()?));
             if events.send(up).is_ok() {
@@ -182,16 +184,17 @@ fn serve(
 }
 
 /// Takes batches of a peer until one is not the next that who has the secret has made.
-fn serve_peer(mut stream: TcpStream, secret: &[u8], events: &Sender<Event>) -> io::Result<()> {
+fn serve_peer(mut stream: TcpStream, number: u64, secret: &[u8], events: &Sender<Event>) -> io::Result<()> {
     let mut challenge = [0; 16];
     File::open("/dev/urandom")?.read_exact(&mut challenge)?;
     stream.write_all(&challenge)?;
     let mut seal = Seal::new(secret, challenge);
     read_pieces(stream, MOST + 40, |batches| {
         sevunthi::message::framed(&batches).all(|batch| match seal.open(batch) {
-            Some(frames) => events.send(Event::Peer(frames.to_vec())).is_ok(),
+            Some(frames) => events.send(Event::Peer(number, frames.to_vec())).is_ok(),
             None => false,
         })
     });
+    let _ = events.send(Event::PeerDown(number));
     Ok(())
 }
