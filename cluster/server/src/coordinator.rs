@@ -1,13 +1,12 @@
 //! The process of the coordinator.
 
-use crate::awake::Awake;
 use crate::core::{Config, Core, Frame, tell};
 use crate::net::Event;
 use crate::protocol::{DONE, Op, Reply, Request, WRONG};
 use crate::wire::NOT_UP;
 use sevunthi::message::{framed, kind};
 use sevunthi::{Address, Answer, Due, Envelope, Fault, Id, Work};
-use std::collections::{HashMap, HashSet};
+use std::collections::{BTreeMap, HashMap, HashSet};
 use std::fmt::Write as _;
 use std::io;
 use std::sync::mpsc::{Receiver, RecvTimeoutError};
@@ -19,13 +18,14 @@ const NO_OWNER: u8 = 2;
 /// The coordinator.
 struct Coordinator {
     core: Core,
-    awake: Awake,
     /// Of each host the server that was heard last, and when, in time in which this process was awake.
     heard: HashMap<u8, (Id, Duration)>,
     /// Who was heard on the connection of this number.
     connections: HashMap<u64, Id>,
     /// Those whose connection has ended since they were heard last.
     gone: HashSet<Id>,
+    /// Of each host the server that was heard last, and whom it waits for.
+    waiting: BTreeMap<u8, (Id, Vec<Id>)>,
     /// What was due last.
     last: Option<Due>,
     /// What was said of the last request.
@@ -38,10 +38,10 @@ pub fn run(config: Config) -> io::Result<()> {
     let (core, events) = Core::open(config)?;
     let mut coordinator = Coordinator {
         core,
-        awake: Awake::new(),
         heard: HashMap::new(),
         connections: HashMap::new(),
         gone: HashSet::new(),
+        waiting: BTreeMap::new(),
         last: None,
         refused: None,
         is_due: false,
@@ -67,7 +67,7 @@ impl Coordinator {
                 Err(RecvTimeoutError::Timeout) => {}
                 Err(RecvTimeoutError::Disconnected) => return,
             }
-            self.awake.turn();
+            self.core.awake.turn();
             if self.is_due || Duration::from_millis(100) <= beat.elapsed() {
                 beat = Instant::now();
                 self.is_due = false;
@@ -102,17 +102,34 @@ impl Coordinator {
     fn do_dues(&mut self) {
         let silence = Duration::from_millis(self.core.config.silence);
         let Ok(servers) = self.core.node.servers() else { return };
-        let now = self.awake.now();
+        let now = self.core.awake.now();
         let heard: Vec<Id> = self.heard.values().filter(|(_, at)| now - *at < silence).map(|(id, _)| *id).collect();
         let is_silent = |id: &Id| {
             let last = self.heard.get(&id.index).filter(|(other, _)| other == id).map_or(Duration::ZERO, |(_, at)| *at);
             let most = if self.gone.contains(id) { silence / 4 } else { silence };
             most <= now - last
         };
-        let silent: Vec<Id> =
+        let mut silent: Vec<Id> =
             servers.into_iter().filter(|(id, is_up)| *is_up && is_silent(id)).map(|(id, _)| id).collect();
+        self.add_cut_off(&heard, &mut silent);
         for due in self.core.node.dues(&heard, &silent, &[]).unwrap_or_default() {
             self.do_due(due);
+        }
+    }
+
+    /// Adds those that are heard here, and not where they are waited for: whom one other waits for, and who itself waits
+    /// for several.
+    fn add_cut_off(&self, heard: &[Id], silent: &mut Vec<Id>) {
+        for (id, waits) in self.waiting.values().filter(|(id, _)| heard.contains(id)) {
+            let waits: Vec<&Id> = waits.iter().filter(|other| heard.contains(other)).collect();
+            if silent.contains(id) || waits.iter().any(|other| silent.contains(other)) {
+                continue;
+            }
+            match waits[..] {
+                [] => {}
+                [other] => silent.push(*other),
+                _ => silent.push(*id),
+            }
         }
     }
 
@@ -143,7 +160,7 @@ impl Coordinator {
     fn take(&mut self, event: Event) {
         match event {
             Event::Peer(connection, batch) => {
-                let (mut heard, mut is_due) = (Vec::new(), false);
+                let (mut heard, mut waiting, mut is_due) = (Vec::new(), Vec::new(), false);
                 self.core.each_frame(&batch, |core, frame| match frame {
                     Frame::Message(message) => {
                         if let Some(Envelope { from: Address::Server(id), kind, .. }) = Envelope::read(message) {
@@ -152,9 +169,13 @@ impl Coordinator {
                         }
                         core.deliver(message);
                     }
-                    Frame::Heartbeat(id) => heard.push(id),
+                    Frame::Heartbeat(id, waits) => {
+                        heard.push(id);
+                        waiting.push((id, waits));
+                    }
                     Frame::NotUp(_) => {}
                 });
+                self.waiting.extend(waiting.into_iter().map(|(id, waits)| (id.index, (id, waits))));
                 self.is_due |= is_due;
                 for id in heard {
                     self.connections.insert(connection, id);
@@ -179,7 +200,7 @@ impl Coordinator {
     fn hear(&mut self, id: Id) {
         let newest = self.heard.get(&id.index).map_or(0, |(other, _)| other.generation);
         if newest <= id.generation {
-            self.heard.insert(id.index, (id, self.awake.now()));
+            self.heard.insert(id.index, (id, self.core.awake.now()));
             self.gone.retain(|other| other.index != id.index);
         }
     }
@@ -256,7 +277,7 @@ impl Coordinator {
     /// The state, as text.
     fn text(&mut self) -> String {
         let mut text = String::new();
-        let now = self.awake.now();
+        let now = self.core.awake.now();
         for (id, is_up) in self.core.node.servers().unwrap_or_default() {
             let last = self.heard.get(&id.index).filter(|(other, _)| *other == id);
             let heard = last.map_or("not heard".into(), |(_, at)| format!("heard {} ms ago", (now - *at).as_millis()));

@@ -1,11 +1,14 @@
 //! What hosts and the coordinator have in common: a node with its journal, its peers and its clients.
 
+use crate::awake::Awake;
 use crate::faults::{Failing, Mangle, Wrong};
 use crate::journal::{self, Journal};
 use crate::net::{Event, Writer, listen};
 use crate::protocol::Reply;
 use crate::record::Record;
+use crate::waits::Waits;
 use crate::wire::{HEARTBEAT, NOT_UP, frames};
+use sevunthi::message::kind;
 use sevunthi::{Address, Envelope, Fault, Id, Node, Ready, Shape};
 use std::collections::{HashMap, VecDeque};
 use std::fmt::Display;
@@ -76,6 +79,8 @@ pub struct Core {
     record: Option<Record>,
     pub text: Arc<Mutex<String>>,
     pub mangle: Mangle,
+    pub awake: Awake,
+    pub waits: Waits,
 }
 
 /// What was counted.
@@ -154,6 +159,8 @@ impl Core {
             record,
             text,
             mangle: Mangle::default(),
+            awake: Awake::new(),
+            waits: Waits::default(),
             config,
         };
         core.tick_clock();
@@ -171,9 +178,10 @@ impl Core {
             self.counts.frames += 1;
             self.clock = self.clock.max(clock.saturating_add(1));
             match message.split_first() {
-                Some((&HEARTBEAT, id)) => {
-                    if let Some(id) = Id::read(id) {
-                        take(self, Frame::Heartbeat(id));
+                Some((&HEARTBEAT, ids)) => {
+                    let mut ids = ids.chunks_exact(5).filter_map(Id::read);
+                    if let Some(id) = ids.next() {
+                        take(self, Frame::Heartbeat(id, ids.collect()));
                     }
                 }
                 Some((&NOT_UP, id)) => {
@@ -196,6 +204,9 @@ impl Core {
         };
         if place != self.config.place() {
             return false;
+        }
+        if let (kind::STORED, Address::Server(from)) = (envelope.kind, envelope.from) {
+            self.waits.stored(from);
         }
         self.counts.works += 1;
         match self.node.deliver(message) {
@@ -228,7 +239,12 @@ impl Core {
         match envelope.to {
             Address::Outside => answer(self, message),
             Address::Coordinator => self.post(usize::from(self.config.hosts), message),
-            Address::Server(id) => self.post(usize::from(id.index), message),
+            Address::Server(id) => {
+                if matches!(envelope.kind, kind::PLACE | kind::APPEND) {
+                    self.waits.sent(id, self.awake.now());
+                }
+                self.post(usize::from(id.index), message);
+            }
         }
     }
 
@@ -334,8 +350,8 @@ impl Core {
 pub enum Frame<'a> {
     /// A message of the protocol.
     Message(&'a [u8]),
-    /// A server lives.
-    Heartbeat(Id),
+    /// A server lives, and waits for others for too long.
+    Heartbeat(Id, Vec<Id>),
     /// The coordinator's list shows this server crashed.
     NotUp(Id),
 }

@@ -73,6 +73,7 @@ impl Host {
         self.server = self.core.node.info().server;
         self.is_replaced = false;
         self.grants.clear();
+        self.core.waits.clear();
         self.next = (0, 0);
         let taken = std::mem::take(&mut self.pending).into_values();
         for Asked { client, request } in taken.chain(std::mem::take(&mut self.waiting)) {
@@ -93,6 +94,7 @@ impl Host {
                 Err(RecvTimeoutError::Timeout) => {}
                 Err(RecvTimeoutError::Disconnected) => return,
             }
+            self.core.awake.turn();
             if Duration::from_millis(100) <= beat.elapsed() {
                 beat = Instant::now();
                 self.send_heartbeat();
@@ -139,7 +141,7 @@ impl Host {
                         }
                     }
                     Frame::NotUp(id) => is_replaced |= id == server,
-                    Frame::Heartbeat(_) => {}
+                    Frame::Heartbeat(..) => {}
                 });
                 self.is_replaced |= is_replaced;
                 grants.into_iter().for_each(|grant| self.note_grant(grant));
@@ -338,11 +340,21 @@ impl Host {
         }
     }
 
+    /// Tells the coordinator that the server lives, and whom it has waited for in vain.
     fn send_heartbeat(&mut self) {
         let mut beat = vec![HEARTBEAT];
         beat.extend_from_slice(&self.server.code());
+        for (id, _) in self.waited_for() {
+            beat.extend_from_slice(&id.code());
+        }
         let coordinator = usize::from(self.core.config.hosts);
         self.core.post(coordinator, &beat);
+    }
+
+    /// Who has stored nothing for as long as one waits, though there is something to store.
+    fn waited_for(&mut self) -> Vec<(Id, Duration)> {
+        let (silence, now) = (Duration::from_millis(self.core.config.silence), self.core.awake.now());
+        self.core.waits.longer_than(silence, now)
     }
 
     /// The state, as text.
@@ -370,6 +382,10 @@ impl Host {
         ];
         for (name, value) in rows {
             let _ = writeln!(text, "sevunthi_{name}{{host=\"{}\"}} {value}", info.server.index);
+        }
+        for (id, wait) in self.waited_for() {
+            let (index, wait) = (info.server.index, wait.as_millis());
+            let _ = writeln!(text, "sevunthi_waits_milliseconds{{host=\"{index}\",for=\"{id}\"}} {wait}");
         }
         text
     }

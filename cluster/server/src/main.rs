@@ -26,6 +26,7 @@ mod record;
 mod storm;
 mod supervisor;
 mod trace;
+mod waits;
 mod wire;
 
 use client::{Client, Outcome, Target};

@@ -120,7 +120,7 @@ pub fn run(options: &Options) -> Result<bool, String> {
     let target = Target { address: "127.0.0.1".into(), port: options.get("--port", 7600)?, hosts: 4 };
     let mut storm = Storm::begin(seed, target.clone(), folder.clone())?;
     let (ends, history) = (Arc::new(AtomicBool::new(false)), Arc::new(Mutex::new(String::new())));
-    let machine = Machine::new();
+    let machine = Machine::new(&folder).map_err(|error| error.to_string())?;
     let clients: Vec<_> = (0..CLIENTS)
         .map(|number| {
             let (target, ends, history) = (target.clone(), Arc::clone(&ends), Arc::clone(&history));
@@ -223,12 +223,9 @@ impl Storm {
             }
             Fault::Save => self.end_in_save(any, false),
             Fault::SavePower => self.end_in_save(any, true),
-            Fault::Pair => self.cut_off(&[host, (host + 1 + any % (coordinator - 1)) % coordinator], true),
-            Fault::OneWay => {
-                let other = (any + 1 + host) % (coordinator + 1);
-                self.cut_off(&[any, other], false)
-            }
-            Fault::FromCoordinator => self.cut_off(&[host, coordinator], true),
+            Fault::Pair => self.cut_off(host, (host + 1 + any % (coordinator - 1)) % coordinator, true),
+            Fault::OneWay => self.cut_off(any, (any + 1 + host) % (coordinator + 1), false),
+            Fault::FromCoordinator => self.cut_off(host, coordinator, true),
             Fault::Mangle => {
                 self.say(&format!("frames of {any} are repeated, reordered, cut and damaged"));
                 self.ask(any, Wrong::Mangle(100));
@@ -309,16 +306,21 @@ impl Storm {
         self.await_end(place)
     }
 
-    /// The first sends nothing to the second, for a while, nor the second to the first, where it is for both.
-    fn cut_off(&mut self, pair: &[usize; 2], both: bool) -> Result<(), String> {
-        let [one, other] = *pair;
-        self.say(&format!("{one} sends nothing to {other}{}", if both { ", nor it to it" } else { "" }));
+    /// One sends nothing to the other, for a while, nor that to it, where it is for both. Hosts that do not hear each other
+    /// go on without one of them; what does not hear the coordinator has to wait.
+    fn cut_off(&mut self, one: usize, other: usize, both: bool) -> Result<(), String> {
+        let longest = if one.max(other) == self.coordinator() { 2000 } else { 5000 };
+        let pause = self.dice.between(500, longest);
+        self.say(&format!(
+            "{one} sends nothing to {other}{} for {pause} ms",
+            if both { ", nor that to it," } else { "" }
+        ));
         self.ask(one, Wrong::Deaf(1 << other));
         if both {
             self.ask(other, Wrong::Deaf(1 << one));
         }
-        self.wait(500, 2000);
-        pair.iter().for_each(|place| self.ask(*place, Wrong::Deaf(0)));
+        thread::sleep(Duration::from_millis(pause));
+        [one, other].into_iter().for_each(|place| self.ask(place, Wrong::Deaf(0)));
         Ok(())
     }
 
@@ -444,10 +446,11 @@ impl Storm {
     /// Tells what has happened, and whether it is as it should be.
     fn tell(&self, seed: u64, done: &Lived, machine: &Machine, most: Duration, refused: u64) -> Result<bool, String> {
         let gap = done.gap(machine);
+        let from = gap.from.map_or(0, |from| (from - self.began).as_millis());
         let counts = self.counts.iter().map(|(name, count)| format!(" {name}={count}")).collect::<String>();
         say!("faults:{counts}");
         say!(
-            "seed {seed}: {} faults, {} writes, {} reads, {} unknown, longest gap {} ms, {} bytes lost that were not safe",
+            "seed {seed}: {} faults, {} writes, {} reads, {} unknown, longest gap {} ms (from {from}), {} bytes lost that were not safe",
             self.counts.values().sum::<u64>(),
             done.writes,
             done.reads,
@@ -456,10 +459,12 @@ impl Storm {
             self.lost
         );
         if most < gap.whole {
+            let (thread, sync) = machine.longest();
             say!(
-                "busy: {} ms without the time in which this machine kept a thread waiting that was due, up to {} ms at once",
+                "busy: {} ms without what the machine kept waiting: a thread that was due up to {} ms, a sync up to {} ms",
                 gap.served.as_millis(),
-                machine.longest().as_millis()
+                thread.as_millis(),
+                sync.as_millis()
             );
         }
         if refused != 6 {

@@ -36,6 +36,8 @@ pub struct Lived {
 pub struct Gap {
     /// By the clock.
     pub whole: Duration,
+    /// When it began.
+    pub from: Option<Instant>,
     /// Less the time in which the machine kept a thread waiting that was due.
     pub served: Duration,
 }
@@ -54,7 +56,9 @@ impl Lived {
         let mut most = Gap::default();
         for &(from, to) in &self.gaps {
             let whole = to - from;
-            most.whole = most.whole.max(whole);
+            if most.whole < whole {
+                (most.whole, most.from) = (whole, Some(from));
+            }
             most.served = most.served.max(whole.saturating_sub(machine.kept_waiting(from, to)));
         }
         most
