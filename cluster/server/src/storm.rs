@@ -261,11 +261,15 @@ impl Storm {
         }
     }
 
-    /// Asks a process to do something wrong.
+    /// Asks a process to do something wrong; again, where it has been started since the last time.
     fn ask(&mut self, place: usize, wrong: Wrong) {
         let (what, how) = wrong.code();
         self.client.wait = Duration::from_millis(300);
-        let _ = self.client.call(place as u8, Op::Fail, what, how, &[]);
+        for _ in 0..3 {
+            if self.client.call(place as u8, Op::Fail, what, how, &[]).is_ok() {
+                return;
+            }
+        }
     }
 
     /// A process ends, and comes back after a while. Without power some of what was not safe is lost, and some damaged.
