@@ -341,6 +341,7 @@ impl Core {
             Some(Wrong::Deaf(mask)) => self.mangle.deaf = mask,
             Some(Wrong::Mangle(often)) => self.mangle.often = often,
             Some(Wrong::Jump(nanoseconds)) => self.base = self.base.saturating_add_signed(nanoseconds),
+            Some(Wrong::Nothing) => self.journal.failing = Failing::in_folder(&self.config.folder),
             None => {}
         }
     }

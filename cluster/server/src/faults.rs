@@ -28,6 +28,8 @@ pub enum Wrong {
     Mangle(u64),
     /// The clock of what is sent jumps so many nanoseconds ahead, or back.
     Jump(i64),
+    /// What was to go wrong with the journal, and has not yet, is not to.
+    Nothing,
 }
 
 impl Wrong {
@@ -40,6 +42,7 @@ impl Wrong {
             Wrong::Deaf(mask) => (3, mask),
             Wrong::Mangle(often) => (4, often),
             Wrong::Jump(nanoseconds) => (5, nanoseconds.cast_unsigned()),
+            Wrong::Nothing => (6, 0),
         }
     }
 
@@ -52,6 +55,7 @@ impl Wrong {
             3 => Wrong::Deaf(how),
             4 => Wrong::Mangle(how),
             5 => Wrong::Jump(how.cast_signed()),
+            6 => Wrong::Nothing,
             _ => return None,
         })
     }
@@ -171,13 +175,20 @@ mod tests {
 
     #[test]
     fn what_is_asked_for_is_read_again() {
-        let all =
-            [Wrong::Sync, Wrong::EndInSave(4), Wrong::FullInSave, Wrong::Deaf(5), Wrong::Mangle(100), Wrong::Jump(-7)];
+        let all = [
+            Wrong::Sync,
+            Wrong::EndInSave(4),
+            Wrong::FullInSave,
+            Wrong::Deaf(5),
+            Wrong::Mangle(100),
+            Wrong::Jump(-7),
+            Wrong::Nothing,
+        ];
         for wrong in all {
             let (what, how) = wrong.code();
             assert_eq!(Wrong::read(what, how), Some(wrong));
         }
-        assert_eq!(Wrong::read(6, 0), None);
+        assert_eq!(Wrong::read(7, 0), None);
         assert_eq!(Wrong::read(1, 256), None);
     }
 

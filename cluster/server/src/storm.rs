@@ -203,26 +203,27 @@ impl Storm {
             self.dice.shuffle(&mut self.pack);
             self.pack.pop().unwrap_or(Fault::Kill)
         });
-        *self.counts.entry(fault.name()).or_default() += 1;
-        self.happen(fault)
+        *self.counts.entry(fault.name()).or_default() += u64::from(self.happen(fault)?);
+        Ok(())
     }
 
-    fn happen(&mut self, fault: Fault) -> Result<(), String> {
+    /// Has a fault happen, and says whether it has.
+    fn happen(&mut self, fault: Fault) -> Result<bool, String> {
         let coordinator = self.coordinator();
         let host = self.dice.below(coordinator as u64) as usize;
         let any = self.dice.below(coordinator as u64 + 1) as usize;
         match fault {
-            Fault::Kill => self.end(host, false),
-            Fault::KillCoordinator => self.end(coordinator, false),
-            Fault::Power => self.end(host, true),
-            Fault::PowerCoordinator => self.end(coordinator, true),
+            Fault::Kill => self.end(host, false)?,
+            Fault::KillCoordinator => self.end(coordinator, false)?,
+            Fault::Power => self.end(host, true)?,
+            Fault::PowerCoordinator => self.end(coordinator, true)?,
             Fault::Stop => self.stand_still(host),
             Fault::StopCoordinator => {
                 self.wait_until_served()?;
-                self.stand_still(coordinator)
+                self.stand_still(coordinator);
             }
-            Fault::Save => self.end_in_save(any, false),
-            Fault::SavePower => self.end_in_save(any, true),
+            Fault::Save => return self.end_in_save(any, false),
+            Fault::SavePower => return self.end_in_save(any, true),
             Fault::Pair => self.cut_off(host, (host + 1 + any % (coordinator - 1)) % coordinator, true),
             Fault::OneWay => self.cut_off(any, (any + 1 + host) % (coordinator + 1), false),
             Fault::FromCoordinator => self.cut_off(host, coordinator, true),
@@ -231,34 +232,32 @@ impl Storm {
                 self.ask(any, Wrong::Mangle(100));
                 self.wait(500, 1500);
                 self.ask(any, Wrong::Mangle(0));
-                Ok(())
             }
             Fault::Noise => {
                 self.say(&format!("strangers talk to {any}"));
                 noise::make(&self.cluster.target, any, &mut self.dice);
-                Ok(())
             }
-            Fault::Full => self.fill_disk(host),
-            Fault::FullCoordinator => self.fill_disk(coordinator),
+            Fault::Full => self.fill_disk(host)?,
+            Fault::FullCoordinator => self.fill_disk(coordinator)?,
             Fault::FullInSave => {
                 self.say(&format!("the disk of {any} is full in a save"));
                 self.ask(any, Wrong::FullInSave);
-                self.await_end(any)
+                return self.await_end(any);
             }
             Fault::FailingSync => {
                 self.say(&format!("a sync of {any} fails"));
                 self.losing.insert(any);
                 self.ask(any, Wrong::Sync);
-                self.await_end(any)
+                return self.await_end(any);
             }
             Fault::Clock => {
                 let ahead = self.dice.between(1, 20) as i64;
                 let seconds = if self.dice.below(2) == 0 { ahead } else { -ahead };
                 self.say(&format!("the clock of {any} jumps by {seconds} s"));
                 self.ask(any, Wrong::Jump(seconds * 1_000_000_000));
-                Ok(())
             }
         }
+        Ok(true)
     }
 
     /// Asks a process to do something wrong; again, where it has been started since the last time.
@@ -291,16 +290,15 @@ impl Storm {
         Ok(())
     }
 
-    fn stand_still(&mut self, place: usize) -> Result<(), String> {
+    fn stand_still(&mut self, place: usize) {
         let pause = self.dice.between(1000, 5000);
         self.say(&format!("{place} stands still for {pause} ms"));
         self.cluster.signal(place, "-STOP");
         thread::sleep(Duration::from_millis(pause));
         self.cluster.signal(place, "-CONT");
-        Ok(())
     }
 
-    fn end_in_save(&mut self, place: usize, power: bool) -> Result<(), String> {
+    fn end_in_save(&mut self, place: usize, power: bool) -> Result<bool, String> {
         let step = self.dice.below(6) as u8;
         self.say(&format!("{place} ends in a save, after step {step}"));
         self.ask(place, Wrong::EndInSave(step));
@@ -312,7 +310,7 @@ impl Storm {
 
     /// One sends nothing to the other, for a while, nor that to it, where it is for both. Hosts that do not hear each other
     /// go on without one of them; what does not hear the coordinator has to wait.
-    fn cut_off(&mut self, one: usize, other: usize, both: bool) -> Result<(), String> {
+    fn cut_off(&mut self, one: usize, other: usize, both: bool) {
         let longest = if one.max(other) == self.coordinator() { 2000 } else { 5000 };
         let pause = self.dice.between(500, longest);
         self.say(&format!(
@@ -325,7 +323,6 @@ impl Storm {
         }
         thread::sleep(Duration::from_millis(pause));
         [one, other].into_iter().for_each(|place| self.ask(place, Wrong::Deaf(0)));
-        Ok(())
     }
 
     /// The disk is full for a while. Whoever starts then ends again.
@@ -341,16 +338,19 @@ impl Storm {
         fs::remove_file(&full).map_err(|error| error.to_string())
     }
 
-    /// Waits for a process to end by itself, and starts it again.
-    fn await_end(&mut self, place: usize) -> Result<(), String> {
+    /// Waits for a process to end by itself, and starts it again. One that has not ended after a second is not to any more:
+    /// it may have had nothing to sync.
+    fn await_end(&mut self, place: usize) -> Result<bool, String> {
         let began = Instant::now();
         while began.elapsed() < Duration::from_secs(1) {
             if self.start_ended()?.contains(&place) {
-                return Ok(());
+                return Ok(true);
             }
             thread::sleep(Duration::from_millis(20));
         }
-        Ok(())
+        self.ask(place, Wrong::Nothing);
+        self.losing.remove(&place);
+        Ok(self.start_ended()?.contains(&place))
     }
 
     /// Starts a process. What a test kept beside its journal is of no use any more.
