@@ -219,7 +219,7 @@ impl Storm {
             Fault::PowerCoordinator => self.end(coordinator, true)?,
             Fault::Stop => self.stand_still(host),
             Fault::StopCoordinator => {
-                self.wait_until_served()?;
+                self.wait_until_served(5)?;
                 self.stand_still(coordinator);
             }
             Fault::Save => return self.end_in_save(any, false),
@@ -372,10 +372,10 @@ impl Storm {
         Ok(ended.into_iter().map(|(place, _)| place).collect())
     }
 
-    /// Waits until each host was heard, and nothing is being recovered, for some seconds at most.
-    fn wait_until_served(&mut self) -> Result<bool, String> {
+    /// Waits until each host was heard, and nothing is being recovered, for so many seconds at most.
+    fn wait_until_served(&mut self, seconds: u64) -> Result<bool, String> {
         let began = Instant::now();
-        while began.elapsed() < Duration::from_secs(5) {
+        while began.elapsed() < Duration::from_secs(seconds) {
             self.start_ended()?;
             self.client.wait = Duration::from_millis(300);
             if let Some(reply) = self.client.call_coordinator(Op::Status, 0, 0) {
@@ -428,7 +428,7 @@ impl Storm {
             }
             self.cluster.start(place)?;
         }
-        if self.wait_until_served()? {
+        if self.wait_until_served(30)? {
             return Ok(refused);
         }
         Err("the cluster is not served with the journals as they were".into())
