@@ -1,5 +1,7 @@
 //! A replicated log on sockets and disks: one process for each node, clients, and a supervisor.
 
+#![forbid(unsafe_code)]
+
 /// Prints a line. Where nobody reads any more the program ends.
 macro_rules! say {
     ($($words:tt)*) => {

@@ -103,20 +103,22 @@ fn connect(address: &str, secret: &[u8]) -> io::Result<(TcpStream, Seal)> {
 /// Reads pieces that begin with their length in four bytes, and hands over as many whole ones as there are, until one is
 /// longer than `most`, or nobody takes them.
 pub fn read_pieces(mut stream: impl Read, most: usize, mut give: impl FnMut(Vec<u8>) -> bool) {
-    let mut buffer: Vec<u8> = Vec::new();
+    let (mut buffer, mut filled) = (vec![0; 64 << 10], 0);
     loop {
-        let length = buffer.len();
-        buffer.resize(length + (64 << 10), 0);
-        match stream.read(&mut buffer[length..]) {
-            Ok(0) | Err(_) => return,
-            Ok(count) => buffer.truncate(length + count),
+        if filled == buffer.len() {
+            buffer.resize(2 * filled, 0);
         }
-        let Some(whole) = whole(&buffer, most) else { return };
+        match stream.read(&mut buffer[filled..]) {
+            Ok(0) | Err(_) => return,
+            Ok(count) => filled += count,
+        }
+        let Some(whole) = whole(&buffer[..filled], most) else { return };
         if 0 < whole {
-            let rest = buffer.split_off(whole);
-            if !give(std::mem::replace(&mut buffer, rest)) {
+            if !give(buffer[..whole].to_vec()) {
                 return;
             }
+            buffer.copy_within(whole..filled, 0);
+            filled -= whole;
         }
     }
 }
@@ -197,4 +199,44 @@ fn serve_peer(mut stream: TcpStream, number: u64, secret: &[u8], events: &Sender
     });
     let _ = events.send(Event::PeerDown(number));
     Ok(())
+}
+
+#[cfg(test)]
+mod tests {
+    use super::*;
+
+    /// Gives so many bytes at a time.
+    struct Slowly<'a>(&'a [u8], usize);
+
+    impl Read for Slowly<'_> {
+        fn read(&mut self, to: &mut [u8]) -> io::Result<usize> {
+            let count = self.1.min(to.len()).min(self.0.len());
+            to[..count].copy_from_slice(&self.0[..count]);
+            self.0 = &self.0[count..];
+            Ok(count)
+        }
+    }
+
+    #[test]
+    fn pieces_come_whole_and_in_order() {
+        let mut bytes = Vec::new();
+        for length in [0, 1, 5, 200_000, 3] {
+            bytes.extend_from_slice(&u32::to_le_bytes(length));
+            bytes.extend(std::iter::repeat_n(length as u8, length as usize));
+        }
+        for step in [1, 7, 4096, 1 << 20] {
+            let mut taken = Vec::new();
+            read_pieces(Slowly(&bytes, step), 200_000, |piece| {
+                taken.extend(piece);
+                true
+            });
+            assert!(taken == bytes, "by {step}");
+            let mut taken = Vec::new();
+            read_pieces(Slowly(&bytes, step), 199_999, |piece| {
+                taken.extend(piece);
+                true
+            });
+            assert!(taken.len() <= 18 && bytes.starts_with(&taken), "by {step}");
+        }
+    }
 }
