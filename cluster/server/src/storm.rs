@@ -405,6 +405,9 @@ impl Storm {
     }
 }
 
+/// How many writes a second have to be acknowledged at least, on average.
+const LEAST_WRITES: u64 = 10;
+
 /// How a process that must not start says so.
 const REFUSES: &str = "must not start";
 
@@ -437,7 +440,7 @@ impl Storm {
     /// Whether the process ends by itself, and has said that it must not start.
     fn has_refused(&mut self, place: usize, logged: usize) -> bool {
         let began = Instant::now();
-        while began.elapsed() < Duration::from_secs(5) {
+        while began.elapsed() < Duration::from_secs(30) {
             if self.cluster.ended().iter().any(|(other, _)| *other == place) {
                 let log = fs::read(self.cluster.folder(place).join("log")).unwrap_or_default();
                 return String::from_utf8_lossy(log.get(logged..).unwrap_or_default()).contains(REFUSES);
@@ -471,9 +474,13 @@ impl Storm {
                 sync.as_millis()
             );
         }
+        let least = LEAST_WRITES * self.began.elapsed().as_secs();
+        if done.writes < least {
+            say!("wrong: fewer than {least} writes were acknowledged, too few to tell anything");
+        }
         if refused != 6 {
             say!("wrong: {refused} of 6 spoilt journals were refused");
         }
-        Ok(gap.served <= most && refused == 6)
+        Ok(gap.served <= most && least <= done.writes && refused == 6)
     }
 }
