@@ -57,6 +57,8 @@ pub mod kind {
     pub const PLACE: u8 = 5;
     /// Entries are to be added to a replica.
     pub const APPEND: u8 = 6;
+    /// What is kept of a replica.
+    pub const STORED: u8 = 8;
     /// A server is there.
     pub const ENLIST: u8 = 11;
     /// A server has a head, and can take tablets.

@@ -1,4 +1,4 @@
-//! Messages, works and files with some bytes changed: each is taken or refused, and what is refused changes nothing.
+//! Messages, journals and saves with some bytes changed: each is taken or refused, and what is refused changes nothing.
 //! `MUTATIONS` says how many are tried.
 
 use sevunthi::{Fault, Info, Node, Ready, Shape, Work, message};
@@ -75,6 +75,15 @@ fn seen() -> Result<(Bytes, Bytes), Fault> {
     Ok((sent, journals))
 }
 
+/// A save of the node that comes back from this journal.
+fn save_of(journal: &[u8]) -> Result<Vec<u8>, Fault> {
+    let mut node = Node::come_back(journal, 0)?;
+    node.ready(&mut Ready::default())?;
+    let written = node.good();
+    node.synced(written)?;
+    node.save()
+}
+
 /// All but what a look itself may change.
 fn state(info: Info) -> (usize, usize, u16, u64) {
     (info.written, info.untaken, info.head, info.entries)
@@ -86,11 +95,14 @@ fn mutations_are_taken_or_refused() -> Result<(), Fault> {
     let (sent, journals) = seen()?;
     let mut dice = Dice(7);
     let mut nodes: Vec<Node> = journals.iter().map(|journal| Node::come_back(journal, 0)).collect::<Result<_, _>>()?;
+    // each node's journal, which begins with the save of a new node, and a save of what has become of it
+    let saves: Bytes = journals.iter().map(|journal| save_of(journal)).collect::<Result<_, _>>()?;
     let (mut taken, mut refused) = (0, 0);
     for number in 0..count {
         let place = dice.below(4);
         if number % 16 == 0 {
-            let file = dice.mutate(&journals[place]);
+            let files = if dice.below(2) == 0 { &journals } else { &saves };
+            let file = dice.mutate(&files[place]);
             match Node::come_back(&file, 0) {
                 Ok(node) => (nodes[place], taken) = (node, taken + 1),
                 Err(_) => refused += 1,

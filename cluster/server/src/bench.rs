@@ -1,13 +1,52 @@
 //! How fast writes and reads are.
 
 use crate::client::{Client, Target, connect};
+use crate::etcd::Etcd;
 use crate::options::Options;
-use crate::protocol::{DONE, Op, Reply, Request};
+use crate::protocol::{DONE, NO_VALUE, Op, Reply, Request};
 use sevunthi::message::u32_at;
 use std::collections::HashMap;
 use std::fs;
 use std::io::{Read, Write};
+use std::net::TcpStream;
 use std::time::{Duration, Instant};
+
+/// How a client speaks on its connection.
+pub trait Talk {
+    /// What is said first.
+    fn hello(&mut self, out: &mut Vec<u8>);
+    /// Asks for one thing, under this number.
+    fn ask(&mut self, number: u64, key: u64, out: &mut Vec<u8>);
+    /// Takes what has come, and says how many bytes of it: adds the numbers of what was answered, and whether it was
+    /// done, and what has to be sent for it.
+    fn take(&mut self, bytes: &[u8], answers: &mut Vec<(u64, bool)>, out: &mut Vec<u8>) -> Result<usize, String>;
+}
+
+/// A connection to a host.
+struct Host {
+    op: Op,
+    table: u32,
+    value: Vec<u8>,
+}
+
+impl Talk for Host {
+    fn hello(&mut self, _: &mut Vec<u8>) {}
+
+    fn ask(&mut self, number: u64, key: u64, out: &mut Vec<u8>) {
+        Request { op: self.op, number, table: self.table, key, value: self.value.clone() }.put(out);
+    }
+
+    fn take(&mut self, bytes: &[u8], answers: &mut Vec<(u64, bool)>, _: &mut Vec<u8>) -> Result<usize, String> {
+        let mut used = 0;
+        while let Some(length) = u32_at(bytes, used) {
+            let Some(piece) = bytes.get(used + 4..used + 4 + length as usize) else { break };
+            let reply = Reply::read(piece).ok_or("no answer")?;
+            used += 4 + length as usize;
+            answers.push((reply.number, matches!(reply.code, DONE | NO_VALUE)));
+        }
+        Ok(used)
+    }
+}
 
 /// What was measured.
 struct Measured {
@@ -17,28 +56,49 @@ struct Measured {
     latencies: Vec<u32>,
 }
 
-/// So many clients, each with one request after another, on one connection to the owner.
+/// What is asked.
+struct Load {
+    clients: usize,
+    seconds: f64,
+    most: u64,
+    keys: u64,
+}
+
+/// So many clients, each with one request after another, on one connection to the owner, or to the etcd server at the
+/// address of `--etcd`.
 pub fn run(options: &Options, target: &Target) -> Result<bool, String> {
     let table = options.get("--table", 1)?;
-    let clients = options.get("--clients", 64)?;
-    let seconds = options.get("--seconds", 5.0)?;
     let size = options.get("--size", 100)?;
-    let most = options.get("--most", u64::MAX)?;
+    let load = Load {
+        clients: options.get("--clients", 64)?,
+        seconds: options.get("--seconds", 5.0)?,
+        most: options.get("--most", u64::MAX)?,
+        keys: options.get("--keys", 10_000)?,
+    };
     let op = if options.get("--op", "put".to_string())? == "get" { Op::Get } else { Op::Put };
+    let value = vec![b'v'; if op == Op::Put { size } else { 0 }];
+    let etcd: String = options.get("--etcd", String::new())?;
+    let told = |error: std::io::Error| error.to_string();
+    let (stream, mut talk): (TcpStream, Box<dyn Talk>) = if etcd.is_empty() {
+        let mut client = Client::new(target.clone());
+        let owner = client.call_coordinator(Op::Owner, table, 0).filter(|reply| reply.code == DONE);
+        let owner = owner.ok_or("there is no such table")?.version as u8;
+        (connect(target, owner).map_err(told)?, Box::new(Host { op, table, value }))
+    } else {
+        (TcpStream::connect(&etcd).map_err(told)?, Box::new(Etcd::new(value)))
+    };
+    stream.set_nodelay(true).map_err(told)?;
     let pids: String = options.get("--processes", String::new())?;
     let spent = || pids.split(',').map(processor_seconds).sum::<f64>();
-    let mut client = Client::new(target.clone());
-    let owner = client.call_coordinator(Op::Owner, table, 0).filter(|reply| reply.code == DONE);
-    let owner = owner.ok_or("there is no such table")?.version as u8;
     let before = spent();
-    let keys = options.get("--keys", 10_000)?;
-    let mut measured = load(target, owner, &Load { op, table, clients, seconds, size, most, keys })?;
+    let mut measured = ask_all(stream, talk.as_mut(), &load)?;
     let used = spent() - before;
     measured.latencies.sort_unstable();
     let count = measured.latencies.len();
     let at = |part: f64| measured.latencies.get((count as f64 * part) as usize).copied().unwrap_or(0);
     say!(
-        "{clients} clients: {:.0} a second, p50 {} us, p99 {} us, {count} done, {} refused, {:.1} us of server time each",
+        "{} clients: {:.0} a second, p50 {} us, p99 {} us, {count} done, {} refused, {:.1} us of server time each",
+        load.clients,
         count as f64 / measured.seconds,
         at(0.5),
         at(0.99),
@@ -48,61 +108,42 @@ pub fn run(options: &Options, target: &Target) -> Result<bool, String> {
     Ok(0 < count)
 }
 
-/// What is asked.
-struct Load {
-    op: Op,
-    table: u32,
-    clients: usize,
-    seconds: f64,
-    size: usize,
-    most: u64,
-    keys: u64,
-}
-
-fn load(target: &Target, owner: u8, load: &Load) -> Result<Measured, String> {
-    let told = |error: std::io::Error| format!("host {owner}: {error}");
-    let mut stream = connect(target, owner).map_err(told)?;
+fn ask_all(mut stream: TcpStream, talk: &mut dyn Talk, load: &Load) -> Result<Measured, String> {
+    let told = |error: std::io::Error| format!("the server: {error}");
     stream.set_read_timeout(Some(Duration::from_secs(20))).map_err(told)?;
-    let value = vec![b'v'; if load.op == Op::Put { load.size } else { 0 }];
     let (mut asked, mut out, mut at) = (0, Vec::new(), HashMap::new());
-    let mut ask = |out: &mut Vec<u8>, at: &mut HashMap<u64, Instant>| {
-        let key = asked % load.keys;
-        Request { op: load.op, number: asked, table: load.table, key, value: value.clone() }.put(out);
+    talk.hello(&mut out);
+    let mut ask = |talk: &mut dyn Talk, out: &mut Vec<u8>, at: &mut HashMap<u64, Instant>| {
+        talk.ask(asked, asked % load.keys, out);
         at.insert(asked, Instant::now());
         asked += 1;
         asked < load.most
     };
     let began = Instant::now();
+    let mut goes_on = true;
     for _ in 0..load.clients {
-        ask(&mut out, &mut at);
+        goes_on = goes_on && ask(talk, &mut out, &mut at);
     }
     let mut measured = Measured { seconds: 0.0, refused: 0, latencies: Vec::new() };
-    let mut buffer: Vec<u8> = Vec::new();
-    let mut goes_on = true;
+    let (mut buffer, mut more, mut answers) = (Vec::new(), [0; 1 << 16], Vec::new());
     while !at.is_empty() {
         stream.write_all(&out).map_err(told)?;
         out.clear();
-        let mut more = [0; 1 << 16];
         match stream.read(&mut more).map_err(told)? {
-            0 => return Err(format!("host {owner} has gone")),
+            0 => return Err("the server has gone".into()),
             count => buffer.extend_from_slice(&more[..count]),
         }
-        let mut used = 0;
-        while let Some(length) = u32_at(&buffer, used).filter(|n| used + 4 + *n as usize <= buffer.len()) {
-            let reply = Reply::read(&buffer[used + 4..used + 4 + length as usize]).ok_or("no answer")?;
-            used += 4 + length as usize;
-            let Some(since) = at.remove(&reply.number) else { continue };
-            if reply.code == DONE || reply.code == crate::protocol::NO_VALUE {
+        let used = talk.take(&buffer, &mut answers, &mut out)?;
+        buffer.drain(..used);
+        for (number, is_done) in answers.drain(..) {
+            let Some(since) = at.remove(&number) else { continue };
+            if is_done {
                 measured.latencies.push(since.elapsed().as_micros() as u32);
             } else {
                 measured.refused += 1;
             }
-            goes_on = goes_on && began.elapsed().as_secs_f64() < load.seconds;
-            if goes_on {
-                goes_on = ask(&mut out, &mut at);
-            }
+            goes_on = goes_on && began.elapsed().as_secs_f64() < load.seconds && ask(talk, &mut out, &mut at);
         }
-        buffer.drain(..used);
     }
     measured.seconds = began.elapsed().as_secs_f64();
     Ok(measured)

@@ -19,6 +19,17 @@ pub struct Target {
     pub hosts: u8,
 }
 
+/// How long the coordinator's answer is waited for.
+const PATIENCE_WITH_COORDINATOR: Duration = Duration::from_millis(300);
+
+/// The host that owned a table's keys when the coordinator was asked.
+#[derive(Clone, Copy)]
+struct Owner {
+    index: u8,
+    /// It has not answered since, or has refused.
+    is_doubted: bool,
+}
+
 /// What has become of a request.
 #[derive(Clone, Debug, PartialEq, Eq)]
 pub enum Outcome {
@@ -37,7 +48,7 @@ pub enum Outcome {
 pub struct Client {
     target: Target,
     connections: HashMap<u8, TcpStream>,
-    owners: HashMap<u32, u8>,
+    owners: HashMap<u32, Owner>,
     number: u64,
     /// For how long a request is tried.
     pub patience: Duration,
@@ -95,7 +106,9 @@ impl Client {
                 Err(Lost::Before) => last = Outcome::Refused(2),
                 Err(Lost::After) => last = Outcome::Unknown,
             }
-            self.owners.remove(&table);
+            if let Some(owner) = self.owners.get_mut(&table) {
+                owner.is_doubted = true;
+            }
             if last == Outcome::Unknown && !matches!(op, Op::Get | Op::GetFast) {
                 return last;
             }
@@ -104,19 +117,26 @@ impl Client {
         last
     }
 
-    /// The host that owns the key, as the coordinator said last.
+    /// The host that owns the key, as the coordinator said last. Where it is in doubt the coordinator is asked again; where
+    /// that does not answer, the last one is tried once more.
     fn owner(&mut self, table: u32, key: u64) -> Option<u8> {
-        if let Some(owner) = self.owners.get(&table) {
-            return Some(*owner);
+        let known = self.owners.get(&table).copied();
+        if let Some(Owner { index, is_doubted: false }) = known {
+            return Some(index);
         }
-        let coordinator = self.target.hosts;
-        let reply = self.call(coordinator, Op::Owner, table, key, &[]).ok()?;
-        if reply.code != DONE {
-            return None;
+        let (coordinator, wait) = (self.target.hosts, self.wait);
+        self.wait = wait.min(PATIENCE_WITH_COORDINATOR);
+        let reply = self.call(coordinator, Op::Owner, table, key, &[]);
+        self.wait = wait;
+        match reply {
+            Ok(reply) if reply.code == DONE => {
+                let index = reply.version as u8;
+                self.owners.insert(table, Owner { index, is_doubted: false });
+                Some(index)
+            }
+            Ok(_) => None,
+            Err(_) => known.map(|owner| owner.index),
         }
-        let owner = reply.version as u8;
-        self.owners.insert(table, owner);
-        Some(owner)
     }
 
     /// Asks the coordinator.

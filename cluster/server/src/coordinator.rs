@@ -1,26 +1,33 @@
 //! The process of the coordinator.
 
-use crate::core::{Config, Core, Frame};
+use crate::core::{Config, Core, Frame, tell};
 use crate::net::Event;
 use crate::protocol::{DONE, Op, Reply, Request, WRONG};
 use crate::wire::NOT_UP;
 use sevunthi::message::{framed, kind};
 use sevunthi::{Address, Answer, Due, Envelope, Fault, Id, Work};
-use std::collections::HashMap;
+use std::collections::{BTreeMap, HashMap, HashSet};
 use std::fmt::Write as _;
 use std::io;
 use std::sync::mpsc::{Receiver, RecvTimeoutError};
 use std::time::{Duration, Instant};
 
-/// A refusal where no tablet holds the key.
-const NO_TABLE: u8 = 2;
+/// A refusal where no tablet holds the key, or its owner has crashed.
+const NO_OWNER: u8 = 2;
 
 /// The coordinator.
 struct Coordinator {
     core: Core,
-    began: Instant,
-    /// Of each host the server that was heard last, and when.
-    heard: HashMap<u8, (Id, Instant)>,
+    /// Of each host the server that was heard last, and when, in time in which this process was awake.
+    heard: HashMap<u8, (Id, Duration)>,
+    /// Who was heard on the connection of this number.
+    connections: HashMap<u64, Id>,
+    /// Those whose connection has ended since they were heard last.
+    gone: HashSet<Id>,
+    /// Of each host the server that was heard last, and whom it waits for.
+    waiting: BTreeMap<u8, (Id, Vec<Id>)>,
+    /// What was due last.
+    last: Option<Due>,
     /// What was said of the last request.
     refused: Option<u8>,
     is_due: bool,
@@ -29,8 +36,16 @@ struct Coordinator {
 /// Runs the coordinator for ever.
 pub fn run(config: Config) -> io::Result<()> {
     let (core, events) = Core::open(config)?;
-    let mut coordinator =
-        Coordinator { core, began: Instant::now(), heard: HashMap::new(), refused: None, is_due: false };
+    let mut coordinator = Coordinator {
+        core,
+        heard: HashMap::new(),
+        connections: HashMap::new(),
+        gone: HashSet::new(),
+        waiting: BTreeMap::new(),
+        last: None,
+        refused: None,
+        is_due: false,
+    };
     coordinator.settle();
     coordinator.serve(&events);
     Ok(())
@@ -52,6 +67,7 @@ impl Coordinator {
                 Err(RecvTimeoutError::Timeout) => {}
                 Err(RecvTimeoutError::Disconnected) => return,
             }
+            self.core.awake.turn();
             if self.is_due || Duration::from_millis(100) <= beat.elapsed() {
                 beat = Instant::now();
                 self.is_due = false;
@@ -73,42 +89,64 @@ impl Coordinator {
             Ok(()) => true,
             Err(fault) => {
                 if fault != Fault::Refused {
-                    eprintln!("{work:?}: {fault}");
+                    tell(format_args!("{work:?}: {fault}"));
                 }
                 false
             }
         }
     }
 
-    /// What is due, for who was heard and who was not.
+    /// What is due, for who was heard and who was not. A server is silent when nothing has come from it for the time that
+    /// one waits, or for a quarter of that where its connection has ended too: a host that lives connects again with its
+    /// next heartbeat.
     fn do_dues(&mut self) {
         let silence = Duration::from_millis(self.core.config.silence);
         let Ok(servers) = self.core.node.servers() else { return };
-        let (mut heard, mut silent) = (Vec::new(), Vec::new());
-        for (id, at) in self.heard.values() {
-            if at.elapsed() < silence {
-                heard.push(*id);
-            }
-        }
-        for (id, is_up) in servers {
-            let last = self.heard.get(&id.index).filter(|(other, _)| *other == id).map_or(self.began, |(_, at)| *at);
-            if is_up && silence <= last.elapsed() {
-                silent.push(id);
-            }
-        }
+        let now = self.core.awake.now();
+        let heard: Vec<Id> = self.heard.values().filter(|(_, at)| now - *at < silence).map(|(id, _)| *id).collect();
+        let is_silent = |id: &Id| {
+            let last = self.heard.get(&id.index).filter(|(other, _)| other == id).map_or(Duration::ZERO, |(_, at)| *at);
+            let most = if self.gone.contains(id) { silence / 4 } else { silence };
+            most <= now - last
+        };
+        let mut silent: Vec<Id> =
+            servers.into_iter().filter(|(id, is_up)| *is_up && is_silent(id)).map(|(id, _)| id).collect();
+        self.add_cut_off(&heard, &mut silent);
         for due in self.core.node.dues(&heard, &silent, &[]).unwrap_or_default() {
             self.do_due(due);
         }
     }
 
+    /// Adds those that are heard here, and not where they are waited for: whom one other waits for, and who itself waits
+    /// for several.
+    fn add_cut_off(&self, heard: &[Id], silent: &mut Vec<Id>) {
+        for (id, waits) in self.waiting.values().filter(|(id, _)| heard.contains(id)) {
+            let waits: Vec<&Id> = waits.iter().filter(|other| heard.contains(other)).collect();
+            if silent.contains(id) || waits.iter().any(|other| silent.contains(other)) {
+                continue;
+            }
+            match waits[..] {
+                [] => {}
+                [other] => silent.push(*other),
+                _ => silent.push(*id),
+            }
+        }
+    }
+
     fn do_due(&mut self, due: Due) {
+        if self.last != Some(due) {
+            tell(match due {
+                Due::Suspect(id) => format!("suspects {id}"),
+                Due::Decide(id) => format!("decides the recovery of {id}"),
+                Due::Restart(id) => format!("tells {id} to begin anew"),
+            });
+            self.last = Some(due);
+        }
         match due {
             Due::Suspect(id) => {
-                eprintln!("suspects {id}");
                 self.step(Work::Suspect(id));
             }
             Due::Decide(id) => {
-                eprintln!("decides the recovery of {id}");
                 self.step(Work::Decide(id));
             }
             Due::Restart(id) => {
@@ -121,8 +159,8 @@ impl Coordinator {
 
     fn take(&mut self, event: Event) {
         match event {
-            Event::Peer(batch) => {
-                let (mut heard, mut is_due) = (Vec::new(), false);
+            Event::Peer(connection, batch) => {
+                let (mut heard, mut waiting, mut is_due) = (Vec::new(), Vec::new(), false);
                 self.core.each_frame(&batch, |core, frame| match frame {
                     Frame::Message(message) => {
                         if let Some(Envelope { from: Address::Server(id), kind, .. }) = Envelope::read(message) {
@@ -131,12 +169,20 @@ impl Coordinator {
                         }
                         core.deliver(message);
                     }
-                    Frame::Heartbeat(id) => heard.push(id),
+                    Frame::Heartbeat(id, waits) => {
+                        heard.push(id);
+                        waiting.push((id, waits));
+                    }
                     Frame::NotUp(_) => {}
                 });
+                self.waiting.extend(waiting.into_iter().map(|(id, waits)| (id.index, (id, waits))));
                 self.is_due |= is_due;
-                heard.into_iter().for_each(|id| self.hear(id));
+                for id in heard {
+                    self.connections.insert(connection, id);
+                    self.hear(id);
+                }
             }
+            Event::PeerDown(connection) => self.gone.extend(self.connections.remove(&connection)),
             Event::Client(client, bytes) => {
                 for bytes in framed(&bytes) {
                     match Request::read(bytes) {
@@ -154,7 +200,8 @@ impl Coordinator {
     fn hear(&mut self, id: Id) {
         let newest = self.heard.get(&id.index).map_or(0, |(other, _)| other.generation);
         if newest <= id.generation {
-            self.heard.insert(id.index, (id, Instant::now()));
+            self.heard.insert(id.index, (id, self.core.awake.now()));
+            self.gone.retain(|other| other.index != id.index);
         }
     }
 
@@ -166,7 +213,7 @@ impl Coordinator {
             Op::Split if key >> 63 == 0 => reply.code = self.work(Work::Split { table: request.table, at: 2 * key }),
             Op::Owner if key >> 63 == 0 => match self.owner(request.table, 2 * key) {
                 Some(id) => reply.version = u64::from(id.index),
-                None => reply.code = NO_TABLE,
+                None => reply.code = NO_OWNER,
             },
             Op::Status => reply.value = self.text().into_bytes(),
             Op::Fail if self.core.config.faults => self.core.fail(request.table, key),
@@ -184,7 +231,7 @@ impl Coordinator {
         let owns = |id: &Id| tablets.iter().filter(|tablet| tablet.owner == *id).count();
         match named.or_else(|| up().min_by_key(owns)) {
             Some(owner) => self.work(Work::Create { table, owner }),
-            None => NO_TABLE,
+            None => NO_OWNER,
         }
     }
 
@@ -198,10 +245,11 @@ impl Coordinator {
         self.refused.take().unwrap_or(DONE)
     }
 
+    /// Who owns a key. One that has crashed is not named: clients would wait for it.
     fn owner(&mut self, table: u32, key: u64) -> Option<Id> {
         let tablets = self.core.node.tablets().ok()?;
         let holds = |tablet: &&sevunthi::Tablet| tablet.table == table && tablet.lo <= key && key <= tablet.hi;
-        tablets.iter().find(holds).map(|tablet| tablet.owner)
+        tablets.iter().find(holds).filter(|tablet| !tablet.crashed).map(|tablet| tablet.owner)
     }
 
     /// All that is there is written, made safe and sent, until nothing waits.
@@ -229,9 +277,10 @@ impl Coordinator {
     /// The state, as text.
     fn text(&mut self) -> String {
         let mut text = String::new();
+        let now = self.core.awake.now();
         for (id, is_up) in self.core.node.servers().unwrap_or_default() {
             let last = self.heard.get(&id.index).filter(|(other, _)| *other == id);
-            let heard = last.map_or("not heard".into(), |(_, at)| format!("heard {} ms ago", at.elapsed().as_millis()));
+            let heard = last.map_or("not heard".into(), |(_, at)| format!("heard {} ms ago", (now - *at).as_millis()));
             if is_up || last.is_some() {
                 let _ = writeln!(text, "server {id} {} {heard}", if is_up { "up" } else { "crashed" });
             }

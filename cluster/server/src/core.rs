@@ -1,17 +1,23 @@
 //! What hosts and the coordinator have in common: a node with its journal, its peers and its clients.
 
-use crate::journal::{self, Failing, Journal};
+use crate::awake::Awake;
+use crate::faults::{Failing, Mangle, Wrong};
+use crate::journal::{self, Journal};
 use crate::net::{Event, Writer, listen};
 use crate::protocol::Reply;
-use crate::wire::{HEARTBEAT, NOT_UP, frames, put_frame};
+use crate::record::Record;
+use crate::waits::Waits;
+use crate::wire::{HEARTBEAT, NOT_UP, frames};
+use sevunthi::message::kind;
 use sevunthi::{Address, Envelope, Fault, Id, Node, Ready, Shape};
 use std::collections::{HashMap, VecDeque};
-use std::fs::{File, OpenOptions};
-use std::io::{self, Read, Write};
+use std::fmt::Display;
+use std::fs::File;
+use std::io::{self, Read};
 use std::path::PathBuf;
 use std::sync::mpsc::{Receiver, channel};
 use std::sync::{Arc, Mutex};
-use std::time::Instant;
+use std::time::{Instant, SystemTime, UNIX_EPOCH};
 
 /// How a process of the cluster is to run.
 #[derive(Clone, Debug)]
@@ -70,10 +76,11 @@ pub struct Core {
     clients: HashMap<u64, Writer>,
     answers: HashMap<u64, Vec<u8>>,
     pub local: VecDeque<Vec<u8>>,
-    record: Option<File>,
-    recorded: Vec<u8>,
+    record: Option<Record>,
     pub text: Arc<Mutex<String>>,
     pub mangle: Mangle,
+    pub awake: Awake,
+    pub waits: Waits,
 }
 
 /// What was counted.
@@ -93,33 +100,16 @@ pub struct Counts {
     pub syncing: u64,
 }
 
-/// What a test does to the frames of this process.
-#[derive(Clone, Copy, Debug, Default)]
-pub struct Mangle {
-    /// Peers, by bit, to whom nothing is sent.
-    pub deaf: u64,
-    /// Of a thousand frames so many are repeated, held back behind others, or cut.
-    pub often: u64,
-    /// What is drawn next.
-    pub drawn: u64,
-}
-
-impl Mangle {
-    /// Whether nothing is sent to this peer.
-    fn is_deaf(self, place: usize) -> bool {
-        self.deaf.checked_shr(place as u32).is_some_and(|bits| bits & 1 == 1)
-    }
-
-    /// A drawn number below this one.
-    fn below(&mut self, most: u64) -> u64 {
-        self.drawn = self.drawn.wrapping_mul(6_364_136_223_846_793_005).wrapping_add(1_442_695_040_888_963_407);
-        (self.drawn >> 33) % most
-    }
+/// Writes a line to the node's log, behind the time of day (UTC).
+pub fn tell(what: impl Display) {
+    let since = SystemTime::now().duration_since(UNIX_EPOCH).unwrap_or_default();
+    let (day, thousandths) = (since.as_secs() % 86_400, since.subsec_millis());
+    eprintln!("{:02}:{:02}:{:02}.{thousandths:03} {what}", day / 3600, day / 60 % 60, day % 60);
 }
 
 /// Why a process ends.
-pub fn failed(what: &str, error: impl std::fmt::Display) -> ! {
-    eprintln!("{what}: {error}");
+pub fn failed(what: &str, error: impl Display) -> ! {
+    tell(format_args!("{what}: {error}"));
     std::process::exit(3)
 }
 
@@ -128,13 +118,14 @@ impl Core {
     pub fn open(config: Config) -> io::Result<(Core, Receiver<Event>)> {
         let found = journal::find(&config.folder)?;
         let mut ready = Ready::default();
+        let failing = if config.faults { Failing::in_folder(&config.folder) } else { Failing::default() };
         let (mut node, journal) = match &found.bytes {
             Some(bytes) => {
                 let mut node = Node::come_back(bytes, found.known)
                     .unwrap_or_else(|fault| failed("this node must not start", fault));
                 let good = node.good();
                 node.ready(&mut ready).map_err(io::Error::other)?;
-                let mut journal = Journal::open(&config.folder, found, good)?;
+                let mut journal = Journal::open(&config.folder, found, good, failing)?;
                 journal.add(&ready.journal)?;
                 journal.sync()?;
                 (node, journal)
@@ -142,7 +133,7 @@ impl Core {
             None => {
                 let mut node = new_node(&config).map_err(io::Error::other)?;
                 node.ready(&mut ready).map_err(io::Error::other)?;
-                (node, Journal::create(&config.folder, found, &ready.journal)?)
+                (node, Journal::create(&config.folder, found, &ready.journal, failing)?)
             }
         };
         node.synced(journal.length).map_err(io::Error::other)?;
@@ -151,12 +142,12 @@ impl Core {
         let text = Arc::new(Mutex::new(String::new()));
         listen(&config.at(config.place()), config.secret.clone(), events, Arc::clone(&text))?;
         let places = 0..=usize::from(config.hosts);
-        let record = config.folder.join("record");
+        let record = config.record.then(|| Record::open(&config.folder)).transpose()?;
         let mut core = Core {
             node,
             journal,
             counts: Counts::default(),
-            clock: 0,
+            clock: record.as_ref().map_or(0, Record::noted),
             began: Instant::now(),
             base: since_boot(),
             ready,
@@ -165,10 +156,11 @@ impl Core {
             clients: HashMap::new(),
             answers: HashMap::new(),
             local: VecDeque::new(),
-            record: config.record.then(|| OpenOptions::new().create(true).append(true).open(record)).transpose()?,
-            recorded: Vec::new(),
+            record,
             text,
             mangle: Mangle::default(),
+            awake: Awake::new(),
+            waits: Waits::default(),
             config,
         };
         core.tick_clock();
@@ -180,20 +172,16 @@ impl Core {
         self.clock = self.clock.saturating_add(1).max(self.base + self.began.elapsed().as_nanos() as u64);
     }
 
-    /// The clock jumps ahead.
-    pub fn jump(&mut self, nanoseconds: u64) {
-        self.base += nanoseconds;
-    }
-
     /// Takes the frames of a batch: gives each message, and each heartbeat with its id, to `take`.
     pub fn each_frame(&mut self, batch: &[u8], mut take: impl FnMut(&mut Core, Frame<'_>)) {
         for (clock, message) in frames(batch) {
             self.counts.frames += 1;
             self.clock = self.clock.max(clock.saturating_add(1));
             match message.split_first() {
-                Some((&HEARTBEAT, id)) => {
-                    if let Some(id) = Id::read(id) {
-                        take(self, Frame::Heartbeat(id));
+                Some((&HEARTBEAT, ids)) => {
+                    let mut ids = ids.chunks_exact(5).filter_map(Id::read);
+                    if let Some(id) = ids.next() {
+                        take(self, Frame::Heartbeat(id, ids.collect()));
                     }
                 }
                 Some((&NOT_UP, id)) => {
@@ -217,6 +205,9 @@ impl Core {
         if place != self.config.place() {
             return false;
         }
+        if let (kind::STORED, Address::Server(from)) = (envelope.kind, envelope.from) {
+            self.waits.stored(from);
+        }
         self.counts.works += 1;
         match self.node.deliver(message) {
             Ok(()) => true,
@@ -229,7 +220,7 @@ impl Core {
     pub fn route(&mut self, mut answer: impl FnMut(&mut Core, &[u8])) {
         let mut ready = std::mem::take(&mut self.ready);
         if let Err(fault) = self.node.ready(&mut ready) {
-            eprintln!("{fault}");
+            tell(fault);
         }
         self.tick_clock();
         for message in ready.messages() {
@@ -242,15 +233,18 @@ impl Core {
     fn send(&mut self, message: &[u8], answer: &mut impl FnMut(&mut Core, &[u8])) {
         let Some(envelope) = Envelope::read(message) else { return };
         self.counts.messages += 1;
-        if self.record.is_some() {
-            self.recorded.extend_from_slice(&self.clock.to_le_bytes());
-            self.recorded.extend_from_slice(&(message.len() as u32).to_le_bytes());
-            self.recorded.extend_from_slice(message);
+        if let Some(record) = &mut self.record {
+            record.add(self.clock, message);
         }
         match envelope.to {
             Address::Outside => answer(self, message),
             Address::Coordinator => self.post(usize::from(self.config.hosts), message),
-            Address::Server(id) => self.post(usize::from(id.index), message),
+            Address::Server(id) => {
+                if matches!(envelope.kind, kind::PLACE | kind::APPEND) {
+                    self.waits.sent(id, self.awake.now());
+                }
+                self.post(usize::from(id.index), message);
+            }
         }
     }
 
@@ -264,20 +258,7 @@ impl Core {
             return;
         }
         let Some(out) = self.outs.get_mut(place) else { return };
-        if self.mangle.often == 0 || self.mangle.below(1000) >= self.mangle.often {
-            put_frame(self.clock, message, out);
-            return;
-        }
-        match self.mangle.below(3) {
-            0 => (0..2).for_each(|_| put_frame(self.clock, message, out)),
-            1 => {
-                let mut first = Vec::new();
-                put_frame(self.clock, message, &mut first);
-                first.append(out);
-                *out = first;
-            }
-            _ => put_frame(self.clock, &message[..message.len() / 2], out),
-        }
+        self.mangle.put(self.clock, message, out);
     }
 
     /// Answers a client.
@@ -297,6 +278,9 @@ impl Core {
     /// Writes what the node has written down; and where something waits for that, syncs it. Says whether it did.
     pub fn make_safe(&mut self) -> bool {
         if !self.ready.journal.is_empty() {
+            if let Some(record) = &mut self.record {
+                record.note(self.clock).unwrap_or_else(|error| failed("the clock can't be noted", error));
+            }
             let bytes = std::mem::take(&mut self.ready.journal);
             self.journal.add(&bytes).unwrap_or_else(|error| failed("the journal can't be written", error));
             self.ready.journal = bytes;
@@ -314,8 +298,8 @@ impl Core {
     /// What was queued leaves.
     pub fn flush(&mut self) {
         if let Some(record) = &mut self.record {
-            record.write_all(&self.recorded).unwrap_or_else(|error| failed("the record can't be written", error));
-            self.recorded.clear();
+            let written = record.note(self.clock).and_then(|()| record.write());
+            written.unwrap_or_else(|error| failed("the record can't be written", error));
         }
         for (out, peer) in self.outs.iter_mut().zip(&self.peers) {
             peer.send(std::mem::take(out));
@@ -338,21 +322,27 @@ impl Core {
                 self.node.saved().unwrap_or_else(|fault| failed("a save was not taken note of", fault));
                 self.counts.saves += 1;
             }
-            Err(fault) => eprintln!("a save was refused: {fault}"),
+            Err(fault) => tell(format_args!("a save was refused: {fault}")),
         }
     }
 
-    /// Has something fail, as a test asks for it.
+    /// Has something go wrong, as a test asks for it.
     pub fn fail(&mut self, what: u32, how: u64) {
-        match what {
-            0 => self.journal.failing = Failing::Write,
-            1 => self.journal.failing = Failing::Sync,
-            2 => self.journal.failing = Failing::Save(how as u8),
-            3 => self.mangle.deaf = how,
-            4 => self.mangle.often = how,
-            5 => self.jump(how),
-            6 => self.config.long = how as usize,
-            _ => {}
+        match Wrong::read(what, how) {
+            Some(Wrong::Sync) => self.journal.failing.sync = true,
+            Some(Wrong::EndInSave(step)) => {
+                self.journal.failing.end_in_save = Some(step);
+                self.config.long = 0;
+            }
+            Some(Wrong::FullInSave) => {
+                self.journal.failing.full_in_save = true;
+                self.config.long = 0;
+            }
+            Some(Wrong::Deaf(mask)) => self.mangle.deaf = mask,
+            Some(Wrong::Mangle(often)) => self.mangle.often = often,
+            Some(Wrong::Jump(nanoseconds)) => self.base = self.base.saturating_add_signed(nanoseconds),
+            Some(Wrong::Nothing) => self.journal.failing = Failing::in_folder(&self.config.folder),
+            None => {}
         }
     }
 }
@@ -361,8 +351,8 @@ impl Core {
 pub enum Frame<'a> {
     /// A message of the protocol.
     Message(&'a [u8]),
-    /// A server lives.
-    Heartbeat(Id),
+    /// A server lives, and waits for others for too long.
+    Heartbeat(Id, Vec<Id>),
     /// The coordinator's list shows this server crashed.
     NotUp(Id),
 }

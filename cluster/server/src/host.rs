@@ -1,6 +1,6 @@
 //! The process of a host.
 
-use crate::core::{Config, Core, Frame, failed};
+use crate::core::{Config, Core, Frame, failed, tell};
 use crate::net::Event;
 use crate::protocol::{DONE, NO_VALUE, Op, Reply, Request, UNKNOWN, WRONG};
 use crate::wire::HEARTBEAT;
@@ -68,11 +68,12 @@ impl Host {
     /// Starts the server anew. What was asked of the old one is unknown.
     fn begin(&mut self) {
         if let Err(fault) = self.core.node.start() {
-            eprintln!("the server did not start: {fault}");
+            tell(format_args!("the server did not start: {fault}"));
         }
         self.server = self.core.node.info().server;
         self.is_replaced = false;
         self.grants.clear();
+        self.core.waits.clear();
         self.next = (0, 0);
         let taken = std::mem::take(&mut self.pending).into_values();
         for Asked { client, request } in taken.chain(std::mem::take(&mut self.waiting)) {
@@ -82,7 +83,7 @@ impl Host {
             self.core.answer(client, &Reply::bare(5, reply.number));
         }
         self.settle();
-        eprintln!("server {} begins", self.server);
+        tell(format_args!("server {} begins", self.server));
     }
 
     fn serve(&mut self, events: &Receiver<Event>) {
@@ -93,6 +94,7 @@ impl Host {
                 Err(RecvTimeoutError::Timeout) => {}
                 Err(RecvTimeoutError::Disconnected) => return,
             }
+            self.core.awake.turn();
             if Duration::from_millis(100) <= beat.elapsed() {
                 beat = Instant::now();
                 self.send_heartbeat();
@@ -107,10 +109,10 @@ impl Host {
             self.settle();
             let info = self.core.node.info();
             if self.is_replaced || info.is_deposed || LAST_HEAD < info.head || !info.runs {
-                eprintln!(
+                tell(format_args!(
                     "server {} was replaced, or its log is long, or it has not started: it begins anew",
                     self.server
-                );
+                ));
                 self.begin();
             }
             self.core.shorten();
@@ -129,7 +131,7 @@ impl Host {
 
     fn take(&mut self, event: Event) {
         match event {
-            Event::Peer(batch) => {
+            Event::Peer(_, batch) => {
                 let server = self.server;
                 let (mut is_replaced, mut grants) = (false, Vec::new());
                 self.core.each_frame(&batch, |core, frame| match frame {
@@ -139,7 +141,7 @@ impl Host {
                         }
                     }
                     Frame::NotUp(id) => is_replaced |= id == server,
-                    Frame::Heartbeat(_) => {}
+                    Frame::Heartbeat(..) => {}
                 });
                 self.is_replaced |= is_replaced;
                 grants.into_iter().for_each(|grant| self.note_grant(grant));
@@ -154,6 +156,7 @@ impl Host {
             }
             Event::ClientUp(client, writer) => self.core.set_client(client, Some(writer)),
             Event::ClientDown(client) => self.core.set_client(client, None),
+            Event::PeerDown(_) => {}
         }
     }
 
@@ -337,11 +340,21 @@ impl Host {
         }
     }
 
+    /// Tells the coordinator that the server lives, and whom it has waited for in vain.
     fn send_heartbeat(&mut self) {
         let mut beat = vec![HEARTBEAT];
         beat.extend_from_slice(&self.server.code());
+        for (id, _) in self.waited_for() {
+            beat.extend_from_slice(&id.code());
+        }
         let coordinator = usize::from(self.core.config.hosts);
         self.core.post(coordinator, &beat);
+    }
+
+    /// Who has stored nothing for as long as one waits, though there is something to store.
+    fn waited_for(&mut self) -> Vec<(Id, Duration)> {
+        let (silence, now) = (Duration::from_millis(self.core.config.silence), self.core.awake.now());
+        self.core.waits.longer_than(silence, now)
     }
 
     /// The state, as text.
@@ -369,6 +382,10 @@ impl Host {
         ];
         for (name, value) in rows {
             let _ = writeln!(text, "sevunthi_{name}{{host=\"{}\"}} {value}", info.server.index);
+        }
+        for (id, wait) in self.waited_for() {
+            let (index, wait) = (info.server.index, wait.as_millis());
+            let _ = writeln!(text, "sevunthi_waits_milliseconds{{host=\"{index}\",for=\"{id}\"}} {wait}");
         }
         text
     }

@@ -1,23 +1,10 @@
 //! A node's folder: its lock, its journal, and how many bytes of that were safe.
 
+use crate::faults::Failing;
 use std::fs::{self, File, OpenOptions};
-use std::io::{self, ErrorKind, Write};
+use std::io::{self, ErrorKind};
 use std::os::unix::fs::FileExt;
 use std::path::{Path, PathBuf};
-
-/// What fails next, where a test asks for it.
-#[derive(Clone, Copy, Debug, Default, PartialEq, Eq)]
-pub enum Failing {
-    /// Nothing.
-    #[default]
-    Nothing,
-    /// The next write writes half, and the disk is full.
-    Write,
-    /// The next sync.
-    Sync,
-    /// The process ends in the next save, after this step.
-    Save(u8),
-}
 
 /// The file of a node's journal, locked.
 pub struct Journal {
@@ -31,7 +18,8 @@ pub struct Journal {
     pub saved: usize,
     /// How often it was synced.
     pub syncs: u64,
-    /// What fails next.
+    safe: usize,
+    /// What is to fail, where a test asks for it.
     pub failing: Failing,
 }
 
@@ -77,20 +65,20 @@ fn sync_folder(folder: &Path) -> io::Result<()> {
 
 impl Journal {
     /// The first journal of a node, which is these bytes. It stands there whole and safe, or not at all.
-    pub fn create(folder: &Path, found: Found, first: &[u8]) -> io::Result<Journal> {
+    pub fn create(folder: &Path, found: Found, first: &[u8], failing: Failing) -> io::Result<Journal> {
         let next = folder.join("next");
         let mut file = OpenOptions::new().create(true).truncate(true).write(true).open(&next)?;
-        file.write_all(first)?;
+        failing.write(&mut file, first, false)?;
         file.sync_all()?;
         fs::rename(&next, folder.join("journal"))?;
         sync_folder(folder)?;
-        let journal = Journal::open(folder, found, first.len())?;
+        let journal = Journal::open(folder, found, first.len(), failing)?;
         journal.note(journal.length)?;
         Ok(journal)
     }
 
     /// The journal that was found, cut to its good bytes.
-    pub fn open(folder: &Path, found: Found, good: usize) -> io::Result<Journal> {
+    pub fn open(folder: &Path, found: Found, good: usize, failing: Failing) -> io::Result<Journal> {
         let file = OpenOptions::new().append(true).open(folder.join("journal"))?;
         file.set_len(good as u64)?;
         file.sync_all()?;
@@ -104,28 +92,24 @@ impl Journal {
             length: good,
             saved: good,
             syncs: 0,
-            failing: Failing::Nothing,
+            safe: good,
+            failing,
         })
     }
 
     /// Adds bytes at its end. After an error the process has to end.
     pub fn add(&mut self, bytes: &[u8]) -> io::Result<()> {
-        if self.failing == Failing::Write && !bytes.is_empty() {
-            self.file.write_all(&bytes[..bytes.len() / 2])?;
-            return Err(ErrorKind::StorageFull.into());
-        }
-        self.file.write_all(bytes)?;
+        self.failing.write(&mut self.file, bytes, false)?;
         self.length += bytes.len();
         Ok(())
     }
 
     /// Makes all its bytes safe. After an error the process has to end.
     pub fn sync(&mut self) -> io::Result<()> {
-        if self.failing == Failing::Sync {
-            return Err(io::Error::other("the disk has failed"));
-        }
+        self.failing.sync()?;
         self.file.sync_data()?;
         self.syncs += 1;
+        self.safe = self.length;
         self.note(self.length)
     }
 
@@ -136,34 +120,26 @@ impl Journal {
     /// A save takes its place: second file, sync, rename, sync of the folder. Until the new length is noted nothing is
     /// known to be safe of whichever file stands there.
     pub fn replace(&mut self, save: &[u8]) -> io::Result<()> {
+        self.failing.keep_before(self.safe)?;
         let next = self.folder.join("next");
         let mut file = OpenOptions::new().create(true).truncate(true).write(true).open(&next)?;
-        if self.failing == Failing::Write {
-            file.write_all(&save[..save.len() / 2])?;
-            return Err(ErrorKind::StorageFull.into());
-        }
-        file.write_all(save)?;
-        self.end_in_save(1);
+        self.failing.after(0);
+        self.failing.write(&mut file, save, true)?;
+        self.failing.after(1);
         file.sync_all()?;
-        self.end_in_save(2);
+        self.failing.after(2);
         self.note(0)?;
         self.known.sync_all()?;
-        self.end_in_save(3);
+        self.failing.after(3);
         fs::rename(&next, self.folder.join("journal"))?;
-        self.end_in_save(4);
+        self.failing.after(4);
         sync_folder(&self.folder)?;
+        self.failing.after(5);
         self.file = OpenOptions::new().append(true).open(self.folder.join("journal"))?;
         self.length = save.len();
         self.saved = save.len();
+        self.safe = save.len();
         self.note(self.length)
-    }
-
-    /// Ends the process at once, where a test asks for it.
-    fn end_in_save(&self, step: u8) {
-        if self.failing == Failing::Save(step) {
-            eprintln!("ends in a save, after step {step}");
-            std::process::abort();
-        }
     }
 }
 
@@ -180,7 +156,7 @@ mod tests {
     #[test]
     fn a_journal_that_is_gone_is_not_made_anew() -> io::Result<()> {
         let folder = empty_folder("gone");
-        let journal = Journal::create(&folder, find(&folder)?, b"save")?;
+        let journal = Journal::create(&folder, find(&folder)?, b"save", Failing::default())?;
         assert!(find(&folder).is_err(), "the folder is locked");
         drop(journal);
         let found = find(&folder)?;
@@ -194,7 +170,7 @@ mod tests {
     #[test]
     fn a_save_takes_the_place_of_the_journal() -> io::Result<()> {
         let folder = empty_folder("save");
-        let mut journal = Journal::create(&folder, find(&folder)?, b"first")?;
+        let mut journal = Journal::create(&folder, find(&folder)?, b"first", Failing::default())?;
         journal.add(b" and more")?;
         journal.sync()?;
         journal.replace(b"short")?;
@@ -205,7 +181,7 @@ mod tests {
         let found = find(&folder)?;
         assert_eq!((found.bytes.as_deref(), found.known), (Some(&b"short again"[..]), 11));
         assert!(!folder.join("next").exists());
-        drop(Journal::open(&folder, found, 5)?);
+        drop(Journal::open(&folder, found, 5, Failing::default())?);
         assert_eq!(fs::read(folder.join("journal"))?, b"short");
         fs::remove_dir_all(&folder)
     }

@@ -1,5 +1,7 @@
 //! A replicated log on sockets and disks: one process for each node, clients, and a supervisor.
 
+#![forbid(unsafe_code)]
+
 /// Prints a line. Where nobody reads any more the program ends.
 macro_rules! say {
     ($($words:tt)*) => {
@@ -9,18 +11,24 @@ macro_rules! say {
     };
 }
 
+mod awake;
 mod bench;
 mod client;
 mod coordinator;
 mod core;
+mod dice;
+mod etcd;
+mod faults;
 mod host;
 mod journal;
 mod net;
 mod options;
 mod protocol;
+mod record;
 mod storm;
 mod supervisor;
 mod trace;
+mod waits;
 mod wire;
 
 use client::{Client, Outcome, Target};

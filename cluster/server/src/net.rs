@@ -13,8 +13,10 @@ use std::time::Duration;
 
 /// What comes to the node's thread.
 pub enum Event {
-    /// The frames of a peer's batch.
-    Peer(Vec<u8>),
+    /// The frames of a batch that came on the peer's connection of this number.
+    Peer(u64, Vec<u8>),
+    /// That connection has ended.
+    PeerDown(u64),
     /// Whole requests of a client, each behind its length.
     Client(u64, Vec<u8>),
     /// A client is there, to be answered here.
@@ -101,20 +103,22 @@ fn connect(address: &str, secret: &[u8]) -> io::Result<(TcpStream, Seal)> {
 /// Reads pieces that begin with their length in four bytes, and hands over as many whole ones as there are, until one is
 /// longer than `most`, or nobody takes them.
 pub fn read_pieces(mut stream: impl Read, most: usize, mut give: impl FnMut(Vec<u8>) -> bool) {
-    let mut buffer: Vec<u8> = Vec::new();
+    let (mut buffer, mut filled) = (vec![0; 64 << 10], 0);
     loop {
-        let length = buffer.len();
-        buffer.resize(length + (64 << 10), 0);
-        match stream.read(&mut buffer[length..]) {
-            Ok(0) | Err(_) => return,
-            Ok(count) => buffer.truncate(length + count),
+        if filled == buffer.len() {
+            buffer.resize(2 * filled, 0);
         }
-        let Some(whole) = whole(&buffer, most) else { return };
+        match stream.read(&mut buffer[filled..]) {
+            Ok(0) | Err(_) => return,
+            Ok(count) => filled += count,
+        }
+        let Some(whole) = whole(&buffer[..filled], most) else { return };
         if 0 < whole {
-            let rest = buffer.split_off(whole);
-            if !give(std::mem::replace(&mut buffer, rest)) {
+            if !give(buffer[..whole].to_vec()) {
                 return;
             }
+            buffer.copy_within(whole..filled, 0);
+            filled -= whole;
         }
     }
 }
@@ -161,7 +165,7 @@ fn serve(
     let mut kind = [0];
     stream.read_exact(&mut kind)?;
     match kind[0] {
-        b'P' => serve_peer(stream, secret, events),
+        b'P' => serve_peer(stream, number, secret, events),
         b'C' => {
             let up = Event::ClientUp(number, Writer::to_client(stream.try_clone()?));
             if events.send(up).is_ok() {
@@ -182,16 +186,57 @@ fn serve(
 }
 
 /// Takes batches of a peer until one is not the next that who has the secret has made.
-fn serve_peer(mut stream: TcpStream, secret: &[u8], events: &Sender<Event>) -> io::Result<()> {
+fn serve_peer(mut stream: TcpStream, number: u64, secret: &[u8], events: &Sender<Event>) -> io::Result<()> {
     let mut challenge = [0; 16];
     File::open("/dev/urandom")?.read_exact(&mut challenge)?;
     stream.write_all(&challenge)?;
     let mut seal = Seal::new(secret, challenge);
     read_pieces(stream, MOST + 40, |batches| {
         sevunthi::message::framed(&batches).all(|batch| match seal.open(batch) {
-            Some(frames) => events.send(Event::Peer(frames.to_vec())).is_ok(),
+            Some(frames) => events.send(Event::Peer(number, frames.to_vec())).is_ok(),
             None => false,
         })
     });
+    let _ = events.send(Event::PeerDown(number));
     Ok(())
+}
+
+#[cfg(test)]
+mod tests {
+    use super::*;
+
+    /// Gives so many bytes at a time.
+    struct Slowly<'a>(&'a [u8], usize);
+
+    impl Read for Slowly<'_> {
+        fn read(&mut self, to: &mut [u8]) -> io::Result<usize> {
+            let count = self.1.min(to.len()).min(self.0.len());
+            to[..count].copy_from_slice(&self.0[..count]);
+            self.0 = &self.0[count..];
+            Ok(count)
+        }
+    }
+
+    #[test]
+    fn pieces_come_whole_and_in_order() {
+        let mut bytes = Vec::new();
+        for length in [0, 1, 5, 200_000, 3] {
+            bytes.extend_from_slice(&u32::to_le_bytes(length));
+            bytes.extend(std::iter::repeat_n(length as u8, length as usize));
+        }
+        for step in [1, 7, 4096, 1 << 20] {
+            let mut taken = Vec::new();
+            read_pieces(Slowly(&bytes, step), 200_000, |piece| {
+                taken.extend(piece);
+                true
+            });
+            assert!(taken == bytes, "by {step}");
+            let mut taken = Vec::new();
+            read_pieces(Slowly(&bytes, step), 199_999, |piece| {
+                taken.extend(piece);
+                true
+            });
+            assert!(taken.len() <= 18 && bytes.starts_with(&taken), "by {step}");
+        }
+    }
 }

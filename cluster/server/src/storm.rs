@@ -1,63 +1,133 @@
 //! Drawn faults on a cluster of its own, while clients write and read.
 
-use crate::client::{Client, Outcome, Target};
+mod clients;
+mod disk;
+mod machine;
+mod noise;
+
+use crate::client::{Client, Target};
+use crate::dice::Dice;
+use crate::faults::{FULL, Wrong};
 use crate::options::Options;
 use crate::protocol::{DONE, Op};
 use crate::supervisor::Cluster;
-use sevunthi::message::u64_at;
-use std::fmt::Write as _;
-use std::fs::{self, OpenOptions};
-use std::os::unix::fs::FileExt;
+use clients::{CLIENTS, Lived, TABLE, live};
+use disk::Spoilt;
+use machine::Machine;
+use std::collections::{BTreeMap, HashSet};
+use std::fs;
 use std::path::PathBuf;
 use std::sync::atomic::{AtomicBool, Ordering};
 use std::sync::{Arc, Mutex};
 use std::thread;
 use std::time::{Duration, Instant};
 
-const TABLE: u32 = 1;
-const KEYS: u64 = 4;
-const CLIENTS: u64 = 6;
+/// What may happen. A pack of these is shuffled, and dealt to its end, again and again.
+const PACK: [Fault; 24] = [
+    Fault::Kill,
+    Fault::Kill,
+    Fault::KillCoordinator,
+    Fault::Stop,
+    Fault::Stop,
+    Fault::StopCoordinator,
+    Fault::Power,
+    Fault::Power,
+    Fault::PowerCoordinator,
+    Fault::Save,
+    Fault::SavePower,
+    Fault::SavePower,
+    Fault::Pair,
+    Fault::OneWay,
+    Fault::FromCoordinator,
+    Fault::Mangle,
+    Fault::Mangle,
+    Fault::Noise,
+    Fault::Full,
+    Fault::FullCoordinator,
+    Fault::FullInSave,
+    Fault::FailingSync,
+    Fault::FailingSync,
+    Fault::Clock,
+];
 
-/// A generator of numbers.
-struct Dice(u64);
-
-impl Dice {
-    fn below(&mut self, most: u64) -> u64 {
-        self.0 = self.0.wrapping_mul(6_364_136_223_846_793_005).wrapping_add(1_442_695_040_888_963_407);
-        (self.0 >> 33) % most
-    }
+#[derive(Clone, Copy, Debug, PartialEq, Eq, PartialOrd, Ord)]
+enum Fault {
+    /// A host's process is killed.
+    Kill,
+    KillCoordinator,
+    /// A host's process stands still.
+    Stop,
+    StopCoordinator,
+    /// A host has no power.
+    Power,
+    PowerCoordinator,
+    /// A process ends in a save.
+    Save,
+    /// So does its machine's power.
+    SavePower,
+    /// Two hosts do not hear each other.
+    Pair,
+    /// One process does not hear another, which hears it.
+    OneWay,
+    /// A host and the coordinator do not hear each other.
+    FromCoordinator,
+    /// Frames are repeated, reordered, cut and damaged, and there are bytes that are none.
+    Mangle,
+    /// Strangers connect, and talk nonsense.
+    Noise,
+    /// A host's disk is full.
+    Full,
+    FullCoordinator,
+    /// A disk is full in a save.
+    FullInSave,
+    /// A sync fails, and some of what it should have made safe is lost.
+    FailingSync,
+    /// A clock jumps, ahead or back.
+    Clock,
 }
 
-/// What may happen.
-const FAULTS: [&str; 10] =
-    ["kill", "kill", "kill coordinator", "stop", "power", "cut off", "mangle", "full", "failing sync", "save"];
+impl Fault {
+    fn name(self) -> &'static str {
+        match self {
+            Fault::Kill => "kill",
+            Fault::KillCoordinator => "kill-coordinator",
+            Fault::Stop => "stop",
+            Fault::StopCoordinator => "stop-coordinator",
+            Fault::Power => "power",
+            Fault::PowerCoordinator => "power-coordinator",
+            Fault::Save => "save",
+            Fault::SavePower => "save-power",
+            Fault::Pair => "pair",
+            Fault::OneWay => "one-way",
+            Fault::FromCoordinator => "from-coordinator",
+            Fault::Mangle => "mangle",
+            Fault::Noise => "noise",
+            Fault::Full => "full",
+            Fault::FullCoordinator => "full-coordinator",
+            Fault::FullInSave => "full-in-save",
+            Fault::FailingSync => "failing-sync",
+            Fault::Clock => "clock",
+        }
+    }
+}
 
 /// Runs a storm: prints each fault, and leaves the records and the clients' history in the folder.
 pub fn run(options: &Options) -> Result<bool, String> {
     let folder: PathBuf = options.get("--folder", String::new())?.into();
     let seed: u64 = options.get("--seed", 1)?;
     let seconds: u64 = options.get("--seconds", 60)?;
+    let most = Duration::from_millis(options.get("--gap", 3000)?);
     let target = Target { address: "127.0.0.1".into(), port: options.get("--port", 7600)?, hosts: 4 };
-    let more = ["--record", "--faults", "--factor", "2", "--segment", "64", "--tick", "100"];
-    let mut cluster = Cluster::new(target.clone(), &folder, more.map(String::from).to_vec())?;
-    cluster.start_all()?;
-    let mut client = Client::new(target.clone());
-    let began = Instant::now();
-    while client.call_coordinator(Op::Create, TABLE, 0).is_none_or(|reply| reply.code != DONE) {
-        if Duration::from_secs(10) < began.elapsed() {
-            return Err("the table was not made".into());
-        }
-        thread::sleep(Duration::from_millis(100));
-    }
+    let mut storm = Storm::begin(seed, target.clone(), folder.clone())?;
     let (ends, history) = (Arc::new(AtomicBool::new(false)), Arc::new(Mutex::new(String::new())));
+    let machine = Machine::new(&folder).map_err(|error| error.to_string())?;
     let clients: Vec<_> = (0..CLIENTS)
         .map(|number| {
             let (target, ends, history) = (target.clone(), Arc::clone(&ends), Arc::clone(&history));
             thread::spawn(move || live(number, seed, target, &ends, &history))
         })
         .collect();
-    let mut storm = Storm { cluster, dice: Dice(seed ^ 0x5eed), client, began, faults: 0 };
-    while began.elapsed() < Duration::from_secs(seconds) {
+    while storm.began.elapsed() < Duration::from_secs(seconds) {
         storm.one_fault()?;
     }
     storm.calm()?;
@@ -69,15 +139,8 @@ pub fn run(options: &Options) -> Result<bool, String> {
     }
     fs::write(folder.join("history"), history.lock().map_err(|_| "no history")?.as_str())
         .map_err(|error| error.to_string())?;
-    say!(
-        "seed {seed}: {} faults, {} writes, {} reads, {} unknown, longest gap {} ms",
-        storm.faults,
-        done.writes,
-        done.reads,
-        done.unknown,
-        done.gap
-    );
-    Ok(done.gap <= options.get("--gap", 3000)?)
+    let refused = storm.start_spoilt()?;
+    storm.tell(seed, &done, &machine, most, refused)
 }
 
 struct Storm {
@@ -85,203 +148,339 @@ struct Storm {
     dice: Dice,
     client: Client,
     began: Instant,
-    faults: u64,
+    pack: Vec<Fault>,
+    counts: BTreeMap<&'static str, u64>,
+    /// Those whose disk loses what was not safe when their process ends by itself.
+    losing: HashSet<usize>,
+    /// Bytes that were not safe and are lost.
+    lost: u64,
 }
 
 impl Storm {
-    fn say(&mut self, what: &str) {
-        self.faults += 1;
+    /// A cluster in this folder, with its table.
+    fn begin(seed: u64, target: Target, folder: PathBuf) -> Result<Storm, String> {
+        let more = ["--record", "--faults", "--factor", "2", "--segment", "64", "--tick", "100"];
+        let mut cluster = Cluster::new(target.clone(), &folder, more.map(String::from).to_vec())?;
+        cluster.start_all()?;
+        let mut storm = Storm {
+            cluster,
+            dice: Dice::new(seed ^ 0x5eed),
+            client: Client::new(target),
+            began: Instant::now(),
+            pack: Vec::new(),
+            counts: PACK.iter().map(|fault| (fault.name(), 0)).collect(),
+            losing: HashSet::new(),
+            lost: 0,
+        };
+        while storm.client.call_coordinator(Op::Create, TABLE, 0).is_none_or(|reply| reply.code != DONE) {
+            if Duration::from_secs(10) < storm.began.elapsed() {
+                return Err("the table was not made".into());
+            }
+            thread::sleep(Duration::from_millis(100));
+        }
+        storm.began = Instant::now();
+        Ok(storm)
+    }
+
+    fn say(&self, what: &str) {
         say!("{:6} ms: {what}", self.began.elapsed().as_millis());
     }
 
+    fn coordinator(&self) -> usize {
+        usize::from(self.cluster.target.hosts)
+    }
+
+    /// Waits for a drawn time between these, in milliseconds.
+    fn wait(&mut self, least: u64, most: u64) {
+        thread::sleep(Duration::from_millis(self.dice.between(least, most)));
+    }
+
     fn one_fault(&mut self) -> Result<(), String> {
-        let quiet = 300 + self.dice.below(1500);
-        thread::sleep(Duration::from_millis(quiet));
+        self.wait(300, 1800);
         self.start_ended()?;
-        let hosts = u64::from(self.cluster.target.hosts);
-        let host = self.dice.below(hosts) as usize;
-        let any = self.dice.below(hosts + 1) as usize;
-        let fault = FAULTS[self.dice.below(FAULTS.len() as u64) as usize];
-        match fault {
-            "kill" => self.end(host, "killed", false)?,
-            "kill coordinator" => self.end(hosts as usize, "killed", false)?,
-            "power" => self.end(any, "without power", true)?,
-            "stop" => {
-                let pause = 1000 + self.dice.below(2000);
-                self.say(&format!("{any} stands still for {pause} ms"));
-                self.cluster.signal(any, "-STOP");
-                thread::sleep(Duration::from_millis(pause));
-                self.cluster.signal(any, "-CONT");
-            }
-            "cut off" => {
-                let mask = self.dice.below(1 << (hosts + 1));
-                self.say(&format!("{any} sends nothing to those of {mask:b}"));
-                self.fail(any, 3, mask);
-                let pause = 500 + self.dice.below(2000);
-                thread::sleep(Duration::from_millis(pause));
-                self.fail(any, 3, 0);
-            }
-            "mangle" => {
-                self.say(&format!("frames of {any} are repeated, reordered and cut"));
-                self.fail(any, 4, 100);
-                thread::sleep(Duration::from_millis(1000));
-                self.fail(any, 4, 0);
-            }
-            "full" => {
-                self.say(&format!("the disk of {any} is full"));
-                self.fail(any, 0, 0);
-            }
-            "failing sync" => {
-                self.say(&format!("a sync of {any} fails, and its clock jumps"));
-                self.fail(any, 5, 5_000_000_000);
-                self.fail(any, 1, 0);
-            }
-            _ => {
-                let step = 1 + self.dice.below(4);
-                self.say(&format!("{any} ends in a save, after step {step}"));
-                self.fail(any, 2, step);
-                self.fail(any, 6, 1);
-            }
-        }
+        let fault = self.pack.pop().unwrap_or_else(|| {
+            self.pack = PACK.to_vec();
+            self.dice.shuffle(&mut self.pack);
+            self.pack.pop().unwrap_or(Fault::Kill)
+        });
+        *self.counts.entry(fault.name()).or_default() += u64::from(self.happen(fault)?);
         Ok(())
     }
 
-    fn fail(&mut self, place: usize, what: u32, how: u64) {
+    /// Has a fault happen, and says whether it has.
+    fn happen(&mut self, fault: Fault) -> Result<bool, String> {
+        let coordinator = self.coordinator();
+        let host = self.dice.below(coordinator as u64) as usize;
+        let any = self.dice.below(coordinator as u64 + 1) as usize;
+        match fault {
+            Fault::Kill => self.end(host, false)?,
+            Fault::KillCoordinator => self.end(coordinator, false)?,
+            Fault::Power => self.end(host, true)?,
+            Fault::PowerCoordinator => self.end(coordinator, true)?,
+            Fault::Stop => self.stand_still(host),
+            Fault::StopCoordinator => {
+                self.wait_until_served(5)?;
+                self.stand_still(coordinator);
+            }
+            Fault::Save => return self.end_in_save(any, false),
+            Fault::SavePower => return self.end_in_save(any, true),
+            Fault::Pair => self.cut_off(host, (host + 1 + any % (coordinator - 1)) % coordinator, true),
+            Fault::OneWay => self.cut_off(any, (any + 1 + host) % (coordinator + 1), false),
+            Fault::FromCoordinator => self.cut_off(host, coordinator, true),
+            Fault::Mangle => {
+                self.say(&format!("frames of {any} are repeated, reordered, cut and damaged"));
+                self.ask(any, Wrong::Mangle(100));
+                self.wait(500, 1500);
+                self.ask(any, Wrong::Mangle(0));
+            }
+            Fault::Noise => {
+                self.say(&format!("strangers talk to {any}"));
+                noise::make(&self.cluster.target, any, &mut self.dice);
+            }
+            Fault::Full => self.fill_disk(host)?,
+            Fault::FullCoordinator => self.fill_disk(coordinator)?,
+            Fault::FullInSave => {
+                self.say(&format!("the disk of {any} is full in a save"));
+                self.ask(any, Wrong::FullInSave);
+                return self.await_end(any);
+            }
+            Fault::FailingSync => {
+                self.say(&format!("a sync of {any} fails"));
+                self.losing.insert(any);
+                self.ask(any, Wrong::Sync);
+                return self.await_end(any);
+            }
+            Fault::Clock => {
+                let ahead = self.dice.between(1, 20) as i64;
+                let seconds = if self.dice.below(2) == 0 { ahead } else { -ahead };
+                self.say(&format!("the clock of {any} jumps by {seconds} s"));
+                self.ask(any, Wrong::Jump(seconds * 1_000_000_000));
+            }
+        }
+        Ok(true)
+    }
+
+    /// Asks a process to do something wrong; again, where it has been started since the last time.
+    fn ask(&mut self, place: usize, wrong: Wrong) {
+        let (what, how) = wrong.code();
         self.client.wait = Duration::from_millis(300);
-        let _ = self.client.call(place as u8, Op::Fail, what, how, &[]);
+        for _ in 0..3 {
+            if self.client.call(place as u8, Op::Fail, what, how, &[]).is_ok() {
+                return;
+            }
+        }
     }
 
     /// A process ends, and comes back after a while. Without power some of what was not safe is lost, and some damaged.
-    fn end(&mut self, place: usize, how: &str, power: bool) -> Result<(), String> {
+    fn end(&mut self, place: usize, power: bool) -> Result<(), String> {
         self.cluster.kill(place);
-        let mut lost = String::new();
+        self.say(&format!("{place} is killed"));
         if power {
-            lost = self.cut(place).unwrap_or_default();
+            self.cut_power(place)?;
         }
-        self.say(&format!("{place} is {how}{lost}"));
-        let pause = self.dice.below(1500);
+        self.wait(0, 1500);
+        self.start(place)
+    }
+
+    fn cut_power(&mut self, place: usize) -> Result<(), String> {
+        let lost = disk::cut_power(&self.cluster.folder(place), &mut self.dice);
+        let lost = lost.map_err(|error| format!("the folder of {place}: {error}"))?;
+        self.lost += lost.bytes;
+        self.say(&format!("its power is cut: {lost:?}"));
+        Ok(())
+    }
+
+    fn stand_still(&mut self, place: usize) {
+        let pause = self.dice.between(1000, 5000);
+        self.say(&format!("{place} stands still for {pause} ms"));
+        self.cluster.signal(place, "-STOP");
         thread::sleep(Duration::from_millis(pause));
+        self.cluster.signal(place, "-CONT");
+    }
+
+    fn end_in_save(&mut self, place: usize, power: bool) -> Result<bool, String> {
+        let step = self.dice.below(6) as u8;
+        self.say(&format!("{place} ends in a save, after step {step}"));
+        self.ask(place, Wrong::EndInSave(step));
+        if power {
+            self.losing.insert(place);
+        }
+        self.await_end(place)
+    }
+
+    /// One sends nothing to the other, for a while, nor that to it, where it is for both. Hosts that do not hear each other
+    /// go on without one of them; what does not hear the coordinator has to wait.
+    fn cut_off(&mut self, one: usize, other: usize, both: bool) {
+        let longest = if one.max(other) == self.coordinator() { 2000 } else { 5000 };
+        let pause = self.dice.between(500, longest);
+        self.say(&format!(
+            "{one} sends nothing to {other}{} for {pause} ms",
+            if both { ", nor that to it," } else { "" }
+        ));
+        self.ask(one, Wrong::Deaf(1 << other));
+        if both {
+            self.ask(other, Wrong::Deaf(1 << one));
+        }
+        thread::sleep(Duration::from_millis(pause));
+        [one, other].into_iter().for_each(|place| self.ask(place, Wrong::Deaf(0)));
+    }
+
+    /// The disk is full for a while. Whoever starts then ends again.
+    fn fill_disk(&mut self, place: usize) -> Result<(), String> {
+        self.say(&format!("the disk of {place} is full"));
+        let full = self.cluster.folder(place).join(FULL);
+        fs::write(&full, []).map_err(|error| error.to_string())?;
+        let until = Instant::now() + Duration::from_millis(self.dice.between(200, 1500));
+        while Instant::now() < until {
+            thread::sleep(Duration::from_millis(100));
+            self.start_ended()?;
+        }
+        fs::remove_file(&full).map_err(|error| error.to_string())
+    }
+
+    /// Waits for a process to end by itself, and starts it again. One that has not ended after a second is not to any more:
+    /// it may have had nothing to sync.
+    fn await_end(&mut self, place: usize) -> Result<bool, String> {
+        let began = Instant::now();
+        while began.elapsed() < Duration::from_secs(1) {
+            if self.start_ended()?.contains(&place) {
+                return Ok(true);
+            }
+            thread::sleep(Duration::from_millis(20));
+        }
+        self.ask(place, Wrong::Nothing);
+        self.losing.remove(&place);
+        Ok(self.start_ended()?.contains(&place))
+    }
+
+    /// Starts a process. What a test kept beside its journal is of no use any more.
+    fn start(&mut self, place: usize) -> Result<(), String> {
+        disk::forget_save(&self.cluster.folder(place));
         self.cluster.start(place)
     }
 
-    /// Cuts what was not safe off somewhere, and damages some of what is left of it.
-    fn cut(&mut self, place: usize) -> Option<String> {
-        let folder = self.cluster.folder(place);
-        let known = u64_at(&fs::read(folder.join("known")).ok()?, 0)?;
-        let file = OpenOptions::new().write(true).open(folder.join("journal")).ok()?;
-        let length = file.metadata().ok()?.len();
-        if length <= known {
-            return None;
+    /// Starts those that have ended by themselves, and says which.
+    fn start_ended(&mut self) -> Result<Vec<usize>, String> {
+        let ended = self.cluster.ended();
+        for (place, how) in &ended {
+            self.say(&format!("{place} has ended: {how}"));
+            if self.losing.remove(place) {
+                self.cut_power(*place)?;
+            }
+            self.start(*place)?;
         }
-        let left = known + self.dice.below(length - known + 1);
-        file.set_len(left).ok()?;
-        if known < left && self.dice.below(2) == 0 {
-            file.write_all_at(&[0x55], known + self.dice.below(left - known)).ok()?;
-        }
-        Some(format!(", {} of {} bytes that were not safe are lost", length - left, length - known))
+        Ok(ended.into_iter().map(|(place, _)| place).collect())
     }
 
-    fn start_ended(&mut self) -> Result<(), String> {
-        for (place, how) in self.cluster.ended() {
-            say!("           {place} has ended: {how}");
-            self.cluster.start(place)?;
+    /// Waits until each host was heard, and nothing is being recovered, for so many seconds at most.
+    fn wait_until_served(&mut self, seconds: u64) -> Result<bool, String> {
+        let began = Instant::now();
+        while began.elapsed() < Duration::from_secs(seconds) {
+            self.start_ended()?;
+            self.client.wait = Duration::from_millis(300);
+            if let Some(reply) = self.client.call_coordinator(Op::Status, 0, 0) {
+                let text = String::from_utf8_lossy(&reply.value).into_owned();
+                let heard = text.lines().filter(|line| line.contains(" up heard ")).count();
+                if heard == self.coordinator() && !text.contains("is being recovered") {
+                    return Ok(true);
+                }
+            }
+            thread::sleep(Duration::from_millis(50));
         }
-        Ok(())
+        Ok(false)
     }
 
     /// No more faults.
     fn calm(&mut self) -> Result<(), String> {
-        say!("{:6} ms: calm", self.began.elapsed().as_millis());
+        self.say("calm");
         for _ in 0..10 {
             self.start_ended()?;
             thread::sleep(Duration::from_millis(300));
         }
         for place in 0..self.cluster.places() {
-            self.fail(place, 3, 0);
-            self.fail(place, 4, 0);
+            self.ask(place, Wrong::Deaf(0));
+            self.ask(place, Wrong::Mangle(0));
         }
         Ok(())
     }
 }
 
-/// What a client has done.
-#[derive(Clone, Copy, Debug, Default)]
-struct Lived {
-    writes: u64,
-    reads: u64,
-    unknown: u64,
-    /// The longest time without an answer, in milliseconds.
-    gap: u128,
-}
+/// How many writes a second have to be acknowledged at least, on average.
+const LEAST_WRITES: u64 = 10;
 
-impl Lived {
-    fn add(&mut self, other: Lived) {
-        self.writes += other.writes;
-        self.reads += other.reads;
-        self.unknown += other.unknown;
-        self.gap = self.gap.max(other.gap);
-    }
-}
+/// How a process that must not start says so.
+const REFUSES: &str = "must not start";
 
-/// A client writes and reads until it is told to end, and notes each invocation and its response, as `ramseg check` reads
-/// them. Each operation has a process number of its own.
-fn live(number: u64, seed: u64, target: Target, ends: &AtomicBool, history: &Mutex<String>) -> Lived {
-    let mut dice = Dice(seed.wrapping_mul(31).wrapping_add(number));
-    let mut client = Client::new(target);
-    client.wait = Duration::from_millis(800);
-    client.patience = Duration::from_millis(1500);
-    let (mut lived, mut last, mut count) = (Lived::default(), Instant::now(), 0);
-    while !ends.load(Ordering::Relaxed) {
-        let key = dice.below(KEYS);
-        count += 1;
-        let value = format!("{number}-{count}");
-        let what = ["get", "put", "put", "delete"][dice.below(4) as usize];
-        let process = count * CLIENTS + number;
-        let f = if what == "get" { "read" } else { "write" };
-        let given = if what == "put" { text(Some(value.as_bytes())) } else { "null".into() };
-        note(history, process, "invoke", f, key, &format!("\"value\":{given}"));
-        let outcome = match what {
-            "get" => client.get(TABLE, key),
-            "put" => client.put(TABLE, key, value.as_bytes()),
-            _ => client.delete(TABLE, key),
-        };
-        let (kind, more) = match &outcome {
-            Outcome::Written(version) => ("ok", format!("\"value\":{given},\"version\":{version}")),
-            Outcome::Read(version, read) => {
-                ("ok", format!("\"value\":{},\"version\":{version}", text(read.as_deref())))
+impl Storm {
+    /// With journals that were spoilt among the bytes that were safe no node starts; with its own it does. Says how many
+    /// have refused.
+    fn start_spoilt(&mut self) -> Result<u64, String> {
+        let host = self.dice.below(self.coordinator() as u64) as usize;
+        let mut refused = 0;
+        for place in [host, self.coordinator()] {
+            let folder = self.cluster.folder(place);
+            self.cluster.kill(place);
+            for how in [Spoilt::Damaged, Spoilt::Cut, Spoilt::Gone] {
+                let bytes = disk::spoil(&folder, how, &mut self.dice);
+                let bytes = bytes.map_err(|error| format!("the journal of {place}: {error}"))?;
+                let logged = fs::read(folder.join("log")).map_or(0, |log| log.len());
+                self.cluster.start(place)?;
+                refused += u64::from(self.has_refused(place, logged));
+                self.cluster.kill(place);
+                fs::write(folder.join("journal"), bytes).map_err(|error| error.to_string())?;
             }
-            Outcome::Unknown => ("info", format!("\"value\":{given}")),
-            Outcome::Refused(_) => ("fail", format!("\"value\":{given}")),
-        };
-        note(history, process, kind, f, key, &more);
-        match &outcome {
-            Outcome::Written(_) => lived.writes += 1,
-            Outcome::Read(..) => lived.reads += 1,
-            _ => lived.unknown += 1,
+            self.cluster.start(place)?;
         }
-        if kind == "ok" {
-            lived.gap = lived.gap.max(last.elapsed().as_millis());
-            last = Instant::now();
+        if self.wait_until_served(30)? {
+            return Ok(refused);
         }
-        thread::sleep(Duration::from_millis(2 + dice.below(10)));
+        Err("the cluster is not served with the journals as they were".into())
     }
-    lived.gap = lived.gap.max(last.elapsed().as_millis());
-    lived
-}
 
-/// A value in hexadecimal, in quotes, or null.
-fn text(value: Option<&[u8]>) -> String {
-    value.map_or("null".into(), |value| {
-        let digits = value.iter().map(|byte| format!("{byte:02x}")).collect::<String>();
-        format!("\"{digits}\"")
-    })
-}
+    /// Whether the process ends by itself, and has said that it must not start.
+    fn has_refused(&mut self, place: usize, logged: usize) -> bool {
+        let began = Instant::now();
+        while began.elapsed() < Duration::from_secs(30) {
+            if self.cluster.ended().iter().any(|(other, _)| *other == place) {
+                let log = fs::read(self.cluster.folder(place).join("log")).unwrap_or_default();
+                return String::from_utf8_lossy(log.get(logged..).unwrap_or_default()).contains(REFUSES);
+            }
+            thread::sleep(Duration::from_millis(20));
+        }
+        false
+    }
 
-/// Adds a line to the history.
-fn note(history: &Mutex<String>, process: u64, kind: &str, f: &str, key: u64, more: &str) {
-    if let Ok(mut history) = history.lock() {
-        let key = format!("\"{TABLE}/{key}\"");
-        let line = format!("\"process\":{process},\"type\":\"{kind}\",\"f\":\"{f}\",\"key\":{key},{more}");
-        let _ = writeln!(history, "{{{line}}}");
+    /// Tells what has happened, and whether it is as it should be.
+    fn tell(&self, seed: u64, done: &Lived, machine: &Machine, most: Duration, refused: u64) -> Result<bool, String> {
+        let gap = done.gap(machine);
+        let from = gap.from.map_or(0, |from| (from - self.began).as_millis());
+        let counts = self.counts.iter().map(|(name, count)| format!(" {name}={count}")).collect::<String>();
+        say!("faults:{counts}");
+        say!(
+            "seed {seed}: {} faults, {} writes, {} reads, {} unknown, longest gap {} ms (from {from}), {} bytes lost that were not safe",
+            self.counts.values().sum::<u64>(),
+            done.writes,
+            done.reads,
+            done.unknown,
+            gap.whole.as_millis(),
+            self.lost
+        );
+        if most < gap.whole {
+            let (thread, sync) = machine.longest();
+            say!(
+                "busy: {} ms without what the machine kept waiting: a thread that was due up to {} ms, a sync up to {} ms",
+                gap.served.as_millis(),
+                thread.as_millis(),
+                sync.as_millis()
+            );
+        }
+        let least = LEAST_WRITES * self.began.elapsed().as_secs();
+        if done.writes < least {
+            say!("wrong: fewer than {least} writes were acknowledged, too few to tell anything");
+        }
+        if refused != 6 {
+            say!("wrong: {refused} of 6 spoilt journals were refused");
+        }
+        Ok(gap.served <= most && least <= done.writes && refused == 6)
     }
 }

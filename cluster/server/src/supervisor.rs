@@ -1,7 +1,7 @@
 //! Starting nodes: one in this process, or a whole cluster of processes.
 
 use crate::client::{Client, Target};
-use crate::core::Config;
+use crate::core::{Config, tell};
 use crate::options::Options;
 use crate::protocol::Op;
 use crate::{coordinator, host};
@@ -40,6 +40,7 @@ pub fn serve(options: &Options) -> Result<(), String> {
         record: options.has("--record"),
         faults: options.has("--faults"),
     };
+    tell("starts");
     thread::spawn(|| {
         let mut input = std::io::stdin();
         while !matches!(input.read(&mut [0; 64]), Ok(0) | Err(_)) {}

@@ -1,6 +1,7 @@
 //! Records as one trace: in the order of the clock, in which each message is sent before it is delivered.
 
 use crate::options::Options;
+use crate::record::messages;
 use sevunthi::message::{kind, u16_at, u32_at, u64_at};
 use sevunthi::{Address, Envelope, Id};
 use std::fmt::Write as _;
@@ -12,26 +13,14 @@ pub fn run(options: &Options) -> Result<bool, String> {
     for place in 0.. {
         let Some(name) = options.word(place) else { break };
         let bytes = fs::read(name).map_err(|error| format!("{name}: {error}"))?;
-        records(&bytes, place, &mut all);
+        let messages = messages(&bytes).enumerate();
+        all.extend(messages.map(|(number, (clock, message))| (clock, place, number, message.to_vec())));
     }
     all.sort_by_key(|&(clock, place, number, _)| (clock, place, number));
     let rows: Vec<String> = all.iter().filter_map(|(.., message)| row(message)).collect();
     say!("{{\"format\":1,\"messages\":[\n{}\n]}}", rows.join(",\n"));
     eprintln!("{} messages, {} in the trace", all.len(), rows.len());
     Ok(true)
-}
-
-type Record = (u64, usize, usize, Vec<u8>);
-
-/// The records of a file, up to one that was cut.
-fn records(bytes: &[u8], place: usize, all: &mut Vec<Record>) {
-    let mut at = 0;
-    for number in 0.. {
-        let (Some(clock), Some(length)) = (u64_at(bytes, at), u32_at(bytes, at + 8)) else { return };
-        let Some(message) = bytes.get(at + 12..at + 12 + length as usize) else { return };
-        all.push((clock, place, number, message.to_vec()));
-        at += 12 + length as usize;
-    }
 }
 
 fn id(id: Id) -> String {

@@ -16,9 +16,22 @@ pub const HEARTBEAT: u8 = 0;
 /// The coordinator's answer to the heartbeat of one that its list shows crashed.
 pub const NOT_UP: u8 = 255;
 
-/// A sum against accidents, as journals have it.
-pub fn sum(bytes: &[u8]) -> u32 {
-    bytes.iter().fold(2_166_136_261, |sum: u32, byte| sum.wrapping_mul(16_777_619).wrapping_add(u32::from(*byte)))
+/// A sum against accidents: over words of eight bytes, of which the last is filled up with zeros and the length.
+fn sum(bytes: &[u8]) -> u32 {
+    let mut words = bytes.chunks_exact(8);
+    let mut sum = words.by_ref().fold(SEED, |sum, word| mix(sum, u64_at(word, 0).unwrap_or(0)));
+    let mut last = [0; 8];
+    last[..words.remainder().len()].copy_from_slice(words.remainder());
+    sum = mix(mix(sum, u64::from_le_bytes(last)), bytes.len() as u64);
+    (sum >> 32) as u32
+}
+
+const SEED: u64 = 0xcbf2_9ce4_8422_2325;
+
+/// The product goes on with its upper half folded in, so that each bit of a word comes to the upper half of the sum.
+fn mix(sum: u64, word: u64) -> u64 {
+    let product = (sum ^ word).wrapping_mul(0x9e37_79b9_7f4a_7c15);
+    product ^ product >> 32
 }
 
 /// Adds a frame.
@@ -93,6 +106,8 @@ impl Seal {
 #[cfg(test)]
 mod tests {
     use super::*;
+    use crate::dice::Dice;
+    use crate::protocol::{Op, Reply, Request};
 
     #[test]
     fn a_batch_is_taken_once() {
@@ -116,5 +131,47 @@ mod tests {
             damaged[place] ^= 1;
             assert!(frames(&damaged).all(|frame| frame != (7, &b"hello"[..])));
         }
+    }
+
+    /// Batches and requests with some bytes changed, as many as `MUTATIONS` says: none is taken for what was never sent.
+    #[test]
+    fn mutations_bring_no_message_that_was_not_sent() {
+        let count = std::env::var("MUTATIONS").ok().and_then(|word| word.parse().ok()).unwrap_or(20_000);
+        let messages = [&b"a message"[..], b"", b"another message"];
+        let mut whole = Vec::new();
+        messages.iter().for_each(|message| put_frame(7, message, &mut whole));
+        let batch = Seal::new(b"secret", [1; 16]).close(&whole);
+        let mut request = Vec::new();
+        let asked = Request { op: Op::Put, number: 3, table: 1, key: 5, value: b"value".to_vec() };
+        asked.put(&mut request);
+        let mut dice = Dice::new(7);
+        for _ in 0..count {
+            let frames_of = mutated(&whole, &mut dice);
+            for (clock, message) in frames(&frames_of) {
+                assert!(clock == 7 && messages.contains(&message), "{message:?} was never sent");
+            }
+            let other = mutated(&batch, &mut dice);
+            let opened = other.get(4..).and_then(|batch| Seal::new(b"secret", [1; 16]).open(batch).map(<[u8]>::to_vec));
+            assert!(opened.is_none_or(|frames| frames == whole));
+            for piece in sevunthi::message::framed(&mutated(&request, &mut dice)) {
+                let _ = Request::read(piece);
+                let _ = Reply::read(piece);
+            }
+        }
+    }
+
+    /// Some bytes changed, taken away, or put there again.
+    fn mutated(bytes: &[u8], dice: &mut Dice) -> Vec<u8> {
+        let mut bytes = bytes.to_vec();
+        for _ in 0..=dice.below(3) {
+            let at = dice.below(bytes.len() as u64 + 1) as usize;
+            match (dice.below(4), bytes.get_mut(at)) {
+                (0, Some(byte)) => *byte ^= 1 << dice.below(8),
+                (1, Some(byte)) => *byte = [0, 1, 255, 2][dice.below(4) as usize],
+                (2, _) => bytes.truncate(at),
+                _ => bytes.extend_from_within(at..),
+            }
+        }
+        bytes
     }
 }

@@ -1,0 +1,180 @@
+//! What a power cut, or a disk, leaves of a node's folder while its process does not run.
+
+use crate::dice::Dice;
+use crate::faults::{BEFORE, SAFE_BEFORE};
+use sevunthi::message::u64_at;
+use std::fs::{self, File, OpenOptions};
+use std::io;
+use std::os::unix::fs::FileExt;
+use std::path::Path;
+
+/// What has become of a folder's files.
+#[derive(Clone, Copy, Debug, Default)]
+pub struct Lost {
+    /// Bytes of the journal that were not safe and are gone.
+    pub bytes: u64,
+    /// Whether some that were not safe are others now.
+    pub is_damaged: bool,
+    /// Whether a save that had taken the journal's place is gone, and what was there before is back.
+    pub is_rename_lost: bool,
+    /// Whether the number of bytes that were safe is an older one.
+    pub is_number_older: bool,
+}
+
+/// The number of bytes that a folder knows to be safe.
+fn known(folder: &Path, name: &str) -> Option<u64> {
+    u64_at(&fs::read(folder.join(name)).ok()?, 0)
+}
+
+/// A power cut: what was not synced is there or not, whole or damaged; of the steps of a save that were not synced each may
+/// be lost; and the number of safe bytes, which is never synced, may be an older one.
+pub fn cut_power(folder: &Path, dice: &mut Dice) -> io::Result<Lost> {
+    let mut lost = Lost::default();
+    let journal = folder.join("journal");
+    if !journal.exists() {
+        return Ok(lost);
+    }
+    spoil_end(&folder.join("next"), 0, dice, &mut Lost::default())?;
+    let mut safe = known(folder, "known").unwrap_or(0);
+    let before = folder.join(BEFORE);
+    if before.exists() {
+        // a save was begun: either its rename has happened, or not; and if it has, the folder may not know
+        let is_renamed = is_other_file(&before, &journal)?;
+        if !is_renamed {
+            safe = known(folder, SAFE_BEFORE).unwrap_or(safe);
+        } else if dice.below(2) == 0 {
+            fs::rename(&before, &journal)?;
+            lost.is_rename_lost = true;
+            safe = known(folder, SAFE_BEFORE).unwrap_or(0);
+        } else {
+            safe = fs::metadata(&journal)?.len();
+        }
+    }
+    spoil_end(&journal, safe, dice, &mut lost)?;
+    if dice.below(4) == 0 {
+        let older = dice.below(known(folder, "known").unwrap_or(0) + 1);
+        File::options().write(true).open(folder.join("known"))?.write_all_at(&older.to_le_bytes(), 0)?;
+        lost.is_number_older = true;
+    }
+    forget_save(folder);
+    Ok(lost)
+}
+
+fn is_other_file(one: &Path, other: &Path) -> io::Result<bool> {
+    use std::os::unix::fs::MetadataExt;
+    Ok(fs::metadata(one)?.ino() != fs::metadata(other)?.ino())
+}
+
+/// What was kept of the time before a save is not needed any more.
+pub fn forget_save(folder: &Path) {
+    let _ = fs::remove_file(folder.join(BEFORE));
+    let _ = fs::remove_file(folder.join(SAFE_BEFORE));
+}
+
+/// Cuts what was not safe off somewhere, and damages some of what is left of it.
+fn spoil_end(path: &Path, safe: u64, dice: &mut Dice, lost: &mut Lost) -> io::Result<()> {
+    let Ok(file) = OpenOptions::new().write(true).open(path) else { return Ok(()) };
+    let length = file.metadata()?.len();
+    if length <= safe {
+        return Ok(());
+    }
+    let left = safe + dice.below(length - safe + 1);
+    file.set_len(left)?;
+    lost.bytes = length - left;
+    if left <= safe || dice.below(2) == 0 {
+        return Ok(());
+    }
+    let at = safe + dice.below(left - safe);
+    let count = 1 + dice.below(left - at);
+    match dice.below(3) {
+        0 => file.write_all_at(&dice.bytes(count), at)?,
+        1 => file.write_all_at(&vec![0; count as usize], at)?,
+        // the length is there, and the bytes are not
+        _ => {
+            file.set_len(at)?;
+            file.set_len(length)?;
+        }
+    }
+    lost.is_damaged = true;
+    Ok(())
+}
+
+/// How a journal that was safe is spoilt, so that its node must not start.
+#[derive(Clone, Copy, Debug)]
+pub enum Spoilt {
+    /// A byte among those that were safe is another one.
+    Damaged,
+    /// It is shorter than what was safe.
+    Cut,
+    /// It is gone.
+    Gone,
+}
+
+/// Spoils the journal in this way, and gives its bytes as they were.
+pub fn spoil(folder: &Path, how: Spoilt, dice: &mut Dice) -> io::Result<Vec<u8>> {
+    let journal = folder.join("journal");
+    let bytes = fs::read(&journal)?;
+    let safe = known(folder, "known").unwrap_or(0);
+    if safe == 0 || (bytes.len() as u64) < safe {
+        return Err(io::Error::other("nothing of the journal is known to be safe"));
+    }
+    match how {
+        Spoilt::Damaged => {
+            let at = dice.below(safe);
+            let mut damaged = bytes.clone();
+            damaged[at as usize] ^= 1 << dice.below(8);
+            fs::write(&journal, damaged)?;
+        }
+        Spoilt::Cut => fs::write(&journal, &bytes[..dice.below(safe) as usize])?,
+        Spoilt::Gone => fs::remove_file(&journal)?,
+    }
+    Ok(bytes)
+}
+
+#[cfg(test)]
+mod tests {
+    use super::*;
+
+    #[test]
+    fn a_power_cut_leaves_what_was_safe() -> io::Result<()> {
+        let folder = std::env::temp_dir().join(format!("sevunthi-cut-{}", std::process::id()));
+        fs::create_dir_all(&folder)?;
+        let journal = folder.join("journal");
+        let whole: Vec<u8> = (1..=200).collect();
+        let (mut shorter, mut damaged) = (0, 0);
+        for seed in 0..200 {
+            fs::write(&journal, &whole)?;
+            fs::write(folder.join("known"), 120u64.to_le_bytes())?;
+            let lost = cut_power(&folder, &mut Dice::new(seed))?;
+            let left = fs::read(&journal)?;
+            assert_eq!(&left[..120], &whole[..120]);
+            assert!(left.len() <= 200);
+            assert!(known(&folder, "known").is_some_and(|known| known <= 120));
+            shorter += usize::from(left.len() < 200);
+            damaged += usize::from(lost.is_damaged);
+        }
+        assert!(50 < shorter && 20 < damaged);
+        fs::remove_dir_all(&folder)
+    }
+
+    #[test]
+    fn a_rename_may_be_lost() -> io::Result<()> {
+        let folder = std::env::temp_dir().join(format!("sevunthi-rename-{}", std::process::id()));
+        fs::create_dir_all(&folder)?;
+        let journal = folder.join("journal");
+        let mut old = 0;
+        for seed in 0..100 {
+            fs::write(folder.join(BEFORE), b"old and unsafe")?;
+            fs::write(folder.join(SAFE_BEFORE), 3u64.to_le_bytes())?;
+            fs::write(&journal, b"new")?;
+            fs::write(folder.join("known"), 0u64.to_le_bytes())?;
+            let lost = cut_power(&folder, &mut Dice::new(seed))?;
+            let left = fs::read(&journal)?;
+            assert!(if lost.is_rename_lost { left.starts_with(b"old") } else { left == b"new" });
+            old += usize::from(lost.is_rename_lost);
+            fs::remove_file(&journal)?;
+        }
+        assert!(20 < old && old < 80);
+        fs::remove_dir_all(&folder)
+    }
+}
