@@ -174,7 +174,7 @@ impl Exploration {
     fn notice(&mut self, event: &Event) -> Result<(), Fault> {
         let sent = self.world.sent();
         self.survey.note(event, sent, self.noticed)?;
-        if self.found.is_none() && is_reached(self.goal, self.survey.counts()) {
+        if self.found.is_none() && self.has_reached_goal() {
             self.found = Some(self.world.events().len().saturating_sub(1));
         }
         for number in self.noticed..sent.len() {
@@ -186,6 +186,14 @@ impl Exploration {
         }
         self.noticed = sent.len();
         Ok(())
+    }
+
+    /// Whether the run has reached what it is to reach.
+    fn has_reached_goal(&self) -> bool {
+        match self.goal {
+            Some(goal) => self.survey.counts().has(goal),
+            None => false,
+        }
     }
 
     /// One step, of this number.
@@ -367,13 +375,5 @@ impl Exploration {
         }
         let table = self.roster.next_table();
         Some(Event::Create { table, owner })
-    }
-}
-
-/// Whether what is to be reached was reached, if anything is to be.
-fn is_reached(goal: Option<Goal>, counts: &Counts) -> bool {
-    match goal {
-        Some(goal) => counts.has(goal),
-        None => false,
     }
 }
