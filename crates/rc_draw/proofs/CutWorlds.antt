@@ -1,5 +1,5 @@
 -- The world after a power failure, part by part.
-use Rattle.std.proofs.Common.{◌≡◌, ℕ, ◌+◌, ◌<◌, true, false, nat_lt, ◌&&◌, List, [], ◌∷◌, ◌++◌, length, take, get_or, ap, ap₂, sym, ◌∙◌}
+use Rattle.std.proofs.Common.{◌≡◌, ℕ, ◌+◌, ◌<◌, true, false, nat_lt, ◌&&◌, List, [], ◌∷◌, ◌++◌, length, take, get_or, ap, sym, ◌∙◌}
 use Rattle.std.proofs.lemmas.Bool.{lt-ltb}
 use Rattle.std.proofs.lemmas.List.{take_more}
 use Rattle.rc_model.specs.Model.{Setup, Event, World, is_possible, step, opening, replay, replay_from}
@@ -10,9 +10,9 @@ use Rattle.rc_reading.specs.declared.scenarios.ScenarioEvent.{ScenarioEvent}
 use Rattle.rc_reading.specs.declared.scenarios.ScenarioEvent.TheVariants.{Core}
 use Rattle.rc_world.specs.Happened.{Happened, opened, with_events, can_happen, replayed}
 use Rattle.rc_draw.specs.declared.cutting.Keeping.{Keeping}
-use Rattle.rc_draw.specs.declared.cutting.Keeping.TheVariants.{All, OddSegments, Nothing}
+use Rattle.rc_draw.specs.declared.cutting.Keeping.TheVariants.{All}
 use Rattle.rc_draw.specs.Draw.{settled, played}
-use Rattle.rc_draw.specs.Stops.{gathered, stop_of, start_of, decisions_of, cut_scene, cut_from, cut_world, breaks, breaches_at}
+use Rattle.rc_draw.specs.Stops.{gathered, stop_of, start_of, decisions_of, cut_scene, cut_from, cut_world, breaks}
 
 -- the event has happened
 pub takes_step : (old new : Happened) (event : Event) → new ≡ with_events old (event ∷ []) → replayed new ≡ step (replayed old) event
@@ -70,11 +70,3 @@ counted_alike setup hosts keeping events before seen all is same starts counted 
     ∙ ap (λ (first : List ScenarioEvent). breaks (played (replayed seen) (gathered (stop_of (replayed seen)) hosts ++ first
     ++ settled ∷ Core (Tick Coordinator) ∷ settled ∷ [] ++ gathered (decisions_of (replayed seen)) hosts ++ settled ∷ []))) (sym starts)
     ∙ ap (λ (w : Happened). breaks (cut_from hosts keeping (replayed w))) same)
-
--- in the three ways
-pub counted_all : (setup : Setup) (hosts : ℕ) (events : List Event) (all odd nothing : ℕ)
-    → all ≡ breaks (cut_world setup hosts All events) → odd ≡ breaks (cut_world setup hosts OddSegments events)
-    → nothing ≡ breaks (cut_world setup hosts Nothing events) → all + odd + nothing ≡ breaches_at setup hosts events
-unfolding breaches_at
-counted_all setup hosts events all odd nothing all_are odd_are nothing_are =
-    ap₂ (λ n m. n + m) (ap₂ (λ n m. n + m) all_are odd_are) nothing_are

@@ -73,8 +73,7 @@ breaches_at setup hosts events = breaks (cut_world setup hosts All events)
 -- the same of a power failure after each of the first so many events
 unfoldable pub breaches_of : Setup → ℕ → List Event → ℕ → ℕ
 breaches_of setup hosts events zero = 0
-breaches_of setup hosts events (suc n) =
-    breaches_of setup hosts events n + breaches_at setup hosts (take (suc n) events)
+breaches_of setup hosts events (suc n) = breaches_of setup hosts events n + breaches_at setup hosts (take (suc n) events)
 
 -- of drawn events
 abbrev pub breaches_below : List Event → ℕ → ℕ

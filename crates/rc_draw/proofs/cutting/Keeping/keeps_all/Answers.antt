@@ -1,4 +1,4 @@
-use Rattle.std.proofs.Common.{arith}
+use Rattle.std.proofs.Common.{◌≡◌, ◌≤◌, length, ap, sym, ◌∙◌, arith}
 use Rattle.rc_world.specs.Happened.{replayed}
 use Rattle.rc_draw.proofs.Keepings.{start_alike_none, start_alike_more}
 use Rattle.rc_draw.proofs.cutting.Keeping.keeps_all.Goals as goal
@@ -8,6 +8,4 @@ loop-host-init c = start_alike_none c.args.self (replayed c.args.world.now)
 
 pub loop-host-preserved : goal.loop-host-preserved
 loop-host-preserved c =
-    start_alike_more c.args.self (replayed c.args.world.now) c.loop-host.host c.in_ok-names.names.items c.of.result.items
-    c.loop-host.invariant c.in_ok-names.ensures.ok c.of.ensures
-    (omega (arith, c.if-len-count.false, c.len.ensures, c.len-count.ensures))
+    start_alike_more c.args.self (replayed c.args.world.now) c.loop-host.host c.loop-host.invariant ?
