@@ -16,7 +16,7 @@ _ramseg() {
     log) words="--json --help --output" ;;
     picture) words="--mermaid --help --output" ;;
     fuzz) words="--format --seed --steps --free --help" ;;
-    stops) words="--format --seed --steps --hosts --factor --segment --free --explored --help" ;;
+    stops) words="--format --seed --steps --help" ;;
     threads) words="--hosts --writes --help" ;;
     explore) words="--format --seed --steps --hosts --factor --segment --free --save --seeds --progress --until --help" ;;
     shrink) words="--keep --help --output" ;;

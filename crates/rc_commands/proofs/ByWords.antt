@@ -143,7 +143,6 @@ is_answer a b e = go a e
     go (asked.Audit json) e = ap (λ o. unwrap_or o b) e
     go (asked.Fuzz seed steps free json) e = ap (λ o. unwrap_or o b) e
     go (asked.Stops seed steps json) e = ap (λ o. unwrap_or o b) e
-    go (asked.StopsExplored seed steps hosts factor segment free json) e = ap (λ o. unwrap_or o b) e
     go (asked.Threads hosts writes) e = ap (λ o. unwrap_or o b) e
     go (asked.Explore seed steps hosts factor segment free save progress json) e = ap (λ o. unwrap_or o b) e
     go (asked.Survey first last steps hosts factor segment free progress json) e = ap (λ o. unwrap_or o b) e

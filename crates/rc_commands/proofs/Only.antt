@@ -140,11 +140,9 @@ module _ (T : Option Asked → Bool) (none : T None ≡ false) where
       go free (Some json) (Some seed) None = none
       go free (Some json) (Some seed) (Some steps) = each _ _ _ _
 
-  pub no_stops : ((seed steps : ℕ) (json : Bool) → T (Some (asked.Stops seed steps json)) ≡ false) →
-      ((seed steps hosts factor segment : ℕ) (free json : Bool) →
-      T (Some (asked.StopsExplored seed steps hosts factor segment free json)) ≡ false) → (rest : List Text) →
+  pub no_stops : ((seed steps : ℕ) (json : Bool) → T (Some (asked.Stops seed steps json)) ≡ false) → (rest : List Text) →
       T (asked_in (codes "stops" ∷ rest)) ≡ false
-  no_stops each all rest = ap T (asked_stops rest) ∙ never _ _ (by_rows (rows_at (leaf command.stops.top) rest).1)
+  no_stops each rest = ap T (asked_stops rest) ∙ never _ _ (go _ _ _)
     where
       go : (j : Option Bool) (o p : Option (Option ℕ)) →
           T (option_and_then (λ json. option_and_then (λ seed. option_map
@@ -153,32 +151,6 @@ module _ (T : Option Asked → Bool) (none : T None ≡ false) where
       go (Some json) None p = none
       go (Some json) (Some seed) None = none
       go (Some json) (Some seed) (Some steps) = each _ _ _
-
-      many : (free : Bool) (j : Option Bool) (seed steps hosts factor segment : Option ℕ) →
-          T (option_and_then (λ json. option_and_then (λ a. option_and_then (λ b. option_and_then (λ c.
-          option_and_then (λ d. option_map (λ e. asked.StopsExplored a b c d e free json) segment) factor) hosts)
-          steps) seed) j) ≡ false
-      many free None seed steps hosts factor segment = none
-      many free (Some j) None steps hosts factor segment = none
-      many free (Some j) (Some a) None hosts factor segment = none
-      many free (Some j) (Some a) (Some b) None factor segment = none
-      many free (Some j) (Some a) (Some b) (Some c) None segment = none
-      many free (Some j) (Some a) (Some b) (Some c) (Some d) None = none
-      many free (Some j) (Some a) (Some b) (Some c) (Some d) (Some e) = all _ _ _ _ _ _ _
-
-      either : (explored sized : Bool) (x y : Option Asked) → T x ≡ false → T y ≡ false →
-          T (cond explored x (cond sized None y)) ≡ false
-      either true sized x y e f = e
-      either false true x y e f = none
-      either false false x y e f = f
-
-      by_rows : (rows : List Row) → T (stops_in rows) ≡ false
-      by_rows rows = either (line_of.has_flag (codes "explored") rows) (line_of.is_sized rows) _ _
-          (many (line_of.has_flag (codes "free") rows) (line_of.json_given rows)
-          (line_of.number_or 1 (codes "seed") 0 18446744073709551615 rows)
-          (line_of.number_or 300 (codes "steps") 0 1000 rows) (line_of.number_or 5 (codes "hosts") 1 16 rows)
-          (line_of.number_or 2 (codes "factor") 1 5 rows) (line_of.number_or 2 (codes "segment") 1 1024 rows))
-          (go (line_of.json_given rows) (line_of.seed_given rows) (line_of.number_given (codes "steps") 0 1000 rows))
 
   pub no_threads : ((hosts writes : ℕ) → T (Some (asked.Threads hosts writes)) ≡ false) → (rest : List Text) →
       T (asked_in (codes "threads" ∷ rest)) ≡ false
@@ -327,8 +299,7 @@ trace_only (word ∷ rest) h = by_command (λ w. is_trace (asked_in (w ∷ rest)
     (sym (ap is_trace (asked_trace rest)) ∙ e))
     (λ e. absurd (true≢false (sym e ∙ no_audit is_trace refl (λ json. refl) rest)))
     (λ e. absurd (true≢false (sym e ∙ no_fuzz is_trace refl (λ seed steps free json. refl) rest)))
-    (λ e. absurd (true≢false (sym e ∙ no_stops is_trace refl (λ seed steps json. refl)
-    (λ seed steps hosts factor segment free json. refl) rest)))
+    (λ e. absurd (true≢false (sym e ∙ no_stops is_trace refl (λ seed steps json. refl) rest)))
     (λ e. absurd (true≢false (sym e ∙ no_threads is_trace refl (λ hosts writes. refl) rest)))
     (λ e. absurd (true≢false (sym e ∙ no_explore is_trace refl
     (λ seed steps hosts factor segment free save progress json. refl)
@@ -412,8 +383,7 @@ run_only (word ∷ rest) h = by_command (λ w. is_bare_run (asked_in (w ∷ rest
     (λ e. absurd (true≢false (sym e ∙ no_trace is_bare_run refl refl rest)))
     (λ e. absurd (true≢false (sym e ∙ no_audit is_bare_run refl (λ json. refl) rest)))
     (λ e. absurd (true≢false (sym e ∙ no_fuzz is_bare_run refl (λ seed steps free json. refl) rest)))
-    (λ e. absurd (true≢false (sym e ∙ no_stops is_bare_run refl (λ seed steps json. refl)
-    (λ seed steps hosts factor segment free json. refl) rest)))
+    (λ e. absurd (true≢false (sym e ∙ no_stops is_bare_run refl (λ seed steps json. refl) rest)))
     (λ e. absurd (true≢false (sym e ∙ no_threads is_bare_run refl (λ hosts writes. refl) rest)))
     (λ e. absurd (true≢false (sym e ∙ no_explore is_bare_run refl
     (λ seed steps hosts factor segment free save progress json. refl)
@@ -436,8 +406,7 @@ audit_only (word ∷ rest) h = by_command (λ w. is_audit (asked_in (w ∷ rest)
     (λ e. absurd (true≢false (sym e ∙ no_trace is_audit refl refl rest)))
     (λ e. audit_ends rest (sym (ap is_audit (asked_audit rest)) ∙ e))
     (λ e. absurd (true≢false (sym e ∙ no_fuzz is_audit refl (λ seed steps free json. refl) rest)))
-    (λ e. absurd (true≢false (sym e ∙ no_stops is_audit refl (λ seed steps json. refl)
-    (λ seed steps hosts factor segment free json. refl) rest)))
+    (λ e. absurd (true≢false (sym e ∙ no_stops is_audit refl (λ seed steps json. refl) rest)))
     (λ e. absurd (true≢false (sym e ∙ no_threads is_audit refl (λ hosts writes. refl) rest)))
     (λ e. absurd (true≢false (sym e ∙ no_explore is_audit refl
     (λ seed steps hosts factor segment free save progress json. refl)

@@ -14,7 +14,7 @@ use Rattle.clap.proofs.OnLiterals.{clap_on_literals}
 use Rattle.clap.proofs.WalkLemmas.{both}
 use Rattle.rc_commands.specs.declared.asking.Asked.{Asked}
 use Rattle.rc_commands.specs.Asking.{Tells, asks_for_text, begins_with_help, exploring, is_command, is_end, is_help}
-use Rattle.rc_commands.specs.Asking.{is_option, is_plain, is_request, is_text, is_version, stopping}
+use Rattle.rc_commands.specs.Asking.{is_option, is_plain, is_request, is_text, is_version}
 use Rattle.rc_commands.specs.Commands.{ramseg}
 use Rattle.rc_commands.proofs.Words.{IsLevel, asks, audit_is, explore_is, fuzz_is, leaf, line_told, run_is, same}
 use Rattle.rc_commands.proofs.Words.{stops_is, log_is, heal_is, picture_is, shrink_is, tells, tells_first}
@@ -235,8 +235,8 @@ line word rest plain = by_command (λ w. is_plain (w ∷ rest) ≡ true → Agre
     ∙ after command.fuzz.top (codes "format" ∷ codes "seed" ∷ codes "steps" ∷ codes "free" ∷ []) fuzz_is fuzz_alone fuzz_ended rest
     (plain_after (codes "format" ∷ codes "seed" ∷ codes "steps" ∷ codes "free" ∷ []) rest (codes "fuzz") (λ w more h. not_true _ h) e))
     (λ e. ap (agrees (is_end rest) (begins_with_help rest)) (stops_line rest)
-    ∙ after command.stops.top stopping stops_is stops_alone stops_ended rest
-    (plain_after stopping rest (codes "stops") (λ w more h. not_true _ h) e))
+    ∙ after command.stops.top (codes "format" ∷ codes "seed" ∷ codes "steps" ∷ []) stops_is stops_alone stops_ended rest
+    (plain_after (codes "format" ∷ codes "seed" ∷ codes "steps" ∷ []) rest (codes "stops") (λ w more h. not_true _ h) e))
     (λ e. ap (agrees (is_end rest) (begins_with_help rest)) (threads_line rest)
     ∙ after command.threads.top (codes "hosts" ∷ codes "writes" ∷ []) threads_is threads_alone threads_ended rest
     (plain_after (codes "hosts" ∷ codes "writes" ∷ []) rest (codes "threads") (λ w more h. not_true _ h) e))

@@ -17,7 +17,7 @@ use Rattle.clap.specs.Simple.{Shape, built, built_leaf, filled, help_rule, versi
 use Rattle.clap.specs.Faults.{positional_fault, short_fault, turn_fault, walk_fault, flag_word_fault, other_fault, step_fault}
 use Rattle.clap.specs.Faults.{stray_fault, level_fault, flags_fault, bundle_step_fault, bundle_fault, long_fault}
 use Rattle.clap.proofs.OnLiterals.{clap_on_literals}
-use Rattle.rc_commands.specs.Asking.{exploring, is_help, is_option, is_request, is_version, stopping}
+use Rattle.rc_commands.specs.Asking.{exploring, is_help, is_option, is_request, is_version}
 use Rattle.rc_commands.specs.Commands as command
 use Rattle.rc_commands.specs.Commands.{ramseg}
 
@@ -138,25 +138,17 @@ audit_is = record {
   positional = refl;
 }
 
-pub stops_is : IsLevel (leaf command.stops.top) false stopping
+pub stops_is : IsLevel (leaf command.stops.top) false (codes "format" ∷ codes "seed" ∷ codes "steps" ∷ [])
 unfolding clap_on_literals
 stops_is = record { long = long; short = λ x. refl; strays = refl; positional = refl }
   where
-    long : (name : Text) → list_any (λ option. bytes_eq option name) stopping ≡ false
+    long : (name : Text) → list_any (λ option. bytes_eq option name) (codes "format" ∷ codes "seed" ∷ codes "steps" ∷ []) ≡ false
         → arg_by_long (leaf command.stops.top).rules name ≡ flag_of (bytes_eq (codes "help") name) false
     long name e =
         let p = or_parts _ _ e in
         let q = or_parts _ _ p.1 in
-        let r = or_parts _ _ q.1 in
-        let s = or_parts _ _ r.1 in
-        let t = or_parts _ _ s.1 in
-        let u = or_parts _ _ t.1 in
-        let v = or_parts _ _ u.1 in
-        passed (bytes_eq (codes "format") name) _ _ p.0
-        ∙ passed (bytes_eq (codes "seed") name) _ _ q.0 ∙ passed (bytes_eq (codes "steps") name) _ _ r.0
-        ∙ passed (bytes_eq (codes "hosts") name) _ _ s.0 ∙ passed (bytes_eq (codes "factor") name) _ _ t.0
-        ∙ passed (bytes_eq (codes "segment") name) _ _ u.0 ∙ passed (bytes_eq (codes "free") name) _ _ v.0
-        ∙ passed (bytes_eq (codes "explored") name) _ _ (or_parts _ _ v.1).0
+        passed (bytes_eq (codes "format") name) _ _ p.0 ∙ passed (bytes_eq (codes "seed") name) _ _ q.0
+        ∙ passed (bytes_eq (codes "steps") name) _ _ (or_parts _ _ q.1).0
 
 pub threads_is : IsLevel (leaf command.threads.top) false (codes "hosts" ∷ codes "writes" ∷ [])
 unfolding clap_on_literals

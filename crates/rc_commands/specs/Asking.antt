@@ -43,8 +43,6 @@ abbrev pub IsInRange : Asked → Type 0
 IsInRange (asked.Run heap json) = IsWithin 16 1048576 heap
 IsInRange (asked.Fuzz seed steps free json) = steps ≤ 100000
 IsInRange (asked.Stops seed steps json) = steps ≤ 1000
-IsInRange (asked.StopsExplored seed steps hosts factor segment free json) =
-    (steps ≤ 1000) × IsSized steps hosts factor segment
 IsInRange (asked.Threads hosts writes) = (3 ≤ hosts) × (hosts ≤ 16) × (writes ≤ 1000)
 IsInRange (asked.Explore seed steps hosts factor segment free save progress json) = IsSized steps hosts factor segment
 IsInRange (asked.Survey first last steps hosts factor segment free progress json) =
@@ -87,9 +85,8 @@ fuzz_in rows = option_and_then (λ json. option_and_then (λ seed. option_map
     (λ steps. asked.Fuzz (unwrap_or seed 1) (unwrap_or steps 1000) (has_flag (codes "free") rows) json)
     (number_given (codes "steps") 0 100000 rows)) (seed_given rows)) (json_given rows)
 
--- `stops` of the events that `fuzz` draws
-abbrev pub plain_in : List Row → Option Asked
-plain_in rows = option_and_then (λ json. option_and_then (λ seed. option_map
+abbrev pub stops_in : List Row → Option Asked
+stops_in rows = option_and_then (λ json. option_and_then (λ seed. option_map
     (λ steps. asked.Stops (unwrap_or seed 1) (unwrap_or steps 300) json)
     (number_given (codes "steps") 0 1000 rows)) (seed_given rows)) (json_given rows)
 
@@ -122,26 +119,6 @@ seeds_given rows = option_map_or (λ text. option_map Some (range_in text)) (fir
 
 abbrev pub has_option : Text → List Row → Bool
 has_option name rows = option_map_or (λ _. true) (first_of name rows) false
-
--- `stops` of the events that `explore` draws
-abbrev pub explored_in : List Row → Option Asked
-explored_in rows =
-    option_and_then (λ json. option_and_then (λ seed. option_and_then (λ steps. option_and_then (λ hosts.
-    option_and_then (λ factor. option_map
-    (λ segment. asked.StopsExplored seed steps hosts factor segment (has_flag (codes "free") rows) json)
-    (number_or 2 (codes "segment") 1 1024 rows)) (number_or 2 (codes "factor") 1 5 rows))
-    (number_or 5 (codes "hosts") 1 16 rows)) (number_or 300 (codes "steps") 0 1000 rows))
-    (number_or 1 (codes "seed") 0 18446744073709551615 rows)) (json_given rows)
-
--- hosts, replicas or segments were given
-abbrev pub is_sized : List Row → Bool
-is_sized rows = has_option (codes "hosts") rows || has_option (codes "factor") rows
-    || has_option (codes "segment") rows || has_flag (codes "free") rows
-
--- hosts, replicas and segments go with `--explored`
-abbrev pub stops_in : List Row → Option Asked
-stops_in rows =
-    if has_flag (codes "explored") rows then explored_in rows else (if is_sized rows then None else plain_in rows)
 
 -- `explore` of one seed
 abbrev pub single_in : Bool → List Row → Option Asked
@@ -311,10 +288,6 @@ abbrev pub asks_for_text : List Text → Bool
 asks_for_text [] = false
 asks_for_text (word ∷ rest) = if is_command word then begins_with_help rest else (is_help word || is_version word)
 
-abbrev pub stopping : List Text
-stopping = codes "format" ∷ codes "seed" ∷ codes "steps" ∷ codes "hosts" ∷ codes "factor" ∷ codes "segment"
-    ∷ codes "free" ∷ codes "explored" ∷ []
-
 abbrev pub exploring : List Text
 exploring = codes "format" ∷ codes "seed" ∷ codes "steps" ∷ codes "hosts" ∷ codes "factor" ∷ codes "segment"
     ∷ codes "free" ∷ codes "save" ∷ codes "seeds" ∷ codes "progress" ∷ codes "until" ∷ []
@@ -325,7 +298,7 @@ options_of name =
     if bytes_eq (codes "run") name then codes "format" ∷ codes "heap" ∷ []
     else (if bytes_eq (codes "audit") name then codes "format" ∷ []
     else (if bytes_eq (codes "fuzz") name then codes "format" ∷ codes "seed" ∷ codes "steps" ∷ codes "free" ∷ []
-    else (if bytes_eq (codes "stops") name then stopping
+    else (if bytes_eq (codes "stops") name then codes "format" ∷ codes "seed" ∷ codes "steps" ∷ []
     else (if bytes_eq (codes "threads") name then codes "hosts" ∷ codes "writes" ∷ []
     else (if bytes_eq (codes "explore") name then exploring
     else (if bytes_eq (codes "log") name then codes "json" ∷ []

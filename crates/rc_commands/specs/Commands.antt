@@ -38,15 +38,8 @@ drawn name = with_rule (with_rule (formatted name) (option (codes "seed"))) (opt
 abbrev pub fuzz : App
 fuzz = with_rule (drawn (codes "fuzz")) (flag (codes "free"))
 
--- `stops` with hosts and replicas, then with the size of segments too
-abbrev pub stops_placed : App
-stops_placed = with_rule (with_rule (drawn (codes "stops")) (option (codes "hosts"))) (option (codes "factor"))
-
-abbrev pub stops_sized : App
-stops_sized = with_rule stops_placed (option (codes "segment"))
-
 abbrev pub stops : App
-stops = with_rule (with_rule stops_sized (flag (codes "free"))) (flag (codes "explored"))
+stops = drawn (codes "stops")
 
 abbrev pub threads : App
 threads = with_rule (with_rule (new_app (codes "threads")) (option (codes "hosts"))) (option (codes "writes"))

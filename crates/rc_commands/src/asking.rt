@@ -10,7 +10,7 @@ ghost use Rattle.rc_commands.specs.Asking.{command_in, drawn_in, explain_in, exp
 ghost use Rattle.rc_commands.specs.Asking.{fuzz_line, heap_line, is_alone, is_plain, is_request, is_text, named_in};
 ghost use Rattle.rc_commands.specs.Asking.{option_zip_with, run_in, shrink_in, seeds_or_first, single_in};
 ghost use Rattle.rc_commands.specs.Asking.{sought_in, stops_in, stops_line, survey_in, threads_in, unread_in};
-ghost use Rattle.rc_commands.specs.Asking.{until_in, IsFew, explored_in, is_sized, plain_in};
+ghost use Rattle.rc_commands.specs.Asking.{until_in, IsFew};
 ghost use Rattle.rc_commands.specs.Numbers.{decimal_in};
 ghost use Rattle.rc_commands.specs.Commands.{ramseg};
 
@@ -51,16 +51,6 @@ pub enum Asked {
     Stops {
         seed: u64,
         steps: u32,
-        json: bool,
-    },
-    /// Draw events from a seed so that much happens, and cut the power after each of them.
-    StopsExplored {
-        seed: u64,
-        steps: u32,
-        hosts: u8,
-        factor: u8,
-        segment: u16,
-        free: bool,
         json: bool,
     },
     /// Run nodes on threads: so many hosts, and so many writes.
@@ -334,57 +324,6 @@ fn fuzz_of<'a>(given: &ArgMatches<'a>) -> Result<Asked, BadWord<'a>>
 /// `stops` with its options.
 fn stops_of<'a>(given: &ArgMatches<'a>) -> Result<Asked, BadWord<'a>>
     ensures command { let asked = stops_in (rows_of (found_of given.now)) in
-        MatchResult result (λ a. as_command a ≡ asked) (λ _. asked ≡ None) }
-    ensures text { IfOk result (λ a. is_text a ≡ false) }
-    ensures ranges { IfOk result IsInRange }
-{
-    if has_flag(given, "explored") {
-        explored_of(given)
-    } else if is_sized(given) {
-        Err(BadWord::OnlyExplored)
-    } else {
-        plain_of(given)
-    }
-}
-
-/// Whether hosts, replicas or segments were given.
-fn is_sized(given: &ArgMatches<'_>) -> bool
-    ensures { result ≡ is_sized (rows_of (found_of given.now)) }
-{
-    has_option(given, "hosts")
-        || has_option(given, "factor")
-        || has_option(given, "segment")
-        || has_flag(given, "free")
-}
-
-/// `stops --explored` with its other options.
-fn explored_of<'a>(given: &ArgMatches<'a>) -> Result<Asked, BadWord<'a>>
-    ensures command { let asked = explored_in (rows_of (found_of given.now)) in
-        MatchResult result (λ a. as_command a ≡ asked) (λ _. asked ≡ None) }
-    ensures text { IfOk result (λ a. is_text a ≡ false) }
-    ensures ranges { IfOk result IsInRange }
-{
-    let json = json_of(given)?;
-    let seed = number_of(given, "seed", 0, u64::MAX)?.unwrap_or(1);
-    let steps = number_of(given, "steps", 0, 1_000)?.unwrap_or(300) as u32;
-    let hosts = number_of(given, "hosts", 1, 16)?.unwrap_or(5) as u8;
-    let factor = number_of(given, "factor", 1, 5)?.unwrap_or(2) as u8;
-    let segment = number_of(given, "segment", 1, 1_024)?.unwrap_or(2) as u16;
-    let free = has_flag(given, "free");
-    Ok(Asked::StopsExplored {
-        seed,
-        steps,
-        hosts,
-        factor,
-        segment,
-        free,
-        json,
-    })
-}
-
-/// `stops` of the events that `fuzz` draws, with its other options.
-fn plain_of<'a>(given: &ArgMatches<'a>) -> Result<Asked, BadWord<'a>>
-    ensures command { let asked = plain_in (rows_of (found_of given.now)) in
         MatchResult result (λ a. as_command a ≡ asked) (λ _. asked ≡ None) }
     ensures text { IfOk result (λ a. is_text a ≡ false) }
     ensures ranges { IfOk result IsInRange }

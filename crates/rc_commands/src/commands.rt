@@ -179,50 +179,13 @@ fn fuzz<'a>(alloc: Global) -> Result<Command<'a>, AllocError>
 fn stops<'a>(alloc: Global) -> Result<Command<'a>, AllocError>
     ensures { IfOk result (IsBuiltAs spec.stops) }
 {
-    stops_sized(alloc)?
-        .arg(flag(alloc, "free", "With --explored: lets masters free segments"))?
-        .arg(flag(
-            alloc,
-            "explored",
-            "Draws events as explore does, so that much happens",
-        ))
-}
-
-/// `stops` with all its options that have a value.
-fn stops_sized<'a>(alloc: Global) -> Result<Command<'a>, AllocError>
-    ensures { IfOk result (IsBuiltAs spec.stops_sized) }
-{
-    stops_placed(alloc)?.arg(option(
-        alloc,
-        "segment",
-        "N",
-        "With --explored: how many entries a segment takes, 1 to 1024; 2 if not given",
-    ))
-}
-
-/// `stops` with the options of its drawing, and with hosts and replicas.
-fn stops_placed<'a>(alloc: Global) -> Result<Command<'a>, AllocError>
-    ensures { IfOk result (IsBuiltAs spec.stops_placed) }
-{
     drawn(
         alloc,
         "stops",
         "Cuts the power after each of the events that are drawn from a seed, and counts the breaches",
-        "Example: ramseg stops --explored --seed 7 --steps 200",
+        "Example: ramseg stops --seed 7 --steps 20",
         "How many steps are drawn, 0 to 1000; 300 if not given",
-    )?
-    .arg(option(
-        alloc,
-        "hosts",
-        "N",
-        "With --explored: how many hosts there are, 1 to 16; 5 if not given",
-    ))?
-    .arg(option(
-        alloc,
-        "factor",
-        "N",
-        "With --explored: how many replicas each segment has, 1 to 5; 2 if not given",
-    ))
+    )
 }
 
 /// `threads` with its options.

@@ -31,8 +31,6 @@ pub enum BadWord<'a> {
     NotTogether,
     /// A seed, where the first of several is looked for.
     NoSeed,
-    /// Options of `stops` that go with `--explored`.
-    OnlyExplored,
     /// `shrink` without its text.
     NoText,
     /// There is no command.
@@ -65,10 +63,6 @@ impl fmt::Display for BadWord<'_> {
             BadWord::NotTogether => write!(
                 f,
                 "error: neither '--seed' nor '--save' goes with '--seeds'\n"
-            )?,
-            BadWord::OnlyExplored => write!(
-                f,
-                "error: '--hosts', '--factor', '--segment' and '--free' go with '--explored'\n"
             )?,
             BadWord::NoText => write!(f, "error: '--keep' with a text is wanted\n")?,
             BadWord::NoCommand => write!(f, "error: a command is wanted\n")?,

@@ -11,7 +11,7 @@ use Rattle.rc_sim.specs.declared.verdicts.Verdict.TheVariants.{Clean, Breach, Ba
 use Rattle.rc_sim.specs.declared.verdicts.SimFault.{SimFault}
 use Rattle.rc_sim.specs.declared.verdicts.SimFault.TheVariants.{Memory, Read, Write}
 use Rattle.rc_sim.specs.Verdicts.{Played, Narrated, Judged, Drawn, PowerCut, Threaded, Explored, Surveyed}
-use Rattle.rc_sim.specs.Verdicts.{PowersCut, Shrunk, Healed, Sought, Told, Worded}
+use Rattle.rc_sim.specs.Verdicts.{Shrunk, Healed, Sought, Told, Worded}
 use Rattle.rc_sim.specs.Histories.{Checked}
 use Rattle.rc_sim.specs.Written.{IsWritten, IsBegun}
 
@@ -56,7 +56,6 @@ ComesOf asked.History bytes verdict text = Narrated bytes verdict text
 ComesOf asked.Check bytes verdict text = Checked bytes verdict text
 ComesOf (asked.Fuzz seed steps free json) bytes verdict text = Drawn seed steps free verdict text
 ComesOf (asked.Stops seed steps json) bytes verdict text = PowerCut seed steps verdict text
-ComesOf (asked.StopsExplored seed steps hosts factor segment free json) bytes verdict text = PowersCut verdict text
 ComesOf (asked.Threads hosts writes) bytes verdict text = Threaded hosts writes verdict text
 ComesOf (asked.Explore seed steps hosts factor segment free save progress json) bytes verdict text =
     Explored save verdict text
@@ -78,7 +77,6 @@ wants_json (asked.Run heap json) = json
 wants_json (asked.Audit json) = json
 wants_json (asked.Fuzz seed steps free json) = json
 wants_json (asked.Stops seed steps json) = json
-wants_json (asked.StopsExplored seed steps hosts factor segment free json) = json
 wants_json (asked.Explore seed steps hosts factor segment free save progress json) = not save && json
 wants_json (asked.Survey first last steps hosts factor segment free progress json) = json
 wants_json (asked.Until goal first last steps hosts factor segment free save progress json) = not save && json

@@ -15,7 +15,6 @@ ghost use Rattle.rc_sim.specs.Verdicts.{Played, Narrated, Healed, Judged, Shrunk
 ghost use Rattle.rc_sim.specs.Written.{IsWritten, IsBegun};
 
 use crate::counted::Counted;
-use crate::cutting::cut_explored;
 use crate::drawing::{cut_powers, fuzz};
 use crate::explaining::explained;
 use crate::exploring::explore;
@@ -149,25 +148,6 @@ fn done<H: thread::Threads + Wait + Sync, R: Read, W: Write, E: Write>(
         Asked::Stops { seed, steps, .. } => {
             tell_stake_of_drawn(alloc, seed, steps as usize, errors);
             cut_powers(alloc, seed, steps as usize, writer)
-        }
-        Asked::StopsExplored {
-            seed,
-            steps,
-            hosts,
-            factor,
-            segment,
-            free,
-            ..
-        } => {
-            let options = Options {
-                seed,
-                steps: steps as usize,
-                hosts,
-                factor,
-                segment,
-                free,
-            };
-            cut_explored(alloc, &options, writer, errors)
         }
         Asked::Threads { hosts, writes } => threads(rt, alloc, hosts, writes, writer),
         Asked::Explore {

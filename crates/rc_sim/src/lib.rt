@@ -5,7 +5,6 @@
 mod answers;
 mod commanding;
 mod counted;
-mod cutting;
 mod documents;
 mod drawing;
 mod explaining;

@@ -149,7 +149,7 @@ fn has_breach(alloc: Global, world: &World<Global>) -> Result<bool, SimFault>
 }
 
 /// The run to its end.
-pub(crate) fn drawn(alloc: Global, options: &Options) -> Result<Exploration, SimFault>
+fn drawn(alloc: Global, options: &Options) -> Result<Exploration, SimFault>
     ensures fault { IfErr result (λ fault. fault ≡ Memory) }
 {
     let Ok(mut run) = Exploration::begin(alloc, options) else {
