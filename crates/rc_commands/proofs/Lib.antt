@@ -2,9 +2,6 @@ pub mod Decimals
 pub mod Words
 pub mod Lines
 pub mod Parsed
-pub mod AfterRun
-pub mod AfterAudit
-pub mod Texts
-pub mod Only
+pub mod Heap
 pub mod ByWords
 pub mod Tops

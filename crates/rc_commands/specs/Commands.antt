@@ -18,22 +18,18 @@ word name = record (new_rule name) { value_names = 1 }
 abbrev pub flag : Text → Rule
 flag name = record (new_rule name) { long = Some name; action = Some SetTrue }
 
--- a command of this name that can answer in JSON too
-abbrev pub formatted : Text → App
-formatted name = with_rule (new_app name) (option (codes "format"))
-
 abbrev pub run : App
-run = with_rule (formatted (codes "run")) (option (codes "heap"))
+run = with_rule (new_app (codes "run")) (option (codes "heap"))
 
 abbrev pub trace : App
 trace = new_app (codes "trace")
 
 abbrev pub audit : App
-audit = formatted (codes "audit")
+audit = new_app (codes "audit")
 
 -- a command that draws events, with the options of its drawing
 abbrev pub drawn : Text → App
-drawn name = with_rule (with_rule (formatted name) (option (codes "seed"))) (option (codes "steps"))
+drawn name = with_rule (with_rule (new_app name) (option (codes "seed"))) (option (codes "steps"))
 
 abbrev pub fuzz : App
 fuzz = with_rule (drawn (codes "fuzz")) (flag (codes "free"))
@@ -55,8 +51,7 @@ abbrev pub explore_flagged : App
 explore_flagged = with_rule (with_rule explore_sized (flag (codes "free"))) (flag (codes "save"))
 
 abbrev pub explore : App
-explore = with_rule (with_rule (with_rule explore_flagged (option (codes "seeds"))) (flag (codes "progress")))
-    (option (codes "until"))
+explore = with_rule (with_rule explore_flagged (option (codes "seeds"))) (flag (codes "progress"))
 
 abbrev pub shrink : App
 shrink = with_rule (new_app (codes "shrink")) (option (codes "keep"))
@@ -71,7 +66,7 @@ abbrev pub heal : App
 heal = with_rule (new_app (codes "heal")) (flag (codes "power-cycle"))
 
 abbrev pub explain : App
-explain = with_rule (formatted (codes "explain")) (word (codes "word"))
+explain = with_rule (new_app (codes "explain")) (word (codes "word"))
 
 abbrev pub history : App
 history = new_app (codes "history")

@@ -38,7 +38,7 @@ fn reading<'a>(alloc: Global) -> Result<Command<'a>, AllocError>
     let alone = alone(alloc)?;
     let replaying = with(alone, run(alloc))?;
     let tracing = with(replaying, Ok(trace(alloc)))?;
-    let judging = with(tracing, audit(alloc))?;
+    let judging = with(tracing, Ok(audit(alloc)))?;
     let telling = with(judging, log(alloc))?;
     with(telling, picture(alloc))
 }
@@ -78,33 +78,16 @@ fn command<'a>(alloc: Global, name: &'a str, about: &'a str, example: &'a str) -
     Command::new(alloc, name).about(about).after_help(example)
 }
 
-/// A command that can answer in JSON too. Its help ends with an example.
-fn formatted<'a>(
-    alloc: Global,
-    name: &'a str,
-    about: &'a str,
-    example: &'a str,
-) -> Result<Command<'a>, AllocError>
-    ensures { IfOk result (IsBuiltAs (spec.formatted name.now)) }
-{
-    command(alloc, name, about, example).arg(option(
-        alloc,
-        "format",
-        "json",
-        "Prints one JSON document in place of the text",
-    ))
-}
-
-/// `run` with its options.
+/// `run` with its option.
 fn run<'a>(alloc: Global) -> Result<Command<'a>, AllocError>
     ensures { IfOk result (IsBuiltAs spec.run) }
 {
-    formatted(
+    command(
         alloc,
         "run",
         "Replays a scenario that it reads from standard input, and prints the report",
         "Example: ramseg run --heap 65536 < examples/first-write.json",
-    )?
+    )
     .arg(option(
         alloc,
         "heap",
@@ -125,11 +108,11 @@ fn trace<'a>(alloc: Global) -> Command<'a>
     )
 }
 
-/// `audit` with its option.
-fn audit<'a>(alloc: Global) -> Result<Command<'a>, AllocError>
-    ensures { IfOk result (IsBuiltAs spec.audit) }
+/// `audit`.
+fn audit<'a>(alloc: Global) -> Command<'a>
+    ensures { IsBuiltAs spec.audit result }
 {
-    formatted(
+    command(
         alloc,
         "audit",
         "Judges a trace that it reads from standard input",
@@ -223,13 +206,7 @@ fn explore<'a>(alloc: Global) -> Result<Command<'a>, AllocError>
             "A..B",
             "Runs each seed from A to B, at most 10000, and sums up what they have reached",
         ))?
-        .arg(flag(alloc, "progress", "Tells on standard error how far it is"))?
-        .arg(option(
-            alloc,
-            "until",
-            "NAME",
-            "Looks for the first seed that reaches this rule, or this kind of event or message",
-        ))
+        .arg(flag(alloc, "progress", "Tells on standard error how far it is"))
 }
 
 /// `explore` with its options for one run.
@@ -292,7 +269,7 @@ fn drawn<'a>(
 ) -> Result<Command<'a>, AllocError>
     ensures { IfOk result (IsBuiltAs (spec.drawn name.now)) }
 {
-    formatted(alloc, name, about, example)?
+    command(alloc, name, about, example)
         .arg(option(alloc, "seed", "N", "The seed, below 2^64; 1 if not given"))?
         .arg(option(alloc, "steps", "N", steps))
 }
@@ -366,12 +343,12 @@ fn heal<'a>(alloc: Global) -> Result<Command<'a>, AllocError>
 fn explain<'a>(alloc: Global) -> Result<Command<'a>, AllocError>
     ensures { IfOk result (IsBuiltAs spec.explain) }
 {
-    formatted(
+    command(
         alloc,
         "explain",
         "Says what a code, a message, an event or a rule is, and what to do about it",
         "Example: ramseg explain F18",
-    )?
+    )
     .arg(
         Arg::new(alloc, "word").value_name("WORD").help(
             "A code, as F18 or 18, or a name; if not given, all are listed",

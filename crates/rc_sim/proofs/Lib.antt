@@ -3,4 +3,3 @@ mod Written
 mod Endings
 mod NoBreaches
 mod Closings
-mod Documents

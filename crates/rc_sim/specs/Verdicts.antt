@@ -125,10 +125,6 @@ told_of false = Clean
 abbrev pub Surveyed : Verdict → List ℕ → Type 0
 Surveyed verdict text = verdict ≡ Clean
 
--- of the first world of several that reaches something, or of none, which is told by no text
-abbrev pub Sought : Verdict → List ℕ → Type 0
-Sought verdict text = (verdict ≡ Clean) ⊎ ((verdict ≢ Breach) × (text ≡ []))
-
 -- a smaller scenario, or nothing
 abbrev pub IsShrunk : Verdict → List ℕ → Type 0
 IsShrunk verdict text = (verdict ≡ Clean) ⊎ ((verdict ≡ NoLine) × (text ≡ []))

@@ -115,7 +115,7 @@ fn run_all<E: Write>(
 }
 
 /// Tells how far it is.
-pub(crate) fn tell_seed<E: Write>(seed: u64, number: u64, count: u64, errors: &mut Counted<E>) {
+fn tell_seed<E: Write>(seed: u64, number: u64, count: u64, errors: &mut Counted<E>) {
     let number = number.saturating_add(1);
     let _ = writeln!(errors.inner, "seed {seed}, run {number} of {count}");
 }

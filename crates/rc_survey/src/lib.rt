@@ -7,14 +7,13 @@
 //!
 //! To be read in this order: `rules` and `counts`; `servers`, `replicas`, `logs` and `recoveries`, what is noted;
 //! `answers`, what a step sent; `backups`, `masters` and `coordinators`, the rules by who takes the event; `surveying`;
-//! `telling`, `runs` and `sums`, the lines of it; `goals`, what a run is to reach.
+//! `telling`, `runs` and `sums`, the lines of it.
 #![tactic(auto)]
 
 mod answers;
 mod backups;
 mod coordinators;
 mod counts;
-mod goals;
 mod logs;
 mod masters;
 mod recoveries;
@@ -27,6 +26,5 @@ mod surveying;
 mod telling;
 
 pub use counts::Counts;
-pub use goals::{Goal, event_name, message_name};
 pub use sums::Sum;
 pub use surveying::Survey;
