@@ -1,9 +1,7 @@
 //! Command lines of `ramseg` as rows: each says what the command reads and what the writer takes, and is answered with
-//! the status and what was written. What precedes the first row in `stdin` tells how rows are written. Before the rows
-//! `every_call` makes each call that `docs/CALLS.md` lists.
+//! the status and what was written. What precedes the first row in `stdin` tells how rows are written.
 #![tactic(auto)]
 
-mod every_call;
 mod outcomes;
 mod rows;
 mod streams;
@@ -32,9 +30,8 @@ pub(crate) use again;
 
 /// Runs the rows that standard input has, one after the other, and prints what comes of each. Where memory is refused,
 /// a line `refused` goes to standard error, and the same call is made once more. It fails where what is read is not
-/// UTF-8, a read or a write failed, memory was refused twice, or one of the calls before the rows failed.
+/// UTF-8, a read or a write failed, or memory was refused twice.
 fn main(rt: HostRuntime) -> io::Result<()> {
-    every_call::make(&rt)?;
     let bytes = whole_input(&rt)?;
     let Ok(text) = str::from_utf8(bytes.as_slice()) else {
         return Err(ErrorKind::InvalidData.into());

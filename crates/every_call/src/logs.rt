@@ -1,6 +1,6 @@
 //! `rc_headroll`.
 
-use crate::every_call::values::{OTHER, OWNER, entry};
+use crate::values::{OTHER, OWNER, entry};
 use rc_headroll::LogHead;
 use rc_serverlist::ServerList;
 use rc_types::Fault;

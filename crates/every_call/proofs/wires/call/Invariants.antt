@@ -1,4 +1,4 @@
-use Rattle.ramseg_rows.proofs.every_call.wires.call.Given as goal
+use Rattle.every_call.proofs.wires.call.Given as goal
 
 abbrev pub ghosts-turn : goal.ghosts-turn
 ghosts-turn g a = record { wire = a.opening }

@@ -1,6 +1,6 @@
 //! `rc_ownership`.
 
-use crate::every_call::values::{OTHER, TABLE, entry};
+use crate::values::{OTHER, TABLE, entry};
 use rc_ownership::Ownership;
 use rc_types::{Fault, KeyRange, Part};
 use std::alloc::Global;

@@ -1,6 +1,6 @@
 //! `rc_serverlist` and `rc_config`.
 
-use crate::every_call::values::{OTHER, OWNER};
+use crate::values::{OTHER, OWNER};
 use rc_config::{Config, choose};
 use rc_serverlist::ServerList;
 use rc_types::{Fault, ServerId};

@@ -1,6 +1,6 @@
 //! `rc_rangetree`.
 
-use crate::every_call::values::{OTHER, OWNER, TABLE};
+use crate::values::{OTHER, OWNER, TABLE};
 use rc_rangetree::RangeTree;
 use rc_types::{Fault, KeyRange};
 use std::alloc::Global;

@@ -2,7 +2,7 @@
 
 ghost use Rattle.rc_world.specs.HostView.{IsWithinLimits};
 
-use crate::every_call::values::OWNER;
+use crate::values::OWNER;
 use rc_types::{Event, Fault, NodeWork, Seq, Setup};
 use rc_world::{Breach, NodeState, World, audit, run};
 use std::alloc::Global;

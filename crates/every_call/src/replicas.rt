@@ -1,6 +1,6 @@
 //! `rc_replica`, `rc_backup` and `rc_digestpick`.
 
-use crate::every_call::values::{OTHER, OWNER, entry, gather};
+use crate::values::{OTHER, OWNER, entry, gather};
 use rc_backup::Backup;
 use rc_digestpick::pick;
 use rc_replica::Replica;

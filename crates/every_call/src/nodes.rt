@@ -1,6 +1,6 @@
 //! `rc_master` and `rc_coordinator`.
 
-use crate::every_call::values::OWNER;
+use crate::values::OWNER;
 use rc_coordinator::Coordinator;
 use rc_master::Master;
 use rc_types::{Fault, NodeWork};

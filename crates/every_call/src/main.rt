@@ -1,5 +1,6 @@
 //! Makes each call that `docs/CALLS.md` lists, by the path that stands there. A call that is gone, or that stands
 //! elsewhere, does not compile.
+#![tactic(auto)]
 
 mod lists;
 mod logs;
@@ -19,10 +20,9 @@ use std::io::ErrorKind;
 use std::sync::Wait;
 use std::thread::Threads;
 
-/// Makes the calls once. It fails where one of them does.
-pub(crate) fn make<R: AllocGlobal + Threads + Wait + Sync>(rt: &R) -> io::Result<()> {
-    match call_all(rt, rt.alloc()) {
-        Ok(()) => Ok(()),
+fn main(rt: HostRuntime) -> io::Result<()> {
+    match call_all(&rt, rt.alloc()) {
+        Ok(()) => println!(rt; "called"),
         Err(fault) => match fault.code() {
             Code::OutOfMemory => Err(ErrorKind::OutOfMemory.into()),
             _ => Err(ErrorKind::Other.into()),
