@@ -23,6 +23,8 @@ pub struct Row<'a> {
     pub title: &'a str,
     /// After `args: `, the words of the command line.
     words: &'a str,
+    /// After `text: `, one word more, in which spaces may stand.
+    text: &'a str,
     /// What stands below the first empty line.
     body: &'a str,
     /// With a line `bytes: Latin-1`, each character of the body is the byte of its number.
@@ -50,6 +52,7 @@ impl<'a> Row<'a> {
         let mut row = Row {
             title: head.lines().next().unwrap_or(""),
             words: "",
+            text: "",
             body,
             has_latin_bytes: false,
             spaces: 0,
@@ -72,6 +75,7 @@ impl<'a> Row<'a> {
     fn set(&mut self, key: &str, value: &'a str) {
         match key {
             "args" => self.words = value,
+            "text" => self.text = value,
             "bytes" => self.has_latin_bytes = true,
             "spaces" => self.spaces = number(value),
             "inputs" if value == "fronts" => self.inputs = Inputs::Fronts,
@@ -96,6 +100,9 @@ impl<'a> Row<'a> {
         let mut words = Vec::new(alloc);
         for word in self.words.split_whitespace() {
             words.push(String::from_str(alloc, word)?)?;
+        }
+        if !self.text.is_empty() {
+            words.push(String::from_str(alloc, self.text)?)?;
         }
         Ok(words)
     }

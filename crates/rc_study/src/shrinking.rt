@@ -7,10 +7,11 @@
 //! A setup with the events of a world, or with those of a scenario that are left, is written as a scenario of format 2:
 //! one event in each line. Nothing is claimed of the text.
 //!
-//! To be read in this order: `courses`, what is left; `trying`, how it is played; `searching`; `saving`, a scenario as
-//! text, with its `lines`.
+//! To be read in this order: `courses`, what is left; `goals`, the line; `trying`, how what is left is played;
+//! `searching`; `saving`, a scenario as text, with its `lines`.
 
 mod courses;
+mod goals;
 mod lines;
 mod saving;
 mod searching;

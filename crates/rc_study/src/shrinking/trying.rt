@@ -3,19 +3,47 @@
 ghost use Rattle.rc_world.specs.HostView.{IsWithinLimits};
 
 use crate::shrinking::courses::{Course, Item, Move};
-use rc_audit::audit;
+use crate::shrinking::goals::Goal;
 use rc_reading::ScenarioEvent;
-use rc_report::{add_stopped, report_of};
 use rc_runs::Run;
-use rc_types::{Code, Event, Fault, Message, Setup, TryClone};
+use rc_types::{Body, Event, Fault, Setup, TryClone};
 use std::alloc::Global;
 
-/// A scenario, and the text that a line of its report is to begin with.
+/// A scenario, and the line that its report is to have.
 #[derive(Clone, Copy)]
 pub(crate) struct Task<'a> {
     pub(crate) setup: &'a Setup,
     pub(crate) events: &'a [ScenarioEvent],
-    pub(crate) keep: &'a str,
+    pub(crate) goal: Goal<'a>,
+}
+
+impl Task<'_> {
+    /// Whether this item is a pass over the messages.
+    pub(crate) fn is_settle(&self, item: Item) -> bool {
+        matches!(
+            self.events.get(item.left.place),
+            Some(ScenarioEvent::Settle { .. })
+        )
+    }
+
+    /// Whether this item is a delivery.
+    pub(crate) fn is_delivery(&self, item: Item) -> bool {
+        matches!(
+            self.events.get(item.left.place),
+            Some(ScenarioEvent::Core(Event::Deliver(_)))
+        )
+    }
+
+    /// Whether this item is a write.
+    fn is_write(&self, item: Item) -> bool {
+        matches!(
+            self.events.get(item.left.place),
+            Some(ScenarioEvent::Core(Event::Ask {
+                body: Body::Write { .. },
+                ..
+            }))
+        )
+    }
 }
 
 /// Which of the events that are left are not played, and whether deliveries keep their messages or their numbers.
@@ -23,7 +51,16 @@ pub(crate) struct Task<'a> {
 pub(crate) struct Cut {
     pub(crate) from: usize,
     pub(crate) to: usize,
+    /// Whether only the passes over the messages among them are left out.
+    pub(crate) settles: bool,
     pub(crate) moves: bool,
+}
+
+impl Cut {
+    /// Whether the item at this place is left out.
+    pub(crate) fn has(&self, task: Task<'_>, at: usize, item: Item) -> bool {
+        self.from <= at && at < self.to && (!self.settles || task.is_settle(item))
+    }
 }
 
 /// What is left after this cut, if the report still has such a line.
@@ -35,12 +72,26 @@ pub(crate) fn without(
 ) -> Result<Option<Course>, Fault>
     requires { IsWithinLimits task.setup.now }
 {
+    if !is_in_reach(task, course, cut) {
+        return Ok(None);
+    }
     let mut moved = Move::new(alloc);
     match keeps_line(alloc, task, course, cut, &mut moved) {
         Ok(true) => Ok(Some(moved.next)),
         Ok(false) => Ok(None),
         Err(fault) => Err(fault),
     }
+}
+
+/// Whether what is left after this cut may have such a line, as far as its writes tell.
+fn is_in_reach(task: Task<'_>, course: &Course, cut: Cut) -> bool {
+    let mut count = 0usize;
+    for (at, item) in course.items.iter().enumerate() {
+        if !cut.has(task, at, *item) && (task.is_write(*item) || task.is_delivery(*item)) {
+            count = count.saturating_add(1);
+        }
+    }
+    task.goal.is_in_reach(count)
 }
 
 /// Plays what is left after this cut: whether the report still has such a line.
@@ -59,12 +110,28 @@ fn keeps_line(
     };
     let mut run = Run::new(alloc, setup, alloc);
     match play_left(alloc, task, course, cut, &mut run, moved) {
-        Ok(stopped) => has_line(alloc, task.keep, run.world().sent(), stopped),
+        Ok(Reached::Told) => Ok(true),
+        Ok(Reached::Through) => task.goal.is_reported(alloc, run.world().sent(), None),
+        Ok(Reached::Stopped(place)) => {
+            task.goal
+                .is_reported(alloc, run.world().sent(), Some(place))
+        }
         Err(fault) => Err(fault),
     }
 }
 
-/// Plays what is left after this cut: at which event it stopped, if it did.
+/// How far a run was played.
+#[derive(Clone, Copy)]
+enum Reached {
+    /// To a message that has such a line.
+    Told,
+    /// To its end.
+    Through,
+    /// To this event, which is not possible.
+    Stopped(usize),
+}
+
+/// Plays what is left after this cut, until a message has such a line.
 fn play_left(
     alloc: Global,
     task: Task<'_>,
@@ -72,19 +139,24 @@ fn play_left(
     cut: Cut,
     run: &mut Run<Global>,
     moved: &mut Move,
-) -> Result<Option<usize>, Fault> {
+) -> Result<Reached, Fault> {
+    let mut seen = 0usize;
     for at in 0..course.items.len() {
         let item = course.items[at];
-        let is_cut = cut.from <= at && at < cut.to;
-        if !is_cut && go_on(alloc, task, run, moved, item, cut.moves)? {
-            moved.sent(run.world().sent().len())?;
+        if !cut.has(task, at, item) && go_on(alloc, task, run, moved, item, cut.moves)? {
+            let sent = run.world().sent();
+            moved.sent(sent.len())?;
+            if seen < sent.len() && task.goal.is_told(alloc, &sent[seen..])? {
+                return Ok(Reached::Told);
+            }
+            seen = sent.len();
         } else if moved.is_stopped {
-            return Ok(Some(moved.next.len().saturating_sub(1)));
+            return Ok(Reached::Stopped(moved.next.len().saturating_sub(1)));
         } else {
             moved.leave_out()?;
         }
     }
-    Ok(None)
+    Ok(Reached::Through)
 }
 
 /// Plays this event, if it is not a delivery of a message that is gone: whether it has happened.
@@ -138,24 +210,4 @@ fn played(
             }
         }
     }
-}
-
-/// Whether a line of the report of these messages, of a run that perhaps stopped at this event, begins so.
-fn has_line(
-    alloc: Global,
-    keep: &str,
-    sent: &[Message],
-    stopped: Option<usize>,
-) -> Result<bool, Fault> {
-    let found = audit(alloc, sent)?;
-    let mut text = report_of(alloc, sent, found)?;
-    if let Some(place) = stopped {
-        add_stopped(alloc, &mut text, Code::BadEvent, place)?;
-    }
-    for line in text.as_str().lines() {
-        if line.starts_with(keep) {
-            return Ok(true);
-        }
-    }
-    Ok(false)
 }
