@@ -10,18 +10,18 @@ _ramseg() {
   done
   case $command in
     '') words="run trace audit log picture fuzz stops threads explore shrink heal explain history check test script --without --prove --help --version" ;;
-    run) words="--heap --help --output" ;;
+    run) words="--format --heap --help --output" ;;
     trace) words="--help --output" ;;
-    audit) words="--help --output" ;;
+    audit) words="--format --help --output" ;;
     log) words="--json --help --output" ;;
     picture) words="--mermaid --help --output" ;;
-    fuzz) words="--seed --steps --free --help" ;;
-    stops) words="--seed --steps --help" ;;
+    fuzz) words="--format --seed --steps --free --help" ;;
+    stops) words="--format --seed --steps --hosts --factor --segment --free --explored --help" ;;
     threads) words="--hosts --writes --help" ;;
-    explore) words="--seed --steps --hosts --factor --segment --free --save --seeds --progress --help" ;;
+    explore) words="--format --seed --steps --hosts --factor --segment --free --save --seeds --progress --until --help" ;;
     shrink) words="--keep --help --output" ;;
     heal) words="--power-cycle --help --output" ;;
-    explain) words="--help" ;;
+    explain) words="--format --help" ;;
     history) words="--help --output" ;;
     check) words="--help --output" ;;
   esac

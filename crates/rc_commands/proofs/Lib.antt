@@ -2,6 +2,9 @@ pub mod Decimals
 pub mod Words
 pub mod Lines
 pub mod Parsed
-pub mod Heap
+pub mod AfterRun
+pub mod AfterAudit
+pub mod Texts
+pub mod Only
 pub mod ByWords
 pub mod Tops

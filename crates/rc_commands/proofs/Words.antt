@@ -17,7 +17,7 @@ use Rattle.clap.specs.Simple.{Shape, built, built_leaf, filled, help_rule, versi
 use Rattle.clap.specs.Faults.{positional_fault, short_fault, turn_fault, walk_fault, flag_word_fault, other_fault, step_fault}
 use Rattle.clap.specs.Faults.{stray_fault, level_fault, flags_fault, bundle_step_fault, bundle_fault, long_fault}
 use Rattle.clap.proofs.OnLiterals.{clap_on_literals}
-use Rattle.rc_commands.specs.Asking.{exploring, is_help, is_option, is_request, is_version}
+use Rattle.rc_commands.specs.Asking.{exploring, is_help, is_option, is_request, is_version, stopping}
 use Rattle.rc_commands.specs.Commands as command
 use Rattle.rc_commands.specs.Commands.{ramseg}
 
@@ -107,14 +107,15 @@ top_is = record { long = λ name _. top_long name; short = top_short; strays = r
 passed : (b : Bool) (here past : Option Rule) → b ≡ false → cond (b || false) here past ≡ past
 passed b here past e = ap (λ c. cond (c || false) here past) e
 
-pub run_is : IsLevel (leaf command.run.top) false (codes "heap" ∷ [])
+pub run_is : IsLevel (leaf command.run.top) false (codes "format" ∷ codes "heap" ∷ [])
 unfolding clap_on_literals
-run_is = record {
-  long = λ name e. passed (bytes_eq (codes "heap") name) _ _ (or_parts _ _ e).0;
-  short = λ x. refl;
-  strays = refl;
-  positional = refl;
-}
+run_is = record { long = long; short = λ x. refl; strays = refl; positional = refl }
+  where
+    long : (name : Text) → list_any (λ option. bytes_eq option name) (codes "format" ∷ codes "heap" ∷ []) ≡ false
+        → arg_by_long (leaf command.run.top).rules name ≡ flag_of (bytes_eq (codes "help") name) false
+    long name e =
+        let p = or_parts _ _ e in
+        passed (bytes_eq (codes "format") name) _ _ p.0 ∙ passed (bytes_eq (codes "heap") name) _ _ (or_parts _ _ p.1).0
 
 pub trace_is : IsLevel (leaf command.trace.top) false []
 unfolding clap_on_literals
@@ -128,19 +129,34 @@ pub check_is : IsLevel (leaf command.check.top) false []
 unfolding clap_on_literals
 check_is = record { long = λ name _. refl; short = λ x. refl; strays = refl; positional = refl }
 
-pub audit_is : IsLevel (leaf command.audit.top) false []
+pub audit_is : IsLevel (leaf command.audit.top) false (codes "format" ∷ [])
 unfolding clap_on_literals
-audit_is = record { long = λ name _. refl; short = λ x. refl; strays = refl; positional = refl }
+audit_is = record {
+  long = λ name e. passed (bytes_eq (codes "format") name) _ _ (or_parts _ _ e).0;
+  short = λ x. refl;
+  strays = refl;
+  positional = refl;
+}
 
-pub stops_is : IsLevel (leaf command.stops.top) false (codes "seed" ∷ codes "steps" ∷ [])
+pub stops_is : IsLevel (leaf command.stops.top) false stopping
 unfolding clap_on_literals
 stops_is = record { long = long; short = λ x. refl; strays = refl; positional = refl }
   where
-    long : (name : Text) → list_any (λ option. bytes_eq option name) (codes "seed" ∷ codes "steps" ∷ []) ≡ false
+    long : (name : Text) → list_any (λ option. bytes_eq option name) stopping ≡ false
         → arg_by_long (leaf command.stops.top).rules name ≡ flag_of (bytes_eq (codes "help") name) false
     long name e =
         let p = or_parts _ _ e in
-        passed (bytes_eq (codes "seed") name) _ _ p.0 ∙ passed (bytes_eq (codes "steps") name) _ _ (or_parts _ _ p.1).0
+        let q = or_parts _ _ p.1 in
+        let r = or_parts _ _ q.1 in
+        let s = or_parts _ _ r.1 in
+        let t = or_parts _ _ s.1 in
+        let u = or_parts _ _ t.1 in
+        let v = or_parts _ _ u.1 in
+        passed (bytes_eq (codes "format") name) _ _ p.0
+        ∙ passed (bytes_eq (codes "seed") name) _ _ q.0 ∙ passed (bytes_eq (codes "steps") name) _ _ r.0
+        ∙ passed (bytes_eq (codes "hosts") name) _ _ s.0 ∙ passed (bytes_eq (codes "factor") name) _ _ t.0
+        ∙ passed (bytes_eq (codes "segment") name) _ _ u.0 ∙ passed (bytes_eq (codes "free") name) _ _ v.0
+        ∙ passed (bytes_eq (codes "explored") name) _ _ (or_parts _ _ v.1).0
 
 pub threads_is : IsLevel (leaf command.threads.top) false (codes "hosts" ∷ codes "writes" ∷ [])
 unfolding clap_on_literals
@@ -203,23 +219,28 @@ explore_is = record { long = long; short = λ x. refl; strays = refl; positional
         let u = or_parts _ _ t.1 in
         let v = or_parts _ _ u.1 in
         let w = or_parts _ _ v.1 in
-        passed (bytes_eq (codes "seed") name) _ _ p.0 ∙ passed (bytes_eq (codes "steps") name) _ _ q.0
-        ∙ passed (bytes_eq (codes "hosts") name) _ _ r.0 ∙ passed (bytes_eq (codes "factor") name) _ _ s.0
-        ∙ passed (bytes_eq (codes "segment") name) _ _ t.0 ∙ passed (bytes_eq (codes "free") name) _ _ u.0
-        ∙ passed (bytes_eq (codes "save") name) _ _ v.0 ∙ passed (bytes_eq (codes "seeds") name) _ _ w.0
-        ∙ passed (bytes_eq (codes "progress") name) _ _ (or_parts _ _ w.1).0
+        let x = or_parts _ _ w.1 in
+        let y = or_parts _ _ x.1 in
+        passed (bytes_eq (codes "format") name) _ _ p.0 ∙ passed (bytes_eq (codes "seed") name) _ _ q.0
+        ∙ passed (bytes_eq (codes "steps") name) _ _ r.0 ∙ passed (bytes_eq (codes "hosts") name) _ _ s.0
+        ∙ passed (bytes_eq (codes "factor") name) _ _ t.0 ∙ passed (bytes_eq (codes "segment") name) _ _ u.0
+        ∙ passed (bytes_eq (codes "free") name) _ _ v.0 ∙ passed (bytes_eq (codes "save") name) _ _ w.0
+        ∙ passed (bytes_eq (codes "seeds") name) _ _ x.0 ∙ passed (bytes_eq (codes "progress") name) _ _ y.0
+        ∙ passed (bytes_eq (codes "until") name) _ _ (or_parts _ _ y.1).0
 
-pub fuzz_is : IsLevel (leaf command.fuzz.top) false (codes "seed" ∷ codes "steps" ∷ codes "free" ∷ [])
+pub fuzz_is : IsLevel (leaf command.fuzz.top) false (codes "format" ∷ codes "seed" ∷ codes "steps" ∷ codes "free" ∷ [])
 unfolding clap_on_literals
 fuzz_is = record { long = long; short = λ x. refl; strays = refl; positional = refl }
   where
-    long : (name : Text) → list_any (λ option. bytes_eq option name) (codes "seed" ∷ codes "steps" ∷ codes "free" ∷ []) ≡ false
+    long : (name : Text) →
+        list_any (λ option. bytes_eq option name) (codes "format" ∷ codes "seed" ∷ codes "steps" ∷ codes "free" ∷ []) ≡ false
         → arg_by_long (leaf command.fuzz.top).rules name ≡ flag_of (bytes_eq (codes "help") name) false
     long name e =
         let p = or_parts _ _ e in
         let q = or_parts _ _ p.1 in
-        passed (bytes_eq (codes "seed") name) _ _ p.0 ∙ passed (bytes_eq (codes "steps") name) _ _ q.0 ∙
-        passed (bytes_eq (codes "free") name) _ _ (or_parts _ _ q.1).0
+        let r = or_parts _ _ q.1 in
+        passed (bytes_eq (codes "format") name) _ _ p.0 ∙ passed (bytes_eq (codes "seed") name) _ _ q.0
+        ∙ passed (bytes_eq (codes "steps") name) _ _ r.0 ∙ passed (bytes_eq (codes "free") name) _ _ (or_parts _ _ r.1).0
 
 -- whether the word asks for help, or where there is one for the version
 abbrev pub asks : Bool → Text → Bool

@@ -40,12 +40,16 @@ IsFew seeds = (seeds.0 ≤ seeds.1) × (seeds.1 < seeds.0 + 10000)
 
 -- the numbers of a command are in their ranges
 abbrev pub IsInRange : Asked → Type 0
-IsInRange (asked.Run heap) = IsWithin 16 1048576 heap
-IsInRange (asked.Fuzz seed steps free) = steps ≤ 100000
-IsInRange (asked.Stops seed steps) = steps ≤ 1000
+IsInRange (asked.Run heap json) = IsWithin 16 1048576 heap
+IsInRange (asked.Fuzz seed steps free json) = steps ≤ 100000
+IsInRange (asked.Stops seed steps json) = steps ≤ 1000
+IsInRange (asked.StopsExplored seed steps hosts factor segment free json) =
+    (steps ≤ 1000) × IsSized steps hosts factor segment
 IsInRange (asked.Threads hosts writes) = (3 ≤ hosts) × (hosts ≤ 16) × (writes ≤ 1000)
-IsInRange (asked.Explore seed steps hosts factor segment free save progress) = IsSized steps hosts factor segment
-IsInRange (asked.Survey first last steps hosts factor segment free progress) =
+IsInRange (asked.Explore seed steps hosts factor segment free save progress json) = IsSized steps hosts factor segment
+IsInRange (asked.Survey first last steps hosts factor segment free progress json) =
+    IsFew (first, last) × IsSized steps hosts factor segment
+IsInRange (asked.Until goal first last steps hosts factor segment free save progress json) =
     IsFew (first, last) × IsSized steps hosts factor segment
 IsInRange _ = ⊤
 
@@ -63,18 +67,31 @@ seed_given = number_given (codes "seed") 0 18446744073709551615
 abbrev pub has_flag : Text → List Row → Bool
 has_flag name rows = option_map_or (λ text. bytes_eq text (codes "true")) (first_of name rows) false
 
+-- JSON, where a format is named so; there is no other name
+abbrev pub json_in : Text → Option Bool
+json_in text = if bytes_eq text (codes "json") then Some true else None
+
+-- whether JSON is asked for; None where another format is
+abbrev pub json_given : List Row → Option Bool
+json_given rows = option_map_or json_in (first_of (codes "format") rows) (Some false)
+
 abbrev pub run_in : List Row → Option Asked
-run_in rows = option_map asked.Run (number_given (codes "heap") 16 1048576 rows)
+run_in rows = option_and_then (λ json. option_map (λ heap. asked.Run heap json)
+    (number_given (codes "heap") 16 1048576 rows)) (json_given rows)
+
+abbrev pub audit_in : List Row → Option Asked
+audit_in rows = option_map asked.Audit (json_given rows)
 
 abbrev pub fuzz_in : List Row → Option Asked
-fuzz_in rows = option_and_then (λ seed. option_map
-    (λ steps. asked.Fuzz (unwrap_or seed 1) (unwrap_or steps 1000) (has_flag (codes "free") rows))
-    (number_given (codes "steps") 0 100000 rows)) (seed_given rows)
+fuzz_in rows = option_and_then (λ json. option_and_then (λ seed. option_map
+    (λ steps. asked.Fuzz (unwrap_or seed 1) (unwrap_or steps 1000) (has_flag (codes "free") rows) json)
+    (number_given (codes "steps") 0 100000 rows)) (seed_given rows)) (json_given rows)
 
-abbrev pub stops_in : List Row → Option Asked
-stops_in rows = option_and_then (λ seed. option_map
-    (λ steps. asked.Stops (unwrap_or seed 1) (unwrap_or steps 300))
-    (number_given (codes "steps") 0 1000 rows)) (seed_given rows)
+-- `stops` of the events that `fuzz` draws
+abbrev pub plain_in : List Row → Option Asked
+plain_in rows = option_and_then (λ json. option_and_then (λ seed. option_map
+    (λ steps. asked.Stops (unwrap_or seed 1) (unwrap_or steps 300) json)
+    (number_given (codes "steps") 0 1000 rows)) (seed_given rows)) (json_given rows)
 
 -- the number that was given for an option, or else this one; None where it is no number of the range
 abbrev pub number_or : ℕ → Text → ℕ → ℕ → List Row → Option ℕ
@@ -106,31 +123,82 @@ seeds_given rows = option_map_or (λ text. option_map Some (range_in text)) (fir
 abbrev pub has_option : Text → List Row → Bool
 has_option name rows = option_map_or (λ _. true) (first_of name rows) false
 
+-- `stops` of the events that `explore` draws
+abbrev pub explored_in : List Row → Option Asked
+explored_in rows =
+    option_and_then (λ json. option_and_then (λ seed. option_and_then (λ steps. option_and_then (λ hosts.
+    option_and_then (λ factor. option_map
+    (λ segment. asked.StopsExplored seed steps hosts factor segment (has_flag (codes "free") rows) json)
+    (number_or 2 (codes "segment") 1 1024 rows)) (number_or 2 (codes "factor") 1 5 rows))
+    (number_or 5 (codes "hosts") 1 16 rows)) (number_or 300 (codes "steps") 0 1000 rows))
+    (number_or 1 (codes "seed") 0 18446744073709551615 rows)) (json_given rows)
+
+-- hosts, replicas or segments were given
+abbrev pub is_sized : List Row → Bool
+is_sized rows = has_option (codes "hosts") rows || has_option (codes "factor") rows
+    || has_option (codes "segment") rows || has_flag (codes "free") rows
+
+-- hosts, replicas and segments go with `--explored`
+abbrev pub stops_in : List Row → Option Asked
+stops_in rows =
+    if has_flag (codes "explored") rows then explored_in rows else (if is_sized rows then None else plain_in rows)
+
 -- `explore` of one seed
-abbrev pub single_in : List Row → Option Asked
-single_in rows =
+abbrev pub single_in : Bool → List Row → Option Asked
+single_in json rows =
     option_and_then (λ seed. option_and_then (λ steps. option_and_then (λ hosts. option_and_then (λ factor. option_map
     (λ segment. asked.Explore seed steps hosts factor segment (has_flag (codes "free") rows)
-    (has_flag (codes "save") rows) (has_flag (codes "progress") rows))
+    (has_flag (codes "save") rows) (has_flag (codes "progress") rows) json)
     (number_or 2 (codes "segment") 1 1024 rows)) (number_or 2 (codes "factor") 1 5 rows))
     (number_or 5 (codes "hosts") 1 16 rows)) (number_or 2000 (codes "steps") 0 100000 rows))
     (number_or 1 (codes "seed") 0 18446744073709551615 rows)
 
 -- `explore` of these seeds, which goes with neither `--seed` nor `--save`
-abbrev pub survey_in : ℕ × ℕ → List Row → Option Asked
-survey_in seeds rows = if has_option (codes "seed") rows || has_flag (codes "save") rows then None else
+abbrev pub survey_in : Bool → ℕ × ℕ → List Row → Option Asked
+survey_in json seeds rows = if has_option (codes "seed") rows || has_flag (codes "save") rows then None else
     option_and_then (λ steps. option_and_then (λ hosts. option_and_then (λ factor. option_map
     (λ segment. asked.Survey seeds.0 seeds.1 steps hosts factor segment (has_flag (codes "free") rows)
-    (has_flag (codes "progress") rows))
+    (has_flag (codes "progress") rows) json)
     (number_or 2 (codes "segment") 1 1024 rows)) (number_or 2 (codes "factor") 1 5 rows))
     (number_or 5 (codes "hosts") 1 16 rows)) (number_or 2000 (codes "steps") 0 100000 rows)
 
-abbrev pub explore_by : Option (ℕ × ℕ) → List Row → Option Asked
-explore_by None rows = single_in rows
-explore_by (Some seeds) rows = survey_in seeds rows
+-- the seeds that are looked through where none were given
+abbrev pub first_seeds : ℕ × ℕ
+first_seeds = (1, 10000)
+
+abbrev pub seeds_or_first : List Row → Option (ℕ × ℕ)
+seeds_or_first rows = option_map (λ seeds. unwrap_or seeds first_seeds) (seeds_given rows)
+
+-- the first of these seeds that reaches what is named
+abbrev pub sought_in : Bool → ℕ × ℕ → Text → List Row → Option Asked
+sought_in json seeds goal rows =
+    option_and_then (λ steps. option_and_then (λ hosts. option_and_then (λ factor. option_map
+    (λ segment. asked.Until goal seeds.0 seeds.1 steps hosts factor segment (has_flag (codes "free") rows)
+    (has_flag (codes "save") rows) (has_flag (codes "progress") rows) json)
+    (number_or 2 (codes "segment") 1 1024 rows)) (number_or 2 (codes "factor") 1 5 rows))
+    (number_or 5 (codes "hosts") 1 16 rows)) (number_or 2000 (codes "steps") 0 100000 rows)
+
+-- `explore` until a seed reaches what is named, which does not go with `--seed`
+abbrev pub until_in : Text → List Row → Option Asked
+until_in goal rows = if has_option (codes "seed") rows then None else
+    option_and_then (λ json. option_and_then (λ seeds. sought_in json seeds goal rows) (seeds_or_first rows))
+    (json_given rows)
+
+abbrev pub drawn_by : Bool → Option (ℕ × ℕ) → List Row → Option Asked
+drawn_by json None rows = single_in json rows
+drawn_by json (Some seeds) rows = survey_in json seeds rows
+
+-- `explore` of one seed, or of several
+abbrev pub drawn_in : List Row → Option Asked
+drawn_in rows = option_and_then (λ json. option_and_then (λ seeds. drawn_by json seeds rows) (seeds_given rows))
+    (json_given rows)
+
+abbrev pub explore_by : Option Text → List Row → Option Asked
+explore_by None rows = drawn_in rows
+explore_by (Some goal) rows = until_in goal rows
 
 abbrev pub explore_in : List Row → Option Asked
-explore_in rows = option_and_then (λ seeds. explore_by seeds rows) (seeds_given rows)
+explore_in rows = explore_by (first_of (codes "until") rows) rows
 
 abbrev pub shrink_in : List Row → Option Asked
 shrink_in rows = option_map asked.Shrink (first_of (codes "keep") rows)
@@ -145,23 +213,25 @@ abbrev pub heal_in : List Row → Option Asked
 heal_in rows = Some (asked.Heal (has_flag (codes "power-cycle") rows))
 
 -- `explain` with the word that was given, if one was
+abbrev pub explained_in : Bool → List Row → Option Asked
+explained_in json rows = Some (asked.Explain (first_of (codes "word") rows) json)
+
 abbrev pub explain_in : List Row → Option Asked
-explain_in rows = Some (asked.Explain (first_of (codes "word") rows))
+explain_in rows = option_and_then (λ json. explained_in json rows) (json_given rows)
 
 -- the command of this name, with what was given for its options; first of those that read nothing
 abbrev pub unread_in : Text → List Row → Option Asked
 unread_in name rows =
     if bytes_eq name (codes "fuzz") then fuzz_in rows
     else (if bytes_eq name (codes "stops") then stops_in rows
-    else (if bytes_eq name (codes "threads") then threads_in rows
-    else (if bytes_eq name (codes "explore") then explore_in rows else None)))
+    else (if bytes_eq name (codes "threads") then threads_in rows else None))
 
 -- a command that needs no memory of its own
 abbrev pub named_in : Text → List Row → Option Asked
 named_in name rows =
     if bytes_eq name (codes "run") then run_in rows
     else (if bytes_eq name (codes "trace") then Some asked.Trace
-    else (if bytes_eq name (codes "audit") then Some asked.Audit
+    else (if bytes_eq name (codes "audit") then audit_in rows
     else (if bytes_eq name (codes "history") then Some asked.History
     else (if bytes_eq name (codes "check") then Some asked.Check
     else (if bytes_eq name (codes "log") then log_in rows
@@ -172,7 +242,8 @@ named_in name rows =
 abbrev pub command_in : Text → List Row → Option Asked
 command_in name rows =
     if bytes_eq name (codes "shrink") then shrink_in rows
-    else (if bytes_eq name (codes "explain") then explain_in rows else named_in name rows)
+    else (if bytes_eq name (codes "explain") then explain_in rows
+    else (if bytes_eq name (codes "explore") then explore_in rows else named_in name rows))
 
 -- nothing, where `clap` finds a fault in the words
 abbrev pub where_taken : Kinds → Option Asked → Option Asked
@@ -240,22 +311,27 @@ abbrev pub asks_for_text : List Text → Bool
 asks_for_text [] = false
 asks_for_text (word ∷ rest) = if is_command word then begins_with_help rest else (is_help word || is_version word)
 
+abbrev pub stopping : List Text
+stopping = codes "format" ∷ codes "seed" ∷ codes "steps" ∷ codes "hosts" ∷ codes "factor" ∷ codes "segment"
+    ∷ codes "free" ∷ codes "explored" ∷ []
+
 abbrev pub exploring : List Text
-exploring = codes "seed" ∷ codes "steps" ∷ codes "hosts" ∷ codes "factor" ∷ codes "segment" ∷ codes "free"
-    ∷ codes "save" ∷ codes "seeds" ∷ codes "progress" ∷ []
+exploring = codes "format" ∷ codes "seed" ∷ codes "steps" ∷ codes "hosts" ∷ codes "factor" ∷ codes "segment"
+    ∷ codes "free" ∷ codes "save" ∷ codes "seeds" ∷ codes "progress" ∷ codes "until" ∷ []
 
 -- the options of a command
 abbrev pub options_of : Text → List Text
 options_of name =
-    if bytes_eq (codes "run") name then codes "heap" ∷ []
-    else (if bytes_eq (codes "fuzz") name then codes "seed" ∷ codes "steps" ∷ codes "free" ∷ []
-    else (if bytes_eq (codes "stops") name then codes "seed" ∷ codes "steps" ∷ []
+    if bytes_eq (codes "run") name then codes "format" ∷ codes "heap" ∷ []
+    else (if bytes_eq (codes "audit") name then codes "format" ∷ []
+    else (if bytes_eq (codes "fuzz") name then codes "format" ∷ codes "seed" ∷ codes "steps" ∷ codes "free" ∷ []
+    else (if bytes_eq (codes "stops") name then stopping
     else (if bytes_eq (codes "threads") name then codes "hosts" ∷ codes "writes" ∷ []
     else (if bytes_eq (codes "explore") name then exploring
     else (if bytes_eq (codes "log") name then codes "json" ∷ []
     else (if bytes_eq (codes "picture") name then codes "mermaid" ∷ []
     else (if bytes_eq (codes "shrink") name then codes "keep" ∷ []
-    else (if bytes_eq (codes "heal") name then codes "power-cycle" ∷ [] else []))))))))
+    else (if bytes_eq (codes "heal") name then codes "power-cycle" ∷ [] else [])))))))))
 
 -- `--NAME` or `--NAME=VALUE`, for one of these options
 abbrev pub is_option : List Text → Text → Bool

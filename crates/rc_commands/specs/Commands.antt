@@ -18,24 +18,35 @@ word name = record (new_rule name) { value_names = 1 }
 abbrev pub flag : Text → Rule
 flag name = record (new_rule name) { long = Some name; action = Some SetTrue }
 
+-- a command of this name that can answer in JSON too
+abbrev pub formatted : Text → App
+formatted name = with_rule (new_app name) (option (codes "format"))
+
 abbrev pub run : App
-run = with_rule (new_app (codes "run")) (option (codes "heap"))
+run = with_rule (formatted (codes "run")) (option (codes "heap"))
 
 abbrev pub trace : App
 trace = new_app (codes "trace")
 
 abbrev pub audit : App
-audit = new_app (codes "audit")
+audit = formatted (codes "audit")
 
 -- a command that draws events, with the options of its drawing
 abbrev pub drawn : Text → App
-drawn name = with_rule (with_rule (new_app name) (option (codes "seed"))) (option (codes "steps"))
+drawn name = with_rule (with_rule (formatted name) (option (codes "seed"))) (option (codes "steps"))
 
 abbrev pub fuzz : App
 fuzz = with_rule (drawn (codes "fuzz")) (flag (codes "free"))
 
+-- `stops` with hosts and replicas, then with the size of segments too
+abbrev pub stops_placed : App
+stops_placed = with_rule (with_rule (drawn (codes "stops")) (option (codes "hosts"))) (option (codes "factor"))
+
+abbrev pub stops_sized : App
+stops_sized = with_rule stops_placed (option (codes "segment"))
+
 abbrev pub stops : App
-stops = drawn (codes "stops")
+stops = with_rule (with_rule stops_sized (flag (codes "free"))) (flag (codes "explored"))
 
 abbrev pub threads : App
 threads = with_rule (with_rule (new_app (codes "threads")) (option (codes "hosts"))) (option (codes "writes"))
@@ -51,7 +62,8 @@ abbrev pub explore_flagged : App
 explore_flagged = with_rule (with_rule explore_sized (flag (codes "free"))) (flag (codes "save"))
 
 abbrev pub explore : App
-explore = with_rule (with_rule explore_flagged (option (codes "seeds"))) (flag (codes "progress"))
+explore = with_rule (with_rule (with_rule explore_flagged (option (codes "seeds"))) (flag (codes "progress")))
+    (option (codes "until"))
 
 abbrev pub shrink : App
 shrink = with_rule (new_app (codes "shrink")) (option (codes "keep"))
@@ -66,7 +78,7 @@ abbrev pub heal : App
 heal = with_rule (new_app (codes "heal")) (flag (codes "power-cycle"))
 
 abbrev pub explain : App
-explain = with_rule (new_app (codes "explain")) (word (codes "word"))
+explain = with_rule (formatted (codes "explain")) (word (codes "word"))
 
 abbrev pub history : App
 history = new_app (codes "history")

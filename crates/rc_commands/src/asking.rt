@@ -5,32 +5,37 @@ ghost use Rattle.std.specs.Prelude.{option_map, MatchResult, option_and_then, Li
 ghost use Rattle.clap.specs.Faults.{fault_of};
 ghost use Rattle.clap.specs.Words.{app_of, found_of, kind_of, rows_of, subcommand_rows_of};
 ghost use Rattle.rc_types.specs.declared.faults.Fault.TheVariants.{OutOfMemory};
-ghost use Rattle.rc_commands.specs.Asking.{IsInRange, Tells, as_command, asked_in, asks_for_text, command_in};
-ghost use Rattle.rc_commands.specs.Asking.{explain_in, explore_in, fuzz_in, fuzz_line, heap_line, option_zip_with};
-ghost use Rattle.rc_commands.specs.Asking.{is_alone, is_plain, is_request, is_text, named_in, run_in, shrink_in};
-ghost use Rattle.rc_commands.specs.Asking.{single_in, stops_in, stops_line, survey_in, threads_in, unread_in};
-ghost use Rattle.rc_commands.specs.Asking.{IsFew};
+ghost use Rattle.rc_commands.specs.Asking.{IsInRange, Tells, as_command, asked_in, asks_for_text, audit_in};
+ghost use Rattle.rc_commands.specs.Asking.{command_in, drawn_in, explain_in, explained_in, explore_in, fuzz_in};
+ghost use Rattle.rc_commands.specs.Asking.{fuzz_line, heap_line, is_alone, is_plain, is_request, is_text, named_in};
+ghost use Rattle.rc_commands.specs.Asking.{option_zip_with, run_in, shrink_in, seeds_or_first, single_in};
+ghost use Rattle.rc_commands.specs.Asking.{sought_in, stops_in, stops_line, survey_in, threads_in, unread_in};
+ghost use Rattle.rc_commands.specs.Asking.{until_in, IsFew, explored_in, is_sized, plain_in};
 ghost use Rattle.rc_commands.specs.Numbers.{decimal_in};
 ghost use Rattle.rc_commands.specs.Commands.{ramseg};
 
 use crate::commands::program;
-use crate::numbers::{BadWord, has_flag, has_option, number_of, seeds_of};
+use crate::numbers::{BadWord, has_flag, has_option, json_of, number_of, seeds_of};
 use clap::error::ErrorKind;
 use clap::{ArgMatches, Error};
 use rc_types::{Fault, Seq};
 use std::alloc::Global;
 
-/// What a command line asks for.
+/// What a command line asks for. Where a command has `json`, that says whether a JSON document is wanted in place of
+/// the text.
 #[derive(Drop)]
 pub enum Asked {
     /// Replay a scenario; where a heap is given, the coordinator's tree stands in one of so many bytes.
     Run {
         heap: Option<usize>,
+        json: bool,
     },
     /// Replay a scenario, and write the trace of what was sent.
     Trace,
     /// Judge a trace.
-    Audit,
+    Audit {
+        json: bool,
+    },
     /// Replay a scenario, and write what its clients saw.
     History,
     /// Judge a history of clients.
@@ -40,11 +45,23 @@ pub enum Asked {
         seed: u64,
         steps: u32,
         free: bool,
+        json: bool,
     },
     /// Draw events from a seed, and cut the power after each of them.
     Stops {
         seed: u64,
         steps: u32,
+        json: bool,
+    },
+    /// Draw events from a seed so that much happens, and cut the power after each of them.
+    StopsExplored {
+        seed: u64,
+        steps: u32,
+        hosts: u8,
+        factor: u8,
+        segment: u16,
+        free: bool,
+        json: bool,
     },
     /// Run nodes on threads: so many hosts, and so many writes.
     Threads {
@@ -61,6 +78,7 @@ pub enum Asked {
         free: bool,
         save: bool,
         progress: bool,
+        json: bool,
     },
     /// Run events that are drawn so from each of these seeds, the first to the last, and sum up what was reached.
     Survey {
@@ -72,6 +90,22 @@ pub enum Asked {
         segment: u16,
         free: bool,
         progress: bool,
+        json: bool,
+    },
+    /// Look among these seeds for the first whose run reaches what is named so: a rule, or a kind of event or of
+    /// message; print how, or the events up to there, where `save` says so.
+    Until {
+        goal: Seq<u8>,
+        first: u64,
+        last: u64,
+        steps: u32,
+        hosts: u8,
+        factor: u8,
+        segment: u16,
+        free: bool,
+        save: bool,
+        progress: bool,
+        json: bool,
     },
     /// Look for a smallest scenario whose report still has a line that begins with this text.
     Shrink {
@@ -93,6 +127,7 @@ pub enum Asked {
     /// Say what this word means, or which words there are.
     Explain {
         word: Option<Seq<u8>>,
+        json: bool,
     },
     /// Nothing but this text, for standard output: help, or the version.
     Tell(String),
@@ -109,19 +144,19 @@ pub fn asked_for(alloc: Global, words: &[String]) -> Result<Asked, Fault>
 
     // Lines without options, by their words alone.
     ensures run { IfOk result
-        (λ a. (a ≡ Asked.Run None) ↔ (is_alone (codes "run") (map string_bytes words.now) ≡ true)) }
+        (λ a. (a ≡ Asked.Run None false) ↔ (is_alone (codes "run") (map string_bytes words.now) ≡ true)) }
     ensures trace { IfOk result
         (λ a. (a ≡ Asked.Trace) ↔ (is_alone (codes "trace") (map string_bytes words.now) ≡ true)) }
     ensures audit { IfOk result
-        (λ a. (a ≡ Asked.Audit) ↔ (is_alone (codes "audit") (map string_bytes words.now) ≡ true)) }
+        (λ a. (a ≡ Asked.Audit false) ↔ (is_alone (codes "audit") (map string_bytes words.now) ≡ true)) }
     ensures fuzz { IfOk result
-        (λ a. is_alone (codes "fuzz") (map string_bytes words.now) ≡ true → a ≡ Asked.Fuzz 1 1000 false) }
+        (λ a. is_alone (codes "fuzz") (map string_bytes words.now) ≡ true → a ≡ Asked.Fuzz 1 1000 false false) }
     ensures stops { IfOk result
-        (λ a. is_alone (codes "stops") (map string_bytes words.now) ≡ true → a ≡ Asked.Stops 1 300) }
+        (λ a. is_alone (codes "stops") (map string_bytes words.now) ≡ true → a ≡ Asked.Stops 1 300 false) }
     ensures threads { IfOk result
         (λ a. is_alone (codes "threads") (map string_bytes words.now) ≡ true → a ≡ Asked.Threads 4 10) }
     ensures explore { IfOk result (λ a. is_alone (codes "explore") (map string_bytes words.now) ≡ true
-        → a ≡ Asked.Explore 1 2000 5 2 2 false false false) }
+        → a ≡ Asked.Explore 1 2000 5 2 2 false false false false) }
     ensures log { IfOk result
         (λ a. is_alone (codes "log") (map string_bytes words.now) ≡ true → a ≡ Asked.Log false) }
     ensures picture { IfOk result
@@ -129,7 +164,7 @@ pub fn asked_for(alloc: Global, words: &[String]) -> Result<Asked, Fault>
     ensures heal { IfOk result
         (λ a. is_alone (codes "heal") (map string_bytes words.now) ≡ true → a ≡ Asked.Heal false) }
     ensures explain { IfOk result
-        (λ a. is_alone (codes "explain") (map string_bytes words.now) ≡ true → a ≡ Asked.Explain None) }
+        (λ a. is_alone (codes "explain") (map string_bytes words.now) ≡ true → a ≡ Asked.Explain None false) }
     ensures history { IfOk result
         (λ a. is_alone (codes "history") (map string_bytes words.now) ≡ true → a ≡ Asked.History) }
     ensures check { IfOk result
@@ -139,12 +174,12 @@ pub fn asked_for(alloc: Global, words: &[String]) -> Result<Asked, Fault>
 
     // Lines with each option of a command once, by their words.
     ensures heap { IfOk result (λ a. (bytes : List ℕ) → map string_bytes words.now ≡ heap_line bytes
-        → as_command a ≡ option_map Asked.Run (option_map Some (decimal_in 16 1048576 bytes))) }
+        → as_command a ≡ option_map (λ n. Asked.Run (Some n) false) (decimal_in 16 1048576 bytes)) }
     ensures drawn { IfOk result (λ a. (seed steps : List ℕ) → map string_bytes words.now ≡ fuzz_line seed steps
-        → as_command a ≡ option_zip_with (λ s n. Asked.Fuzz s n true)
+        → as_command a ≡ option_zip_with (λ s n. Asked.Fuzz s n true false)
         (decimal_in 0 18446744073709551615 seed) (decimal_in 0 100000 steps)) }
     ensures cut { IfOk result (λ a. (seed steps : List ℕ) → map string_bytes words.now ≡ stops_line seed steps
-        → as_command a ≡ option_zip_with (λ s n. Asked.Stops s n)
+        → as_command a ≡ option_zip_with (λ s n. Asked.Stops s n false)
         (decimal_in 0 18446744073709551615 seed) (decimal_in 0 1000 steps)) }
     ensures memory { IfErr result (λ e. e ≡ OutOfMemory) }
 {
@@ -178,6 +213,7 @@ fn found_named(alloc: Global, name: &str, given: &ArgMatches<'_>) -> Result<Aske
     match name {
         "shrink" => shrink_of(alloc, given),
         "explain" => explain_of(alloc, given),
+        "explore" => explore_of(alloc, given),
         _ => match command_named(name, given) {
             Ok(command) => Ok(command),
             Err(word) => wrong(alloc, &word),
@@ -219,7 +255,7 @@ fn command_named<'a>(name: &str, given: &ArgMatches<'a>) -> Result<Asked, BadWor
     match name {
         "run" => run_of(given),
         "trace" => Ok(Asked::Trace),
-        "audit" => Ok(Asked::Audit),
+        "audit" => audit_of(given),
         "history" => Ok(Asked::History),
         "check" => Ok(Asked::Check),
         "log" => Ok(Asked::Log {
@@ -246,23 +282,34 @@ fn unread_named<'a>(name: &str, given: &ArgMatches<'a>) -> Result<Asked, BadWord
         "fuzz" => fuzz_of(given),
         "stops" => stops_of(given),
         "threads" => threads_of(given),
-        "explore" => explore_of(given),
         _ => Err(BadWord::NoCommand),
     }
 }
 
-/// `run` with its option.
+/// `audit` with its option.
+fn audit_of<'a>(given: &ArgMatches<'a>) -> Result<Asked, BadWord<'a>>
+    ensures command { let asked = audit_in (rows_of (found_of given.now)) in
+        MatchResult result (λ a. as_command a ≡ asked) (λ _. asked ≡ None) }
+    ensures text { IfOk result (λ a. is_text a ≡ false) }
+    ensures ranges { IfOk result IsInRange }
+{
+    let json = json_of(given)?;
+    Ok(Asked::Audit { json })
+}
+
+/// `run` with its options.
 fn run_of<'a>(given: &ArgMatches<'a>) -> Result<Asked, BadWord<'a>>
     ensures command { let asked = run_in (rows_of (found_of given.now)) in
         MatchResult result (λ a. as_command a ≡ asked) (λ _. asked ≡ None) }
     ensures text { IfOk result (λ a. is_text a ≡ false) }
     ensures ranges { IfOk result IsInRange }
 {
+    let json = json_of(given)?;
     let heap = match number_of(given, "heap", 16, 1_048_576)? {
         Some(bytes) => Some(bytes as usize),
         None => None,
     };
-    Ok(Asked::Run { heap })
+    Ok(Asked::Run { heap, json })
 }
 
 /// `fuzz` with its options.
@@ -272,10 +319,16 @@ fn fuzz_of<'a>(given: &ArgMatches<'a>) -> Result<Asked, BadWord<'a>>
     ensures text { IfOk result (λ a. is_text a ≡ false) }
     ensures ranges { IfOk result IsInRange }
 {
+    let json = json_of(given)?;
     let seed = number_of(given, "seed", 0, u64::MAX)?.unwrap_or(1);
     let steps = number_of(given, "steps", 0, 100_000)?.unwrap_or(1_000) as u32;
     let free = has_flag(given, "free");
-    Ok(Asked::Fuzz { seed, steps, free })
+    Ok(Asked::Fuzz {
+        seed,
+        steps,
+        free,
+        json,
+    })
 }
 
 /// `stops` with its options.
@@ -285,9 +338,61 @@ fn stops_of<'a>(given: &ArgMatches<'a>) -> Result<Asked, BadWord<'a>>
     ensures text { IfOk result (λ a. is_text a ≡ false) }
     ensures ranges { IfOk result IsInRange }
 {
+    if has_flag(given, "explored") {
+        explored_of(given)
+    } else if is_sized(given) {
+        Err(BadWord::OnlyExplored)
+    } else {
+        plain_of(given)
+    }
+}
+
+/// Whether hosts, replicas or segments were given.
+fn is_sized(given: &ArgMatches<'_>) -> bool
+    ensures { result ≡ is_sized (rows_of (found_of given.now)) }
+{
+    has_option(given, "hosts")
+        || has_option(given, "factor")
+        || has_option(given, "segment")
+        || has_flag(given, "free")
+}
+
+/// `stops --explored` with its other options.
+fn explored_of<'a>(given: &ArgMatches<'a>) -> Result<Asked, BadWord<'a>>
+    ensures command { let asked = explored_in (rows_of (found_of given.now)) in
+        MatchResult result (λ a. as_command a ≡ asked) (λ _. asked ≡ None) }
+    ensures text { IfOk result (λ a. is_text a ≡ false) }
+    ensures ranges { IfOk result IsInRange }
+{
+    let json = json_of(given)?;
     let seed = number_of(given, "seed", 0, u64::MAX)?.unwrap_or(1);
     let steps = number_of(given, "steps", 0, 1_000)?.unwrap_or(300) as u32;
-    Ok(Asked::Stops { seed, steps })
+    let hosts = number_of(given, "hosts", 1, 16)?.unwrap_or(5) as u8;
+    let factor = number_of(given, "factor", 1, 5)?.unwrap_or(2) as u8;
+    let segment = number_of(given, "segment", 1, 1_024)?.unwrap_or(2) as u16;
+    let free = has_flag(given, "free");
+    Ok(Asked::StopsExplored {
+        seed,
+        steps,
+        hosts,
+        factor,
+        segment,
+        free,
+        json,
+    })
+}
+
+/// `stops` of the events that `fuzz` draws, with its other options.
+fn plain_of<'a>(given: &ArgMatches<'a>) -> Result<Asked, BadWord<'a>>
+    ensures command { let asked = plain_in (rows_of (found_of given.now)) in
+        MatchResult result (λ a. as_command a ≡ asked) (λ _. asked ≡ None) }
+    ensures text { IfOk result (λ a. is_text a ≡ false) }
+    ensures ranges { IfOk result IsInRange }
+{
+    let json = json_of(given)?;
+    let seed = number_of(given, "seed", 0, u64::MAX)?.unwrap_or(1);
+    let steps = number_of(given, "steps", 0, 1_000)?.unwrap_or(300) as u32;
+    Ok(Asked::Stops { seed, steps, json })
 }
 
 /// `threads` with its options.
@@ -303,22 +408,67 @@ fn threads_of<'a>(given: &ArgMatches<'a>) -> Result<Asked, BadWord<'a>>
 }
 
 /// `explore` with its options.
-fn explore_of<'a>(given: &ArgMatches<'a>) -> Result<Asked, BadWord<'a>>
-    ensures command { let asked = explore_in (rows_of (found_of given.now)) in
+fn explore_of(alloc: Global, given: &ArgMatches<'_>) -> Result<Asked, Fault>
+    ensures command { IfOk result (λ a. as_command a ≡ explore_in (rows_of (found_of given.now))) }
+    ensures text { IfOk result (λ a. is_text a ≡ false) }
+    ensures ranges { IfOk result IsInRange }
+    ensures memory { IfErr result (λ e. e ≡ OutOfMemory) }
+{
+    match given.get_str("until") {
+        Some(goal) => until_named(alloc, given, goal),
+        None => drawn(alloc, given),
+    }
+}
+
+/// `explore` of several seeds until one reaches what is named so.
+fn until_named(alloc: Global, given: &ArgMatches<'_>, name: &str) -> Result<Asked, Fault>
+    ensures command { IfOk result (λ a. as_command a ≡ until_in name.now (rows_of (found_of given.now))) }
+    ensures text { IfOk result (λ a. is_text a ≡ false) }
+    ensures ranges { IfOk result IsInRange }
+    ensures memory { IfErr result (λ e. e ≡ OutOfMemory) }
+{
+    let goal = Seq::from_vec(name.as_bytes().to_vec(alloc)?);
+    match until_of(given, goal) {
+        Ok(command) => Ok(command),
+        Err(word) => wrong(alloc, &word),
+    }
+}
+
+/// `explore` of one seed or of several, or what is wrong with it.
+fn drawn(alloc: Global, given: &ArgMatches<'_>) -> Result<Asked, Fault>
+    ensures command { IfOk result (λ a. as_command a ≡ drawn_in (rows_of (found_of given.now))) }
+    ensures text { IfOk result (λ a. is_text a ≡ false) }
+    ensures ranges { IfOk result IsInRange }
+    ensures memory { IfErr result (λ e. e ≡ OutOfMemory) }
+{
+    match drawn_of(given) {
+        Ok(command) => Ok(command),
+        Err(word) => wrong(alloc, &word),
+    }
+}
+
+/// `explore` of one seed or of several.
+fn drawn_of<'a>(given: &ArgMatches<'a>) -> Result<Asked, BadWord<'a>>
+    ensures command { let asked = drawn_in (rows_of (found_of given.now)) in
         MatchResult result (λ a. as_command a ≡ asked) (λ _. asked ≡ None) }
     ensures text { IfOk result (λ a. is_text a ≡ false) }
     ensures ranges { IfOk result IsInRange }
 {
+    let json = json_of(given)?;
     match seeds_of(given)? {
-        Some(seeds) => survey_of(given, seeds),
-        None => single_of(given),
+        Some(seeds) => survey_of(given, json, seeds),
+        None => single_of(given, json),
     }
 }
 
 /// `explore` of these seeds with its other options.
-fn survey_of<'a>(given: &ArgMatches<'a>, seeds: (u64, u64)) -> Result<Asked, BadWord<'a>>
+fn survey_of<'a>(
+    given: &ArgMatches<'a>,
+    json: bool,
+    seeds: (u64, u64),
+) -> Result<Asked, BadWord<'a>>
     requires few { IsFew seeds }
-    ensures command { let asked = survey_in seeds (rows_of (found_of given.now)) in
+    ensures command { let asked = survey_in json seeds (rows_of (found_of given.now)) in
         MatchResult result (λ a. as_command a ≡ asked) (λ _. asked ≡ None) }
     ensures text { IfOk result (λ a. is_text a ≡ false) }
     ensures ranges { IfOk result IsInRange }
@@ -342,12 +492,13 @@ fn survey_of<'a>(given: &ArgMatches<'a>, seeds: (u64, u64)) -> Result<Asked, Bad
         segment,
         free,
         progress,
+        json,
     })
 }
 
 /// `explore` of one seed with its options.
-fn single_of<'a>(given: &ArgMatches<'a>) -> Result<Asked, BadWord<'a>>
-    ensures command { let asked = single_in (rows_of (found_of given.now)) in
+fn single_of<'a>(given: &ArgMatches<'a>, json: bool) -> Result<Asked, BadWord<'a>>
+    ensures command { let asked = single_in json (rows_of (found_of given.now)) in
         MatchResult result (λ a. as_command a ≡ asked) (λ _. asked ≡ None) }
     ensures text { IfOk result (λ a. is_text a ≡ false) }
     ensures ranges { IfOk result IsInRange }
@@ -369,21 +520,98 @@ fn single_of<'a>(given: &ArgMatches<'a>) -> Result<Asked, BadWord<'a>>
         free,
         save,
         progress,
+        json,
     })
 }
 
-/// `explain` with its word.
+/// `explore` of several seeds until one reaches this.
+fn until_of<'a>(given: &ArgMatches<'a>, goal: Seq<u8>) -> Result<Asked, BadWord<'a>>
+    ensures command { let asked = until_in goal (rows_of (found_of given.now)) in
+        MatchResult result (λ a. as_command a ≡ asked) (λ _. asked ≡ None) }
+    ensures text { IfOk result (λ a. is_text a ≡ false) }
+    ensures ranges { IfOk result IsInRange }
+{
+    if has_option(given, "seed") {
+        return Err(BadWord::NoSeed);
+    }
+    let json = json_of(given)?;
+    let seeds = seeds_sought(given)?;
+    sought_of(given, goal, json, seeds)
+}
+
+/// The seeds that are looked through: those that were given, or else the first ones.
+fn seeds_sought<'a>(given: &ArgMatches<'a>) -> Result<(u64, u64), BadWord<'a>>
+    ensures seeds { let seeds = seeds_or_first (rows_of (found_of given.now)) in
+        MatchResult result (λ found. seeds ≡ Some found) (λ _. seeds ≡ None) }
+    ensures few { IfOk result IsFew }
+{
+    match seeds_of(given)? {
+        Some(seeds) => Ok(seeds),
+        None => Ok((1, 10_000)),
+    }
+}
+
+/// `explore` of these seeds until one reaches this, with its other options.
+fn sought_of<'a>(
+    given: &ArgMatches<'a>,
+    goal: Seq<u8>,
+    json: bool,
+    seeds: (u64, u64),
+) -> Result<Asked, BadWord<'a>>
+    requires few { IsFew seeds }
+    ensures command { let asked = sought_in json seeds goal (rows_of (found_of given.now)) in
+        MatchResult result (λ a. as_command a ≡ asked) (λ _. asked ≡ None) }
+    ensures text { IfOk result (λ a. is_text a ≡ false) }
+    ensures ranges { IfOk result IsInRange }
+{
+    let (first, last) = seeds;
+    let steps = number_of(given, "steps", 0, 100_000)?.unwrap_or(2_000) as u32;
+    let hosts = number_of(given, "hosts", 1, 16)?.unwrap_or(5) as u8;
+    let factor = number_of(given, "factor", 1, 5)?.unwrap_or(2) as u8;
+    let segment = number_of(given, "segment", 1, 1_024)?.unwrap_or(2) as u16;
+    let free = has_flag(given, "free");
+    let save = has_flag(given, "save");
+    let progress = has_flag(given, "progress");
+    Ok(Asked::Until {
+        goal,
+        first,
+        last,
+        steps,
+        hosts,
+        factor,
+        segment,
+        free,
+        save,
+        progress,
+        json,
+    })
+}
+
+/// `explain` with its option and its word.
 fn explain_of(alloc: Global, given: &ArgMatches<'_>) -> Result<Asked, Fault>
     ensures command { IfOk result (λ a. as_command a ≡ explain_in (rows_of (found_of given.now))) }
     ensures text { IfOk result (λ a. is_text a ≡ false) }
     ensures ranges { IfOk result IsInRange }
     ensures memory { IfErr result (λ e. e ≡ OutOfMemory) }
 {
+    match json_of(given) {
+        Ok(json) => explained_of(alloc, given, json),
+        Err(word) => wrong(alloc, &word),
+    }
+}
+
+/// `explain` with its word.
+fn explained_of(alloc: Global, given: &ArgMatches<'_>, json: bool) -> Result<Asked, Fault>
+    ensures command { IfOk result (λ a. as_command a ≡ explained_in json (rows_of (found_of given.now))) }
+    ensures text { IfOk result (λ a. is_text a ≡ false) }
+    ensures ranges { IfOk result IsInRange }
+    ensures memory { IfErr result (λ e. e ≡ OutOfMemory) }
+{
     let Some(text) = given.get_str("word") else {
-        return Ok(Asked::Explain { word: None });
+        return Ok(Asked::Explain { word: None, json });
     };
-    let word = Seq::from_vec(text.as_bytes().to_vec(alloc)?);
-    Ok(Asked::Explain { word: Some(word) })
+    let word = Some(Seq::from_vec(text.as_bytes().to_vec(alloc)?));
+    Ok(Asked::Explain { word, json })
 }
 
 /// What is told in place of a command's work: help and the version, or what is wrong.

@@ -38,7 +38,7 @@ fn reading<'a>(alloc: Global) -> Result<Command<'a>, AllocError>
     let alone = alone(alloc)?;
     let replaying = with(alone, run(alloc))?;
     let tracing = with(replaying, Ok(trace(alloc)))?;
-    let judging = with(tracing, Ok(audit(alloc)))?;
+    let judging = with(tracing, audit(alloc))?;
     let telling = with(judging, log(alloc))?;
     with(telling, picture(alloc))
 }
@@ -78,16 +78,33 @@ fn command<'a>(alloc: Global, name: &'a str, about: &'a str, example: &'a str) -
     Command::new(alloc, name).about(about).after_help(example)
 }
 
-/// `run` with its option.
+/// A command that can answer in JSON too. Its help ends with an example.
+fn formatted<'a>(
+    alloc: Global,
+    name: &'a str,
+    about: &'a str,
+    example: &'a str,
+) -> Result<Command<'a>, AllocError>
+    ensures { IfOk result (IsBuiltAs (spec.formatted name.now)) }
+{
+    command(alloc, name, about, example).arg(option(
+        alloc,
+        "format",
+        "json",
+        "Prints one JSON document in place of the text",
+    ))
+}
+
+/// `run` with its options.
 fn run<'a>(alloc: Global) -> Result<Command<'a>, AllocError>
     ensures { IfOk result (IsBuiltAs spec.run) }
 {
-    command(
+    formatted(
         alloc,
         "run",
         "Replays a scenario that it reads from standard input, and prints the report",
         "Example: ramseg run --heap 65536 < examples/first-write.json",
-    )
+    )?
     .arg(option(
         alloc,
         "heap",
@@ -108,11 +125,11 @@ fn trace<'a>(alloc: Global) -> Command<'a>
     )
 }
 
-/// `audit`.
-fn audit<'a>(alloc: Global) -> Command<'a>
-    ensures { IsBuiltAs spec.audit result }
+/// `audit` with its option.
+fn audit<'a>(alloc: Global) -> Result<Command<'a>, AllocError>
+    ensures { IfOk result (IsBuiltAs spec.audit) }
 {
-    command(
+    formatted(
         alloc,
         "audit",
         "Judges a trace that it reads from standard input",
@@ -162,13 +179,50 @@ fn fuzz<'a>(alloc: Global) -> Result<Command<'a>, AllocError>
 fn stops<'a>(alloc: Global) -> Result<Command<'a>, AllocError>
     ensures { IfOk result (IsBuiltAs spec.stops) }
 {
+    stops_sized(alloc)?
+        .arg(flag(alloc, "free", "With --explored: lets masters free segments"))?
+        .arg(flag(
+            alloc,
+            "explored",
+            "Draws events as explore does, so that much happens",
+        ))
+}
+
+/// `stops` with all its options that have a value.
+fn stops_sized<'a>(alloc: Global) -> Result<Command<'a>, AllocError>
+    ensures { IfOk result (IsBuiltAs spec.stops_sized) }
+{
+    stops_placed(alloc)?.arg(option(
+        alloc,
+        "segment",
+        "N",
+        "With --explored: how many entries a segment takes, 1 to 1024; 2 if not given",
+    ))
+}
+
+/// `stops` with the options of its drawing, and with hosts and replicas.
+fn stops_placed<'a>(alloc: Global) -> Result<Command<'a>, AllocError>
+    ensures { IfOk result (IsBuiltAs spec.stops_placed) }
+{
     drawn(
         alloc,
         "stops",
         "Cuts the power after each of the events that are drawn from a seed, and counts the breaches",
-        "Example: ramseg stops --seed 7 --steps 20",
+        "Example: ramseg stops --explored --seed 7 --steps 200",
         "How many steps are drawn, 0 to 1000; 300 if not given",
-    )
+    )?
+    .arg(option(
+        alloc,
+        "hosts",
+        "N",
+        "With --explored: how many hosts there are, 1 to 16; 5 if not given",
+    ))?
+    .arg(option(
+        alloc,
+        "factor",
+        "N",
+        "With --explored: how many replicas each segment has, 1 to 5; 2 if not given",
+    ))
 }
 
 /// `threads` with its options.
@@ -206,7 +260,13 @@ fn explore<'a>(alloc: Global) -> Result<Command<'a>, AllocError>
             "A..B",
             "Runs each seed from A to B, at most 10000, and sums up what they have reached",
         ))?
-        .arg(flag(alloc, "progress", "Tells on standard error how far it is"))
+        .arg(flag(alloc, "progress", "Tells on standard error how far it is"))?
+        .arg(option(
+            alloc,
+            "until",
+            "NAME",
+            "Looks for the first seed that reaches this rule, or this kind of event or message",
+        ))
 }
 
 /// `explore` with its options for one run.
@@ -269,7 +329,7 @@ fn drawn<'a>(
 ) -> Result<Command<'a>, AllocError>
     ensures { IfOk result (IsBuiltAs (spec.drawn name.now)) }
 {
-    command(alloc, name, about, example)
+    formatted(alloc, name, about, example)?
         .arg(option(alloc, "seed", "N", "The seed, below 2^64; 1 if not given"))?
         .arg(option(alloc, "steps", "N", steps))
 }
@@ -343,12 +403,12 @@ fn heal<'a>(alloc: Global) -> Result<Command<'a>, AllocError>
 fn explain<'a>(alloc: Global) -> Result<Command<'a>, AllocError>
     ensures { IfOk result (IsBuiltAs spec.explain) }
 {
-    command(
+    formatted(
         alloc,
         "explain",
         "Says what a code, a message, an event or a rule is, and what to do about it",
         "Example: ramseg explain F18",
-    )
+    )?
     .arg(
         Arg::new(alloc, "word").value_name("WORD").help(
             "A code, as F18 or 18, or a name; if not given, all are listed",

@@ -1,9 +1,9 @@
-//! Numbers on the command line: decimal digits alone.
+//! Values on the command line: numbers, of decimal digits alone, and the name of a format.
 
 ghost use Rattle.std.specs.Prelude.{◌≡◌, Some, None, IfOk, IfSome, MatchResult};
 ghost use Rattle.clap.specs.Words.{found_of, rows_of};
 ghost use Rattle.rc_commands.specs.Asking as spec;
-ghost use Rattle.rc_commands.specs.Asking.{IsFew, number_given, seeds_given};
+ghost use Rattle.rc_commands.specs.Asking.{IsFew, json_given, number_given, seeds_given};
 ghost use Rattle.rc_commands.specs.Numbers.{IsWithin, decimal_in};
 
 use clap::ArgMatches;
@@ -23,8 +23,16 @@ pub enum BadWord<'a> {
     Range {
         text: &'a str,
     },
+    /// No name of a format.
+    Format {
+        text: &'a str,
+    },
     /// Options that do not go with a range of seeds.
     NotTogether,
+    /// A seed, where the first of several is looked for.
+    NoSeed,
+    /// Options of `stops` that go with `--explored`.
+    OnlyExplored,
     /// `shrink` without its text.
     NoText,
     /// There is no command.
@@ -47,9 +55,20 @@ impl fmt::Display for BadWord<'_> {
                 f,
                 "error: '{text}' is no value for '--seeds': A..B, A at most B, at most {MOST_SEEDS} seeds\n"
             )?,
+            BadWord::Format { text } => {
+                write!(f, "error: '{text}' is no value for '--format': json\n")?
+            }
+            BadWord::NoSeed => write!(
+                f,
+                "error: '--seed' does not go with '--until'; '--seeds' says which are looked through\n"
+            )?,
             BadWord::NotTogether => write!(
                 f,
                 "error: neither '--seed' nor '--save' goes with '--seeds'\n"
+            )?,
+            BadWord::OnlyExplored => write!(
+                f,
+                "error: '--hosts', '--factor', '--segment' and '--free' go with '--explored'\n"
             )?,
             BadWord::NoText => write!(f, "error: '--keep' with a text is wanted\n")?,
             BadWord::NoCommand => write!(f, "error: a command is wanted\n")?,
@@ -103,6 +122,21 @@ pub fn has_option(given: &ArgMatches<'_>, name: &str) -> bool
     match given.get_str(name) {
         Some(_) => true,
         None => false,
+    }
+}
+
+/// Whether JSON is asked for.
+pub fn json_of<'a>(given: &ArgMatches<'a>) -> Result<bool, BadWord<'a>>
+    ensures { let json = json_given (rows_of (found_of given.now)) in
+        MatchResult result (λ found. json ≡ Some found) (λ _. json ≡ None) }
+{
+    let Some(text) = given.get_str("format") else {
+        return Ok(false);
+    };
+    if text == "json" {
+        Ok(true)
+    } else {
+        Err(BadWord::Format { text })
     }
 }
 

@@ -1,14 +1,18 @@
 -- The world after a power failure, part by part.
-use Rattle.std.proofs.Common.{◌≡◌, ℕ, ◌+◌, ◌<◌, true, false, nat_lt, ◌&&◌, List, [], ◌∷◌, ◌++◌, length, take, get_or, ap, sym, ◌∙◌}
+use Rattle.std.proofs.Common.{◌≡◌, ℕ, ◌+◌, ◌<◌, true, false, nat_lt, ◌&&◌, List, [], ◌∷◌, ◌++◌, length, take, get_or, ap, ap₂, sym, ◌∙◌}
 use Rattle.std.proofs.lemmas.Bool.{lt-ltb}
 use Rattle.std.proofs.lemmas.List.{take_more}
-use Rattle.rc_model.specs.Model.{Setup, Event, World, is_possible, step, opening, replay_from}
+use Rattle.rc_model.specs.Model.{Setup, Event, World, is_possible, step, opening, replay, replay_from}
 use Rattle.rc_model.proofs.Replays.{step-impossible, replay_from-push}
+use Rattle.rc_types.specs.declared.ids.Addr.TheVariants.{Coordinator}
+use Rattle.rc_types.specs.declared.events.Event.TheVariants.{Tick}
 use Rattle.rc_reading.specs.declared.scenarios.ScenarioEvent.{ScenarioEvent}
+use Rattle.rc_reading.specs.declared.scenarios.ScenarioEvent.TheVariants.{Core}
 use Rattle.rc_world.specs.Happened.{Happened, opened, with_events, can_happen, replayed}
 use Rattle.rc_draw.specs.declared.cutting.Keeping.{Keeping}
-use Rattle.rc_draw.specs.Draw.{drawing_setup, played}
-use Rattle.rc_draw.specs.Stops.{cut_scene, cut_world}
+use Rattle.rc_draw.specs.declared.cutting.Keeping.TheVariants.{All, OddSegments, Nothing}
+use Rattle.rc_draw.specs.Draw.{settled, played}
+use Rattle.rc_draw.specs.Stops.{gathered, stop_of, start_of, decisions_of, cut_scene, cut_from, cut_world, breaks, breaches_at}
 
 -- the event has happened
 pub takes_step : (old new : Happened) (event : Event) → new ≡ with_events old (event ∷ []) → replayed new ≡ step (replayed old) event
@@ -32,14 +36,45 @@ replay_more start now next events i event below is so_far made =
     made ∙ ap (λ (w : World). step w event) so_far ∙ sym (replay_from-push start (take i events) event)
     ∙ ap (λ (es : List Event). replay_from start es) (sym longer)
 
--- the events, and what follows
-pub cut_after : (keeping : Keeping) (events : List Event) (setup : Setup) (start before seen after : Happened) (scene : List ScenarioEvent)
-    → setup ≡ drawing_setup false → start ≡ opened setup → replayed before ≡ replay_from (replayed start) events → seen ≡ before
-    → scene ≡ cut_scene keeping (replayed seen) → replayed after ≡ played (replayed before) scene →
-    replayed after ≡ cut_world keeping events
+-- the run of the events
+pub run_is : (events : List Event) (setup copy : Setup) (start now : Happened) → copy ≡ setup → start ≡ opened copy
+    → replayed now ≡ replay_from (replayed start) events → replayed now ≡ replay setup events
+run_is events setup copy start now copy_is begins replays =
+    replays ∙ ap (λ (w : Happened). replay_from (replayed w) events) (begins ∙ ap opened copy_is)
+
+-- and what follows
+pub cut_is : (hosts : ℕ) (keeping : Keeping) (before seen after : Happened) (scene : List ScenarioEvent) → seen ≡ before
+    → scene ≡ cut_scene hosts keeping (replayed seen) → replayed after ≡ played (replayed before) scene
+    → replayed after ≡ cut_from hosts keeping (replayed before)
+cut_is hosts keeping before seen after scene same made ran =
+    ran ∙ ap (λ (s : List ScenarioEvent). played (replayed before) s)
+    (made ∙ ap (λ (w : Happened). cut_scene hosts keeping (replayed w)) same)
+
+-- how many breaches there are after the events
+pub counted_after : (setup : Setup) (hosts : ℕ) (keeping : Keeping) (events : List Event) (before : Happened) (count : ℕ)
+    → replayed before ≡ replay setup events → count ≡ breaks (cut_from hosts keeping (replayed before))
+    → count ≡ breaks (cut_world setup hosts keeping events)
 unfolding cut_world
-cut_after keeping events setup start before seen after scene setup_is begins replays same made ran =
-    let world : replayed before ≡ replay_from (opening (drawing_setup false)) events =
-    replays ∙ ap (λ (w : Happened). replay_from (replayed w) events) (begins ∙ ap opened setup_is) in
-    let scene_is : scene ≡ cut_scene keeping (replayed before) = made ∙ ap (λ (w : Happened). cut_scene keeping (replayed w)) same in
-    ran ∙ ap (λ (s : List ScenarioEvent). played (replayed before) s) scene_is ∙ ap (λ (w : World). played w (cut_scene keeping w)) world
+counted_after setup hosts keeping events before count is counted =
+    counted ∙ ap (λ (w : World). breaks (cut_from hosts keeping w)) is
+
+-- where the hosts start as they do where all is kept, it is the same number
+pub counted_alike : (setup : Setup) (hosts : ℕ) (keeping : Keeping) (events : List Event) (before seen : Happened) (all : ℕ)
+    → replayed before ≡ replay setup events → seen ≡ before
+    → gathered (start_of keeping (replayed seen)) hosts ≡ gathered (start_of All (replayed seen)) hosts
+    → all ≡ breaks (cut_from hosts All (replayed before)) → all ≡ breaks (cut_world setup hosts keeping events)
+counted_alike setup hosts keeping events before seen all is same starts counted =
+    counted_after setup hosts keeping events before all is
+    (counted
+    ∙ ap (λ (w : Happened). breaks (cut_from hosts All (replayed w))) (sym same)
+    ∙ ap (λ (first : List ScenarioEvent). breaks (played (replayed seen) (gathered (stop_of (replayed seen)) hosts ++ first
+    ++ settled ∷ Core (Tick Coordinator) ∷ settled ∷ [] ++ gathered (decisions_of (replayed seen)) hosts ++ settled ∷ []))) (sym starts)
+    ∙ ap (λ (w : Happened). breaks (cut_from hosts keeping (replayed w))) same)
+
+-- in the three ways
+pub counted_all : (setup : Setup) (hosts : ℕ) (events : List Event) (all odd nothing : ℕ)
+    → all ≡ breaks (cut_world setup hosts All events) → odd ≡ breaks (cut_world setup hosts OddSegments events)
+    → nothing ≡ breaks (cut_world setup hosts Nothing events) → all + odd + nothing ≡ breaches_at setup hosts events
+unfolding breaches_at
+counted_all setup hosts events all odd nothing all_are odd_are nothing_are =
+    ap₂ (λ n m. n + m) (ap₂ (λ n m. n + m) all_are odd_are) nothing_are

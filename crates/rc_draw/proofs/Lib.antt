@@ -3,3 +3,4 @@ pub mod Played
 pub mod Counting
 pub mod StepsDrawn
 pub mod CutWorlds
+pub mod Keepings

@@ -1,9 +1,10 @@
--- Power failure after each event of a drawing: all servers stop, all hosts start again with what they have kept, and
--- all crashed servers are recovered as far as that goes.
+-- Power failure after each of some events of so many hosts: all servers stop, all hosts start again with what they have
+-- kept, and all crashed servers are recovered as far as that goes.
 use Rattle.std.specs.Prelude.{ℕ, zero, suc, ◌+◌, ◌%◌, false, nat_eq, if◌then◌else◌, List, [], ◌∷◌, ◌++◌, take}
 use Rattle.std.specs.Prelude.{filter, is_some}
 use Rattle.rc_types.specs.declared.ids.ServerId.{ServerId}
 use Rattle.rc_types.specs.declared.ids.Addr.TheVariants.{Server, Coordinator}
+use Rattle.rc_types.specs.declared.events.Setup.{Setup}
 use Rattle.rc_types.specs.declared.events.Event.{Event}
 use Rattle.rc_model.specs.Backup.{open_names}
 use Rattle.rc_model.specs.Breach.{breach}
@@ -47,29 +48,34 @@ decision_of host before = Core (Decide (record { index = host; generation = befo
 abbrev pub decisions_of : World → ℕ → List ScenarioEvent
 decisions_of world host = gathered (decision_of host) (world.hosts host).generation
 
--- what follows a power failure in this world
-abbrev pub cut_scene : Keeping → World → List ScenarioEvent
-cut_scene keeping world =
-    gathered (stop_of world) 5 ++ gathered (start_of keeping world) 5
-    ++ settled ∷ Core (Tick Coordinator) ∷ settled ∷ [] ++ gathered (decisions_of world) 5 ++ settled ∷ []
+-- what follows a power failure in this world of so many hosts
+abbrev pub cut_scene : ℕ → Keeping → World → List ScenarioEvent
+cut_scene hosts keeping world =
+    gathered (stop_of world) hosts ++ gathered (start_of keeping world) hosts
+    ++ settled ∷ Core (Tick Coordinator) ∷ settled ∷ [] ++ gathered (decisions_of world) hosts ++ settled ∷ []
 
 -- the world that it leads to, after these events
-abbrev pub cut_from : Keeping → World → World
-cut_from keeping world = played world (cut_scene keeping world)
+abbrev pub cut_from : ℕ → Keeping → World → World
+cut_from hosts keeping world = played world (cut_scene hosts keeping world)
 
-unfoldable pub cut_world : Keeping → List Event → World
-cut_world keeping events = cut_from keeping (replay (drawing_setup false) events)
+unfoldable pub cut_world : Setup → ℕ → Keeping → List Event → World
+cut_world setup hosts keeping events = cut_from hosts keeping (replay setup events)
 
 -- 1 where a breach is found in it
 unfoldable pub breaks : World → ℕ
 breaks world = if is_some (breach world.sent) then 1 else 0
 
 -- in how many ways a power failure after these events leads to a breach
-unfoldable pub breaches_at : List Event → ℕ
-breaches_at events = breaks (cut_world All events) + breaks (cut_world OddSegments events) + breaks
-    (cut_world Nothing events)
+unfoldable pub breaches_at : Setup → ℕ → List Event → ℕ
+breaches_at setup hosts events = breaks (cut_world setup hosts All events)
+    + breaks (cut_world setup hosts OddSegments events) + breaks (cut_world setup hosts Nothing events)
 
 -- the same of a power failure after each of the first so many events
-unfoldable pub breaches_below : List Event → ℕ → ℕ
-breaches_below events zero = 0
-breaches_below events (suc n) = breaches_below events n + breaches_at (take (suc n) events)
+unfoldable pub breaches_of : Setup → ℕ → List Event → ℕ → ℕ
+breaches_of setup hosts events zero = 0
+breaches_of setup hosts events (suc n) =
+    breaches_of setup hosts events n + breaches_at setup hosts (take (suc n) events)
+
+-- of drawn events
+abbrev pub breaches_below : List Event → ℕ → ℕ
+breaches_below = breaches_of (drawing_setup false) 5

@@ -1,13 +1,13 @@
 //! What follows a power failure: all servers stop, all hosts start again, and all crashed servers are
 //! recovered as far as that goes.
 
-ghost use Rattle.std.specs.Prelude.{◌≡◌, ◌++◌, ℕ, IfOk, OnOk, IfErr};
+ghost use Rattle.std.specs.Prelude.{◌≡◌, ◌++◌, ℕ, true, IfOk, OnOk, IfErr};
 ghost use Rattle.rc_types.specs.declared.faults.Fault.TheVariants.{OutOfMemory};
 ghost use Rattle.rc_world.specs.Happened.{replayed};
+ghost use Rattle.rc_draw.specs.declared.cutting.Keeping.TheVariants.{All};
 ghost use Rattle.rc_draw.specs.Draw.{newest_server};
 ghost use Rattle.rc_draw.specs.Stops.{keeps, gathered, stop_of, start_of, decision_of, decisions_of, cut_scene};
 
-use crate::choosing::HOSTS;
 use crate::playing::settled;
 use rc_reading::ScenarioEvent;
 use rc_types::{Addr, Event, Fault, Seq, ServerId};
@@ -38,34 +38,51 @@ impl Keeping {
         }
         names
     }
+
+    /// Whether it keeps all open replicas of these hosts, so that they start as they do where all are kept.
+    pub(crate) fn keeps_all(self, world: &World<Global>, hosts: u8) -> Result<bool, Fault>
+        ensures ok { IfOk result (λ all. all ≡ true →
+            gathered (start_of self (replayed world.now)) hosts ≡ gathered (start_of All (replayed world.now)) hosts) }
+        ensures no_memory { IfErr result (λ fault. fault ≡ OutOfMemory) }
+    {
+        for host in 0..hosts {
+            let names = world.open_replicas(host)?;
+            let count = names.len();
+            if self.of(names).len() < count {
+                return Ok(false);
+            }
+        }
+        Ok(true)
+    }
 }
 
-/// What follows a power failure in this world.
+/// What follows a power failure in this world of so many hosts.
 pub(crate) fn cut_scene(
     alloc: Global,
     world: &World<Global>,
+    hosts: u8,
     keeping: Keeping,
 ) -> Result<Vec<ScenarioEvent>, Fault>
-    ensures ok { IfOk result (λ scene. scene.items ≡ cut_scene keeping (replayed world.now)) }
+    ensures ok { IfOk result (λ scene. scene.items ≡ cut_scene hosts keeping (replayed world.now)) }
     ensures no_memory { IfErr result (λ fault. fault ≡ OutOfMemory) }
 {
     let mut scene = Vec::new(alloc);
-    add_stops(world, &mut scene)?;
-    add_starts(world, keeping, &mut scene)?;
+    add_stops(world, hosts, &mut scene)?;
+    add_starts(world, hosts, keeping, &mut scene)?;
     scene.push(settled())?;
     scene.push(ScenarioEvent::Core(Event::Tick(Addr::Coordinator)))?;
     scene.push(settled())?;
-    add_decisions(world, &mut scene)?;
+    add_decisions(world, hosts, &mut scene)?;
     scene.push(settled())?;
     Ok(scene)
 }
 
 /// Each running server stops.
-fn add_stops(world: &World<Global>, scene: &mut Vec<ScenarioEvent>) -> Result<(), Fault>
-    ensures ok { OnOk result (scene.new.items ≡ scene.old.items ++ gathered (stop_of (replayed world.now)) 5) }
+fn add_stops(world: &World<Global>, hosts: u8, scene: &mut Vec<ScenarioEvent>) -> Result<(), Fault>
+    ensures ok { OnOk result (scene.new.items ≡ scene.old.items ++ gathered (stop_of (replayed world.now)) hosts) }
     ensures no_memory { IfErr result (λ fault. fault ≡ OutOfMemory) }
 {
-    for host in 0..HOSTS {
+    for host in 0..hosts {
         add_stop(world, host, scene)?;
     }
     Ok(())
@@ -86,13 +103,15 @@ fn add_stop(world: &World<Global>, host: u8, scene: &mut Vec<ScenarioEvent>) -> 
 /// Each host that was ever started starts again.
 fn add_starts(
     world: &World<Global>,
+    hosts: u8,
     keeping: Keeping,
     scene: &mut Vec<ScenarioEvent>,
 ) -> Result<(), Fault>
-    ensures ok { OnOk result (scene.new.items ≡ scene.old.items ++ gathered (start_of keeping (replayed world.now)) 5) }
+    ensures ok { OnOk result
+        (scene.new.items ≡ scene.old.items ++ gathered (start_of keeping (replayed world.now)) hosts) }
     ensures no_memory { IfErr result (λ fault. fault ≡ OutOfMemory) }
 {
-    for host in 0..HOSTS {
+    for host in 0..hosts {
         add_start(world, keeping, host, scene)?;
     }
     Ok(())
@@ -116,11 +135,15 @@ fn add_start(
 }
 
 /// The recovery of each server that has stopped is decided.
-fn add_decisions(world: &World<Global>, scene: &mut Vec<ScenarioEvent>) -> Result<(), Fault>
-    ensures ok { OnOk result (scene.new.items ≡ scene.old.items ++ gathered (decisions_of (replayed world.now)) 5) }
+fn add_decisions(
+    world: &World<Global>,
+    hosts: u8,
+    scene: &mut Vec<ScenarioEvent>,
+) -> Result<(), Fault>
+    ensures ok { OnOk result (scene.new.items ≡ scene.old.items ++ gathered (decisions_of (replayed world.now)) hosts) }
     ensures no_memory { IfErr result (λ fault. fault ≡ OutOfMemory) }
 {
-    for host in 0..HOSTS {
+    for host in 0..hosts {
         add_decisions_of(host, world.newest(host), scene)?;
     }
     Ok(())

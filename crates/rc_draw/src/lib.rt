@@ -11,4 +11,4 @@ mod stopping;
 mod words;
 
 pub use drawing::{draw, drawn_run};
-pub use stopping::stops;
+pub use stopping::{cut_each, stops};

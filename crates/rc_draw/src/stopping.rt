@@ -1,19 +1,21 @@
 //! Power failure after each event of a drawing.
 
-ghost use Rattle.std.specs.Prelude.{◌≡◌, ◌≤◌, ◌<◌, ◌+◌, ◌*◌, false, length, IfOk, OnOk, IfErr};
+ghost use Rattle.std.specs.Prelude.{◌≡◌, ◌≤◌, ◌<◌, ◌+◌, ◌*◌, true, false, length, IfOk, OnOk, IfErr};
 ghost use Rattle.rc_types.specs.declared.faults.Fault.TheVariants.{OutOfMemory};
 ghost use Rattle.rc_types.specs.declared.limits.TheConstants.{MAX_EVENTS};
-ghost use Rattle.rc_model.specs.World.{step, replay_from};
+ghost use Rattle.rc_model.specs.World.{step, replay, replay_from};
 ghost use Rattle.rc_world.specs.Happened.{replayed};
+ghost use Rattle.rc_world.specs.HostView.{IsWithinLimits};
 ghost use Rattle.rc_draw.specs.Draw.{drawn};
-ghost use Rattle.rc_draw.specs.Stops.{cut_world, breaks, breaches_at, breaches_below};
+ghost use Rattle.rc_draw.specs.Stops.{cut_from, cut_world, breaks, breaches_at, breaches_below, breaches_of};
 
+use crate::choosing::HOSTS;
 use crate::cutting::{Keeping, cut_scene};
 use crate::drawing::draw;
 use crate::playing::{drawing_setup, play};
 use rc_audit::audit;
 use rc_runs::Run;
-use rc_types::{Event, Fault};
+use rc_types::{Event, Fault, Setup, TryClone};
 use std::alloc::Global;
 
 /// Power failure after each event of a drawing without freeing, in three ways: after the events so
@@ -22,7 +24,7 @@ use std::alloc::Global;
 /// the messages pass, the recovery of each crashed server is decided, the messages pass, and all
 /// messages are judged. It gives how many times that was done, and in how many of them a breach of
 /// the headline was found, which is none. Each time the run begins anew, so it takes time as the
-/// square of the number of events.
+/// square of the number of events; but where no fewer replicas are kept than all, it is the same run, and is made once.
 ///
 /// # Errors
 ///
@@ -35,47 +37,104 @@ pub fn stops(alloc: Global, seed: u64, steps: usize) -> Result<(usize, usize), F
     ensures no_memory { IfErr result (λ fault. fault ≡ OutOfMemory) }
 {
     let events = draw(alloc, seed, steps, false)?;
-    let breaches = breaches_in(alloc, events.as_slice())?;
+    let setup = drawing_setup(alloc, false);
+    let breaches = cut_each(alloc, &setup, HOSTS, events.as_slice())?;
     Ok((3 * events.len(), breaches))
 }
 
-/// How many breaches power failures after each of these events lead to.
-fn breaches_in(alloc: Global, events: &[Event]) -> Result<usize, Fault>
-    requires { length events.now ≤ MAX_EVENTS }
-    ensures ok { IfOk result (λ count. count ≡ breaches_below events.now (length events.now)) }
+/// Power failure after each of these events of so many hosts, in three ways, as [`stops`] has it: how many breaches of
+/// the headline they lead to, which is none. An event that can't happen is passed over.
+///
+/// # Errors
+///
+/// `OutOfMemory` (F1): memory was refused.
+pub fn cut_each(alloc: Global, setup: &Setup, hosts: u8, events: &[Event]) -> Result<usize, Fault>
+    requires within { IsWithinLimits setup.now }
+    requires few { length events.now ≤ MAX_EVENTS }
+    ensures ok { IfOk result (λ count. count ≡ breaches_of setup.now hosts events.now (length events.now)) }
     ensures none { IfOk result (λ count. count ≡ 0) }
     ensures no_memory { IfErr result (λ fault. fault ≡ OutOfMemory) }
 {
     let mut breaches = 0;
     for last in 0..events.len() {
-        breaches += breaches_after(alloc, &events[..last + 1])?;
+        breaches += breaches_after(alloc, setup, hosts, &events[..last + 1])?;
     }
     Ok(breaches)
 }
 
 /// In how many of the three ways a power failure after these events leads to a breach.
 #[tactic(auto, unfolding(crate::specs::Stops::breaches_at))]
-fn breaches_after(alloc: Global, events: &[Event]) -> Result<usize, Fault>
-    requires { length events.now ≤ MAX_EVENTS }
-    ensures ok { IfOk result (λ count. count ≡ breaches_at events.now) }
+fn breaches_after(alloc: Global, setup: &Setup, hosts: u8, events: &[Event]) -> Result<usize, Fault>
+    requires within { IsWithinLimits setup.now }
+    requires few { length events.now ≤ MAX_EVENTS }
+    ensures ok { IfOk result (λ count. count ≡ breaches_at setup.now hosts events.now) }
     ensures none { IfOk result (λ count. count ≡ 0) }
     ensures no_memory { IfErr result (λ fault. fault ≡ OutOfMemory) }
 {
-    let all = breaks(alloc, events, Keeping::All)?;
-    let odd = breaks(alloc, events, Keeping::OddSegments)?;
-    let none = breaks(alloc, events, Keeping::Nothing)?;
-    Ok(all + odd + none)
+    let run = match run_of(alloc, setup, events) {
+        Ok(run) => run,
+        Err(fault) => return Err(fault),
+    };
+    let odd_is_all = Keeping::OddSegments.keeps_all(run.world(), hosts)?;
+    let nothing_is_all = Keeping::Nothing.keeps_all(run.world(), hosts)?;
+    let all = breaks(alloc, run, hosts, Keeping::All)?;
+    let odd = breaks_unless(
+        alloc,
+        setup,
+        hosts,
+        events,
+        Keeping::OddSegments,
+        odd_is_all,
+        all,
+    )?;
+    let nothing = breaks_unless(
+        alloc,
+        setup,
+        hosts,
+        events,
+        Keeping::Nothing,
+        nothing_is_all,
+        all,
+    )?;
+    Ok(all + odd + nothing)
 }
 
-/// 1 where a power failure after these events leads to a breach, else 0.
-#[tactic(auto, unfolding(crate::specs::Stops::breaks))]
-fn breaks(alloc: Global, events: &[Event], keeping: Keeping) -> Result<usize, Fault>
-    requires { length events.now ≤ MAX_EVENTS }
-    ensures ok { IfOk result (λ count. count ≡ breaks (cut_world keeping events.now)) }
+/// 1 where a power failure after these events leads to a breach, else 0. Where as much is kept as where all is, the run
+/// is the same, and so is this number.
+fn breaks_unless(
+    alloc: Global,
+    setup: &Setup,
+    hosts: u8,
+    events: &[Event],
+    keeping: Keeping,
+    is_all: bool,
+    all: usize,
+) -> Result<usize, Fault>
+    requires within { IsWithinLimits setup.now }
+    requires few { length events.now ≤ MAX_EVENTS }
+    requires none { all ≡ 0 }
+    requires alike { is_all ≡ true → all ≡ breaks (cut_world setup.now hosts keeping events.now) }
+    ensures ok { IfOk result (λ count. count ≡ breaks (cut_world setup.now hosts keeping events.now)) }
     ensures none { IfOk result (λ count. count ≡ 0) }
     ensures no_memory { IfErr result (λ fault. fault ≡ OutOfMemory) }
 {
-    let run = match cut_run(alloc, events, keeping) {
+    if is_all {
+        return Ok(all);
+    }
+    match run_of(alloc, setup, events) {
+        Ok(run) => breaks(alloc, run, hosts, keeping),
+        Err(fault) => Err(fault),
+    }
+}
+
+/// 1 where a power failure now leads to a breach, else 0.
+#[tactic(auto, unfolding(crate::specs::Stops::breaks))]
+fn breaks(alloc: Global, run: Run<Global>, hosts: u8, keeping: Keeping) -> Result<usize, Fault>
+    ensures ok { IfOk result (λ count. count ≡ breaks (cut_from hosts keeping (replayed run))) }
+    ensures none { IfOk result (λ count. count ≡ 0) }
+    ensures no_memory { IfErr result (λ fault. fault ≡ OutOfMemory) }
+{
+    let run = match cut(alloc, run, hosts, keeping) {
         Ok(run) => run,
         Err(fault) => return Err(fault),
     };
@@ -86,18 +145,13 @@ fn breaks(alloc: Global, events: &[Event], keeping: Keeping) -> Result<usize, Fa
     }
 }
 
-/// The run of these events, and of what follows a power failure after them.
-fn cut_run(alloc: Global, events: &[Event], keeping: Keeping) -> Result<Run<Global>, Fault>
-    requires { length events.now ≤ MAX_EVENTS }
-    ensures ok { IfOk result (λ run. replayed run ≡ cut_world keeping events.now) }
+/// The run, and what follows a power failure in it.
+fn cut(alloc: Global, run: Run<Global>, hosts: u8, keeping: Keeping) -> Result<Run<Global>, Fault>
+    ensures ok { IfOk result (λ cut. replayed cut ≡ cut_from hosts keeping (replayed run)) }
     ensures no_memory { IfErr result (λ fault. fault ≡ OutOfMemory) }
 {
-    let mut run = Run::new(alloc, drawing_setup(alloc, false), alloc);
-    match replay(alloc, &mut run, events) {
-        Ok(()) => {}
-        Err(fault) => return Err(fault),
-    }
-    let scene = match cut_scene(alloc, run.world(), keeping) {
+    let mut run = run;
+    let scene = match cut_scene(alloc, run.world(), hosts, keeping) {
         Ok(scene) => scene,
         Err(fault) => return Err(fault),
     };
@@ -107,8 +161,26 @@ fn cut_run(alloc: Global, events: &[Event], keeping: Keeping) -> Result<Run<Glob
     }
 }
 
+/// The run of these events, of which those that can't happen are passed over.
+fn run_of(alloc: Global, setup: &Setup, events: &[Event]) -> Result<Run<Global>, Fault>
+    requires within { IsWithinLimits setup.now }
+    requires few { length events.now ≤ MAX_EVENTS }
+    ensures ok { IfOk result (λ run. replayed run ≡ replay setup.now events.now) }
+    ensures no_memory { IfErr result (λ fault. fault ≡ OutOfMemory) }
+{
+    let setup = match setup.try_clone(alloc) {
+        Ok(setup) => setup,
+        Err(fault) => return Err(fault),
+    };
+    let mut run = Run::new(alloc, setup, alloc);
+    match take_all(alloc, &mut run, events) {
+        Ok(()) => Ok(run),
+        Err(fault) => Err(fault),
+    }
+}
+
 /// Takes these events, one after another.
-fn replay(alloc: Global, run: &mut Run<Global>, events: &[Event]) -> Result<(), Fault>
+fn take_all(alloc: Global, run: &mut Run<Global>, events: &[Event]) -> Result<(), Fault>
     requires { length run.old.events + length events.now ≤ MAX_EVENTS }
     ensures ok { OnOk result (replayed run.new ≡ replay_from (replayed run.old) events.now) }
     ensures no_memory { IfErr result (λ fault. fault ≡ OutOfMemory) }

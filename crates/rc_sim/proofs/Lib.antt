@@ -3,3 +3,4 @@ mod Written
 mod Endings
 mod NoBreaches
 mod Closings
+mod Documents

@@ -125,6 +125,10 @@ told_of false = Clean
 abbrev pub Surveyed : Verdict → List ℕ → Type 0
 Surveyed verdict text = verdict ≡ Clean
 
+-- of the first world of several that reaches something, or of none, which is told by no text
+abbrev pub Sought : Verdict → List ℕ → Type 0
+Sought verdict text = (verdict ≡ Clean) ⊎ ((verdict ≢ Breach) × (text ≡ []))
+
 -- a smaller scenario, or nothing
 abbrev pub IsShrunk : Verdict → List ℕ → Type 0
 IsShrunk verdict text = (verdict ≡ Clean) ⊎ ((verdict ≡ NoLine) × (text ≡ []))
@@ -175,6 +179,14 @@ cuts_text cuts breaches = count_line (codes "cuts ") cuts ++ count_line (codes "
 -- of power failures after the events that are drawn from this seed, three for each: there is never a breach
 abbrev pub PowerCut : ℕ → ℕ → Verdict → List ℕ → Type 0
 PowerCut seed steps verdict text = (verdict ≡ Clean) × (text ≡ cuts_text (3 * length (drawn seed steps false)) 0)
+
+-- of power failures after so many events, three for each: there is never a breach
+abbrev pub CutEach : ℕ → Verdict → List ℕ → Type 0
+CutEach events verdict text = (verdict ≡ Clean) × (text ≡ cuts_text (3 * events) 0)
+
+-- of those after the events of a world that was drawn to reach much
+abbrev pub PowersCut : Verdict → List ℕ → Type 0
+PowersCut verdict text = (events : ℕ) × CutEach events verdict text
 
 -- what a word means, of which nothing is claimed; or, where it names nothing, no text
 abbrev pub Worded : Verdict → List ℕ → Type 0

@@ -3,7 +3,7 @@
 ghost use Rattle.std.specs.Prelude.{◌≡◌, ◌≢◌, ℕ, string_bytes, IfOk, IfErr, Ok, Err};
 ghost use Rattle.std.specs.Io.KnownBytes.{Keeps};
 ghost use Rattle.rc_sim.specs.declared.verdicts.SimFault.TheVariants.{Memory, Read as ReadFailed, Write as WriteFailed};
-ghost use Rattle.rc_sim.specs.declared.verdicts.Verdict.TheVariants.{Breach};
+ghost use Rattle.rc_sim.specs.declared.verdicts.Verdict.TheVariants.{Breach, Clean};
 ghost use Rattle.rc_sim.specs.Failures.{failed_writes};
 ghost use Rattle.rc_sim.specs.Verdicts.{Drawn, PowerCut, cuts_text};
 ghost use Rattle.rc_sim.specs.Written.{IsWritten, IsBegun};
@@ -11,7 +11,7 @@ ghost use Rattle.rc_sim.specs.Written.{IsWritten, IsBegun};
 use crate::answers::{Answer, ended};
 use crate::counted::Counted;
 use crate::simulating::write_answer;
-use crate::staking::tell_stake;
+use crate::staking::{OF_FUZZ, tell_stake};
 use crate::verdicts::{Output, SimFault, Verdict};
 use rc_draw::drawn_run;
 use std::alloc::{AllocError, Global};
@@ -41,7 +41,7 @@ pub fn fuzz<W: Write, E: Write>(
     ensures no_breach { result ≢ Ok Breach }
 {
     let answer = drawn_answer(alloc, seed, steps, free)?;
-    tell_stake(answer.text.as_str(), errors);
+    tell_stake(answer.text.as_str(), OF_FUZZ, errors);
     write_answer(writer, &answer)
 }
 
@@ -86,10 +86,18 @@ fn stops_answer(alloc: Global, seed: u64, steps: usize) -> Result<Answer, SimFau
     ensures ok { IfOk result (λ answer. PowerCut seed steps answer.verdict (string_bytes answer.text)) }
     ensures fault { IfErr result (λ fault. fault ≡ Memory) }
 {
-    let (cuts, breaches) = match rc_draw::stops(alloc, seed, steps) {
-        Ok(numbers) => numbers,
-        Err(_) => return Err(SimFault::Memory),
-    };
+    match rc_draw::stops(alloc, seed, steps) {
+        Ok((cuts, breaches)) => cuts_answer(alloc, cuts, breaches),
+        Err(_) => Err(SimFault::Memory),
+    }
+}
+
+/// What is printed of so many power failures, in so many of which there is a breach.
+pub(crate) fn cuts_answer(alloc: Global, cuts: usize, breaches: usize) -> Result<Answer, SimFault>
+    ensures text { IfOk result (λ answer. string_bytes answer.text ≡ cuts_text cuts breaches) }
+    ensures clean { breaches ≡ 0 → IfOk result (λ answer. answer.verdict ≡ Clean) }
+    ensures fault { IfErr result (λ fault. fault ≡ Memory) }
+{
     let text = cuts_text(alloc, cuts, breaches)?;
     let verdict = if breaches == 0 {
         Verdict::Clean

@@ -14,15 +14,16 @@ use crate::outlets::write_all;
 use crate::simulating::write_answer;
 use crate::verdicts::{SimFault, Verdict};
 use rc_types::Seq;
-use rc_words::explain;
+use rc_words::{explain, explain_json};
 use std::alloc::Global;
 use std::io::Write;
 
-/// Writes what a word means, or which words there are. Of one that names nothing nothing is written, and `errors` is
-/// told which may have been meant.
+/// Writes what a word means, or which words there are; with `json` as a JSON document. Of one that names nothing
+/// nothing is written, and `errors` is told which may have been meant.
 pub(crate) fn explained<W: Write, E: Write>(
     alloc: Global,
     word: Option<Seq<u8>>,
+    json: bool,
     writer: &mut Counted<W>,
     errors: &mut Counted<E>,
 ) -> Result<Verdict, SimFault>
@@ -36,7 +37,7 @@ pub(crate) fn explained<W: Write, E: Write>(
     ensures unread { result ≢ Err ReadFailed }
     ensures no_breach { result ≢ Ok Breach }
 {
-    let answer = meaning_of(alloc, word, errors)?;
+    let answer = meaning_of(alloc, word, json, errors)?;
     write_answer(writer, &answer)
 }
 
@@ -44,18 +45,20 @@ pub(crate) fn explained<W: Write, E: Write>(
 fn meaning_of<E: Write>(
     alloc: Global,
     word: Option<Seq<u8>>,
+    json: bool,
     errors: &mut Counted<E>,
 ) -> Result<Answer, SimFault>
     ensures ok { IfOk result (λ answer. Worded answer.verdict (string_bytes answer.text)) }
     ensures no_breach { IfOk result (λ answer. answer.verdict ≢ Breach) }
     ensures fault { IfErr result (λ fault. fault ≡ Memory) }
 {
-    let found = match &word {
-        Some(letters) => explain(
-            alloc,
-            Some(str::from_utf8(letters.as_slice()).unwrap_or("")),
-        )?,
-        None => explain(alloc, None)?,
+    let word = match &word {
+        Some(letters) => Some(str::from_utf8(letters.as_slice()).unwrap_or("")),
+        None => None,
+    };
+    let found = match json {
+        true => explain_json(alloc, word)?,
+        false => explain(alloc, word)?,
     };
     if found.is_known {
         return Ok(Answer {

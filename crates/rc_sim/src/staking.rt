@@ -4,14 +4,24 @@ use crate::counted::Counted;
 use crate::outlets::write_all;
 use rc_draw::drawn_run;
 use rc_report::report_of;
+use rc_types::Message;
 use std::alloc::Global;
 use std::io::Write;
 
 /// The lines of a report that count what a fault could have lost.
 const COUNTS: [&str; 3] = ["acknowledged ", "plans ", "grants "];
 
-/// Tells `errors` in a line what was at stake in a run with this report, and what reaches more.
-pub(crate) fn tell_stake<E: Write>(report: &str, errors: &mut Counted<E>) {
+/// What reaches more than `fuzz`.
+pub(crate) const OF_FUZZ: &str = "'explore' draws events that reach more\n";
+
+/// What reaches more than `stops`.
+const OF_STOPS: &str = "'stops --explored' cuts runs that reach more\n";
+
+/// What that means of a run that is cut after each of its events.
+const OF_EXPLORED: &str = "a cut could have lost each write acknowledged before it\n";
+
+/// Tells `errors` in a line what was at stake in a run with this report, with these words at its end.
+pub(crate) fn tell_stake<E: Write>(report: &str, end: &str, errors: &mut Counted<E>) {
     let _ = write_all(errors, b"at stake: ");
     for line in report.split('\n') {
         if COUNTS.iter().any(|count| line.starts_with(*count)) {
@@ -19,7 +29,7 @@ pub(crate) fn tell_stake<E: Write>(report: &str, errors: &mut Counted<E>) {
             let _ = write_all(errors, b"; ");
         }
     }
-    let _ = write_all(errors, b"'explore' draws events that reach more\n");
+    let _ = write_all(errors, end.as_bytes());
 }
 
 /// Tells so of the events that are drawn from a seed, as far as there is memory for it.
@@ -32,7 +42,22 @@ pub(crate) fn tell_stake_of_drawn<E: Write>(
     let Ok(run) = drawn_run(alloc, seed, steps, false) else {
         return;
     };
-    if let Ok(report) = report_of(alloc, run.world().sent(), None) {
-        tell_stake(report.as_str(), errors);
+    tell_stake_of(alloc, run.world().sent(), OF_STOPS, errors);
+}
+
+/// Tells so of a run that is cut after each of its events, in which these messages were sent, as far as there is memory
+/// for it.
+pub(crate) fn tell_stake_of_explored<E: Write>(
+    alloc: Global,
+    sent: &[Message],
+    errors: &mut Counted<E>,
+) {
+    tell_stake_of(alloc, sent, OF_EXPLORED, errors);
+}
+
+/// Tells so of these messages, with these words at the end.
+fn tell_stake_of<E: Write>(alloc: Global, sent: &[Message], end: &str, errors: &mut Counted<E>) {
+    if let Ok(report) = report_of(alloc, sent, None) {
+        tell_stake(report.as_str(), end, errors);
     }
 }

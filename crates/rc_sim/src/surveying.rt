@@ -115,7 +115,7 @@ fn run_all<E: Write>(
 }
 
 /// Tells how far it is.
-fn tell_seed<E: Write>(seed: u64, number: u64, count: u64, errors: &mut Counted<E>) {
+pub(crate) fn tell_seed<E: Write>(seed: u64, number: u64, count: u64, errors: &mut Counted<E>) {
     let number = number.saturating_add(1);
     let _ = writeln!(errors.inner, "seed {seed}, run {number} of {count}");
 }
@@ -149,7 +149,7 @@ fn has_breach(alloc: Global, world: &World<Global>) -> Result<bool, SimFault>
 }
 
 /// The run to its end.
-fn drawn(alloc: Global, options: &Options) -> Result<Exploration, SimFault>
+pub(crate) fn drawn(alloc: Global, options: &Options) -> Result<Exploration, SimFault>
     ensures fault { IfErr result (λ fault. fault ≡ Memory) }
 {
     let Ok(mut run) = Exploration::begin(alloc, options) else {

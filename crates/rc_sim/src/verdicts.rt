@@ -28,7 +28,8 @@ pub enum Verdict {
     /// The run stopped at this event of the scenario: F18 where it was not possible, F1 where its step
     /// found no memory. For nodes on threads: F18, where one could not do a step, and 0, since which one is not known.
     Stopped(usize, Code),
-    /// No line of the report begins with the text that is to be kept.
+    /// What was looked for is not there: no line of the report begins with the text that is to be kept, or no seed
+    /// reaches what is to be reached.
     NoLine,
     /// The command line is wrong.
     Wrong,
@@ -38,7 +39,7 @@ impl Verdict {
     ghost use Rattle.rc_sim.specs.Statuses.{verdict_status};
 
     /// The exit status that tells it: 0 clean, 1 a breach, 2 a wrong scenario or command line, an event that was not
-    /// possible, or no line to be kept, 3 no memory.
+    /// possible, or nothing that was looked for, 3 no memory.
     pub fn status(self) -> u8
         ensures { result ≡ verdict_status self }
     {

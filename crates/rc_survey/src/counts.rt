@@ -164,7 +164,7 @@ fn sum(counts: &[u64]) -> u64 {
 }
 
 /// The place of the event's kind among all.
-fn event_number(event: &Event) -> usize {
+pub(crate) fn event_number(event: &Event) -> usize {
     match event {
         Event::Ask { .. } => 0,
         Event::Deliver(_) => 1,
@@ -179,7 +179,7 @@ fn event_number(event: &Event) -> usize {
 }
 
 /// The place of the message's kind among all.
-fn body_number(body: &Body) -> usize {
+pub(crate) fn body_number(body: &Body) -> usize {
     match body {
         Body::Write { .. } => 0,
         Body::Read { .. } => 1,

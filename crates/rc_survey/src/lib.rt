@@ -7,13 +7,14 @@
 //!
 //! To be read in this order: `rules` and `counts`; `servers`, `replicas`, `logs` and `recoveries`, what is noted;
 //! `answers`, what a step sent; `backups`, `masters` and `coordinators`, the rules by who takes the event; `surveying`;
-//! `telling`, `runs` and `sums`, the lines of it.
+//! `telling`, `runs` and `sums`, the lines of it; `goals`, what a run is to reach.
 #![tactic(auto)]
 
 mod answers;
 mod backups;
 mod coordinators;
 mod counts;
+mod goals;
 mod logs;
 mod masters;
 mod recoveries;
@@ -26,5 +27,6 @@ mod surveying;
 mod telling;
 
 pub use counts::Counts;
+pub use goals::{Goal, event_name, message_name};
 pub use sums::Sum;
 pub use surveying::Survey;

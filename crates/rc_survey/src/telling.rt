@@ -5,12 +5,12 @@ use crate::rules::RULE_NAMES;
 use rc_pen::{Pen, Piece};
 
 /// The kinds of events, in the order in which they are counted.
-const EVENT_NAMES: [&str; EVENTS] = [
+pub(crate) const EVENT_NAMES: [&str; EVENTS] = [
     "Ask", "Deliver", "Tick", "Stop", "Start", "Suspect", "Decide", "Create", "Split",
 ];
 
 /// The kinds of messages, in the order in which they are counted.
-const BODY_NAMES: [&str; BODIES] = [
+pub(crate) const BODY_NAMES: [&str; BODIES] = [
     "Write",
     "Read",
     "WriteOk",

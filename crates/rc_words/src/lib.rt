@@ -3,6 +3,7 @@
 #![tactic(auto)]
 
 mod codes;
+mod documents;
 mod events;
 mod explaining;
 mod kinds;
@@ -12,6 +13,7 @@ mod rules;
 mod topics;
 
 pub use codes::names_of_codes;
+pub use documents::explain_json;
 pub use events::{Happening, all_events};
 pub use explaining::{Explained, explain};
 pub use kinds::{Kind, all_kinds};

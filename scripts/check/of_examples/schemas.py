@@ -1,5 +1,6 @@
 """Each scenario and trace of examples/ fits its schema in docs/schemas exactly where its report is no `error`, and so
-does each line of its histories. A FOLDER has further inputs: NAME.stdin, with the command in NAME.args and what the
+does each line of its histories, and each document that a row of crates/ramseg_rows with `--format json` prints. A
+FOLDER has further inputs: NAME.stdin, with the command in NAME.args and what the
 program prints in NAME.stdout. The library jsonschema judges where it is there, else the few words that the schemas use
 are judged here."""
 
@@ -7,7 +8,7 @@ import json
 import pathlib
 import re
 
-from parts.tree import EXAMPLES, TOP
+from parts.tree import CRATES, EXAMPLES, TOP
 
 TYPES = {"object": dict, "array": list, "string": str, "boolean": bool, "integer": int, "null": type(None)}
 
@@ -95,11 +96,30 @@ def inputs(folders):
                 yield kind, file, file.with_suffix(".stdout").read_bytes(), file.read_bytes()
 
 
+def schema_of(words):
+    """The schema of the document that a command line asks for."""
+    command = words[0]
+    if command == "explore":
+        return "until" if "--until" in words else "survey" if "--seeds" in words else "explore"
+    return {"fuzz": "run"}.get(command, command)
+
+
+def documents():
+    """What the rows print in place of a text, each with its schema."""
+    rows = CRATES / "ramseg_rows"
+    asked = re.findall(r"^== (.*)\nargs: (.*)$", (rows / "stdin").read_text(errors="replace"), re.M)
+    told = dict(re.findall(r"^== (.*)\nstatus \d\n(.*)$", (rows / "stdout").read_text(errors="replace"), re.M))
+    for title, line in asked:
+        words = line.replace("=", " ").split()
+        if {"--format", "json"} <= {*words} and "--save" not in words and told.get(title, "").startswith("{"):
+            yield schema_of(words), title, b"", told[title].encode()
+
+
 def check(program, words=()):
-    kinds = ("scenario", "trace", "history")
+    kinds = ("scenario", "trace", "history", "run", "audit", "stops", "explore", "survey", "until", "explain")
     judges = {kind: judge_of(json.loads((TOP / f"docs/schemas/{kind}.json").read_text())) for kind in kinds}
     number = refused = 0
-    for kind, file, printed, data in inputs(words):
+    for kind, file, printed, data in [*inputs(words), *documents()]:
         value = value_of(data)
         taken = not printed.startswith(b"error")
         number, refused = number + 1, refused + (not taken)

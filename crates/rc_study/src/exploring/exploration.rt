@@ -5,7 +5,7 @@ use crate::exploring::mail::Mail;
 use crate::exploring::options::Options;
 use crate::exploring::roster::{KEYS, Roster};
 use rand_pcg::Pcg32;
-use rc_survey::{Counts, Survey};
+use rc_survey::{Counts, Goal, Survey};
 use rc_types::{Addr, Body, Event, Fault, Seq, ServerId, Shared};
 use rc_world::World;
 use std::alloc::Global;
@@ -14,6 +14,8 @@ use std::alloc::Global;
 pub struct Exploration {
     world: World<Global>,
     survey: Survey,
+    goal: Option<Goal>,
+    found: Option<usize>,
     mail: Mail,
     noticed: usize,
     roster: Roster,
@@ -28,6 +30,8 @@ impl Drop for Exploration {
         let Exploration {
             world: _,
             survey: _,
+            goal: _,
+            found: _,
             mail: _,
             noticed: _,
             roster: _,
@@ -49,9 +53,24 @@ impl Exploration {
     ///
     /// `OutOfMemory` (F1): memory was refused.
     pub fn begin(alloc: Global, options: &Options) -> Result<Exploration, Fault> {
+        Exploration::toward(alloc, options, None)
+    }
+
+    /// The same, of a run that notes the first event that reaches this.
+    ///
+    /// # Errors
+    ///
+    /// `OutOfMemory` (F1): memory was refused.
+    pub fn toward(
+        alloc: Global,
+        options: &Options,
+        goal: Option<Goal>,
+    ) -> Result<Exploration, Fault> {
         let mut run = Exploration {
             world: World::new(alloc, options.setup(alloc), alloc),
             survey: Survey::new(alloc),
+            goal,
+            found: None,
             mail: Mail::new(alloc),
             noticed: 0,
             roster: Roster::new(alloc, options.hosts, options.factor),
@@ -76,6 +95,26 @@ impl Exploration {
             self.step = self.step.saturating_add(1);
         }
         Ok(())
+    }
+
+    /// The steps up to the one that reaches what the run is to reach, or all.
+    ///
+    /// # Errors
+    ///
+    /// `OutOfMemory` (F1): memory was refused.
+    pub fn go_until(&mut self, alloc: Global) -> Result<(), Fault> {
+        for _ in 0..self.steps {
+            if self.found.is_some() {
+                break;
+            }
+            self.go_on(alloc, 1)?;
+        }
+        Ok(())
+    }
+
+    /// The number of the event that has reached what the run is to reach, if one has.
+    pub fn found(&self) -> Option<usize> {
+        self.found
     }
 
     /// How many steps were drawn.
@@ -135,6 +174,9 @@ impl Exploration {
     fn notice(&mut self, event: &Event) -> Result<(), Fault> {
         let sent = self.world.sent();
         self.survey.note(event, sent, self.noticed)?;
+        if self.found.is_none() && is_reached(self.goal, self.survey.counts()) {
+            self.found = Some(self.world.events().len().saturating_sub(1));
+        }
         for number in self.noticed..sent.len() {
             let message = &sent[number];
             self.roster.notice(message)?;
@@ -325,5 +367,13 @@ impl Exploration {
         }
         let table = self.roster.next_table();
         Some(Event::Create { table, owner })
+    }
+}
+
+/// Whether what is to be reached was reached, if anything is to be.
+fn is_reached(goal: Option<Goal>, counts: &Counts) -> bool {
+    match goal {
+        Some(goal) => counts.has(goal),
+        None => false,
     }
 }

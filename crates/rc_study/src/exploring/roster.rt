@@ -107,7 +107,8 @@ impl Roster {
         }
     }
 
-    /// Whether one more server can crash: enough others are up, and few logs wait to be recovered.
+    /// Whether one more server can crash: enough others are up, and few logs wait to be recovered. Where there are no
+    /// more hosts than a segment has backups and a master, all are up, and no log waits.
     pub(crate) fn can_spare(&self, world: &World<Global>) -> bool {
         let mut up = 0u8;
         for index in 0..self.hosts {
@@ -117,7 +118,11 @@ impl Roster {
                 up = up.saturating_add(1);
             }
         }
-        up > self.factor.saturating_add(1) && self.crashes.len() < 2
+        let enough = self.factor.saturating_add(1);
+        if self.hosts == enough {
+            return up == enough && self.crashes.is_empty();
+        }
+        up > enough && self.crashes.len() < 2
     }
 
     /// This server has crashed for the coordinator, or soon will have: it was suspected, or its host is started anew.

@@ -7,7 +7,8 @@ use Rattle.rc_commands.specs.Asking.{Tells}
 use Rattle.rc_commands.specs.Commands.{ramseg}
 use Rattle.rc_commands.proofs.Parsed.{gives_command, none_asked, refused, taken, told_among}
 use Rattle.rc_commands.proofs.ByWords.{audit_told, cut_told, drawn_told, explain_told, explore_told, fuzz_told, heap_told, log_told}
-use Rattle.rc_commands.proofs.ByWords.{heal_told, picture_told, run_told, stops_told, texts_told, threads_told, trace_told}
+use Rattle.rc_commands.proofs.ByWords.{heal_told, picture_told, run_told, stops_told, threads_told, trace_told}
+use Rattle.rc_commands.proofs.Texts.{texts_told}
 use Rattle.rc_commands.proofs.ByWords.{check_told, history_told}
 use Rattle.rc_commands.proofs.asking.asked_for.Goals as goal
 

@@ -1,7 +1,7 @@
 use Rattle.std.proofs.Common.{◌≡◌, ◌≤◌, ◌+◌, length, take}
 use Rattle.rc_model.specs.World.{replay_from}
 use Rattle.rc_world.specs.Happened.{replayed}
-use Rattle.rc_draw.proofs.stopping.replay.Given as goal
+use Rattle.rc_draw.proofs.stopping.take_all.Given as goal
 
 -- the events so far, of which each has happened or was passed over
 abbrev pub invariant-loop-event : goal.invariant-loop-event

@@ -1,7 +1,7 @@
 use Rattle.std.proofs.Common.{arith}
 use Rattle.rc_world.specs.Happened.{replayed}
 use Rattle.rc_draw.proofs.CutWorlds.{replay_more}
-use Rattle.rc_draw.proofs.stopping.replay.Goals as goal
+use Rattle.rc_draw.proofs.stopping.take_all.Goals as goal
 
 pub loop-event-preserved : goal.loop-event-preserved
 loop-event-preserved c = record {

@@ -1,4 +1,4 @@
--- A line that begins with `run` and goes on past it is refused, or gives `--heap` a value.
+-- A line that begins with `audit` and goes on past it is refused, or gives `--format` a value.
 use Rattle.std.proofs.Common.{◌≡◌, ◌∙◌, ◌⊎◌, inl, inr, ⊎_elim, ◌||◌, ℕ, Bool, true, false, List, [], ◌∷◌, ◌++◌, length, drop, Option}
 use Rattle.std.proofs.Common.{Some, None, codes, is_some, eqb, nat_lt, refl, sym, ap, subst, true≢false, option_map}
 use Rattle.std.specs.List.{fold}
@@ -22,13 +22,13 @@ use Rattle.rc_commands.specs.Commands as command
 use Rattle.rc_commands.proofs.Words.{leaf}
 
 abbrev level : Shape
-level = leaf command.run.top
+level = leaf command.audit.top
 
 abbrev rules : List Rule
 rules = level.rules
 
-abbrev heap : Rule
-heap = filled (command.option (codes "heap"))
+abbrev format : Rule
+format = filled (command.option (codes "format"))
 
 abbrev help : Rule
 help = filled help_rule
@@ -36,10 +36,10 @@ help = filled help_rule
 -- ---- where the walk stands
 
 abbrev waiting : Bool → Waiting
-waiting waits = if waits then option (codes "heap") else idle
+waiting waits = if waits then option (codes "format") else idle
 
 abbrev held : List Row → Option (List Text) → Held
-held rows values = record { rows = rows; pending = option_map (λ v. (codes "heap", v)) values; skip = 0 }
+held rows values = record { rows = rows; pending = option_map (λ v. (codes "format", v)) values; skip = 0 }
 
 abbrev at : List Row → Option (List Text) → Bool → ℕ → Bool → Walk
 at rows values waits position is_trailing = record {
@@ -50,7 +50,7 @@ at rows values waits position is_trailing = record {
   stopped = None;
 }
 
--- `--heap` has a value, or waits for one
+-- `--format` has a value, or waits for one
 record State (w : Walk) : Type 0 where
   rows : List Row
   values : Option (List Text)
@@ -58,7 +58,7 @@ record State (w : Walk) : Type 0 where
   position : ℕ
   is_trailing : Bool
   is : w ≡ at rows values waits position is_trailing
-  has : (is_some values || is_some (first_of (codes "heap") rows)) ≡ true
+  has : (is_some values || is_some (first_of (codes "format") rows)) ≡ true
 
 abbrev fails : Kinds → Bool
 fails [] = false
@@ -81,13 +81,13 @@ first_more [] rest v = refl
 first_more (x ∷ xs) rest v = refl
 
 has_value : (how : Reading) (source : ValueSource) (v : Text) (vs : List Text) (rows : List Row)
-    → is_some (first_of (codes "heap") (with_values (codes "heap") how source (v ∷ vs) rows)) ≡ true
+    → is_some (first_of (codes "format") (with_values (codes "format") how source (v ∷ vs) rows)) ≡ true
 has_value how source v vs [] = refl
-has_value how source v vs (r ∷ rs) = go (bytes_eq r.id (codes "heap")) refl (has_value how source v vs rs)
+has_value how source v vs (r ∷ rs) = go (bytes_eq r.id (codes "format")) refl (has_value how source v vs rs)
   where
-    go : (b : Bool) → b ≡ bytes_eq r.id (codes "heap") →
-        is_some (first_of (codes "heap") (with_values (codes "heap") how source (v ∷ vs) rs)) ≡ true
-        → is_some (first_of (codes "heap") (with_values (codes "heap") how source (v ∷ vs) (r ∷ rs))) ≡ true
+    go : (b : Bool) → b ≡ bytes_eq r.id (codes "format") →
+        is_some (first_of (codes "format") (with_values (codes "format") how source (v ∷ vs) rs)) ≡ true
+        → is_some (first_of (codes "format") (with_values (codes "format") how source (v ∷ vs) (r ∷ rs))) ≡ true
     go true e more = rw (← e, ← e) (first_more r.values vs v)
     go false e more = rw (← e, ← e) more
 
@@ -115,22 +115,22 @@ module _ (rows : List Row) (position : ℕ) (word : Text) where
       (short_or_plain rules (waiting waits) word o (held rows values))
 
   abbrev find_rule : Bool → Bool → Option Rule
-  find_rule is_heap is_help = if is_heap || false then Some heap else (if is_help || false then Some help else None)
+  find_rule is_format is_help = if is_format || false then Some format else (if is_help || false then Some help else None)
 
-  long_is : (name : Text) → arg_by_long rules name ≡ find_rule (bytes_eq (codes "heap") name) (bytes_eq (codes "help") name)
+  long_is : (name : Text) → arg_by_long rules name ≡ find_rule (bytes_eq (codes "format") name) (bytes_eq (codes "help") name)
   unfolding clap_on_literals
   long_is name = refl
 
-  out_found : (waits : Bool) (values : Option (List Text)) (is_heap is_help : Bool) (v : Option Text) →
-      Out (by_found waits values (find_rule is_heap is_help) v)
+  out_found : (waits : Bool) (values : Option (List Text)) (is_format is_help : Bool) (v : Option Text) →
+      Out (by_found waits values (find_rule is_format is_help) v)
   out_found waits values true is_help (Some v) = inr (record {
-    rows = used heap (v ∷ []) (settled rules (held rows values)).rows;
+    rows = used format (v ∷ []) (settled rules (held rows values)).rows;
     values = None;
     waits = false;
     position = position;
     is_trailing = false;
     is = refl;
-    has = has_value (reading_by heap) CommandLine v [] (without (codes "heap") (settled rules (held rows values)).rows);
+    has = has_value (reading_by format) CommandLine v [] (without (codes "format") (settled rules (held rows values)).rows);
   })
   out_found waits values true is_help None = inr (record {
     rows = (settled rules (held rows values)).rows;
@@ -151,7 +151,7 @@ module _ (rows : List Row) (position : ℕ) (word : Text) where
   out_plain true None = inr (record {
     rows = rows;
     values = Some (word ∷ []);
-    waits = nat_lt (pending_count heap (Some (codes "heap", word ∷ []))) (most_values heap);
+    waits = nat_lt (pending_count format (Some (codes "format", word ∷ []))) (most_values format);
     position = position;
     is_trailing = false;
     is = refl;
@@ -160,7 +160,7 @@ module _ (rows : List Row) (position : ℕ) (word : Text) where
   out_plain true (Some vs) = inr (record {
     rows = rows;
     values = Some (vs ++ word ∷ []);
-    waits = nat_lt (pending_count heap (Some (codes "heap", vs ++ word ∷ []))) (most_values heap);
+    waits = nat_lt (pending_count format (Some (codes "format", vs ++ word ∷ []))) (most_values format);
     position = position;
     is_trailing = false;
     is = refl;
@@ -209,7 +209,7 @@ module _ (rows : List Row) (position : ℕ) (word : Text) where
   out_flag waits values None = out_letters waits values (short_of word)
   out_flag waits values (Some p) =
       subst (λ f. Out (by_found waits values f p.1)) (sym (long_is p.0))
-      (out_found waits values (bytes_eq (codes "heap") p.0) (bytes_eq (codes "help") p.0) p.1)
+      (out_found waits values (bytes_eq (codes "format") p.0) (bytes_eq (codes "help") p.0) p.1)
 
   abbrev turn : Walk → Kinds × Walk
   turn w = (turn_fault level [] w word, walked rules [] w word)
@@ -226,9 +226,9 @@ module _ (rows : List Row) (position : ℕ) (word : Text) where
   out_word waits values other =
       subst Out (sym (turn_is waits values ∙ ap (by_dashes waits values) other)) (out_flag waits values (long_of word))
 
-  -- any word, once `--heap` was there
+  -- any word, once `--format` was there
   out_turn : (waits : Bool) (values : Option (List Text)) (is_trailing : Bool) →
-      (is_some values || is_some (first_of (codes "heap") rows)) ≡ true
+      (is_some values || is_some (first_of (codes "format") rows)) ≡ true
       → Out (turn (at rows values waits position is_trailing))
   out_turn waits values true has = inl refl
   out_turn waits values false has = go (bytes_eq word (codes "--")) refl
@@ -274,29 +274,29 @@ begins word rest other e =
 
 -- no option has a default
 finished_is : (rows : List Row) → fold with_default rows rules ≡ rows
-finished_is rows = ap (λ r. with_default r help) (same (has_row (codes "heap") rows)) ∙ same (has_row (codes "help") rows)
+finished_is rows = ap (λ r. with_default r help) (same (has_row (codes "format") rows)) ∙ same (has_row (codes "help") rows)
   where
     same : (b : Bool) → (if b then rows else rows) ≡ rows
     same true = refl
     same false = refl
 
-ends : (w : Walk) → State w → settle_fault rules false w.held ≡ [] → is_some (first_of (codes "heap") (finished rules w.held)) ≡ true
+ends : (w : Walk) → State w → settle_fault rules false w.held ≡ [] → is_some (first_of (codes "format") (finished rules w.held)) ≡ true
 ends w st e = subst (λ v. settle_fault rules false v.held ≡ [] →
-    is_some (first_of (codes "heap") (finished rules v.held)) ≡ true) (sym st.is)
-    (λ none. ap (λ rows. is_some (first_of (codes "heap") rows))
+    is_some (first_of (codes "format") (finished rules v.held)) ≡ true) (sym st.is)
+    (λ none. ap (λ rows. is_some (first_of (codes "format") rows))
     (finished_is (settled rules (held st.rows st.values)).rows) ∙ go st.values st.has none) e
   where
-    go : (values : Option (List Text)) → (is_some values || is_some (first_of (codes "heap") st.rows)) ≡ true →
+    go : (values : Option (List Text)) → (is_some values || is_some (first_of (codes "format") st.rows)) ≡ true →
         settle_fault rules false (held st.rows values) ≡ []
-        → is_some (first_of (codes "heap") (settled rules (held st.rows values)).rows) ≡ true
+        → is_some (first_of (codes "format") (settled rules (held st.rows values)).rows) ≡ true
     go None has none = has
     go (Some []) has none = absurd (true≢false (ap fails none))
-    go (Some (v ∷ vs)) has none = has_value (reading_by heap) CommandLine v vs (without (codes "heap") st.rows)
+    go (Some (v ∷ vs)) has none = has_value (reading_by format) CommandLine v vs (without (codes "format") st.rows)
 
-pub heap_given : (word : Text) (rest : List Text) → bytes_eq word (codes "--") ≡ false →
+pub format_given : (word : Text) (rest : List Text) → bytes_eq word (codes "--") ≡ false →
     level_fault level [] nothing_held (word ∷ rest) false [] ≡ []
-    → is_some (first_of (codes "heap") (finished rules (walk rules [] nothing_held (word ∷ rest)).held)) ≡ true
-heap_given word rest other e =
+    → is_some (first_of (codes "format") (finished rules (walk rules [] nothing_held (word ∷ rest)).held)) ≡ true
+format_given word rest other e =
     let w = walk rules [] nothing_held (word ∷ rest) in
     let parts = none_first (walk_fault level [] (walk_from nothing_held) (word ∷ rest)) _ e in
     ends w (begins word rest other parts.0) (none_first (settle_fault rules false w.held) _ parts.1).0

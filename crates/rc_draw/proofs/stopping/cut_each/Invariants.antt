@@ -1,10 +1,10 @@
 use Rattle.std.proofs.Common.{◌≡◌}
-use Rattle.rc_draw.specs.Stops.{breaches_below}
-use Rattle.rc_draw.proofs.stopping.breaches_in.Given as goal
+use Rattle.rc_draw.specs.Stops.{breaches_of}
+use Rattle.rc_draw.proofs.stopping.cut_each.Given as goal
 
 -- the breaches so far, of which there are none
 abbrev pub invariant-loop-last : goal.invariant-loop-last
 invariant-loop-last l = record {
-  so_far : l.breaches ≡ breaches_below l.events l.last;
+  so_far : l.breaches ≡ breaches_of l.setup l.hosts l.events l.last;
   none : l.breaches ≡ 0;
 }
