@@ -63,7 +63,7 @@ started-place : (before : ℕ) (saved : Saved) (works : List NodeWork) (life : L
     place before saved works (lives.started_next life (work_at n given)) ≤ started_next view given written
 started-place before saved works life n (work.Start kept) view written early long =
     let p = place-within before saved works (length life.journal + 1) in omega arith
-started-place before saved works life n work.Stop view written early long = place-none before saved works
+started-place before saved works life n work.Stop view written early long = omega (arith, place-none before saved works)
 started-place before saved works life n (work.Ask to body) view written early long = early
 started-place before saved works life n (work.Deliver message) view written early long = early
 started-place before saved works life n work.Tick view written early long = early

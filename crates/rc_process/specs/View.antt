@@ -1,6 +1,7 @@
 -- A process as its contracts see it, and what becomes of it in each call.
 use Rattle.std.specs.Prelude.{◌≡◌, ℕ, ◌+◌, ◌-◌, ◌^◌, ◌≤◌, ◌<◌, if◌then◌else◌, List, [], ◌∷◌, ◌++◌, length, map, drop}
-use Rattle.std.specs.Prelude.{min, Option, Some, None}
+use Rattle.std.specs.Prelude.{min, nat_le, Option, Some, None}
+use Rattle.std.specs.Option.{option_map}
 use Rattle.rc_types.specs.declared.events.NodeWork.{NodeWork}
 use Rattle.rc_types.specs.declared.events.NodeWork.TheVariants as work
 use Rattle.rc_types.specs.declared.messages.Message.{Message}
@@ -22,8 +23,8 @@ use Rattle.rc_process.specs.declared.saving.Saving.{Saving}
 abbrev pub Held : Type 0
 Held = ℕ × List Message
 
--- The node; of its journal, how many bytes it has, how many of them reach up to the start of the server that runs, and
--- how many are safe; what is held back, in order; and the save that is taking the journal's place.
+-- The node; of its journal, how many bytes it has, how many of them reach up to the last start of a server, and how
+-- many are safe; what is held back, in order; and the save that is taking the journal's place.
 pub record ProcessView : Type 0 where
   pub node : Node
   pub written : ℕ
@@ -77,10 +78,9 @@ abbrev pub rests_on : ProcessView → NodeWork → ℕ
 rests_on process given =
     if is_masters process.node (work_at process.node given) then process.started else written_next process given
 
--- how many bytes reach up to the start of the server that runs then, where the journal has so many
+-- how many bytes reach up to the last start of a server then, where the journal has so many
 abbrev pub started_next : ProcessView → NodeWork → ℕ → ℕ
 started_next process (work.Start kept) written = written
-started_next process work.Stop written = 0
 started_next process given written = process.started
 
 -- the node has taken it, and what that sends is held back
@@ -123,6 +123,15 @@ pub record Leaves (old new : ProcessView) (messages : List Message) : Type 0 whe
   pub stood : old.held ≡ before ++ (rests, messages) ∷ later
   pub safe : rests ≤ old.safe
   pub left : new ≡ record old { held = before ++ later }
+
+-- the first of those that are held back which rests on nothing that is not safe; and all the others
+abbrev pub past_one : Held → List Message × List Held → List Message × List Held
+past_one one found = (found.0, one ∷ found.1)
+
+abbrev pub first_ready : ℕ → List Held → Option (List Message × List Held)
+first_ready safe [] = None
+first_ready safe (one ∷ later) =
+    if nat_le one.0 safe then Some (one.1, later) else option_map (past_one one) (first_ready safe later)
 
 -- all that is held back rests on more than what is safe
 unfoldable pub AllAbove : ℕ → List Held → Type 0

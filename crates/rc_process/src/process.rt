@@ -1,7 +1,7 @@
 //! A node, how far its journal is written and safe, and what is held back until then.
 
 ghost use Rattle.std.specs.Prelude.{[], ◌≡◌, ◌≤◌, ◌↔◌, ◌⊎◌, ◌++◌, ◌-◌, true, false, length};
-ghost use Rattle.std.specs.Prelude.{Err, None, OnOk, OnErr, IfOk, IfErr, IfSome, IfNone};
+ghost use Rattle.std.specs.Prelude.{Err, Some, None, OnOk, OnErr, IfOk, IfErr, IfSome, IfNone};
 ghost use Rattle.rc_types.specs.declared.faults.Fault.TheVariants.{OutOfMemory, BadEvent};
 ghost use Rattle.rc_world.specs.declared.work.StepFault.TheVariants.{NoRoom, Refused};
 ghost use Rattle.rc_history.specs.Nodes.{name_of};
@@ -12,27 +12,34 @@ ghost use Rattle.rc_model.specs.Nodes.{is_for_backup};
 ghost use Rattle.rc_saves.specs.Claims.{IsSaved};
 ghost use Rattle.rc_saves.specs.Saved.{saved_of};
 ghost use Rattle.rc_saves.specs.declared.faults.SaveFault.TheVariants.{OutOfMemory as NoMemory, Outside};
-ghost use Rattle.rc_process.specs.View.{process_seen, written_down, written_next, rests_on, started_next, given};
-ghost use Rattle.rc_process.specs.View.{Leaves, AllWait, begun, role_at, save_begun, moved};
+ghost use Rattle.rc_process.specs.View.{process_seen, written_down, started_next, given};
+ghost use Rattle.rc_process.specs.View.{first_ready, Leaves, AllWait, begun, role_at, save_begun, moved};
 
-use crate::held::{Held, first_ready, move_held, moved};
+use crate::held::{Held, move_queue, moved, take_in_turn};
 use crate::saving::Saving;
 use rc_keeping::{Role, keeps, write_down};
 use rc_saves::{SaveFault, save_into};
 use rc_types::{Addr, Body, Fault, Message, NodeWork};
 use rc_world::{NodeState, StepFault};
 use std::alloc::{AllocError, Allocator, Global};
+use std::collections::VecDeque;
 use std::marker::Model;
 
 /// A node in its process. It reads and writes nothing: it says what has to be added to the journal, is told how many
 /// bytes of that are safe, and lets messages leave that rest on no others.
+///
+/// What is held back waits in two queues, of that which masters have sent and of all else. In each none rests on less
+/// than the one before it, so only the first two have to be looked at. The steps are counted: of those two the one that
+/// came first leaves first.
 pub struct Process<A: Allocator> {
     alloc: Global,
     node: NodeState<A>,
     written: usize,
     started: usize,
     safe: usize,
-    held: Vec<Held>,
+    turn: u64,
+    masters: VecDeque<Held>,
+    others: VecDeque<Held>,
     saving: Option<Saving>,
 }
 
@@ -44,7 +51,9 @@ impl<A: Allocator> Drop for Process<A> {
             written: _,
             started: _,
             safe: _,
-            held: _,
+            turn: _,
+            masters: _,
+            others: _,
             saving: _,
         } = self;
     }
@@ -52,6 +61,7 @@ impl<A: Allocator> Drop for Process<A> {
 
 impl<A: Allocator> Model for Process<A> {
     ghost use Rattle.rc_process.specs.View.{ProcessData};
+    ghost use Rattle.rc_process.specs.Order.{AreInOrder, in_turn};
 
     ghost Value = { ProcessData };
 
@@ -60,9 +70,11 @@ impl<A: Allocator> Model for Process<A> {
       written = p.written;
       started = p.started;
       safe = p.safe;
-      held = p.held.items;
+      held = in_turn p.masters.items p.others.items;
       saving = p.saving;
     } };
+
+    ghost invariant = { λ p. AreInOrder p.turn p.written p.started p.masters.items p.others.items };
 }
 
 impl<A: Allocator + Clone> Process<A> {
@@ -76,7 +88,9 @@ impl<A: Allocator + Clone> Process<A> {
             written,
             started: 0,
             safe: 0,
-            held: Vec::new(alloc),
+            turn: 0,
+            masters: VecDeque::new(alloc),
+            others: VecDeque::new(alloc),
             saving: None,
         }
     }
@@ -101,10 +115,11 @@ impl<A: Allocator + Clone> Process<A> {
     }
 
     /// Whether something is held back.
+    #[tactic(auto, using(crate::proofs::Waiting::none_held, crate::proofs::Waiting::both_empty))]
     pub fn is_waiting(&self) -> bool
         ensures { (result ≡ false) ↔ (self.now.held ≡ []) }
     {
-        !self.held.is_empty()
+        !self.masters.is_empty() || !self.others.is_empty()
     }
 
     /// Gives the node a work. What has to be added to the journal is added to `out`; what the step sends is held back.
@@ -174,10 +189,17 @@ impl<A: Allocator + Clone> Process<A> {
         let Some(written) = self.written.checked_add(more) else {
             return Err(Fault::OutOfMemory);
         };
-        if self.held.reserve(1).is_err() {
+        let Some(turn) = self.turn.checked_add(1) else {
+            return Err(Fault::OutOfMemory);
+        };
+        if self.masters.reserve(1).is_err() {
             return Err(Fault::OutOfMemory);
         }
-        let rests = self.rests_on(work, written);
+        if self.others.reserve(1).is_err() {
+            return Err(Fault::OutOfMemory);
+        }
+        let is_masters = self.is_masters(work);
+        let rests = self.started;
         let started = self.started_next(work, written);
         let mut messages = Vec::new(self.alloc);
         if let Err(fault) = self.node.step_into(work, &mut messages) {
@@ -185,20 +207,15 @@ impl<A: Allocator + Clone> Process<A> {
         }
         self.written = written;
         self.started = started;
-        self.held.push_reserved(Held::new(rests, messages));
-        Ok(())
-    }
-
-    /// How many bytes have to be safe before what the step sends may leave, where it leaves the journal so long.
-    fn rests_on(&self, work: &NodeWork, written: usize) -> usize
-        requires { written ≡ written_next (process_seen self.now) work.now }
-        ensures { result ≡ rests_on (process_seen self.now) work.now }
-    {
-        if self.is_masters(work) {
-            self.started
+        self.turn = turn;
+        if is_masters {
+            self.masters
+                .push_back_reserved(Held::new(turn, rests, messages));
         } else {
-            written
+            self.others
+                .push_back_reserved(Held::new(turn, written, messages));
         }
+        Ok(())
     }
 
     /// Whether the work is one for the master that runs, and for nothing else of the node.
@@ -216,13 +233,12 @@ impl<A: Allocator + Clone> Process<A> {
         }
     }
 
-    /// How many bytes reach up to the start of the server that runs then.
+    /// How many bytes reach up to the last start of a server then.
     fn started_next(&self, work: &NodeWork, written: usize) -> usize
         ensures { result ≡ started_next (process_seen self.now) work.now written }
     {
         match work {
             NodeWork::Start { .. } => written,
-            NodeWork::Stop => 0,
             _ => self.started,
         }
     }
@@ -245,18 +261,17 @@ impl<A: Allocator + Clone> Process<A> {
     }
 
     /// Lets what one step has sent leave: the first that is held back and rests on nothing that is not safe. None where
-    /// all that is held back has to wait. What a master sends may overtake what its host does. It looks at what is held
-    /// back, and moves what stands behind.
+    /// all that is held back has to wait. What a master sends may overtake what its host does. What it costs does not
+    /// grow with what waits.
     pub fn leave(&mut self) -> Option<Vec<Message>>
+        ensures first { IfSome result (λ messages.
+            first_ready self.old.safe self.old.held ≡ Some (messages.items, self.new.held)) }
         ensures some { IfSome result (λ messages.
             Leaves (process_seen self.old) (process_seen self.new) messages.items) }
         ensures waits { IfNone result (AllWait (process_seen self.old)) }
         ensures none { IfNone result (process_seen self.new ≡ process_seen self.old) }
     {
-        match first_ready(self.held.as_slice(), self.safe) {
-            Some(index) => { Some(self.held.remove(index).into_messages()) }
-            None => None,
-        }
+        take_in_turn(&mut self.masters, &mut self.others, self.safe)
     }
 
     /// Begins a save: adds it to `out`, which is to be the second file. From now on what `give` adds belongs at the
@@ -294,7 +309,8 @@ impl<A: Allocator + Clone> Process<A> {
     }
 
     /// The save has taken the journal's place, and that is safe: so all is safe that it stands for. From now on bytes
-    /// of the journal are counted in the new file. Where none was begun nothing happens.
+    /// of the journal are counted in the new file, and what is held back waits for bytes of that. Where none was begun
+    /// nothing happens.
     pub fn saved(&mut self)
         ensures { process_seen self.new ≡ moved (process_seen self.old) }
     {
@@ -305,7 +321,8 @@ impl<A: Allocator + Clone> Process<A> {
         self.started = moved(saving, self.started);
         self.safe = moved(saving, self.safe);
         self.saving = None;
-        move_held(self.held.as_mut_slice(), saving);
+        move_queue(&mut self.masters, saving);
+        move_queue(&mut self.others, saving);
     }
 }
 
