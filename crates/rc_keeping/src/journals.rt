@@ -10,6 +10,9 @@ use rc_codec::DecodeFault;
 use rc_types::NodeWork;
 use std::alloc::{AllocError, Global};
 
+/// How many bytes of a work are coded before the room for them grows.
+const ROOM: usize = 256;
+
 /// Adds the record of a work at the end of a journal. That it is safe there is for whoever keeps the journal.
 ///
 /// # Errors
@@ -19,10 +22,9 @@ pub fn write_down(alloc: Global, work: &NodeWork, journal: &mut Vec<u8>) -> Resu
     ensures ok { OnOk result (journal.new.items ≡ journal.old.items ++ record_of work.now) }
     ensures err { OnErr result (journal.new.items ≡ journal.old.items) }
 {
-    let mut code = Vec::new(alloc);
-    let mut head = Vec::new(alloc);
+    let mut code = Vec::with_capacity(alloc, ROOM)?;
     encode_work(work, &mut code)?;
-    put_sealed(code.as_slice(), &mut head, journal)
+    put_sealed(code.as_slice(), journal)
 }
 
 /// The works that a journal has up to the first record that is damaged or cut short, and how many bytes these take.

@@ -1,9 +1,9 @@
 //! A record of a journal: the length of a coded work, a sum over its bytes, and these bytes.
 
-ghost use Rattle.std.specs.Prelude.{◌≡◌, ◌++◌, ◌+◌, ◌*◌, ◌%◌, [], OnOk, OnErr};
-ghost use Rattle.rc_codec.specs.Parts.{eight_bytes, four_bytes};
+ghost use Rattle.std.specs.Prelude.{◌≡◌, ◌++◌, ◌+◌, ◌*◌, ◌%◌, [], ◌∷◌, OnOk, OnErr};
+ghost use Rattle.rc_codec.specs.Parts.{Begins, eight_bytes, four_bytes};
 ghost use Rattle.rc_codec.specs.Reading.{Gives};
-ghost use Rattle.rc_keeping.specs.Spelling.{sum_of, sealed};
+ghost use Rattle.rc_keeping.specs.Spelling.{sum_from, sum_of, sealed};
 ghost use Rattle.rc_keeping.specs.Readers.{alone_at, summed_at, sealed_at, record_at};
 
 use crate::works::take_coded;
@@ -17,18 +17,40 @@ const FIRST_SUM: u32 = 2_166_136_261;
 /// By what the sum so far is multiplied before a byte is added.
 const FACTOR: u64 = 16_777_619;
 
+/// The rests of its second, third and fourth power.
+const SECOND_POWER: u64 = 637_696_617;
+const THIRD_POWER: u64 = 1_055_306_571;
+const FOURTH_POWER: u64 = 1_345_077_009;
+
 /// A sum is the rest by this.
 const MODULUS: u64 = 4_294_967_296;
 
-/// The sum over these bytes.
+/// The sum over these bytes: over four at a time, since each product waits for the one before it.
+#[tactic(auto, unfolding(crate::specs::Spelling::sum_from))]
 pub(crate) fn sum_of(bytes: &[u8]) -> u32
     ensures { result ≡ sum_of bytes.now }
 {
     let mut sum = FIRST_SUM;
-    for byte in bytes {
+    let mut rest = bytes;
+    while let [a, b, c, d, after @ ..] = rest {
+        sum = with_four(sum, *a, *b, *c, *d);
+        rest = after;
+    }
+    while let [byte, after @ ..] = rest {
         sum = with_byte(sum, *byte);
+        rest = after;
     }
     sum
+}
+
+/// A sum with four more bytes.
+#[tactic(auto, using(crate::proofs::Fours::four_at_once))]
+fn with_four(sum: u32, a: u8, b: u8, c: u8, d: u8) -> u32
+    ensures { result ≡ sum_from sum (a ∷ b ∷ c ∷ d ∷ []) }
+{
+    let first = u64::from(sum) * FOURTH_POWER % MODULUS + u64::from(a) * THIRD_POWER;
+    let second = u64::from(b) * SECOND_POWER + u64::from(c) * FACTOR + u64::from(d);
+    ((first + second) % MODULUS) as u32
 }
 
 /// A sum with one more byte.
@@ -38,20 +60,30 @@ fn with_byte(sum: u32, byte: u8) -> u32
     ((u64::from(sum) * FACTOR + u64::from(byte)) % MODULUS) as u32
 }
 
-/// Adds these bytes with their length and their sum at the end of a journal. The head is made beside it, in a list that
-/// is given empty; so the journal has all of it, or is as before.
-pub(crate) fn put_sealed(
-    code: &[u8],
-    head: &mut Vec<u8>,
-    journal: &mut Vec<u8>,
-) -> Result<(), AllocError>
-    requires { head.old.items ≡ [] }
+/// Adds these bytes with their length and their sum at the end of a journal, which has all of it, or is as before.
+#[tactic(auto, unfolding(rc_codec::specs::Parts::Begins))]
+pub(crate) fn put_sealed(code: &[u8], journal: &mut Vec<u8>) -> Result<(), AllocError>
     ensures ok { OnOk result (journal.new.items ≡ journal.old.items ++ sealed code.now) }
     ensures err { OnErr result (journal.new.items ≡ journal.old.items) }
 {
-    (code.len(), sum_of(code)).put(head)?;
-    head.extend_from_slice(code)?;
-    journal.extend_from_slice(head.as_slice())
+    let length = journal.len();
+    match put_parts(code, journal) {
+        Ok(()) => Ok(()),
+        Err(fault) => {
+            journal.truncate(length);
+            Err(fault)
+        }
+    }
+}
+
+/// The length, the sum and the bytes. Where memory is refused some of it may stand there.
+#[tactic(auto, using(rc_codec::proofs::Beginning::begins_after, rc_codec::proofs::Beginning::begins_same))]
+fn put_parts(code: &[u8], journal: &mut Vec<u8>) -> Result<(), AllocError>
+    ensures ok { OnOk result (journal.new.items ≡ journal.old.items ++ sealed code.now) }
+    ensures err { OnErr result (Begins journal.old.items journal.new.items) }
+{
+    (code.len(), sum_of(code)).put(journal)?;
+    journal.extend_from_slice(code)
 }
 
 /// The record that the bytes begin with, and the bytes after it.

@@ -16,12 +16,11 @@ use std::alloc::{AllocError, Global};
 /// # Errors
 ///
 /// Memory was refused; `out` is as before.
-pub fn seal(alloc: Global, code: &[u8], out: &mut Vec<u8>) -> Result<(), AllocError>
+pub fn seal(code: &[u8], out: &mut Vec<u8>) -> Result<(), AllocError>
     ensures ok { OnOk result (out.new.items ≡ out.old.items ++ sealed code.now) }
     ensures err { OnErr result (out.new.items ≡ out.old.items) }
 {
-    let mut head = Vec::new(alloc);
-    put_sealed(code, &mut head, out)
+    put_sealed(code, out)
 }
 
 /// The bytes that stand at the front with their length and their sum before them, and what follows. Nothing is copied.

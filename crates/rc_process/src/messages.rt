@@ -125,7 +125,7 @@ fn seal_delivery(alloc: Global, bytes: &[u8], out: &mut Vec<u8>) -> Result<(), A
     let mut code = Vec::with_capacity(alloc, bytes.len().saturating_add(1))?;
     code.push(1u8)?;
     code.extend_from_slice(bytes)?;
-    seal(alloc, code.as_slice(), out)
+    seal(code.as_slice(), out)
 }
 
 /// The message of a delivery.

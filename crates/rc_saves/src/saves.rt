@@ -112,7 +112,7 @@ fn save_parts(
 {
     let mut code = Vec::new(alloc);
     put_host(head, backup, &mut code)?;
-    seal(alloc, code.as_slice(), out)
+    seal(code.as_slice(), out)
 }
 
 /// The coordinator, in its frame.
@@ -127,7 +127,7 @@ fn save_coordinator<A: Allocator + Clone>(
 {
     let mut code = Vec::new(alloc);
     put_coordinator(alloc, coordinator, &mut code)?;
-    seal(alloc, code.as_slice(), out)
+    seal(code.as_slice(), out)
 }
 
 /// The node that these bytes are.
