@@ -12,7 +12,7 @@ complete -c ramseg -n __fish_use_subcommand -a explore -d 'Runs events drawn so 
 complete -c ramseg -n __fish_use_subcommand -a shrink -d 'Leaves out of a scenario what its report does not need to keep a line, and prints it'
 complete -c ramseg -n __fish_use_subcommand -a heal -d 'Prints a scenario with the events that bring each of its tablets back, and tells what it did and why'
 complete -c ramseg -n __fish_use_subcommand -a explain -d 'Says what a code, a message, an event or a rule is, and what to do about it'
-complete -c ramseg -n __fish_use_subcommand -a history -d 'Replays a scenario that it reads from standard input, and prints what its clients saw as JSON lines'
+complete -c ramseg -n __fish_use_subcommand -a history -d 'Replays a scenario from standard input, and prints its clients\' writes and confirmed reads as JSON lines'
 complete -c ramseg -n __fish_use_subcommand -a check -d 'Judges whether a history that it reads from standard input is linearizable'
 complete -c ramseg -n __fish_use_subcommand -a test -d 'Runs scenarios against what is expected of them'
 complete -c ramseg -n __fish_use_subcommand -a script -d 'Makes a scenario of a script'

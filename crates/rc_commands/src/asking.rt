@@ -36,7 +36,7 @@ pub enum Asked {
     Audit {
         json: bool,
     },
-    /// Replay a scenario, and write what its clients saw.
+    /// Replay a scenario, and write its clients' writes and confirmed reads.
     History,
     /// Judge a history of clients.
     Check,

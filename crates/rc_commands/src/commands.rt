@@ -144,7 +144,7 @@ fn history<'a>(alloc: Global) -> Command<'a>
     command(
         alloc,
         "history",
-        "Replays a scenario that it reads from standard input, and prints what its clients saw as JSON lines",
+        "Replays a scenario from standard input, and prints its clients' writes and confirmed reads as JSON lines",
         "Example: ramseg history < examples/first-write.json",
     )
 }

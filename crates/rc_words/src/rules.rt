@@ -266,7 +266,7 @@ static LAST: [Rule; 22] = [
     Rule {
         name: "stores_after_gather",
         keeps: "A backup that was asked for a master's replicas stores nothing of that master any more.",
-        without: "A zombie goes on acknowledging writes after its backups have told what they hold. The recovery \
+        without: "The master goes on acknowledging writes after its backups have told what they hold. The recovery \
             does not have those.",
         example: "0.1 is suspected wrongly and writes on. Its backups have told what they hold, and store that too, \
             so it is acknowledged. The plan does not have it.",
