@@ -1,8 +1,8 @@
 """Each scenario and trace of examples/ fits its schema in docs/schemas exactly where its report is no `error`, and so
-does each line of its histories, and each document that a row of crates/ramseg_rows with `--format json` prints. A
-FOLDER has further inputs: NAME.stdin, with the command in NAME.args and what the
-program prints in NAME.stdout. The library jsonschema judges where it is there, else the few words that the schemas use
-are judged here."""
+does each line of its histories, and each document that a row of crates/ramseg_rows with `--format json` prints. An
+editor finds them by `.vscode/settings.json`: all that fit, and also a file NAME.scenario.json and a NAME.trace. A
+FOLDER has further inputs: NAME.stdin, with the command in NAME.args and what the program prints in NAME.stdout. The
+library jsonschema judges where it is there, else the few words that the schemas use are judged here."""
 
 import json
 import pathlib
@@ -96,6 +96,12 @@ def inputs(folders):
                 yield kind, file, file.with_suffix(".stdout").read_bytes(), file.read_bytes()
 
 
+def matches(file, form):
+    """Whether a pattern of an editor is that of a file: `**/` stands for any folders, `*` for part of a name."""
+    form = re.escape(form if "/" in form else f"**/{form}")
+    return re.fullmatch(form.replace(r"\*\*/", "(.*/)?").replace(r"\*", "[^/]*"), str(file)) is not None
+
+
 def schema_of(words):
     """The schema of the document that a command line asks for."""
     command = words[0]
@@ -115,7 +121,18 @@ def documents():
             yield schema_of(words), title, b"", told[title].encode()
 
 
+def unmapped():
+    """Which files an editor does not find the schema of."""
+    mapped = json.loads((TOP / ".vscode/settings.json").read_text())["json.schemas"]
+    for kind, own, ending in (("scenario", "own/my.scenario.json", ".json"), ("trace", "own/my.trace", ".trace")):
+        forms = [form for it in mapped if it["url"] == f"./docs/schemas/{kind}.json" for form in it["fileMatch"]]
+        for file in [own, *(it.relative_to(TOP) for it in sorted(EXAMPLES.rglob(f"*{ending}")))]:
+            if not any(matches(file, form) for form in forms):
+                yield f".vscode/settings.json: no schema of {file}"
+
+
 def check(program, words=()):
+    yield from unmapped()
     kinds = ("scenario", "trace", "history", "run", "audit", "stops", "explore", "survey", "until", "explain")
     judges = {kind: judge_of(json.loads((TOP / f"docs/schemas/{kind}.json").read_text())) for kind in kinds}
     number = refused = 0
