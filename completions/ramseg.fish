@@ -63,7 +63,7 @@ complete -c ramseg -n '__fish_seen_subcommand_from explore' -l seeds -x -d 'Runs
 complete -c ramseg -n '__fish_seen_subcommand_from explore' -l progress -d 'Tells on standard error how far it is'
 complete -c ramseg -n '__fish_seen_subcommand_from explore' -l until -x -d 'Looks for the first seed that reaches this rule, or this kind of event or message'
 complete -c ramseg -n '__fish_seen_subcommand_from explore' -l help -d 'Print help'
-complete -c ramseg -n '__fish_seen_subcommand_from shrink' -l keep -x -d 'The report keeps a line that begins with this text'
+complete -c ramseg -n '__fish_seen_subcommand_from shrink' -l keep -x -d 'Required: the report keeps a line that begins with this text'
 complete -c ramseg -n '__fish_seen_subcommand_from shrink' -l help -d 'Print help'
 complete -c ramseg -n '__fish_seen_subcommand_from shrink' -l output -r -d 'Writes what is told of each file into a folder'
 complete -c ramseg -n '__fish_seen_subcommand_from heal' -l power-cycle -d 'Stops all servers first, and starts all hosts'

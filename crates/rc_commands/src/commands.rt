@@ -233,7 +233,7 @@ fn threads<'a>(alloc: Global) -> Result<Command<'a>, AllocError>
         alloc,
         "threads",
         "Runs a coordinator and masters on threads of their own, with writes and a recovery, and prints the report",
-        "Example: ramseg threads --hosts 5 --writes 100",
+        "Example: ramseg threads --hosts 5",
     )
     .arg(option(
         alloc,
@@ -348,7 +348,7 @@ fn shrink<'a>(alloc: Global) -> Result<Command<'a>, AllocError>
         alloc,
         "keep",
         "TEXT",
-        "The report keeps a line that begins with this text",
+        "Required: the report keeps a line that begins with this text",
     ))
 }
 
