@@ -74,7 +74,18 @@ impl Outcome {
 
     /// Whether the writer failed after so many bytes, and took just the first ones of this output.
     fn failed_after(&self, room: usize, output: &[u8]) -> bool {
-        self.status == FAILED && output.get(..room) == Some(self.output.as_slice())
+        self.status == FAILED
+            && output.get(..room) == Some(self.output.as_slice())
+            && self.written() == Some(room)
+    }
+
+    /// How many bytes were written, as standard error tells it.
+    fn written(&self) -> Option<usize> {
+        let told = str::from_utf8(self.errors.as_slice()).ok()?;
+        told.strip_prefix("write ")?
+            .strip_suffix("\n")?
+            .parse()
+            .ok()
     }
 
     /// Prints it; or its status and the last line alone.

@@ -169,7 +169,7 @@ fn done<H: thread::Threads + Wait + Sync, R: Read, W: Write, E: Write>(
             };
             cut_explored(alloc, &options, writer, errors)
         }
-        Asked::Threads { hosts, writes } => threads(rt, alloc, hosts, writes, writer),
+        Asked::Threads { hosts, writes } => threads(rt, alloc, hosts, writes, writer, errors),
         Asked::Explore {
             seed,
             steps,

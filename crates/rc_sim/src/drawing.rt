@@ -12,6 +12,7 @@ use crate::answers::{Answer, ended};
 use crate::counted::Counted;
 use crate::simulating::write_answer;
 use crate::staking::{OF_FUZZ, tell_stake};
+use crate::telling::tell_codes;
 use crate::verdicts::{Output, SimFault, Verdict};
 use rc_draw::drawn_run;
 use std::alloc::{AllocError, Global};
@@ -40,19 +41,29 @@ pub fn fuzz<W: Write, E: Write>(
     ensures unread { result ≢ Err ReadFailed }
     ensures no_breach { result ≢ Ok Breach }
 {
-    let answer = drawn_answer(alloc, seed, steps, free)?;
+    let answer = drawn_answer(alloc, seed, steps, free, errors)?;
     tell_stake(answer.text.as_str(), OF_FUZZ, errors);
     write_answer(writer, &answer)
 }
 
-/// The report of a drawing.
-fn drawn_answer(alloc: Global, seed: u64, steps: usize, free: bool) -> Result<Answer, SimFault>
+/// The report of a drawing; `errors` is told the names of the codes in it.
+fn drawn_answer<E: Write>(
+    alloc: Global,
+    seed: u64,
+    steps: usize,
+    free: bool,
+    errors: &mut Counted<E>,
+) -> Result<Answer, SimFault>
     ensures ok { IfOk result (λ answer. Drawn seed steps free answer.verdict (string_bytes answer.text)) }
     ensures no_breach { IfOk result (λ answer. answer.verdict ≢ Breach) }
     ensures fault { IfErr result (λ fault. fault ≡ Memory) }
 {
     match drawn_run(alloc, seed, steps, free) {
-        Ok(run) => ended(alloc, run.world(), Output::Report),
+        Ok(run) => {
+            let world = run.world();
+            tell_codes(alloc, world.sent(), errors);
+            ended(alloc, world, Output::Report)
+        }
         Err(_) => Err(SimFault::Memory),
     }
 }

@@ -21,7 +21,9 @@ pub(crate) fn document_wanted(asked: &Asked) -> Option<Document>
     match asked {
         Asked::Run { json: true, .. } | Asked::Fuzz { json: true, .. } => Some(Document::Report),
         Asked::Audit { json: true } => Some(Document::Judgement),
-        Asked::Stops { json: true, .. } | Asked::StopsExplored { json: true, .. } => Some(Document::Cuts),
+        Asked::Stops { json: true, .. } | Asked::StopsExplored { json: true, .. } => Some(
+            Document::Cuts,
+        ),
         Asked::Explore {
             save: false,
             json: true,

@@ -6,7 +6,8 @@ use crate::outlets::write_all;
 use crate::playing::Kept;
 use crate::verdicts::{SimFault, Verdict};
 use rc_reasons::{Dialect, hint_of_twice, reason_of_fault, reason_of_stop};
-use rc_types::Code;
+use rc_types::{Code, Message};
+use rc_words::names_of_codes;
 use std::alloc::{AllocError, Global};
 use std::io::Write;
 
@@ -39,6 +40,13 @@ pub(crate) fn tell_why<E: Write>(
         _ => return,
     };
     tell(reason, errors);
+}
+
+/// Tells the names of the codes with which these messages refuse something, as far as there is memory for it.
+pub(crate) fn tell_codes<E: Write>(alloc: Global, messages: &[Message], errors: &mut Counted<E>) {
+    if let Ok(names) = names_of_codes(alloc, messages) {
+        let _ = write_all(errors, names.as_bytes());
+    }
 }
 
 /// Tells a reason, or that there was no memory for it.

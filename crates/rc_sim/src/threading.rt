@@ -12,6 +12,7 @@ ghost use Rattle.rc_sim.specs.Written.{IsWritten, IsBegun};
 use crate::answers::{Answer, ended, stopped};
 use crate::counted::Counted;
 use crate::simulating::write_answer;
+use crate::telling::tell_codes;
 use crate::verdicts::{Output, SimFault, Verdict};
 use rc_types::Code;
 use rc_wire::world_of_threads;
@@ -25,12 +26,13 @@ use std::thread;
 /// last line that says so, with the number of the event that there was no room for or that was not possible.
 ///
 /// It fails as `fuzz` does: `Memory` also where a thread was refused.
-pub fn threads<R: thread::Threads + Wait + Sync, W: Write>(
+pub fn threads<R: thread::Threads + Wait + Sync, W: Write, E: Write>(
     rt: &R,
     alloc: Global,
     hosts: u8,
     writes: u32,
     writer: &mut Counted<W>,
+    errors: &mut Counted<E>,
 ) -> Result<Verdict, SimFault>
     requires { hosts ≤ MAX_HOSTS }
     ensures ok { IfOk result (λ verdict.
@@ -43,23 +45,27 @@ pub fn threads<R: thread::Threads + Wait + Sync, W: Write>(
     ensures unread { result ≢ Err ReadFailed }
     ensures no_breach { result ≢ Ok Breach }
 {
-    let answer = threaded_answer(rt, alloc, hosts, writes)?;
+    let answer = threaded_answer(rt, alloc, hosts, writes, errors)?;
     write_answer(writer, &answer)
 }
 
-/// What is written of such a run.
-fn threaded_answer<R: thread::Threads + Wait + Sync>(
+/// What is written of such a run; `errors` is told the names of the codes in it.
+fn threaded_answer<R: thread::Threads + Wait + Sync, E: Write>(
     rt: &R,
     alloc: Global,
     hosts: u8,
     writes: u32,
+    errors: &mut Counted<E>,
 ) -> Result<Answer, SimFault>
     requires { hosts ≤ MAX_HOSTS }
     ensures ok { IfOk result (λ answer. Threaded hosts writes answer.verdict (string_bytes answer.text)) }
     ensures fault { IfErr result (λ fault. fault ≡ Memory) }
 {
     match world_of_threads(rt, alloc, hosts, writes) {
-        Ok((world, true)) => ended(alloc, &world, Output::Report),
+        Ok((world, true)) => {
+            tell_codes(alloc, world.sent(), errors);
+            ended(alloc, &world, Output::Report)
+        }
         Ok((world, false)) => {
             let place = world.events().len();
             stopped(alloc, &world, Output::Report, place, Code::BadEvent)
