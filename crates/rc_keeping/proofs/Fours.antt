@@ -1,5 +1,5 @@
 -- A sum over four bytes at once.
-use Rattle.std.proofs.Common.{◌≡◌, ◌≤◌, ◌<◌, ◌+◌, ◌*◌, ◌%◌, ℕ, [], ◌∷◌, refl, sym, ap, ◌∙◌, arith}
+use Rattle.std.proofs.Common.{◌≡◌, ◌+◌, ◌*◌, ◌%◌, ℕ, [], ◌∷◌, ap, ◌∙◌, arith}
 use Rattle.rc_keeping.specs.Spelling.{sum_from}
 
 -- a rest may be taken before

@@ -19,7 +19,9 @@ const FACTOR: u64 = 16_777_619;
 
 /// The rests of its second, third and fourth power.
 const SECOND_POWER: u64 = 637_696_617;
+
 const THIRD_POWER: u64 = 1_055_306_571;
+
 const FOURTH_POWER: u64 = 1_345_077_009;
 
 /// A sum is the rest by this.
@@ -77,13 +79,23 @@ pub(crate) fn put_sealed(code: &[u8], journal: &mut Vec<u8>) -> Result<(), Alloc
 }
 
 /// The length, the sum and the bytes. Where memory is refused some of it may stand there.
-#[tactic(auto, using(rc_codec::proofs::Beginning::begins_after, rc_codec::proofs::Beginning::begins_same))]
+#[tactic(auto, using(rc_codec::proofs::Beginning::begins_after))]
 fn put_parts(code: &[u8], journal: &mut Vec<u8>) -> Result<(), AllocError>
     ensures ok { OnOk result (journal.new.items ≡ journal.old.items ++ sealed code.now) }
     ensures err { OnErr result (Begins journal.old.items journal.new.items) }
 {
     (code.len(), sum_of(code)).put(journal)?;
-    journal.extend_from_slice(code)
+    put_all(code, journal)
+}
+
+/// The bytes themselves, in one step.
+#[tactic(auto, using(rc_codec::proofs::Beginning::begins_same))]
+fn put_all(code: &[u8], journal: &mut Vec<u8>) -> Result<(), AllocError>
+    ensures ok { OnOk result (journal.new.items ≡ journal.old.items ++ code.now) }
+    ensures err { OnErr result (Begins journal.old.items journal.new.items) }
+{
+    journal.extend_from_slice(code)?;
+    Ok(())
 }
 
 /// The record that the bytes begin with, and the bytes after it.

@@ -10,7 +10,8 @@ use Rattle.rc_types.specs.declared.messages.Message.{Message}
 use Rattle.rc_history.specs.Nodes.{Node}
 use Rattle.rc_world.specs.NodeView.{after_work}
 use Rattle.rc_process.specs.declared.saving.Saving.{Saving}
-use Rattle.rc_process.specs.View.{Held, ProcessView, AllAbove, past_one, first_ready, LARGEST, moved_place, move_mark, move_held, moved_held, Leaves, started_next}
+use Rattle.rc_process.specs.View.{Held, ProcessView, AllAbove, past_one, first_ready, LARGEST, moved_place, move_mark, move_held}
+use Rattle.rc_process.specs.View.{moved_held, Leaves, started_next}
 use Rattle.rc_process.specs.View.{written_next, rests_on, given}
 use Rattle.rc_process.specs.Order.{Turned, came_before, came_since, in_turn, turn_of, rests_of, Climbs, AreInOrder, ready_turn, is_before}
 use Rattle.rc_process.specs.Order.{IsTaken, move_turned, TakenInTurn, OfMasters, OfOthers}
@@ -33,7 +34,8 @@ climbs_on key low high higher [] one climbs up top = (omega (arith, climbs), top
 climbs_on key low high higher (y ∷ later) one climbs up top =
     (climbs.0, climbs_on key (key y) high higher later one climbs.1 up top)
 
-climbs_behind : (key : Turned → ℕ) (high : ℕ) (one : Turned) (later : List Turned) → Climbs key 0 (one ∷ later) high → Climbs key 0 later high
+climbs_behind : (key : Turned → ℕ) (high : ℕ) (one : Turned) (later : List Turned) → Climbs key 0 (one ∷ later) high →
+    Climbs key 0 later high
 climbs_behind key high one later climbs = climbs_wider key 0 (key one) high high later (omega arith) (omega arith) climbs.1
 
 climbs_since : (key : Turned → ℕ) (low high turn : ℕ) (queue : List Turned) → Climbs key low queue high →
@@ -391,7 +393,8 @@ pub taken_left : (safe turn written started : ℕ) (masters others masters_left 
     HasLeft safe (in_turn masters others) (in_turn masters_left others_left) messages
 taken_left safe turn written started masters others masters_left others_left messages order (OfMasters before taken same) =
     let m : Turned = taken.one in
-    let came : Climbs turn_of 0 (m ∷ masters_left) turn = subst (λ (l : List Turned). Climbs turn_of 0 l turn) taken.stood order.masters_came in
+    let came : Climbs turn_of 0 (m ∷ masters_left) turn =
+    subst (λ (l : List Turned). Climbs turn_of 0 l turn) taken.stood order.masters_came in
     let first : is_before (ready_turn safe (m ∷ masters_left)) (ready_turn safe others) ≡ true =
     ap (λ (l : List Turned). is_before (ready_turn safe l) (ready_turn safe others)) (sym taken.stood) ∙ before in
     let found = from_masters safe turn written m masters_left others came order.others_came order.others_rest first in
@@ -405,7 +408,8 @@ taken_left safe turn written started masters others masters_left others_left mes
     }
 taken_left safe turn written started masters others masters_left others_left messages order (OfOthers later some taken same) =
     let o : Turned = taken.one in
-    let came : Climbs turn_of 0 (o ∷ others_left) turn = subst (λ (l : List Turned). Climbs turn_of 0 l turn) taken.stood order.others_came in
+    let came : Climbs turn_of 0 (o ∷ others_left) turn =
+    subst (λ (l : List Turned). Climbs turn_of 0 l turn) taken.stood order.others_came in
     let first : is_before (ready_turn safe masters) (ready_turn safe (o ∷ others_left)) ≡ false =
     ap (λ (l : List Turned). is_before (ready_turn safe masters) (ready_turn safe l)) (sym taken.stood) ∙ later in
     let found_one : is_some (ready_turn safe (o ∷ others_left)) ≡ true =
@@ -461,7 +465,8 @@ first_found : (safe : ℕ) (before later : List Held) (one : Held) → AllAbove 
     first_ready safe (before ++ one ∷ later) ≡ Some (one.1, before ++ later)
 unfolding AllAbove
 first_found safe [] later one above ready =
-    ap (λ (b : Bool). cond {A = Option (List Message × List Held)} b (Some (one.1, later)) (option_map (past_one one) (first_ready safe later)))
+    ap (λ (b : Bool). cond {A = Option (List Message × List Held)} b (Some (one.1, later))
+    (option_map (past_one one) (first_ready safe later)))
     (le-leb one.0 safe ready)
 first_found safe (x ∷ before) later one above ready =
     ap (λ (b : Bool). cond {A = Option (List Message × List Held)} b (Some (x.1, before ++ one ∷ later))
@@ -578,9 +583,11 @@ pub in_turn_moved : (saving : Saving) (masters others : List Turned) →
     in_turn (map (move_turned saving) masters) (map (move_turned saving) others) ≡ moved_held saving (in_turn masters others)
 in_turn_moved saving [] others = map_held saving others
 in_turn_moved saving (m ∷ masters) others =
-    ap (λ (l : List Held). l ++ move_held saving m.held ∷ in_turn (moved_queue saving masters) (came_since m.turn (moved_queue saving others)))
+    ap (λ (l : List Held). l ++ move_held saving m.held
+    ∷ in_turn (moved_queue saving masters) (came_since m.turn (moved_queue saving others)))
     (before_moved saving m.turn others)
-    ∙ (ap (λ (l : List Turned). moved_held saving (came_before m.turn others) ++ move_held saving m.held ∷ in_turn (moved_queue saving masters) l)
+    ∙ (ap (λ (l : List Turned). moved_held saving (came_before m.turn others) ++ move_held saving m.held
+    ∷ in_turn (moved_queue saving masters) l)
     (since_moved saving m.turn others)
     ∙ (ap (λ (l : List Held). moved_held saving (came_before m.turn others) ++ move_held saving m.held ∷ l)
     (in_turn_moved saving masters (came_since m.turn others))

@@ -69,9 +69,11 @@ pub record IsTaken (old new : List Turned) (messages : List Message) : Type 0 wh
   pub sent : one.held.1 ≡ messages
 
 -- of those firsts that may leave, the one that came before the other
-pub data TakenInTurn (safe : ℕ) (masters others masters_left others_left : List Turned) (messages : List Message) : Type 0 where
-  OfMasters : is_before (ready_turn safe masters) (ready_turn safe others) ≡ true → IsTaken masters masters_left messages →
-      others_left ≡ others → TakenInTurn safe masters others masters_left others_left messages
-  OfOthers : is_before (ready_turn safe masters) (ready_turn safe others) ≡ false → is_some (ready_turn safe others) ≡ true →
-      IsTaken others others_left messages → masters_left ≡ masters →
+pub data TakenInTurn (safe : ℕ) (masters others masters_left others_left : List Turned) (messages : List Message) :
+    Type 0 where
+  OfMasters : is_before (ready_turn safe masters) (ready_turn safe others) ≡ true →
+      IsTaken masters masters_left messages → others_left ≡ others →
+      TakenInTurn safe masters others masters_left others_left messages
+  OfOthers : is_before (ready_turn safe masters) (ready_turn safe others) ≡ false →
+      is_some (ready_turn safe others) ≡ true → IsTaken others others_left messages → masters_left ≡ masters →
       TakenInTurn safe masters others masters_left others_left messages

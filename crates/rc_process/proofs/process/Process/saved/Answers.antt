@@ -10,5 +10,6 @@ invariant_of-self g c =
 pub returns : goal.returns
 returns g c =
     rw (c.moved-self-inside.ensures, c.moved-self-inside-2.ensures, c.moved-self-inside-3.ensures, c.move_queue.ensures,
-    c.move_queue-2.ensures, ← c.self.view_is, c.in-Some.is, in_turn_moved c.in-Some.saving c.self.inside.masters.items c.self.inside.others.items)
+    c.move_queue-2.ensures, ← c.self.view_is, c.in-Some.is,
+    in_turn_moved c.in-Some.saving c.self.inside.masters.items c.self.inside.others.items)
     refl
