@@ -1,6 +1,6 @@
 -- Both queues as one list: what comes, leaves and moves in them does so in that.
-use Rattle.std.proofs.Common.{◌≡◌, ◌≤◌, ◌<◌, ◌+◌, ◌-◌, ℕ, Bool, true, false, cond, nat_le, nat_lt, inl, inr, List, [], ◌∷◌, ◌++◌, map}
-use Rattle.std.proofs.Common.{min, Option, Some, None, IfSome, IfNone, is_some, refl, sym, ap, ◌∙◌, subst, arith, append_assoc}
+use Rattle.std.proofs.Common.{◌≡◌, ◌≤◌, ◌<◌, ◌+◌, ℕ, Bool, true, false, cond, nat_le, nat_lt, inl, inr, List, [], ◌∷◌, ◌++◌, map}
+use Rattle.std.proofs.Common.{Option, Some, None, IfSome, IfNone, is_some, refl, sym, ap, ◌∙◌, subst, arith, append_assoc}
 use Rattle.std.specs.Option.{option_map}
 use Rattle.std.proofs.Math.Nat.{le-min, min-le_left, min-le_right}
 use Rattle.std.proofs.lemmas.Bool.{leb-true, leb-false, le-leb, lt-leb, ltb-true, ltb-false, lt-ltb, le-ltb}
@@ -8,13 +8,13 @@ use Rattle.rc_types.specs.declared.events.NodeWork.{NodeWork}
 use Rattle.rc_types.specs.declared.events.NodeWork.TheVariants as work
 use Rattle.rc_types.specs.declared.messages.Message.{Message}
 use Rattle.rc_history.specs.Nodes.{Node}
-use Rattle.rc_world.specs.NodeView.{after_work}
+use Rattle.rc_world.specs.NodeView.{NodeData, after_work}
 use Rattle.rc_process.specs.declared.saving.Saving.{Saving}
 use Rattle.rc_process.specs.View.{Held, ProcessView, AllAbove, past_one, first_ready, LARGEST, moved_place, move_mark, move_held}
-use Rattle.rc_process.specs.View.{moved_held, Leaves, started_next}
+use Rattle.rc_process.specs.View.{moved_held, Leaves, started_next, ProcessData, process_seen, moved}
 use Rattle.rc_process.specs.View.{written_next, rests_on, given}
 use Rattle.rc_process.specs.Order.{Turned, came_before, came_since, in_turn, turn_of, rests_of, Climbs, AreInOrder, ready_turn, is_before}
-use Rattle.rc_process.specs.Order.{IsTaken, move_turned, TakenInTurn, OfMasters, OfOthers}
+use Rattle.rc_process.specs.Order.{move_turned, TakenInTurn, OfMasters, OfOthers}
 
 -- What climbs
 
@@ -501,10 +501,10 @@ all_wait safe turn written started masters others order one two =
 
 -- One more is held back
 
-abbrev pub turned : ℕ → ℕ → List Message → Turned
+abbrev turned : ℕ → ℕ → List Message → Turned
 turned turn rests messages = record { turn = turn; held = (rests, messages) }
 
-pub masters_next : (turn written started next more starts : ℕ) (masters others : List Turned) (messages : List Message) →
+masters_next : (turn written started next more starts : ℕ) (masters others : List Turned) (messages : List Message) →
     AreInOrder turn written started masters others → next ≡ turn + 1 → written ≤ more → started ≤ starts → starts ≤ more →
     AreInOrder next more starts (masters ++ turned next started messages ∷ []) others
 masters_next turn written started next more starts masters others messages order is grows on within =
@@ -517,7 +517,7 @@ masters_next turn written started next more starts masters others messages order
       early = within;
     }
 
-pub others_next : (turn written started next more starts : ℕ) (masters others : List Turned) (messages : List Message) →
+others_next : (turn written started next more starts : ℕ) (masters others : List Turned) (messages : List Message) →
     AreInOrder turn written started masters others → next ≡ turn + 1 → written ≤ more → started ≤ starts → starts ≤ more →
     AreInOrder next more starts masters (others ++ turned next more messages ∷ [])
 others_next turn written started next more starts masters others messages order is grows on within =
@@ -530,17 +530,66 @@ others_next turn written started next more starts masters others messages order 
       early = within;
     }
 
-pub masters_more : (turn written started next rests : ℕ) (masters others : List Turned) (messages : List Message) →
+masters_more : (turn written started next rests : ℕ) (masters others : List Turned) (messages : List Message) →
     AreInOrder turn written started masters others → next ≡ turn + 1 →
     in_turn (masters ++ turned next rests messages ∷ []) others ≡ in_turn masters others ++ (rests, messages) ∷ []
 masters_more turn written started next rests masters others messages order is =
     masters_on 0 turn masters others (turned next rests messages) order.others_came (omega arith)
 
-pub others_more : (turn written started next rests : ℕ) (masters others : List Turned) (messages : List Message) →
+others_more : (turn written started next rests : ℕ) (masters others : List Turned) (messages : List Message) →
     AreInOrder turn written started masters others → next ≡ turn + 1 →
     in_turn masters (others ++ turned next rests messages ∷ []) ≡ in_turn masters others ++ (rests, messages) ∷ []
 others_more turn written started next rests masters others messages order is =
     others_on 0 turn masters others (turned next rests messages) order.masters_came (omega arith)
+
+-- a queue in which room was made, and to which this was added then
+pushed_is : (queue wide pushed : List Turned) (one : Turned) (turn rests : ℕ) (messages : List Message) → wide ≡ queue →
+    one ≡ turned turn rests messages → pushed ≡ wide ++ one ∷ [] → pushed ≡ queue ++ turned turn rests messages ∷ []
+pushed_is queue wide pushed one turn rests messages room is push =
+    push ∙ (ap (λ (l : List Turned). l ++ one ∷ []) room ∙ ap (λ (x : Turned). queue ++ x ∷ []) is)
+
+pub masters_pushed : (turn written started next more starts : ℕ) (masters others wide kept pushed : List Turned) (one : Turned)
+    (messages : List Message) → AreInOrder turn written started masters others → next ≡ turn + 1 → written ≤ more → started ≤ starts →
+    starts ≤ more → wide ≡ masters → kept ≡ others → one ≡ turned next started messages → pushed ≡ wide ++ one ∷ [] →
+    AreInOrder next more starts pushed kept
+masters_pushed turn written started next more starts masters others wide kept pushed one messages order is grows on within room same held
+    push =
+    subst (λ (l : List Turned). AreInOrder next more starts l kept)
+    (sym (pushed_is masters wide pushed one next started messages room held push))
+    (subst (λ (l : List Turned). AreInOrder next more starts (masters ++ turned next started messages ∷ []) l) (sym same)
+    (masters_next turn written started next more starts masters others messages order is grows on within))
+
+pub others_pushed : (turn written started next more starts : ℕ) (masters others wide kept pushed : List Turned) (one : Turned)
+    (messages : List Message) → AreInOrder turn written started masters others → next ≡ turn + 1 → written ≤ more → started ≤ starts →
+    starts ≤ more → wide ≡ others → kept ≡ masters → one ≡ turned next more messages → pushed ≡ wide ++ one ∷ [] →
+    AreInOrder next more starts kept pushed
+others_pushed turn written started next more starts masters others wide kept pushed one messages order is grows on within room same held
+    push =
+    subst (λ (l : List Turned). AreInOrder next more starts kept l)
+    (sym (pushed_is others wide pushed one next more messages room held push))
+    (subst (λ (l : List Turned). AreInOrder next more starts l (others ++ turned next more messages ∷ [])) (sym same)
+    (others_next turn written started next more starts masters others messages order is grows on within))
+
+-- what is held back then
+pub masters_held : (turn written started next : ℕ) (masters others wide kept pushed : List Turned) (one : Turned)
+    (fresh messages sent : List Message) → AreInOrder turn written started masters others → next ≡ turn + 1 → wide ≡ masters →
+    kept ≡ others → one ≡ turned next started messages → pushed ≡ wide ++ one ∷ [] → fresh ≡ [] → messages ≡ fresh ++ sent →
+    in_turn pushed kept ≡ in_turn masters others ++ (started, sent) ∷ []
+masters_held turn written started next masters others wide kept pushed one fresh messages sent order is room same held push none adds =
+    ap (λ (l : List Turned). in_turn l kept) (pushed_is masters wide pushed one next started messages room held push)
+    ∙ (ap (λ (l : List Turned). in_turn (masters ++ turned next started messages ∷ []) l) same
+    ∙ (masters_more turn written started next started masters others messages order is
+    ∙ ap (λ (l : List Message). in_turn masters others ++ (started, l) ∷ []) (adds ∙ ap (λ (l : List Message). l ++ sent) none)))
+
+pub others_held : (turn written started next more : ℕ) (masters others wide kept pushed : List Turned) (one : Turned)
+    (fresh messages sent : List Message) → AreInOrder turn written started masters others → next ≡ turn + 1 → wide ≡ others →
+    kept ≡ masters → one ≡ turned next more messages → pushed ≡ wide ++ one ∷ [] → fresh ≡ [] → messages ≡ fresh ++ sent →
+    in_turn kept pushed ≡ in_turn masters others ++ (more, sent) ∷ []
+others_held turn written started next more masters others wide kept pushed one fresh messages sent order is room same held push none adds =
+    ap (λ (l : List Turned). in_turn kept l) (pushed_is others wide pushed one next more messages room held push)
+    ∙ (ap (λ (l : List Turned). in_turn l (others ++ turned next more messages ∷ [])) same
+    ∙ (others_more turn written started next more masters others messages order is
+    ∙ ap (λ (l : List Message). in_turn masters others ++ (more, l) ∷ []) (adds ∙ ap (λ (l : List Message). l ++ sent) none)))
 
 -- A save takes the journal's place
 
@@ -627,18 +676,41 @@ moved_order saving turn written started masters others order = record {
   early = mark_up saving started written order.early;
 }
 
+-- what a process is then
+pub is_moved : (old : ProcessData) (saving : Saving) (begun : Option Saving) (node : NodeData) (written started safe : ℕ)
+    (held : List Held) →
+    record { node = node; written = written; started = started; safe = safe; held = held; saving = begun } ≡ old →
+    begun ≡ Some saving →
+    process_seen (record {
+      node = node;
+      written = move_mark saving written;
+      started = move_mark saving started;
+      safe = move_mark saving safe;
+      held = moved_held saving held;
+      saving = None;
+    }) ≡ moved (process_seen old)
+is_moved old saving begun node written started safe held same is =
+    subst (λ (d : ProcessData). process_seen (record {
+      node = node;
+      written = move_mark saving written;
+      started = move_mark saving started;
+      safe = move_mark saving safe;
+      held = moved_held saving held;
+      saving = None;
+    }) ≡ moved (process_seen d)) same (rw is refl)
+
 -- the last start of a server is later then, and no later than what is written
-pub started_between : (process : ProcessView) (given : NodeWork) (started written : ℕ) → process.started ≡ started → started ≤ written →
-    (started ≤ started_next process given written) × (started_next process given written ≤ written)
-started_between process (work.Start kept) started written e h = (h, omega arith)
-started_between process work.Stop started written e h = (omega arith, omega arith)
-started_between process (work.Ask to body) started written e h = (omega arith, omega arith)
-started_between process (work.Deliver message) started written e h = (omega arith, omega arith)
-started_between process work.Tick started written e h = (omega arith, omega arith)
-started_between process (work.Suspect id) started written e h = (omega arith, omega arith)
-started_between process (work.Decide id) started written e h = (omega arith, omega arith)
-started_between process (work.Create table owner) started written e h = (omega arith, omega arith)
-started_between process (work.Split table at) started written e h = (omega arith, omega arith)
+pub started_between : (process : ProcessView) (given : NodeWork) (started written starts : ℕ) →
+    starts ≡ started_next process given written → process.started ≡ started → started ≤ written → (started ≤ starts) × (starts ≤ written)
+started_between process (work.Start kept) started written starts is e h = (omega arith, omega arith)
+started_between process work.Stop started written starts is e h = (omega arith, omega arith)
+started_between process (work.Ask to body) started written starts is e h = (omega arith, omega arith)
+started_between process (work.Deliver message) started written starts is e h = (omega arith, omega arith)
+started_between process work.Tick started written starts is e h = (omega arith, omega arith)
+started_between process (work.Suspect id) started written starts is e h = (omega arith, omega arith)
+started_between process (work.Decide id) started written starts is e h = (omega arith, omega arith)
+started_between process (work.Create table owner) started written starts is e h = (omega arith, omega arith)
+started_between process (work.Split table at) started written starts is e h = (omega arith, omega arith)
 
 -- what a process is after a work, part by part
 pub is_given : (old : ProcessView) (work : NodeWork) (node : Node) (written started : ℕ) (held : List Held) →
