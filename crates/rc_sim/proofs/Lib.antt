@@ -3,4 +3,5 @@ mod Written
 mod Endings
 mod NoBreaches
 mod Closings
-mod Documents
+mod AsDocument
+mod Commands

@@ -1,7 +1,7 @@
 -- Exit statuses, and what a call of the program has done.
-use Rattle.std.specs.Prelude.{◌≡◌, ◌&&◌, ⊤, ℕ, Bool, true, false, not, List, Option, Result, Ok, Err}
+use Rattle.std.specs.Prelude.{◌≡◌, ◌<◌, ◌&&◌, ⊤, ℕ, Bool, true, false, not, List, length, take, Option, Result, Ok, Err}
 use Rattle.std.specs.Option.{IfSome}
-use Rattle.std.specs.Io.KnownBytes.{Keeps}
+use Rattle.std.specs.Io.KnownBytes.{Keeps, Appends}
 use Rattle.rc_types.specs.declared.faults.Code.TheVariants.{OutOfMemory}
 use Rattle.rc_commands.specs.declared.asking.Asked.{Asked}
 use Rattle.rc_commands.specs.declared.asking.Asked.TheVariants as asked
@@ -88,6 +88,14 @@ wants_json _ = false
 abbrev pub InFormat : Bool → (List ℕ → Verdict → List ℕ → Type 0) → List ℕ → Verdict → List ℕ → Type 0
 InFormat true Comes bytes verdict text = (plain : List ℕ) × Comes bytes verdict plain
 InFormat false Comes bytes verdict text = Comes bytes verdict text
+
+-- what was written of a document in place of a text that was told with this outcome: all of it, or a beginning
+abbrev pub Documented : Result Verdict SimFault → Result Verdict SimFault → Option (List ℕ) → Option (List ℕ) → Type 0
+Documented (Ok verdict) outcome old new = (text : List ℕ) × (outcome ≡ Ok verdict) × Appends old new text
+Documented (Err (Write count)) outcome old new = (verdict : Verdict) × (text : List ℕ) × (outcome ≡ Ok verdict) ×
+    (count < length text) × Appends old new (take count text)
+Documented (Err Memory) outcome old new = Keeps old new
+Documented (Err Read) outcome old new = Keeps old new
 
 -- what comes of a command, in the format that is asked for
 abbrev pub ShownOf : Asked → List ℕ → Verdict → List ℕ → Type 0

@@ -1,9 +1,9 @@
 //! What a command tells, as a text or as one JSON document.
 
-ghost use Rattle.std.specs.Prelude.{◌≡◌, ℕ, List, Option, Some, Ok, [], is_some, true};
+ghost use Rattle.std.specs.Prelude.{◌≡◌, ℕ, Ok, is_some};
 ghost use Rattle.rc_sim.specs.declared.verdicts.Verdict.{Verdict as VerdictModel};
 ghost use Rattle.rc_sim.specs.Failures.{failed_reads, failed_writes};
-ghost use Rattle.rc_sim.specs.Statuses.{Answered, InFormat, wants_json};
+ghost use Rattle.rc_sim.specs.Statuses.{Documented, wants_json};
 
 use crate::counted::Counted;
 use crate::documents::{Document, document_of};
@@ -49,11 +49,9 @@ pub(crate) fn write_document<W: Write, E: Write>(
     writer: &mut Counted<W>,
     errors: &mut Counted<E>,
 ) -> Result<Verdict, SimFault>
-    ensures answered { (F : List ℕ → VerdictModel → List ℕ → Type 0) (input told : Option (List ℕ)) →
-        Answered F outcome.entry input (Some []) told
-        → Answered (InFormat true F) result input (W.contents writer.old.inner) (W.contents writer.new.inner) }
-    ensures verdict { (verdict : VerdictModel) → result ≡ Ok verdict → outcome.entry ≡ Ok verdict }
-    ensures reads { (failures : ℕ) → failed_reads result failures ≡ failed_reads outcome.entry failures }
+    ensures documented { Documented result outcome (W.contents writer.old.inner) (W.contents writer.new.inner) }
+    ensures verdict { (verdict : VerdictModel) → result ≡ Ok verdict → outcome ≡ Ok verdict }
+    ensures reads { (failures : ℕ) → failed_reads result failures ≡ failed_reads outcome failures }
     ensures writes { writer.new.failures ≡ failed_writes result writer.old.failures }
 {
     match outcome {

@@ -12,4 +12,4 @@ pub returns-clause-no_breach : goal.returns-clause-no_breach
 returns-clause-no_breach g c =
     let answer = c.in_ok-answer.answer in
     no_breach_of c.write_answer.result answer.verdict
-    c.write_answer.ensures.verdict (clean_is_none answer.verdict c.in_ok-answer.ensures.ok.1)
+    c.write_answer.ensures.verdict (clean_is_none answer.verdict c.in_ok-answer.ensures.ok.1.0)
