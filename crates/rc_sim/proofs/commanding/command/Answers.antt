@@ -11,9 +11,11 @@ returns-in-Ok-clause-does g c asked same =
     let input = g.R.Read.remaining c.args.reader.now.inner in
     let old = g.W.Write.contents c.args.writer.now.inner in
     let new = g.W.Write.contents done.new.writer.inner in
-    let is : c.in-Ok.asked ≡ asked = command_is c.in-Ok.asked asked (c.in-Ok.ensures.command ∙ same) in
-    (done.result, c.ended.ensures,
-    subst (λ command. Answered (ShownOf command) done.result input old new) is done.ensures.answered)
+    let is : c.in-Ok.asked ≡ asked = command_is c.in-Ok.asked asked (c.in-Ok.ensures.command ∙ same) in (
+      done.result,
+      c.ended.ensures,
+      subst (λ command. Answered (ShownOf command) done.result input old new) is done.ensures.answered,
+    )
 
 pub returns-in-Err-clause-does : goal.returns-in-Err-clause-does
 returns-in-Err-clause-does g c command same = (Err Memory, c.failed.ensures, keeps_same (g.W.Write.contents c.args.writer.now.inner))
