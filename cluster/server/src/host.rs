@@ -6,7 +6,7 @@ use crate::protocol::{DONE, NO_VALUE, Op, Reply, Request, UNKNOWN, WRONG};
 use crate::wire::HEARTBEAT;
 use sevunthi::message::{self, framed, kind, u32_at, u64_at};
 use sevunthi::{Answer, Envelope, Fault, Id, Work};
-use std::collections::{HashMap, VecDeque};
+use std::collections::VecDeque;
 use std::fmt::Write as _;
 use std::io;
 use std::sync::mpsc::{Receiver, RecvTimeoutError};
@@ -17,6 +17,9 @@ type Place = (u16, u64);
 
 /// Where segments run out, a host begins anew: it has a new log then.
 const LAST_HEAD: u16 = 60_000;
+
+/// After so many requests that came at once, what they send leaves, so that the others can begin.
+const SOME: usize = 32;
 
 /// F3: the head is being rolled, so that a write has to wait.
 const ROLLING: u8 = 3;
@@ -31,8 +34,8 @@ struct Asked {
 struct Host {
     core: Core,
     server: Id,
-    /// Writes that were taken, by their places.
-    pending: HashMap<Place, Asked>,
+    /// Writes that were taken, in order of their places; none are those that were answered before an earlier one.
+    pending: VecDeque<(Place, Option<Asked>)>,
     /// Requests that came while the head was being rolled.
     waiting: VecDeque<Asked>,
     /// Reads that were answered, with the place that the next write got, which confirms them.
@@ -51,7 +54,7 @@ pub fn run(config: Config) -> io::Result<()> {
     let mut host = Host {
         core,
         server: Id { index: 0, generation: 0 },
-        pending: HashMap::new(),
+        pending: VecDeque::new(),
         waiting: VecDeque::new(),
         reads: VecDeque::new(),
         next: (0, 0),
@@ -75,7 +78,7 @@ impl Host {
         self.grants.clear();
         self.core.waits.clear();
         self.next = (0, 0);
-        let taken = std::mem::take(&mut self.pending).into_values();
+        let taken = std::mem::take(&mut self.pending).into_iter().filter_map(|(_, asked)| asked);
         for Asked { client, request } in taken.chain(std::mem::take(&mut self.waiting)) {
             self.reply(client, &Reply::bare(UNKNOWN, request.number));
         }
@@ -147,8 +150,12 @@ impl Host {
                 grants.into_iter().for_each(|grant| self.note_grant(grant));
             }
             Event::Client(client, bytes) => {
-                for bytes in framed(&bytes) {
-                    match Request::read(bytes) {
+                for (number, request) in framed(&bytes).enumerate() {
+                    if 0 < number && number % SOME == 0 {
+                        self.route();
+                        self.core.flush();
+                    }
+                    match Request::read(request) {
                         Some(request) => self.ask(client, request),
                         None => self.core.answer(client, &Reply::bare(WRONG, 0)),
                     }
@@ -202,6 +209,12 @@ impl Host {
         }
         self.core.counts.works += 1;
         let place = (before.head, before.entries);
+        let is_put = matches!(op, Op::Put | Op::Delete);
+        // where the head has one entry more, that is the write, and what it sends leaves with all else
+        let now = self.core.node.info();
+        if taken.is_ok() && is_put && (now.head, now.entries) == (place.0, place.1 + 1) {
+            return self.await_durable(place, asked);
+        }
         let mut said = None;
         let mut answers = Vec::new();
         self.core.route(|_, message| answers.push(message.to_vec()));
@@ -212,13 +225,17 @@ impl Host {
             }
         }
         let after = self.core.node.info();
-        if taken.is_ok() && matches!(op, Op::Put | Op::Delete) && said.is_none() && place != (after.head, after.entries)
-        {
-            self.next = (place.0, place.1 + 1);
-            self.pending.insert(place, asked);
-            return true;
+        if taken.is_ok() && is_put && said.is_none() && place != (after.head, after.entries) {
+            return self.await_durable(place, asked);
         }
         self.conclude(asked, said, place)
+    }
+
+    /// A write was taken at this place.
+    fn await_durable(&mut self, place: Place, asked: Asked) -> bool {
+        self.next = (place.0, place.1 + 1);
+        self.pending.push_back((place, Some(asked)));
+        true
     }
 
     /// What the node has answered at once.
@@ -266,9 +283,19 @@ impl Host {
                 self.core.answer(client, &reply);
             }
         }
-        let Some(Asked { client: Some(client), request }) = self.pending.remove(&place) else { return };
+        let Some(Asked { client: Some(client), request }) = self.take_pending(place) else { return };
         let code = if (request.table, 2 * request.key) == (table, key) { DONE } else { UNKNOWN };
         self.core.answer(client, &Reply { code, number: request.number, version, value: Vec::new() });
+    }
+
+    /// The request of the write at this place.
+    fn take_pending(&mut self, place: Place) -> Option<Asked> {
+        let at = self.pending.binary_search_by_key(&place, |pending| pending.0).ok()?;
+        let asked = self.pending[at].1.take();
+        while self.pending.front().is_some_and(|pending| pending.1.is_none()) {
+            self.pending.pop_front();
+        }
+        asked
     }
 
     /// What had to wait for a roll is asked again.

@@ -1,6 +1,6 @@
 //! Connections: each is read by a thread that hands whole pieces over, and written by another.
 
-use crate::wire::{MOST, Seal};
+use crate::wire::{HEAD, MOST, Seal};
 use sevunthi::message::u32_at;
 use std::fs::File;
 use std::io::{self, Read, Write};
@@ -52,18 +52,24 @@ impl Writer {
         let (writer, from, queued) = Writer::new();
         thread::spawn(move || {
             let mut open: Option<(TcpStream, Seal)> = None;
-            while let Ok(mut bytes) = from.recv() {
+            let mut batch = Vec::new();
+            while let Ok(bytes) = from.recv() {
+                batch.resize(HEAD, 0);
+                batch.extend_from_slice(&bytes);
                 while let Ok(more) = from.try_recv() {
-                    bytes.extend_from_slice(&more);
+                    batch.extend_from_slice(&more);
                 }
-                queued.fetch_sub(bytes.len(), Ordering::Relaxed);
+                queued.fetch_sub(batch.len() - HEAD, Ordering::Relaxed);
                 if open.is_none() {
                     open = connect(&address, &secret).ok();
                 }
-                let Some((stream, seal)) = &mut open else { continue };
-                if stream.write_all(&seal.close(&bytes)).is_err() {
-                    open = None;
+                if let Some((stream, seal)) = &mut open {
+                    seal.close(&mut batch);
+                    if stream.write_all(&batch).is_err() {
+                        open = None;
+                    }
                 }
+                batch.clear();
             }
         });
         writer
@@ -191,11 +197,16 @@ fn serve_peer(mut stream: TcpStream, number: u64, secret: &[u8], events: &Sender
     File::open("/dev/urandom")?.read_exact(&mut challenge)?;
     stream.write_all(&challenge)?;
     let mut seal = Seal::new(secret, challenge);
-    read_pieces(stream, MOST + 40, |batches| {
-        sevunthi::message::framed(&batches).all(|batch| match seal.open(batch) {
-            Some(frames) => events.send(Event::Peer(number, frames.to_vec())).is_ok(),
-            None => false,
-        })
+    read_pieces(stream, MOST + 40, |mut batches| {
+        let mut rest = batches.as_mut_slice();
+        while let Some(length) = u32_at(rest, 0) {
+            let (batch, others) = rest.split_at_mut(4 + length as usize);
+            match seal.open(batch) {
+                Some(frames) if events.send(Event::Peer(number, frames.to_vec())).is_ok() => rest = others,
+                _ => return false,
+            }
+        }
+        true
     });
     let _ = events.send(Event::PeerDown(number));
     Ok(())

@@ -10,6 +10,9 @@ use sevunthi::message::{u32_at, u64_at};
 /// The longest batch.
 pub const MOST: usize = 256 << 20;
 
+/// How many bytes of a batch stand before its frames: length, number and sum.
+pub const HEAD: usize = 44;
+
 /// The first byte of what is no message of the protocol: a heartbeat of a server, with its id.
 pub const HEARTBEAT: u8 = 0;
 
@@ -73,33 +76,31 @@ impl Seal {
         Seal { secret: secret.to_vec(), challenge, number: 0 }
     }
 
-    fn mac(&self, number: u64, frames: &[u8]) -> [u8; 32] {
-        let mut message = Vec::with_capacity(24 + frames.len());
-        message.extend_from_slice(&self.challenge);
-        message.extend_from_slice(&number.to_le_bytes());
-        message.extend_from_slice(frames);
-        mac(&self.secret, &message)
+    /// The sum of the frames that stand behind `HEAD` bytes, of which it uses the last ones.
+    fn mac(&self, headed: &mut [u8]) -> [u8; 32] {
+        headed[HEAD - 24..HEAD - 8].copy_from_slice(&self.challenge);
+        headed[HEAD - 8..HEAD].copy_from_slice(&self.number.to_le_bytes());
+        mac(&self.secret, &headed[HEAD - 24..])
     }
 
-    /// These frames as the next batch.
-    pub fn close(&mut self, frames: &[u8]) -> Vec<u8> {
-        let mut batch = Vec::with_capacity(44 + frames.len());
-        batch.extend_from_slice(&(frames.len() as u32 + 40).to_le_bytes());
-        batch.extend_from_slice(&self.number.to_le_bytes());
-        batch.extend_from_slice(&self.mac(self.number, frames));
-        batch.extend_from_slice(frames);
+    /// Makes the next batch of the frames that stand behind `HEAD` bytes, in place.
+    pub fn close(&mut self, headed: &mut [u8]) {
+        let sum = self.mac(headed);
+        let length = headed.len() as u32 - 4;
+        headed[..4].copy_from_slice(&length.to_le_bytes());
+        headed[4..12].copy_from_slice(&self.number.to_le_bytes());
+        headed[12..HEAD].copy_from_slice(&sum);
         self.number += 1;
-        batch
     }
 
-    /// The frames of a batch, without its length, if it is the next one.
-    pub fn open<'a>(&mut self, batch: &'a [u8]) -> Option<&'a [u8]> {
-        let frames = batch.get(40..)?;
-        let is_next = u64_at(batch, 0)? == self.number;
-        let made = self.mac(self.number, frames);
-        let differs = made.iter().zip(&batch[8..40]).fold(0, |differs, (x, y)| differs | (x ^ y));
+    /// The frames of a batch, with its length, if it is the next one. What stood before them is lost.
+    pub fn open<'a>(&mut self, batch: &'a mut [u8]) -> Option<&'a [u8]> {
+        let head: [u8; HEAD] = batch.get(..HEAD)?.try_into().ok()?;
+        let is_next = u64_at(&head, 4)? == self.number;
+        let made = self.mac(batch);
+        let differs = made.iter().zip(&head[12..]).fold(0, |differs, (x, y)| differs | (x ^ y));
         self.number += 1;
-        (is_next && differs == 0).then_some(frames)
+        (is_next && differs == 0).then_some(&batch[HEAD..])
     }
 }
 
@@ -111,15 +112,15 @@ mod tests {
 
     #[test]
     fn a_batch_is_taken_once() {
-        let mut out = Vec::new();
+        let mut out = vec![0; HEAD];
         put_frame(7, b"hello", &mut out);
         let (mut writer, mut reader) = (Seal::new(b"secret", [1; 16]), Seal::new(b"secret", [1; 16]));
-        let batch = writer.close(&out);
-        let opened = reader.open(&batch[4..]).expect("it is the next one").to_vec();
+        writer.close(&mut out);
+        let opened = reader.open(&mut out.clone()).expect("it is the next one").to_vec();
         assert_eq!(frames(&opened).collect::<Vec<_>>(), [(7, &b"hello"[..])]);
-        assert_eq!(reader.open(&batch[4..]), None);
-        assert_eq!(Seal::new(b"another", [1; 16]).open(&batch[4..]), None);
-        assert_eq!(Seal::new(b"secret", [2; 16]).open(&batch[4..]), None);
+        assert_eq!(reader.open(&mut out.clone()), None);
+        assert_eq!(Seal::new(b"another", [1; 16]).open(&mut out.clone()), None);
+        assert_eq!(Seal::new(b"secret", [2; 16]).open(&mut out.clone()), None);
     }
 
     #[test]
@@ -140,7 +141,8 @@ mod tests {
         let messages = [&b"a message"[..], b"", b"another message"];
         let mut whole = Vec::new();
         messages.iter().for_each(|message| put_frame(7, message, &mut whole));
-        let batch = Seal::new(b"secret", [1; 16]).close(&whole);
+        let mut batch = [vec![0; HEAD], whole.clone()].concat();
+        Seal::new(b"secret", [1; 16]).close(&mut batch);
         let mut request = Vec::new();
         let asked = Request { op: Op::Put, number: 3, table: 1, key: 5, value: b"value".to_vec() };
         asked.put(&mut request);
@@ -150,8 +152,8 @@ mod tests {
             for (clock, message) in frames(&frames_of) {
                 assert!(clock == 7 && messages.contains(&message), "{message:?} was never sent");
             }
-            let other = mutated(&batch, &mut dice);
-            let opened = other.get(4..).and_then(|batch| Seal::new(b"secret", [1; 16]).open(batch).map(<[u8]>::to_vec));
+            let mut other = mutated(&batch, &mut dice);
+            let opened = Seal::new(b"secret", [1; 16]).open(&mut other).map(<[u8]>::to_vec);
             assert!(opened.is_none_or(|frames| frames == whole));
             for piece in sevunthi::message::framed(&mutated(&request, &mut dice)) {
                 let _ = Request::read(piece);
