@@ -70,6 +70,7 @@ impl Writer {
                     }
                 }
                 batch.clear();
+                batch.shrink_to(1 << 20);
             }
         });
         writer
