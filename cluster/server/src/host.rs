@@ -21,6 +21,9 @@ const LAST_HEAD: u16 = 60_000;
 /// After so many requests that came at once, what they send leaves, so that the others can begin.
 const SOME: usize = 32;
 
+/// How often a server says that it lives.
+const BEAT: Duration = Duration::from_millis(100);
+
 /// F3: the head is being rolled, so that a write has to wait.
 const ROLLING: u8 = 3;
 
@@ -45,6 +48,8 @@ struct Host {
     /// Ranges that were granted: table, first and last key.
     grants: Vec<(u32, u64, u64)>,
     is_replaced: bool,
+    /// When the coordinator was told last that the server lives.
+    beat: Instant,
     code: Vec<u8>,
 }
 
@@ -60,6 +65,7 @@ pub fn run(config: Config) -> io::Result<()> {
         next: (0, 0),
         grants: Vec::new(),
         is_replaced: false,
+        beat: Instant::now(),
         code: Vec::new(),
     };
     host.begin();
@@ -90,7 +96,7 @@ impl Host {
     }
 
     fn serve(&mut self, events: &Receiver<Event>) {
-        let (mut beat, mut tick) = (Instant::now(), Instant::now());
+        let mut tick = Instant::now();
         loop {
             match events.recv_timeout(Duration::from_millis(20)) {
                 Ok(event) => self.take_some(event, events),
@@ -98,8 +104,8 @@ impl Host {
                 Err(RecvTimeoutError::Disconnected) => return,
             }
             self.core.awake.turn();
-            if Duration::from_millis(100) <= beat.elapsed() {
-                beat = Instant::now();
+            if BEAT <= self.beat.elapsed() {
+                self.beat = Instant::now();
                 self.send_heartbeat();
                 self.show();
             }
@@ -135,13 +141,15 @@ impl Host {
     fn take(&mut self, event: Event) {
         match event {
             Event::Peer(_, batch) => {
-                let server = self.server;
+                let (server, beat) = (self.server, &mut self.beat);
                 let (mut is_replaced, mut grants) = (false, Vec::new());
                 self.core.each_frame(&batch, |core, frame| match frame {
                     Frame::Message(message) => {
                         if core.deliver(message) {
                             grants.extend(granted(message, server));
                         }
+                        // a batch may take long
+                        beat_if_due(beat, server, core);
                     }
                     Frame::NotUp(id) => is_replaced |= id == server,
                     Frame::Heartbeat(..) => {}
@@ -340,6 +348,7 @@ impl Host {
             self.take_local(&message);
             while let Some(message) = self.core.local.pop_front() {
                 self.take_local(&message);
+                beat_if_due(&mut self.beat, self.server, &mut self.core);
             }
         }
         self.core.flush();
@@ -369,8 +378,7 @@ impl Host {
 
     /// Tells the coordinator that the server lives, and whom it has waited for in vain.
     fn send_heartbeat(&mut self) {
-        let mut beat = vec![HEARTBEAT];
-        beat.extend_from_slice(&self.server.code());
+        let mut beat = heartbeat(self.server);
         for (id, _) in self.waited_for() {
             beat.extend_from_slice(&id.code());
         }
@@ -423,6 +431,22 @@ impl Host {
             *text = now;
         }
     }
+}
+
+/// Tells the coordinator that the server lives, if it has not been told lately, in the middle of what takes long.
+fn beat_if_due(beat: &mut Instant, server: Id, core: &mut Core) {
+    if BEAT <= beat.elapsed() {
+        *beat = Instant::now();
+        core.post(usize::from(core.config.hosts), &heartbeat(server));
+        core.flush();
+    }
+}
+
+/// What tells that a server lives.
+fn heartbeat(server: Id) -> Vec<u8> {
+    let mut beat = vec![HEARTBEAT];
+    beat.extend_from_slice(&server.code());
+    beat
 }
 
 /// The range that a message grants to this server.

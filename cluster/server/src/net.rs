@@ -25,6 +25,9 @@ pub enum Event {
     ClientDown(u64),
 }
 
+/// A batch that has so many bytes is sent before more is added, so that who takes it is soon done with it.
+const LONG: usize = 1 << 18;
+
 /// What is written to a connection by a thread of its own.
 pub struct Writer {
     to: Sender<Vec<u8>>,
@@ -56,7 +59,8 @@ impl Writer {
             while let Ok(bytes) = from.recv() {
                 batch.resize(HEAD, 0);
                 batch.extend_from_slice(&bytes);
-                while let Ok(more) = from.try_recv() {
+                while batch.len() < LONG {
+                    let Ok(more) = from.try_recv() else { break };
                     batch.extend_from_slice(&more);
                 }
                 queued.fetch_sub(batch.len() - HEAD, Ordering::Relaxed);
@@ -70,7 +74,7 @@ impl Writer {
                     }
                 }
                 batch.clear();
-                batch.shrink_to(1 << 20);
+                batch.shrink_to(LONG);
             }
         });
         writer
