@@ -108,6 +108,51 @@ def browsed(browser, page, width, story):
             yield f"at {width} pixels: the head does not say: {words}"
 
 
+# what a reader does with a page; an element of its own says what did not come of it
+HANDS = """<script>
+addEventListener("load", () => setTimeout(() => {
+  const wrong = [];
+  const expect = (isSo, what) => isSo || wrong.push(what);
+  const press = (target, key) =>
+    target.dispatchEvent(new KeyboardEvent("keydown", { key, bubbles: true, cancelable: true }));
+  const arrows = () => [...document.querySelectorAll("[data-message]")];
+  const [first, second] = arrows();
+  const empty = byId("details").textContent;
+  press(first, "Enter");
+  expect(location.hash === `#message-${first.dataset.message}`, "Enter opens no arrow");
+  expect(byId("details").textContent !== empty, "an arrow that was opened has no details");
+  press(arrows().find((arrow) => arrow.dataset.message === second.dataset.message), " ");
+  expect(location.hash === `#message-${second.dataset.message}`, "Space opens no arrow");
+  press(document.body, "End");
+  expect(location.hash === `#event-${events.length - 1}`, "End leads to no last event");
+  byId("search").value = "WriteOk";
+  press(byId("search"), "Enter");
+  const found = location.hash.match(/^#message-([0-9]+)$/);
+  expect(found && messages[found[1]].kind === "WriteOk", "the search finds no WriteOk");
+  byId("kind").value = "WriteOk";
+  byId("kind").dispatchEvent(new Event("change"));
+  setTimeout(() => {
+    const kinds = arrows().map((arrow) => messages[arrow.dataset.message].kind);
+    expect(kinds.includes("WriteOk") && kinds.every((kind) => kind === "WriteOk"), `a kind shows ${kinds}`);
+    document.body.insertAdjacentHTML("beforeend", `<pre id="wrong">${wrong.join("\\n") || "nothing"}</pre>`);
+  }, 200);
+}, 200));
+</script>
+"""
+
+
+def handled(browser, page):
+    """What does not come of the keys, the search and the filters of a page."""
+    page.write_text(page.read_text().replace("</body>", HANDS + "</body>") if "</body>" in page.read_text()
+                    else page.read_text() + HANDS)
+    words = [browser, "--headless=new", "--no-sandbox", "--disable-gpu", "--virtual-time-budget=3000",
+             "--window-size=1440,900", "--dump-dom", page.as_uri()]
+    ran = subprocess.run(words, stdout=subprocess.PIPE, stderr=subprocess.PIPE, timeout=120)
+    # (the first is that of the script itself)
+    told = re.findall('<pre id="wrong">(.*?)</pre>', ran.stdout.decode(errors="replace"), re.S)[1:]
+    return [] if told == ["nothing"] else [f"by hand: {told[0] if told else 'nothing was tried'}"]
+
+
 def check(program):
     fits = judge_of(json.loads((TOP / "docs/schemas/log.json").read_text()))
     browser = next(filter(None, map(shutil.which, BROWSERS)), None)
@@ -120,5 +165,7 @@ def check(program):
                 page.write_text(ask(program, "picture", given=scenario).printed)
                 story = json.loads(ask(program, "log", "--json", given=scenario).printed)
                 found += [it for width in (375, 1440) for it in browsed(browser, page, width, story)]
+                if scenario.stem == "zombie":
+                    found += handled(browser, page)
             yield from (f"{scenario.name}: {it}" for it in found)
     return f"{len(scenarios)} scenarios; pages {'loaded' if browser else 'not loaded, as there is no browser'}"
