@@ -1,5 +1,5 @@
-//! Takes memory from mimalloc, where Debian's libmimalloc2.0 is installed, and `PLAIN_MEMORY` is not set: nodes take and
-//! give back many small pieces.
+//! Takes memory from mimalloc, where Debian's libmimalloc2.0 is installed, and `PLAIN_MEMORY` is not set: nodes take
+//! and give back many small pieces.
 
 use std::path::Path;
 

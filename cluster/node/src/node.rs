@@ -62,9 +62,9 @@ pub struct Tablet {
     pub crashed: bool,
 }
 
-/// What a node wants after works and messages: first `journal` is added to the journal's file (and to the second file while
-/// a save takes its place); `messages` may be sent at once; and where `waits`, others may once the file was synced and
-/// [`Node::synced`] was told so.
+/// What a node wants after works and messages: first `journal` is added to the journal's file (and to the second file
+/// while a save takes its place); `messages` may be sent at once; and where `waits`, others may once the file was
+/// synced and [`Node::synced`] was told so.
 #[derive(Debug, Default)]
 pub struct Ready {
     /// What has to be added to the journal's file.
@@ -84,9 +84,9 @@ impl Ready {
 
 /// A node of the protocol: a host with its backup and its master, or the coordinator. It reads and writes nothing.
 ///
-/// Whoever has one has five duties: it writes what [`Ready`] says at the end of the journal's file; it says what is safe,
-/// and no more; it cuts the file when it comes back; it lets no other process at the file; and it keeps elsewhere how
-/// many bytes were safe. A node stays on the thread that made it.
+/// Whoever has one has five duties: it writes what [`Ready`] says at the end of the journal's file; it says what is
+/// safe, and no more; it cuts the file when it comes back; it lets no other process at the file; and it keeps elsewhere
+/// how many bytes were safe. A node stays on the thread that made it.
 pub struct Node {
     raw: RawNode,
     room: Vec<u8>,
@@ -105,8 +105,8 @@ impl Node {
         Ok(node)
     }
 
-    /// The coordinator, before anything has happened. It is made once, when the cluster is set up: its [`Ready`] has the
-    /// journal's file to begin with, which has to be safe before the node is given anything.
+    /// The coordinator, before anything has happened. It is made once, when the cluster is set up: its [`Ready`] has
+    /// the journal's file to begin with, which has to be safe before the node is given anything.
     pub fn coordinator() -> Result<Node, Fault> {
         Node::made(|raw| raw::sevunthi_coordinator(raw))
     }
@@ -117,8 +117,8 @@ impl Node {
         Node::made(|raw| raw::sevunthi_host(raw, index, factor, segment, free))
     }
 
-    /// The node that comes back from its file, of which `known` bytes were known to be safe. A host is stopped. The file
-    /// has to be cut to [`Node::good`] bytes; then what [`Ready`] says is added, and all is synced.
+    /// The node that comes back from its file, of which `known` bytes were known to be safe. A host is stopped. The
+    /// file has to be cut to [`Node::good`] bytes; then what [`Ready`] says is added, and all is synced.
     pub fn come_back(file: &[u8], known: usize) -> Result<Node, Fault> {
         // SAFETY: the pointer and the length are the slice's
         Node::made(|raw| unsafe { raw::sevunthi_come_back(raw, file.as_ptr(), file.len(), known) })
@@ -167,7 +167,8 @@ impl Node {
         Fault::of(raw::sevunthi_synced(&mut self.raw, count))
     }
 
-    /// Begins a save, which is the second file. From now on what [`Ready`] has for the journal belongs at the end of both.
+    /// Begins a save, which is the second file. From now on what [`Ready`] has for the journal belongs at the end of
+    /// both.
     pub fn save(&mut self) -> Result<Vec<u8>, Fault> {
         Fault::of(raw::sevunthi_save(&mut self.raw))?;
         let mut second = Vec::new();
@@ -213,8 +214,8 @@ impl Node {
         Ok(code[8..].chunks_exact(6).filter_map(|row| Some((Id::read(row)?, row[5] == 1))).collect())
     }
 
-    /// What is due at the coordinator, for who was heard lately, who was silent for longer than one waits, and which owners
-    /// are stuck.
+    /// What is due at the coordinator, for who was heard lately, who was silent for longer than one waits, and which
+    /// owners are stuck.
     pub fn dues(&mut self, heard: &[Id], silent: &[Id], stuck: &[Id]) -> Result<Vec<Due>, Fault> {
         let (heard, silent, stuck) = (ids_code(heard), ids_code(silent), ids_code(stuck));
         let mut code = Vec::new();

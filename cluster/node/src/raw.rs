@@ -1,6 +1,6 @@
-//! The exports of the static library, as `sevunthi.h` has them. A `RawNode` is empty, or as the library has left it: nothing
-//! else makes one, or changes it. So what takes no bytes is safe to call; of bytes the pointer and the length have to belong
-//! together.
+//! The exports of the static library, as `sevunthi.h` has them. A `RawNode` is empty, or as the library has left it:
+//! nothing else makes one, or changes it. So what takes no bytes is safe to call; of bytes the pointer and the length
+//! have to belong together.
 
 use std::ffi::c_void;
 

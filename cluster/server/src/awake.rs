@@ -2,7 +2,8 @@
 
 use std::time::{Duration, Instant};
 
-/// A turn of a process's loop that takes longer than this was a standstill: the process was stopped, or had no processor.
+/// A turn of a process's loop that takes longer than this was a standstill: the process was stopped, or had no
+/// processor.
 const LONGEST_TURN: Duration = Duration::from_millis(200);
 
 /// The time in which a process ran. While it stood still it heard nobody, so that time does not count as the silence of

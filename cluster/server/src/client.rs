@@ -43,8 +43,8 @@ pub enum Outcome {
     Refused(u8),
 }
 
-/// A client. It asks one thing at a time. A write that is asked again is a new write: so a put whose answer is lost is not
-/// asked again, and is `Unknown`.
+/// A client. It asks one thing at a time. A write that is asked again is a new write: so a put whose answer is lost is
+/// not asked again, and is `Unknown`.
 pub struct Client {
     target: Target,
     connections: HashMap<u8, TcpStream>,
@@ -117,8 +117,8 @@ impl Client {
         last
     }
 
-    /// The host that owns the key, as the coordinator said last. Where it is in doubt the coordinator is asked again; where
-    /// that does not answer, the last one is tried once more.
+    /// The host that owns the key, as the coordinator said last. Where it is in doubt the coordinator is asked again;
+    /// where that does not answer, the last one is tried once more.
     fn owner(&mut self, table: u32, key: u64) -> Option<u8> {
         let known = self.owners.get(&table).copied();
         if let Some(Owner { index, is_doubted: false }) = known {

@@ -96,9 +96,9 @@ impl Coordinator {
         }
     }
 
-    /// What is due, for who was heard and who was not. A server is silent when nothing has come from it for the time that
-    /// one waits, or for a quarter of that where its connection has ended too: a host that lives connects again with its
-    /// next heartbeat.
+    /// What is due, for who was heard and who was not. A server is silent when nothing has come from it for the time
+    /// that one waits, or for a quarter of that where its connection has ended too: a host that lives connects again
+    /// with its next heartbeat.
     fn do_dues(&mut self) {
         let silence = Duration::from_millis(self.core.config.silence);
         let Ok(servers) = self.core.node.servers() else { return };
@@ -117,8 +117,8 @@ impl Coordinator {
         }
     }
 
-    /// Adds those that are heard here, and not where they are waited for: whom one other waits for, and who itself waits
-    /// for several.
+    /// Adds those that are heard here, and not where they are waited for: whom one other waits for, and who itself
+    /// waits for several.
     fn add_cut_off(&self, heard: &[Id], silent: &mut Vec<Id>) {
         for (id, waits) in self.waiting.values().filter(|(id, _)| heard.contains(id)) {
             let waits: Vec<&Id> = waits.iter().filter(|other| heard.contains(other)).collect();

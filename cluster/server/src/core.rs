@@ -364,7 +364,8 @@ fn new_node(config: &Config) -> Result<Node, Fault> {
     }
 }
 
-/// Nanoseconds since the machine was started, and some more, so that a process that comes back is ahead of where it was.
+/// Nanoseconds since the machine was started, and some more, so that a process that comes back is ahead of where it
+/// was.
 fn since_boot() -> u64 {
     let mut text = String::new();
     let read = File::open("/proc/uptime").and_then(|mut file| file.read_to_string(&mut text));

@@ -2,7 +2,8 @@
 
 use crate::bench::Talk;
 
-/// What a client says first: the preface, settings with the largest window for each stream, and the same for the connection.
+/// What a client says first: the preface, settings with the largest window for each stream, and the same for the
+/// connection.
 const HELLO: &[u8] = b"PRI * HTTP/2.0\r\n\r\nSM\r\n\r\n\
     \x00\x00\x06\x04\x00\x00\x00\x00\x00\x00\x04\x7f\xff\xff\xff\
     \x00\x00\x04\x08\x00\x00\x00\x00\x00\x7f\xff\x00\x00";

@@ -1,5 +1,5 @@
-//! What a test has a process do wrong: it asks for it by `Op::Fail`, where the process was started with `--faults`. A full
-//! disk is a file beside the journal, so that it outlives the process.
+//! What a test has a process do wrong: it asks for it by `Op::Fail`, where the process was started with `--faults`. A
+//! full disk is a file beside the journal, so that it outlives the process.
 
 use crate::wire::put_frame;
 use std::fs::{self, File};
@@ -18,7 +18,8 @@ pub const SAFE_BEFORE: &str = "before-safe";
 pub enum Wrong {
     /// The next sync fails.
     Sync,
-    /// A save begins, and the process ends in it after this step, as [`Journal::replace`](crate::journal::Journal) has them.
+    /// A save begins, and the process ends in it after this step, as [`Journal::replace`](crate::journal::Journal) has
+    /// them.
     EndInSave(u8),
     /// A save begins, and finds the disk full.
     FullInSave,

@@ -315,7 +315,8 @@ impl Host {
         }
     }
 
-    /// Where no write was taken since the last read, one is made, to the last key of its range, which is the server's own.
+    /// Where no write was taken since the last read, one is made, to the last key of its range, which is the server's
+    /// own.
     fn confirm(&mut self) {
         let Some(&(place, _, _, (table, key))) = self.reads.back() else { return };
         if place < self.next || !self.waiting.is_empty() {

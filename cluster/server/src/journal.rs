@@ -32,8 +32,8 @@ pub struct Found {
     lock: File,
 }
 
-/// Locks the folder, and reads what stands there. A second file that was left is removed unread. A journal that is gone,
-/// though bytes of it were safe, is an error: its node has forgotten what others know.
+/// Locks the folder, and reads what stands there. A second file that was left is removed unread. A journal that is
+/// gone, though bytes of it were safe, is an error: its node has forgotten what others know.
 pub fn find(folder: &Path) -> io::Result<Found> {
     fs::create_dir_all(folder)?;
     let lock = OpenOptions::new().create(true).append(true).open(folder.join("lock"))?;

@@ -50,7 +50,8 @@ impl Writer {
         (Writer { to, queued: Arc::clone(&queued) }, from, queued)
     }
 
-    /// A writer to this peer, who is connected to when there is something to write. What a broken connection had is lost.
+    /// A writer to this peer, who is connected to when there is something to write. What a broken connection had is
+    /// lost.
     pub fn to_peer(address: String, secret: Vec<u8>) -> Writer {
         let (writer, from, queued) = Writer::new();
         thread::spawn(move || {
@@ -111,8 +112,8 @@ fn connect(address: &str, secret: &[u8]) -> io::Result<(TcpStream, Seal)> {
     Ok((stream, Seal::new(secret, challenge)))
 }
 
-/// Reads pieces that begin with their length in four bytes, and hands over as many whole ones as there are, until one is
-/// longer than `most`, or nobody takes them.
+/// Reads pieces that begin with their length in four bytes, and hands over as many whole ones as there are, until one
+/// is longer than `most`, or nobody takes them.
 pub fn read_pieces(mut stream: impl Read, most: usize, mut give: impl FnMut(Vec<u8>) -> bool) {
     let (mut buffer, mut filled) = (vec![0; 64 << 10], 0);
     loop {

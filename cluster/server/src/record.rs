@@ -1,5 +1,5 @@
-//! A record of each message that leaves, with the clock at which it left: the clock in eight bytes, the length in four, the
-//! coded message.
+//! A record of each message that leaves, with the clock at which it left: the clock in eight bytes, the length in four,
+//! the coded message.
 
 use sevunthi::message::{u32_at, u64_at};
 use std::fs::{self, File, OpenOptions};

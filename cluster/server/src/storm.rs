@@ -308,8 +308,8 @@ impl Storm {
         self.await_end(place)
     }
 
-    /// One sends nothing to the other, for a while, nor that to it, where it is for both. Hosts that do not hear each other
-    /// go on without one of them; what does not hear the coordinator has to wait.
+    /// One sends nothing to the other, for a while, nor that to it, where it is for both. Hosts that do not hear each
+    /// other go on without one of them; what does not hear the coordinator has to wait.
     fn cut_off(&mut self, one: usize, other: usize, both: bool) {
         let longest = if one.max(other) == self.coordinator() { 2000 } else { 5000 };
         let pause = self.dice.between(500, longest);
@@ -338,8 +338,8 @@ impl Storm {
         fs::remove_file(&full).map_err(|error| error.to_string())
     }
 
-    /// Waits for a process to end by itself, and starts it again. One that has not ended after a second is not to any more:
-    /// it may have had nothing to sync.
+    /// Waits for a process to end by itself, and starts it again. One that has not ended after a second is not to any
+    /// more: it may have had nothing to sync.
     fn await_end(&mut self, place: usize) -> Result<bool, String> {
         let began = Instant::now();
         while began.elapsed() < Duration::from_secs(1) {
@@ -412,8 +412,8 @@ const LEAST_WRITES: u64 = 10;
 const REFUSES: &str = "must not start";
 
 impl Storm {
-    /// With journals that were spoilt among the bytes that were safe no node starts; with its own it does. Says how many
-    /// have refused.
+    /// With journals that were spoilt among the bytes that were safe no node starts; with its own it does. Says how
+    /// many have refused.
     fn start_spoilt(&mut self) -> Result<u64, String> {
         let host = self.dice.below(self.coordinator() as u64) as usize;
         let mut refused = 0;
@@ -457,7 +457,8 @@ impl Storm {
         let counts = self.counts.iter().map(|(name, count)| format!(" {name}={count}")).collect::<String>();
         say!("faults:{counts}");
         say!(
-            "seed {seed}: {} faults, {} writes, {} reads, {} unknown, longest gap {} ms (from {from}), {} bytes lost that were not safe",
+            "seed {seed}: {} faults, {} writes, {} reads, {} unknown, longest gap {} ms (from {from}), \
+             {} bytes lost that were not safe",
             self.counts.values().sum::<u64>(),
             done.writes,
             done.reads,
@@ -468,7 +469,8 @@ impl Storm {
         if most < gap.whole {
             let (thread, sync) = machine.longest();
             say!(
-                "busy: {} ms without what the machine kept waiting: a thread that was due up to {} ms, a sync up to {} ms",
+                "busy: {} ms without what the machine kept waiting: a thread that was due up to {} ms, \
+                 a sync up to {} ms",
                 gap.served.as_millis(),
                 thread.as_millis(),
                 sync.as_millis()

@@ -4,8 +4,8 @@ use sevunthi::Id;
 use std::collections::HashMap;
 use std::time::Duration;
 
-/// Servers that were sent what they have to store, and that have not told since that they have stored something. All times
-/// are those of the host's own [`Awake`](crate::awake::Awake).
+/// Servers that were sent what they have to store, and that have not told since that they have stored something. All
+/// times are those of the host's own [`Awake`](crate::awake::Awake).
 #[derive(Debug, Default)]
 pub struct Waits {
     /// Since when each is waited for, and when it was sent something last.
@@ -23,8 +23,8 @@ impl Waits {
         self.sent.remove(&from);
     }
 
-    /// Those that were waited for at least so long, with for how long. What is waited for is sent again with each timer: who was
-    /// sent nothing for half of that time is not waited for any more.
+    /// Those that were waited for at least so long, with for how long. What is waited for is sent again with each
+    /// timer: who was sent nothing for half of that time is not waited for any more.
     pub fn longer_than(&mut self, least: Duration, now: Duration) -> Vec<(Id, Duration)> {
         self.sent.retain(|_, (_, last)| now - *last < least / 2);
         let waits = self.sent.iter().map(|(id, (since, _))| (*id, now - *since));

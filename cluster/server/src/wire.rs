@@ -1,8 +1,8 @@
 //! Frames and batches.
 //!
-//! A frame is its length in four bytes, the sender's clock in eight, a message, and a sum over clock and message in four. A
-//! batch is its length in four bytes, its number on this connection in eight, the sum of 32 bytes that only who has the
-//! secret can make, and frames.
+//! A frame is its length in four bytes, the sender's clock in eight, a message, and a sum over clock and message in
+//! four. A batch is its length in four bytes, its number on this connection in eight, the sum of 32 bytes that only who
+//! has the secret can make, and frames.
 
 use sevunthi::mac;
 use sevunthi::message::{u32_at, u64_at};
@@ -62,8 +62,8 @@ pub fn frames(bytes: &[u8]) -> impl Iterator<Item = (u64, &[u8])> {
     })
 }
 
-/// One direction of a connection between peers: who has the secret makes batches, and whoever reads takes no other, none
-/// twice, and none out of order.
+/// One direction of a connection between peers: who has the secret makes batches, and whoever reads takes no other,
+/// none twice, and none out of order.
 pub struct Seal {
     secret: Vec<u8>,
     challenge: [u8; 16],
@@ -134,7 +134,8 @@ mod tests {
         }
     }
 
-    /// Batches and requests with some bytes changed, as many as `MUTATIONS` says: none is taken for what was never sent.
+    /// Batches and requests with some bytes changed, as many as `MUTATIONS` says: none is taken for what was never
+    /// sent.
     #[test]
     fn mutations_bring_no_message_that_was_not_sent() {
         let count = std::env::var("MUTATIONS").ok().and_then(|word| word.parse().ok()).unwrap_or(20_000);

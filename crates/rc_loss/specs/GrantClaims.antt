@@ -26,16 +26,15 @@ pub record AwaitsOwn (setup : Setup) (events : List Event) (m : ServerId) (state
 
 -- a Tick of the server sends a Recovered of the part's term, in the attempt of this number to recover the crashed
 -- master; and as long as that attempt is the current one and the server is up, its answer is the part's Own
-pub record IsToldAndGranted (setup : Setup) (events : List Event) (m crashed : ServerId) (number term : ℕ) : Type 0
-  where
-    pub told : In (to_coordinator m (Recovered number term))
-        (host_step ((replay setup events).hosts m.index) (Tick (Server m))).1
-    pub granted : (replay setup events).coordinator.current crashed ≡ number →
-        is_up (replay setup events).coordinator.servers m ≡ true →
-        IsAnsweredByOwn (replay setup events).coordinator m number term
+pub record WillBeGranted (setup : Setup) (events : List Event) (m crashed : ServerId) (number term : ℕ) : Type 0 where
+  pub told : In (to_coordinator m (Recovered number term))
+      (host_step ((replay setup events).hosts m.index) (Tick (Server m))).1
+  pub granted : (replay setup events).coordinator.current crashed ≡ number →
+      is_up (replay setup events).coordinator.servers m ≡ true →
+      IsAnsweredByOwn (replay setup events).coordinator m number term
 
 -- a part that was planned and is complete is told of at each Tick, and granted when that arrives
 abbrev pub DurablePartsAreGranted : Type 0
 DurablePartsAreGranted = (setup : Setup) (events : List Event) (m crashed : ServerId) (number : ℕ) (state : PartState) →
     IsPlanned (replay setup events).sent m number crashed state.part → AwaitsOwn setup events m state →
-    IsToldAndGranted setup events m crashed number state.part.term
+    WillBeGranted setup events m crashed number state.part.term

@@ -73,8 +73,8 @@ impl Lived {
     }
 }
 
-/// A client writes and reads until it is told to end, and notes each invocation and its response, as `ramseg check` reads
-/// them. Each operation has a process number of its own.
+/// A client writes and reads until it is told to end, and notes each invocation and its response, as `ramseg check`
+/// reads them. Each operation has a process number of its own.
 pub fn live(number: u64, seed: u64, target: Target, ends: &AtomicBool, history: &Mutex<String>) -> Lived {
     let mut dice = Dice::new(seed.wrapping_mul(31).wrapping_add(number));
     let mut client = Client::new(target);

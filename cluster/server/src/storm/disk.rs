@@ -26,8 +26,8 @@ fn known(folder: &Path, name: &str) -> Option<u64> {
     u64_at(&fs::read(folder.join(name)).ok()?, 0)
 }
 
-/// A power cut: what was not synced is there or not, whole or damaged; of the steps of a save that were not synced each may
-/// be lost; and the number of safe bytes, which is never synced, may be an older one.
+/// A power cut: what was not synced is there or not, whole or damaged; of the steps of a save that were not synced each
+/// may be lost; and the number of safe bytes, which is never synced, may be an older one.
 pub fn cut_power(folder: &Path, dice: &mut Dice) -> io::Result<Lost> {
     let mut lost = Lost::default();
     let journal = folder.join("journal");
