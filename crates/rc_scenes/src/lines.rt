@@ -2,7 +2,7 @@
 
 ghost use Rattle.std.specs.Prelude.{◌≡◌, ◌++◌, ◌∷◌, [], ◌<◌, ◌⊎◌, not, filter, IsTrue, OnOk, OnErr};
 ghost use Rattle.rc_scenes.specs.Lanes.{marked};
-ghost use Rattle.rc_reading.specs.Kinds.{kind_place};
+ghost use Rattle.rc_types.specs.Kinds.{kind_number};
 ghost use Rattle.rc_scenes.specs.Passing.{is_for_one_of};
 ghost use Rattle.rc_scenes.specs.declared.passing.Passing.{Passing};
 ghost use Rattle.rc_scenes.specs.Lanes.{Lane, is_lane_left};
@@ -114,7 +114,7 @@ pub(crate) fn is_marked(marks: &[bool], number: usize) -> bool
 
 /// The place of the kind among all kinds.
 pub(crate) fn number_of(kind: Kind) -> u8
-    ensures is { result ≡ kind_place kind }
+    ensures is { result ≡ kind_number kind }
     ensures few { result < 32 }
 {
     kind as u8

@@ -1,7 +1,7 @@
 //! Which messages a pass leaves alone.
 
 ghost use Rattle.std.specs.Prelude.{◌≡◌};
-ghost use Rattle.rc_reading.specs.Kinds.{kind_of};
+ghost use Rattle.rc_types.specs.Kinds.{kind_of};
 ghost use Rattle.rc_scenes.specs.Passing.{is_for_one_of, is_left_alone};
 
 use rc_reading::{Hosts, Kind, Kinds};

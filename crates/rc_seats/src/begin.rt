@@ -7,8 +7,8 @@ ghost use Rattle.rc_journal.specs.Calls.{new_places};
 ghost use Rattle.rc_seats.specs.Seats.{seat_named, new_seats};
 
 use crate::seat::Seat;
-use rc_journal::{Naming, SeatName, Token};
-use rc_types::{Fault, Setup};
+use rc_journal::{Naming, Token};
+use rc_types::{Fault, NodeName, Setup};
 use std::alloc::Global;
 
 /// The seats that these tokens are for, in order.
@@ -35,13 +35,13 @@ pub(crate) fn seats_of<N: Naming>(
 }
 
 /// Whose seat has this number.
-fn seat_named(number: usize) -> SeatName
+fn seat_named(number: usize) -> NodeName
     requires { number < 258 }
     ensures { result ≡ seat_named number }
 {
     match number {
-        0 => SeatName::Outside,
-        1 => SeatName::Coordinator,
-        _ => SeatName::Host((number - 2) as u8),
+        0 => NodeName::Outside,
+        1 => NodeName::Coordinator,
+        _ => NodeName::Host((number - 2) as u8),
     }
 }

@@ -88,7 +88,7 @@ pub enum Body {
         /// The epoch under which it is kept from now on.
         epoch: u16,
         /// The segments that made up the log when this one was opened.
-        digest: Seq<u16>,
+        digest: Shared<u16>,
         /// All its entries.
         entries: Seq<Entry>,
         /// Whether the segment is shut, so that these are all that it will ever have.

@@ -3,6 +3,7 @@
 use crate::faults::Fault;
 use crate::ids::ServerId;
 use crate::sequence::{Seq, TryClone};
+use crate::shared::Shared;
 use std::alloc::Global;
 
 /// What a backup tells of one replica of a master that it was asked about.
@@ -17,7 +18,7 @@ pub struct Row {
     /// How many entries it has.
     pub len: usize,
     /// The digest that it was opened with: the segments that make up the log.
-    pub digest: Seq<u16>,
+    pub digest: Shared<u16>,
 }
 
 impl TryClone for Row {

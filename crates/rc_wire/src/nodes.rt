@@ -1,7 +1,7 @@
 //! The call that runs nodes on threads.
 
 ghost use Rattle.std.specs.Prelude.{◌≡◌, ◌⊎◌, nat_eq, true, false, All, None, IfOk, IfErr, OnOk, vec_capacity, vec_len};
-ghost use Rattle.rc_journal.specs.Names.{number_of};
+ghost use Rattle.rc_types.specs.Names.{number_of};
 ghost use Rattle.rc_types.specs.declared.faults.Fault.TheVariants.{OutOfMemory, BadEvent};
 ghost use Rattle.rc_wire.specs.Runs.{none_fetched};
 ghost use Rattle.rc_wire.specs.Ends.{IsIdle, RunAll, GrowAll, Ends, SomeCannotGoOn, is_seated, all_seated, joined};
@@ -10,9 +10,9 @@ use crate::board::{Board, Hint, Stop};
 use crate::gate::Gate;
 use crate::seats::run_seat;
 use crate::steps::Step;
-use rc_journal::{Naming, SeatName};
+use rc_journal::Naming;
 use rc_seats::{Seat, Wire};
-use rc_types::Fault;
+use rc_types::{Fault, NodeName};
 use std::alloc::{AllocError, Global};
 use std::snapshot::Snapshot;
 use std::sync::Wait;
@@ -85,7 +85,7 @@ fn is_seated<N: Naming>(seats: &[Seat<N>], step: &Step) -> bool
 }
 
 /// Whether it is the seat of this name.
-fn is_seat_of<N: Naming>(seat: &Seat<N>, who: SeatName) -> bool
+fn is_seat_of<N: Naming>(seat: &Seat<N>, who: NodeName) -> bool
     ensures { result ≡ nat_eq (number_of seat.now.name) (number_of who) }
 {
     seat.name().number() == who.number()

@@ -13,9 +13,9 @@ use crate::gate::Gate;
 use crate::nodes::run_nodes;
 use crate::steps::Step;
 use crate::workload::steps;
-use rc_journal::{Naming, Opening, SeatName};
+use rc_journal::{Naming, Opening};
 use rc_seats::{Seat, Wire};
-use rc_types::{Fault, Seq, Setup};
+use rc_types::{Fault, NodeName, Seq, Setup};
 use rc_world::World;
 use std::alloc::Global;
 use std::marker::Brand;
@@ -26,9 +26,9 @@ use std::thread::Threads;
 struct Free;
 
 impl Gate for Free {
-    fn before_commit<R: Wait>(&self, _rt: &R, _seat: SeatName) {}
+    fn before_commit<R: Wait>(&self, _rt: &R, _seat: NodeName) {}
 
-    fn after_commit<R: Wait>(&self, _rt: &R, _seat: SeatName) {}
+    fn after_commit<R: Wait>(&self, _rt: &R, _seat: NodeName) {}
 }
 
 /// Runs the nodes of so many hosts, each on a thread of its own, with so many writes; and gives the world in which
