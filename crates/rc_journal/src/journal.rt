@@ -66,11 +66,10 @@ impl<N: Naming> Journal<N> {
     /// # Errors
     ///
     /// `OutOfMemory` (F1): memory was refused.
-    pub fn open(alloc: Global, opening: Opening) -> Result<(Journal<N>, Vec<Token<N>>), Fault>
+    pub fn open(alloc: Global, opening: Opening) -> Result<(Journal<N>, Vec<Token<N>>), AllocError>
         requires { opening ≡ N.wire }
         ensures journal { IfOk result (λ made. made.0 ≡ []) }
         ensures tokens { IfOk result (λ made. made.1.items ≡ new_places N.wire.nodes) }
-        ensures no_memory { IfErr result (λ fault. fault ≡ OutOfMemory) }
     {
         let Opening {
             ledger,

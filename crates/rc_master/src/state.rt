@@ -18,7 +18,7 @@ use rc_notices::{Task, add_append, refusal};
 use rc_ownership::Ownership;
 use rc_serverlist::ServerList;
 use rc_types::{Entry, Fault, Message, ServerId};
-use std::alloc::Global;
+use std::alloc::{AllocError, Global};
 
 /// What a master knows.
 #[derive(Drop)]
@@ -65,9 +65,8 @@ impl State {
     }
 
     /// Says no to a client.
-    pub(crate) fn refuse(&self, fault: Fault, sent: &mut Vec<Message>) -> Result<(), Fault>
+    pub(crate) fn refuse(&self, fault: Fault, sent: &mut Vec<Message>) -> Result<(), AllocError>
         ensures sends { OnOk result (sent.new.items ≡ sent.old.items ++ refuses self.now.log.own fault ∷ []) }
-        ensures no_memory { IfErr result (λ error. error ≡ OutOfMemory) }
     {
         sent.push(refusal(self.log.own(), fault))?;
         Ok(())
@@ -80,7 +79,7 @@ impl State {
         entry: Entry,
         client: bool,
         sent: &mut Vec<Message>,
-    ) -> Result<(), Fault>
+    ) -> Result<(), AllocError>
         requires possible { append_fault (log_of self.old.log) ≡ None }
         requires noted { WereNoted self.old }
         requires handed { was_handed self.old.ownership.handed entry.term ≡ not client }
@@ -89,7 +88,6 @@ impl State {
             (appends_entry (state_view self.old) entry client).1) }
         ensures noted { OnOk result (IsNoted self.new) }
         ensures before { before_step self.new ≡ before_step self.old }
-        ensures no_memory { IfErr result (λ fault. fault ≡ OutOfMemory) }
     {
         add_append(self.alloc, &self.log, &entry, sent)?;
         self.ownership.note(self.alloc, &entry)?;

@@ -10,7 +10,7 @@ use crate::highs::{self, Slot};
 use crate::{counts, tops};
 use indexmap::IndexMap;
 use rc_types::{Entry, Fault, Shared, TryClone};
-use std::alloc::Global;
+use std::alloc::{AllocError, Global};
 use std::marker::Model;
 
 /// The noted entries, of each whether the replay had handed it out, how many of them are durable, how many there were
@@ -241,10 +241,9 @@ impl Notes {
         term: u32,
         table: u32,
         key: u64,
-    ) -> Result<(u64, Option<Shared<u8>>), Fault>
+    ) -> Result<(u64, Option<Shared<u8>>), AllocError>
         ensures ok { IfOk result (λ found. read_of term table key (take self.now.durable self.now.noted) ≡ record
             { version = found.0; value = found.1 }) }
-        ensures no_memory { IfErr result (λ fault. fault ≡ OutOfMemory) }
     {
         let Some((place, _)) = self.durable_highs(term, table, key).last() else {
             return Ok((0, None));

@@ -22,7 +22,7 @@ use crate::notes::Notes;
 use crate::parts::Parts;
 use indexmap::IndexMap;
 use rc_types::{Entry, Fault, KeyRange, Part, ServerId, Shared};
-use std::alloc::Global;
+use std::alloc::{AllocError, Global};
 use std::marker::Model;
 
 /// The ranges that a master was granted, the notes of its log, and the parts of crashed masters'
@@ -178,10 +178,9 @@ impl Ownership {
     /// # Errors
     ///
     /// - `OutOfMemory` (F1): memory was refused; nothing has changed.
-    pub fn note(&mut self, alloc: Global, entry: &Entry) -> Result<(), Fault>
+    pub fn note(&mut self, alloc: Global, entry: &Entry) -> Result<(), AllocError>
         ensures ok { OnOk result (self.new ≡ after_note entry.now self.old) }
         ensures err { OnErr result (self.new ≡ self.old) }
-        ensures no_memory { IfErr result (λ fault. fault ≡ OutOfMemory) }
     {
         let replayed = self.was_handed(entry.term);
         self.notes.note(alloc, entry, replayed)?;
@@ -249,10 +248,9 @@ impl Ownership {
         term: u32,
         table: u32,
         key: u64,
-    ) -> Result<(u64, Option<Shared<u8>>), Fault>
+    ) -> Result<(u64, Option<Shared<u8>>), AllocError>
         ensures ok { IfOk result (λ found. versions.read_of term table key
             (durable_of self.now) ≡ record { version = found.0; value = found.1 }) }
-        ensures no_memory { IfErr result (λ fault. fault ≡ OutOfMemory) }
     {
         self.notes.read(alloc, term, table, key)
     }
@@ -283,11 +281,10 @@ impl Ownership {
         alloc: Global,
         part: Part,
         rows: &[(u16, ServerId)],
-    ) -> Result<bool, Fault>
+    ) -> Result<bool, AllocError>
         ensures begun { IfOk result (λ begun. begun ≡ not (owning.knows_term self.old.own part.term)) }
         ensures ok { OnOk result (self.new ≡ record self.old { own = owning.begin_part part rows.now self.old.own }) }
         ensures err { OnErr result (self.new ≡ self.old) }
-        ensures no_memory { IfErr result (λ fault. fault ≡ OutOfMemory) }
     {
         if self.knows_term(part.term) {
             return Ok(false);
@@ -317,12 +314,11 @@ impl Ownership {
         seg: u16,
         from: ServerId,
         entries: &[Entry],
-    ) -> Result<bool, Fault>
+    ) -> Result<bool, AllocError>
         ensures put { IfOk result (λ put. put ≡ owning.awaits_data term seg from self.old.own) }
         ensures ok { OnOk result (self.new ≡ record self.old
             { own = owning.put_data term seg from entries.now self.old.own }) }
         ensures err { OnErr result (self.new ≡ self.old) }
-        ensures no_memory { IfErr result (λ fault. fault ≡ OutOfMemory) }
     {
         if !self.awaits_data(term, seg, from) {
             return Ok(false);
@@ -384,11 +380,10 @@ impl Ownership {
     /// # Errors
     ///
     /// - `OutOfMemory` (F1): memory was refused; nothing has changed.
-    pub fn next_replay(&mut self, alloc: Global) -> Result<Option<Entry>, Fault>
+    pub fn next_replay(&mut self, alloc: Global) -> Result<Option<Entry>, AllocError>
         ensures first { IfOk result (λ entry. entry ≡ slice_get self.old.own.replay 0) }
         ensures rest { OnOk result (self.new ≡ after_handing self.old) }
         ensures err { OnErr result (self.new ≡ self.old) }
-        ensures no_memory { IfErr result (λ fault. fault ≡ OutOfMemory) }
     {
         let entry = self.parts.next_replay(alloc)?;
         if let Some(first) = &entry {
@@ -415,10 +410,9 @@ impl Ownership {
     /// # Errors
     ///
     /// - `OutOfMemory` (F1): the memory for the list was refused.
-    pub fn awaiting_grant(&self, alloc: Global) -> Result<Vec<u32>, Fault>
+    pub fn awaiting_grant(&self, alloc: Global) -> Result<Vec<u32>, AllocError>
         ensures ok { IfOk result (λ terms. terms.items ≡ awaiting_grant (replayed_of self.now) self.now.own
             self.now.own.parts) }
-        ensures no_memory { IfErr result (λ fault. fault ≡ OutOfMemory) }
     {
         let terms = self.parts.awaiting_grant(alloc, &self.notes)?;
         Ok(terms)

@@ -206,11 +206,10 @@ impl Parts {
     }
 
     /// A copy of the first entry that waits: it waits no more. Only memory can be refused (F1).
-    pub(crate) fn next_replay(&mut self, alloc: Global) -> Result<Option<Entry>, Fault>
+    pub(crate) fn next_replay(&mut self, alloc: Global) -> Result<Option<Entry>, AllocError>
         ensures first { IfOk result (λ entry. entry ≡ slice_get self.old.replay 0) }
         ensures rest { OnOk result (self.new ≡ record self.old { replay = owning.without_first self.old.replay }) }
         ensures err { OnErr result (self.new ≡ self.old) }
-        ensures no_memory { IfErr result (λ fault. fault ≡ OutOfMemory) }
     {
         self.replay.next(alloc)
     }

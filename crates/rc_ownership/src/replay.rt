@@ -41,9 +41,8 @@ impl JoinedRow {
     }
 
     /// A copy of the entry at a place, under its term. Only memory can be refused (F1).
-    fn copy_at(&self, alloc: Global, place: usize) -> Result<Option<Entry>, Fault>
+    fn copy_at(&self, alloc: Global, place: usize) -> Result<Option<Entry>, AllocError>
         ensures ok { IfOk result (λ entry. entry ≡ slice_get self.now place) }
-        ensures no_memory { IfErr result (λ fault. fault ≡ OutOfMemory) }
     {
         let Some(entry) = self.entries.get(place) else {
             return Ok(None);
@@ -124,11 +123,10 @@ impl Replay {
     }
 
     /// A copy of the first entry that waits: it waits no more. Only memory can be refused (F1).
-    pub(crate) fn next(&mut self, alloc: Global) -> Result<Option<Entry>, Fault>
+    pub(crate) fn next(&mut self, alloc: Global) -> Result<Option<Entry>, AllocError>
         ensures first { IfOk result (λ entry. entry ≡ slice_get self.old.entries 0) }
         ensures rest { OnOk result (self.new ≡ record self.old { entries = without_first self.old.entries }) }
         ensures err { OnErr result (self.new ≡ self.old) }
-        ensures no_memory { IfErr result (λ fault. fault ≡ OutOfMemory) }
     {
         let Some(row) = self.rows.get(self.row) else {
             return Ok(None);

@@ -1,11 +1,10 @@
 //! The replica.
 
-ghost use Rattle.std.specs.Prelude.{◌≡◌, length, nat_eq, OnOk, OnErr, IfErr};
-ghost use Rattle.rc_types.specs.declared.faults.Fault.TheVariants.{OutOfMemory};
+ghost use Rattle.std.specs.Prelude.{◌≡◌, length, nat_eq, OnOk, OnErr};
 
 use crate::copies::append_copies;
-use rc_types::{Entry, Fault};
-use std::alloc::Global;
+use rc_types::Entry;
+use std::alloc::{AllocError, Global};
 use std::marker::Model;
 
 /// What one backup keeps of one segment: the epoch under which it was placed last, whether it is
@@ -66,9 +65,8 @@ impl Replica {
         epoch: u16,
         entries: &[Entry],
         closed: bool,
-    ) -> Result<(), Fault>
+    ) -> Result<(), AllocError>
         ensures ok { OnOk result (self.new ≡ placed self.old epoch entries.now closed) }
-        ensures no_memory { IfErr result (λ fault. fault ≡ OutOfMemory) }
         ensures err { OnErr result (self.new ≡ self.old) }
     {
         if epoch < self.epoch {
@@ -87,9 +85,8 @@ impl Replica {
     /// Takes an Append of these entries, of which the first stands at `offset`: those past the
     /// replica's length are added. A closed replica, or one that has not all entries before
     /// `offset`, stays as it is. Only memory can be refused (F1), and then the replica is as it was.
-    pub fn append(&mut self, alloc: Global, offset: usize, entries: &[Entry]) -> Result<(), Fault>
+    pub fn append(&mut self, alloc: Global, offset: usize, entries: &[Entry]) -> Result<(), AllocError>
         ensures ok { OnOk result (self.new ≡ appended self.old offset entries.now) }
-        ensures no_memory { IfErr result (λ fault. fault ≡ OutOfMemory) }
         ensures err { OnErr result (self.new ≡ self.old) }
     {
         if self.closed || offset > self.entries.len() {

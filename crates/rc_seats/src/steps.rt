@@ -14,7 +14,7 @@ use crate::offer::Offer;
 use crate::work::Work;
 use rc_types::{Addr, Event, Fault, Message, NodeName, NodeWork, ServerId, Setup, TryClone};
 use rc_world::NodeState;
-use std::alloc::Global;
+use std::alloc::{AllocError, Global};
 
 /// The node of this name before anything has happened.
 pub(crate) fn new_state(alloc: Global, name: NodeName, setup: &Setup) -> NodeState<Global>
@@ -113,13 +113,12 @@ pub(crate) fn take(
     alloc: Global,
     state: &mut NodeState<Global>,
     held: &Option<(usize, Message)>,
-) -> Result<Offer, Fault>
+) -> Result<Offer, AllocError>
     requires room { NodeHasRoom (node_seen state.old) }
     requires held { is_some held.now ≡ true }
     ensures does { IfOk result (λ offer. IfSome held.now (λ h.
         Does (node_seen state.old) h.0 (Deliver h.1) offer (node_seen state.new))) }
     ensures err { OnErr result (node_seen state.new ≡ node_seen state.old) }
-    ensures no_memory { IfErr result (λ fault. fault ≡ OutOfMemory) }
 {
     match held {
         Some((number, message)) => deliver(alloc, state, *number, message),
@@ -133,12 +132,11 @@ fn deliver(
     state: &mut NodeState<Global>,
     number: usize,
     message: &Message,
-) -> Result<Offer, Fault>
+) -> Result<Offer, AllocError>
     requires { NodeHasRoom (node_seen state.old) }
     ensures does { IfOk result (λ offer.
         Does (node_seen state.old) number (Deliver message.now) offer (node_seen state.new)) }
     ensures err { OnErr result (node_seen state.new ≡ node_seen state.old) }
-    ensures no_memory { IfErr result (λ fault. fault ≡ OutOfMemory) }
 {
     let mut messages = Vec::new(alloc);
     state.take(message, &mut messages)?;
@@ -149,9 +147,8 @@ fn deliver(
 }
 
 /// A copy of a message, if there is one.
-pub(crate) fn copy_of(alloc: Global, found: Option<&Message>) -> Result<Option<Message>, Fault>
+pub(crate) fn copy_of(alloc: Global, found: Option<&Message>) -> Result<Option<Message>, AllocError>
     ensures copy { IfOk result (λ copy. copy ≡ option_map (λ message. message.now) found.entry) }
-    ensures no_memory { IfErr result (λ fault. fault ≡ OutOfMemory) }
 {
     match found {
         Some(message) => Ok(Some(message.try_clone(alloc)?)),

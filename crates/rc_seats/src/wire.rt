@@ -19,7 +19,7 @@ use crate::seat::Seat;
 use rc_journal::{Journal, Naming, Opening};
 use rc_types::Fault;
 use rc_world::World;
-use std::alloc::Global;
+use std::alloc::{AllocError, Global};
 use std::sync::{Mutex, Wait};
 
 /// What joins the nodes: the journal, behind one lock. Threads share it; each has a seat of its own.
@@ -36,12 +36,11 @@ impl<N: Naming> Wire<N> {
     /// # Errors
     ///
     /// `OutOfMemory` (F1): memory was refused.
-    pub fn open(alloc: Global, opening: Opening) -> Result<(Wire<N>, Vec<Seat<N>>), Fault>
+    pub fn open(alloc: Global, opening: Opening) -> Result<(Wire<N>, Vec<Seat<N>>), AllocError>
         requires name { opening ≡ N.wire }
         requires limits { IsWithinLimits opening.setup }
         requires hosts { opening.nodes ≤ MAX_HOSTS + 2 }
         ensures seats { IfOk result (λ made. made.1.items ≡ new_seats N.wire.nodes) }
-        ensures no_memory { IfErr result (λ fault. fault ≡ OutOfMemory) }
     {
         let (journal, tokens) = Journal::open(alloc, opening)?;
         let seats = seats_of(alloc, journal.setup(), tokens)?;
@@ -66,10 +65,9 @@ impl<N: Naming> Wire<N> {
     /// # Errors
     ///
     /// `OutOfMemory` (F1): memory was refused. The seat is as before.
-    pub fn fetch(&self, rt: &impl Wait, seat: &mut Seat<N>, number: usize) -> Result<bool, Fault>
+    pub fn fetch(&self, rt: &impl Wait, seat: &mut Seat<N>, number: usize) -> Result<bool, AllocError>
         ensures ok { IfOk result (λ found. Fetches N.wire.setup seat.old number found seat.new) }
         ensures err { OnErr result (seat.new ≡ seat.old) }
-        ensures no_memory { IfErr result (λ fault. fault ≡ OutOfMemory) }
     {
         seat.hold(&mut self.journal.lock(rt), number)
     }

@@ -1,10 +1,10 @@
 //! What else happens at a commit.
 
-ghost use Rattle.std.specs.Prelude.{◌≡◌, IfErr};
-ghost use Rattle.rc_types.specs.declared.faults.Fault.TheVariants.{OutOfMemory};
+ghost use Rattle.std.specs.Prelude.{◌≡◌};
 
-use rc_types::{Fault, Message, NodeName};
+use rc_types::{Message, NodeName};
 use std::sync::Wait;
+use std::alloc::AllocError;
 
 /// What is done before and after each commit of a seat. No clause of a turn depends on it.
 pub trait Around {
@@ -16,6 +16,5 @@ pub trait Around {
     /// # Errors
     ///
     /// `OutOfMemory` (F1): memory was refused.
-    fn after_commit<R: Wait>(&mut self, rt: &R, seat: NodeName) -> Result<(), Fault>
-        ensures no_memory { IfErr result (λ fault. fault ≡ OutOfMemory) };
+    fn after_commit<R: Wait>(&mut self, rt: &R, seat: NodeName) -> Result<(), AllocError>;
 }

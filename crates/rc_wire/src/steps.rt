@@ -1,12 +1,11 @@
 //! What nodes are given to do.
 
-ghost use Rattle.std.specs.Prelude.{◌≡◌, IfOk, IfErr};
-ghost use Rattle.rc_types.specs.declared.faults.Fault.TheVariants.{OutOfMemory};
+ghost use Rattle.std.specs.Prelude.{◌≡◌, IfOk};
 ghost use Rattle.rc_wire.specs.Runs.{own_work};
 
 use rc_seats::Work;
-use rc_types::{Fault, NodeName, TryClone};
-use std::alloc::Global;
+use rc_types::{NodeName, TryClone};
+use std::alloc::{AllocError, Global};
 
 /// One line of what nodes are given to do.
 #[derive(Drop)]
@@ -18,9 +17,8 @@ pub enum Step {
 }
 
 /// A copy of the step's work, where the step is one of this seat.
-pub(crate) fn own_work(alloc: Global, step: &Step, name: NodeName) -> Result<Option<Work>, Fault>
+pub(crate) fn own_work(alloc: Global, step: &Step, name: NodeName) -> Result<Option<Work>, AllocError>
     ensures copy { IfOk result (λ own. own ≡ own_work name step.now) }
-    ensures no_memory { IfErr result (λ fault. fault ≡ OutOfMemory) }
 {
     match step {
         Step::Do(who, work) if who.number() == name.number() => Ok(Some(copy_of(alloc, work)?)),
@@ -29,9 +27,8 @@ pub(crate) fn own_work(alloc: Global, step: &Step, name: NodeName) -> Result<Opt
 }
 
 /// A copy of a work.
-fn copy_of(alloc: Global, work: &Work) -> Result<Work, Fault>
+fn copy_of(alloc: Global, work: &Work) -> Result<Work, AllocError>
     ensures copy { IfOk result (λ copy. copy ≡ work.now) }
-    ensures no_memory { IfErr result (λ fault. fault ≡ OutOfMemory) }
 {
     Ok(match work {
         Work::Fetched => Work::Fetched,

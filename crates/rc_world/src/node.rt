@@ -26,7 +26,7 @@ use rc_backup::Backup;
 use rc_coordinator::Coordinator;
 use rc_master::Master;
 use rc_types::{Fault, Message, NodeWork, ServerId, Setup};
-use std::alloc::{Allocator, Global};
+use std::alloc::{AllocError, Allocator, Global};
 use std::fmt;
 use std::marker::Model;
 
@@ -234,14 +234,13 @@ impl<A: Allocator + Clone> NodeState<A> {
     /// # Errors
     ///
     /// `OutOfMemory` (F1): memory was refused. The node and what was sent are as before.
-    pub fn take(&mut self, message: &Message, sent: &mut Vec<Message>) -> Result<(), Fault>
+    pub fn take(&mut self, message: &Message, sent: &mut Vec<Message>) -> Result<(), AllocError>
         requires { NodeHasRoom (node_seen self.old) }
         ensures state { OnOk result (node_seen self.new ≡ (after_work (node_seen self.old) (Deliver message.now)).0) }
         ensures sends { OnOk result (sent.new.items ≡
             sent.old.items ++ (after_work (node_seen self.old) (Deliver message.now)).1) }
         ensures err { OnErr result (node_seen self.new ≡ node_seen self.old) }
         ensures unsent { OnErr result (sent.new.items ≡ sent.old.items) }
-        ensures no_memory { IfErr result (λ fault. fault ≡ OutOfMemory) }
     {
         match &mut self.node {
             Node::Outside => Ok(()),
