@@ -2,14 +2,14 @@
 
 use crate::entries::{entries, write_keys};
 use rc_replica::Replica;
-use rc_types::Fault;
+use rc_types::{Fault, Shared};
 use rows::{Numbers, Page};
 use std::alloc::{AllocError, Global};
 
 /// An empty replica under an epoch, whose segment was opened with these segments as its digest.
 pub fn new(alloc: Global, numbers: &mut Numbers) -> Result<Replica, AllocError> {
     let epoch = numbers.short();
-    let digest = numbers.segments(alloc, numbers.left())?;
+    let digest = Shared::from_vec(alloc, numbers.segments(alloc, numbers.left())?)?;
     Ok(Replica::new(epoch, false, digest, Vec::new(alloc)))
 }
 

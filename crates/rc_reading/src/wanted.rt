@@ -17,14 +17,14 @@ ghost use Rattle.rc_reading.specs.Pairs.{kept_segment_of};
 ghost use Rattle.rc_reading.specs.Ahead.{data_at, items_at, says, told, folds};
 
 use crate::hosts::Hosts;
-use crate::kinds::{Kind, Kinds};
+use crate::kinds::Kinds;
 use crate::limits::LAST_GENERATION;
 use crate::names::EventName;
 use crate::pairs::Pair;
 use crate::tokens::{begin, pass, simple};
 use json::{Invalid, Reader};
 use rc_types::limits::{LAST_SEGMENT, MAX_FACTOR, MAX_HOSTS};
-use rc_types::{Addr, ServerId};
+use rc_types::{Addr, Kind, ServerId};
 
 /// A whole number from `low` to `high`.
 pub fn number(

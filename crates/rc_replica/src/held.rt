@@ -132,7 +132,7 @@ impl Held {
     {
         let mut rows = Vec::with_capacity(alloc, self.replicas.len())?;
         for (seg, replica) in &self.replicas {
-            rows.push(taking::row(alloc, *seg, replica)?)?;
+            rows.push(taking::row(*seg, replica)?)?;
         }
         Ok(Seq::from_vec(rows))
     }

@@ -1,9 +1,9 @@
 //! The replica.
 
-ghost use Rattle.std.specs.Prelude.{◌≡◌, length, nat_eq, OnOk, OnErr};
+ghost use Rattle.std.specs.Prelude.{◌≡◌, length, nat_eq, OnOk, OnErr, IfOk};
 
 use crate::copies::append_copies;
-use rc_types::Entry;
+use rc_types::{Entry, Shared};
 use std::alloc::{AllocError, Global};
 use std::marker::Model;
 
@@ -12,7 +12,7 @@ use std::marker::Model;
 pub struct Replica {
     epoch: u16,
     closed: bool,
-    digest: Vec<u16>,
+    digest: Shared<u16>,
     entries: Vec<Entry>,
 }
 
@@ -35,7 +35,7 @@ impl Model for Replica {
     ghost view = { λ r. record {
       epoch = r.epoch;
       closed = r.closed;
-      digest = r.digest.items;
+      digest = r.digest;
       entries = r.entries.items;
     } };
 }
@@ -44,8 +44,8 @@ impl Replica {
     ghost use Rattle.rc_model.specs.Replica.{placed, appended, closes, closed_at};
 
     /// A replica of these parts. It takes no memory.
-    pub fn new(epoch: u16, closed: bool, digest: Vec<u16>, entries: Vec<Entry>) -> Replica
-        ensures { result ≡ record { epoch = epoch; closed = closed; digest = digest.items; entries = entries.items } }
+    pub fn new(epoch: u16, closed: bool, digest: Shared<u16>, entries: Vec<Entry>) -> Replica
+        ensures { result ≡ record { epoch = epoch; closed = closed; digest = digest; entries = entries.items } }
     {
         Replica {
             epoch,
@@ -141,6 +141,13 @@ impl Replica {
         ensures { result.now ≡ self.now.digest }
     {
         self.digest.as_slice()
+    }
+
+    /// One more owner of the digest. It fails only where more owners can't be counted.
+    pub fn share_digest(&self) -> Result<Shared<u16>, AllocError>
+        ensures { IfOk result (λ digest. digest ≡ self.now.digest) }
+    {
+        self.digest.share()
     }
 
     /// The entries, in the order of the log.

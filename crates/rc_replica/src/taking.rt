@@ -23,16 +23,16 @@ pub struct Request {
 }
 
 /// The row of a replica. Only memory can be refused (F1).
-pub(crate) fn row(alloc: Global, seg: u16, replica: &Replica) -> Result<Row, AllocError>
+pub(crate) fn row(seg: u16, replica: &Replica) -> Result<Row, AllocError>
     ensures ok { IfOk result (λ row. row ≡ row_of_replica (seg, replica.now)) }
 {
-    let digest = Vec::from_slice(alloc, replica.digest())?;
+    let digest = replica.share_digest()?;
     Ok(Row {
         seg,
         epoch: replica.epoch(),
         closed: replica.is_closed(),
         len: replica.len(),
-        digest: Seq::from_vec(digest),
+        digest,
     })
 }
 
@@ -102,7 +102,7 @@ pub(crate) fn place_first(
             closed,
             ..
         } => {
-            let digest = digest.try_clone(alloc)?.into_vec();
+            let digest = digest.share()?;
             let entries = entries.try_clone(alloc)?.into_vec();
             let replica = Replica::new(*epoch, *closed, digest, entries);
             let answer = stored(seg, &replica);

@@ -297,7 +297,7 @@ fn is_server(id: ServerId, addr: Addr) -> bool
 }
 
 /// Whether a message is for the backup, and not for the master.
-fn is_for_backup(body: &Body) -> bool
+pub fn is_for_backup(body: &Body) -> bool
     ensures { result ≡ is_for_backup body.now }
 {
     matches!(

@@ -10,7 +10,7 @@ ghost use Rattle.rc_coordinator.specs.Book.{coordinator_of};
 ghost use Rattle.rc_coordinator.specs.Steps.{HasNumbers};
 ghost use Rattle.rc_world.specs.HostView.{host_of, HostHasRoom, IsMasterSetup, IsWithinLimits};
 ghost use Rattle.rc_world.specs.HostParts.{setup_of, host_parts_in, host_from};
-ghost use Rattle.rc_history.specs.Nodes.{TheOutside, TheCoordinator, TheHost};
+ghost use Rattle.rc_history.specs.Nodes.{TheOutside, TheCoordinator, TheHost, name_of};
 ghost use Rattle.rc_world.specs.NodeView.{CoordinatorData, node_seen, book_in, own_server, work_at, NodeHasRoom};
 ghost use Rattle.rc_world.specs.NodeView.{node_runs, master_in, backup_in};
 ghost use Rattle.rc_world.specs.NodeView.{may_take, after_work, coordinator_may, coordinator_after_work};
@@ -25,7 +25,7 @@ use crate::work::StepFault;
 use rc_backup::Backup;
 use rc_coordinator::Coordinator;
 use rc_master::Master;
-use rc_types::{Fault, Message, NodeWork, ServerId, Setup};
+use rc_types::{Fault, Message, NodeName, NodeWork, ServerId, Setup};
 use std::alloc::{AllocError, Allocator, Global};
 use std::fmt;
 use std::marker::Model;
@@ -147,6 +147,17 @@ impl<A: Allocator + Clone> NodeState<A> {
         NodeState {
             alloc,
             node: Node::Coordinator(coordinator),
+        }
+    }
+
+    /// Which node it is. It takes no memory.
+    pub fn name(&self) -> NodeName
+        ensures { result ≡ name_of (node_seen self.now) }
+    {
+        match &self.node {
+            Node::Outside => NodeName::Outside,
+            Node::Coordinator(_) => NodeName::Coordinator,
+            Node::Host(host) => NodeName::Host(host.server().index),
         }
     }
 
