@@ -8,7 +8,7 @@ ghost use Rattle.rc_journal.specs.Calls.{IsStep};
 use rc_journal::Token;
 use rc_types::{Event, Fault, Message, NodeName, Seq, Setup};
 use rc_wire::{Gate, Journal, Naming, Opening, Seat, Step, Wire, Work, run_nodes};
-use std::alloc::Global;
+use std::alloc::{AllocError, Global};
 use std::marker::Brand;
 use std::sync::Wait;
 use std::thread::Threads;
@@ -28,7 +28,7 @@ pub(crate) fn call<R: Threads + Wait + Sync>(rt: &R, alloc: Global) -> Result<()
 }
 
 /// The beginning of a wire with one host.
-fn opened(alloc: Global) -> Result<Opening, Fault>
+fn opened(alloc: Global) -> Result<Opening, AllocError>
     ensures limits { IfOk result (λ opening. IsWithinLimits opening.setup) }
     ensures nodes { IfOk result (λ opening. opening.nodes ≡ 3) }
 {
@@ -61,7 +61,7 @@ fn turn<N: Naming + Send + Sync, R: Threads + Wait + Sync>(
     }
     match Wire::close(wire, alloc, seats) {
         Ok(_) => Ok(()),
-        Err((_, _, fault)) => Err(fault),
+        Err((_, _, error)) => Err(error.into()),
     }
 }
 

@@ -37,13 +37,13 @@ pub fn take(
     Ok(())
 }
 
-fn append(alloc: Global, replica: &mut Replica, numbers: &mut Numbers) -> Result<(), Fault> {
+fn append(alloc: Global, replica: &mut Replica, numbers: &mut Numbers) -> Result<(), AllocError> {
     let offset = numbers.size();
     let added = entries(alloc, numbers)?;
     replica.append(alloc, offset, added.as_slice())
 }
 
-fn place(alloc: Global, replica: &mut Replica, numbers: &mut Numbers) -> Result<(), Fault> {
+fn place(alloc: Global, replica: &mut Replica, numbers: &mut Numbers) -> Result<(), AllocError> {
     let epoch = numbers.short();
     let closed = numbers.mark();
     let whole = entries(alloc, numbers)?;

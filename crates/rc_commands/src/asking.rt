@@ -17,7 +17,7 @@ use crate::commands::program;
 use crate::numbers::{BadWord, has_flag, has_option, json_of, number_of, seeds_of};
 use clap::error::ErrorKind;
 use clap::{ArgMatches, Error};
-use rc_types::{Fault, Seq};
+use rc_types::Seq;
 use std::alloc::{AllocError, Global};
 
 /// What a command line asks for. Where a command has `json`, that says whether a JSON document is wanted in place of
@@ -611,7 +611,7 @@ fn refused(alloc: Global, error: &Error) -> Result<Asked, AllocError>
     ensures ranges { IfOk result IsInRange }
 {
     if error.kind() == ErrorKind::OutOfMemory {
-        return Err(Fault::OutOfMemory);
+        return Err(AllocError);
     }
     let text = error.to_string(alloc)?;
     if error.use_stderr() {

@@ -54,7 +54,7 @@ impl<A: Allocator + Clone> State<A> {
     {
         match self.choose(master) {
             Ok(choice) => self.decide_on(choice, sent),
-            Err(Fault::OutOfMemory) => Err(Fault::OutOfMemory),
+            Err(Fault::OutOfMemory) => Err(AllocError),
             Err(fault) => {
                 sent.push(notices::refusal(fault))?;
                 Ok(())

@@ -33,7 +33,10 @@ impl<A: Allocator + Clone> State<A> {
         }
         let older = self.up_of_host(id.index)?;
         let mut servers = self.servers.try_clone(self.alloc)?;
-        servers.enlist(id)?;
+        if servers.enlist(id).is_err() {
+            // (the id is the newest, so it was memory)
+            return Err(AllocError);
+        }
         match older {
             Some(older) => self.follow(servers, older, sent),
             None => self.spread(servers, sent),

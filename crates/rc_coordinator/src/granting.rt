@@ -90,7 +90,7 @@ impl<A: Allocator + Clone> State<A> {
                 self.last_term = term;
                 Ok(())
             }
-            Err(Fault::OutOfMemory) => Err(Fault::OutOfMemory),
+            Err(Fault::OutOfMemory) => Err(AllocError),
             Err(fault) => {
                 sent.push(notices::refusal(fault)).unwrap();
                 Ok(())
@@ -120,7 +120,7 @@ impl<A: Allocator + Clone> State<A> {
                 sent.push(notices::split_ok(table, at)).unwrap();
                 Ok(())
             }
-            Err(Fault::OutOfMemory) => Err(Fault::OutOfMemory),
+            Err(Fault::OutOfMemory) => Err(AllocError),
             Err(fault) => {
                 sent.push(notices::refusal(fault)).unwrap();
                 Ok(())

@@ -189,8 +189,7 @@ fn take(alloc: Global, run: &mut Run<Global>, event: &Event) -> Result<(), Alloc
     ensures more { OnOk result (length run.new.events ≤ length run.old.events + 1) }
 {
     match run.take(alloc, event) {
-        Ok(()) => Ok(()),
-        Err(Fault::BadEvent) => Ok(()),
-        Err(fault) => Err(fault),
+        Err(Fault::OutOfMemory) => Err(AllocError),
+        _ => Ok(()),
     }
 }

@@ -23,7 +23,7 @@ fn unless_memory(fault: Fault) -> Result<(), AllocError>
     ensures other { OnOk result (fault ≢ OutOfMemory) }
 {
     match fault {
-        Fault::OutOfMemory => Err(Fault::OutOfMemory),
+        Fault::OutOfMemory => Err(AllocError),
         _ => Ok(()),
     }
 }

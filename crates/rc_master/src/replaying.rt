@@ -51,7 +51,7 @@ impl State {
     {
         match self.roll(sent) {
             Ok(()) => Ok(true),
-            Err(Fault::OutOfMemory) => Err(Fault::OutOfMemory),
+            Err(Fault::OutOfMemory) => Err(AllocError),
             Err(_) => Ok(false),
         }
     }

@@ -91,12 +91,16 @@ impl State {
     {
         add_append(self.alloc, &self.log, &entry, sent)?;
         self.ownership.note(self.alloc, &entry)?;
-        if client {
-            self.log.append_write(entry)?;
+        let appended = if client {
+            self.log.append_write(entry)
         } else {
-            self.log.append(entry)?;
+            self.log.append(entry)
+        };
+        match appended {
+            Ok(_) => Ok(()),
+            // (the head takes entries and has room, so it was memory)
+            Err(_) => Err(AllocError),
         }
-        Ok(())
     }
 
     /// A roll begins, and the Places of the new head are sent.

@@ -98,7 +98,7 @@ impl State {
                 sent.push(refusal(self.log.own(), Fault::Rolling))?;
                 Ok(())
             }
-            Err(Fault::OutOfMemory) => Err(Fault::OutOfMemory),
+            Err(Fault::OutOfMemory) => Err(AllocError),
             Err(fault) => self.refuse(fault, sent),
         }
     }

@@ -2,14 +2,13 @@
 //! tables by which versions are numbered and read without a walk over them.
 
 ghost use Rattle.std.specs.Prelude.{◌≡◌, ℕ, ◌+◌, ◌-◌, ◌^◌, ◌<◌, ◌≤◌, ◌++◌, ◌∷◌, [], length, take, slice_get, OnOk};
-ghost use Rattle.std.specs.Prelude.{OnErr, IfOk, IfErr, true, ◌↔◌};
+ghost use Rattle.std.specs.Prelude.{OnErr, IfOk, true, ◌↔◌};
 ghost use Rattle.std.specs.Option.{option_copied};
-ghost use Rattle.rc_types.specs.declared.faults.Fault.TheVariants.{OutOfMemory};
 
 use crate::highs::{self, Slot};
 use crate::{counts, tops};
 use indexmap::IndexMap;
-use rc_types::{Entry, Fault, Shared, TryClone};
+use rc_types::{Entry, Shared, TryClone};
 use std::alloc::{AllocError, Global};
 use std::marker::Model;
 
@@ -122,13 +121,12 @@ impl Notes {
     }
 
     /// Notes an entry after the others, and whether the replay had handed it out. Only memory can be refused (F1).
-    pub(crate) fn note(&mut self, alloc: Global, entry: &Entry, replayed: bool) -> Result<(), Fault>
+    pub(crate) fn note(&mut self, alloc: Global, entry: &Entry, replayed: bool) -> Result<(), AllocError>
         ensures ok { OnOk result (self.new ≡ record self.old {
           noted = self.old.noted ++ entry.now ∷ [];
           replayed = self.old.replayed ++ replayed ∷ [];
         }) }
         ensures err { OnErr result (self.new ≡ self.old) }
-        ensures no_memory { IfErr result (λ fault. fault ≡ OutOfMemory) }
     {
         let top = tops::higher(self.greatest(), entry.version);
         let copy = entry.try_clone(alloc)?;

@@ -1,8 +1,7 @@
 //! What a master owns, in one value.
 
 ghost use Rattle.std.specs.Prelude.{◌≡◌, ◌<◌, ◌≤◌, ◌+◌, ◌^◌, [], length, not, nat_eq, nat_lt, slice_get};
-ghost use Rattle.std.specs.Prelude.{OnOk, OnErr, IfOk, IfErr, None, true, ◌↔◌, option_map};
-ghost use Rattle.rc_types.specs.declared.faults.Fault.TheVariants.{OutOfMemory};
+ghost use Rattle.std.specs.Prelude.{OnOk, OnErr, IfOk, None, true, ◌↔◌, option_map};
 ghost use Rattle.std.specs.List.{position};
 ghost use Rattle.rc_model.specs.Ownership.{owns_nothing};
 ghost use Rattle.rc_model.specs.Ownership as owning;
@@ -21,7 +20,7 @@ use crate::looks::PartProgress;
 use crate::notes::Notes;
 use crate::parts::Parts;
 use indexmap::IndexMap;
-use rc_types::{Entry, Fault, KeyRange, Part, ServerId, Shared};
+use rc_types::{Entry, KeyRange, Part, ServerId, Shared};
 use std::alloc::{AllocError, Global};
 use std::marker::Model;
 
@@ -121,14 +120,13 @@ impl Ownership {
     /// # Errors
     ///
     /// - `OutOfMemory` (F1): memory was refused; nothing has changed.
-    pub fn grant(&mut self, range: KeyRange, term: u32) -> Result<(), Fault>
+    pub fn grant(&mut self, range: KeyRange, term: u32) -> Result<(), AllocError>
         ensures ok { OnOk result (self.new ≡ record self.old {
           own = owning.grant (record { range = range; term = term }) self.old.own;
           before = record self.old.before
               { own = owning.grant (record { range = range; term = term }) self.old.before.own };
         }) }
         ensures err { OnErr result (self.new ≡ self.old) }
-        ensures no_memory { IfErr result (λ fault. fault ≡ OutOfMemory) }
     {
         self.parts.grant(range, term)?;
         Ok(())

@@ -11,7 +11,7 @@ ghost use Rattle.rc_ownership.specs.declared.part.Before.TheVariants.{Awaited};
 use crate::notes::Notes;
 use crate::pieces::Pieces;
 use crate::rows::{self, FetchedRow};
-use rc_types::{Entry, Fault, Part, ServerId};
+use rc_types::{Entry, Part, ServerId};
 use std::alloc::{AllocError, Global};
 use std::collections::VecDeque;
 use std::marker::Model;
@@ -107,7 +107,7 @@ impl FetchedPart {
         };
         let came = Pieces::from_entries(alloc, entries)?;
         let Some(count) = self.count.checked_add(entries.len()) else {
-            return Err(Fault::OutOfMemory);
+            return Err(AllocError);
         };
         self.rows[place].fill(came);
         self.missing -= 1;

@@ -1,8 +1,7 @@
 //! The entries that wait to be appended: those of the parts whose rows have all come.
 
-ghost use Rattle.std.specs.Prelude.{◌≡◌, ◌++◌, [], true, length, map, nat_lt, slice_get, OnOk, OnErr, IfOk, IfErr};
+ghost use Rattle.std.specs.Prelude.{◌≡◌, ◌++◌, [], true, length, map, nat_lt, slice_get, OnOk, OnErr, IfOk};
 ghost use Rattle.std.specs.List.{list_any};
-ghost use Rattle.rc_types.specs.declared.faults.Fault.TheVariants.{OutOfMemory};
 ghost use Rattle.rc_model.specs.Ownership.{under_term, came_entries, entries_that_came, joined, joining, without_first};
 ghost use Rattle.rc_model.specs.Ownership.{is_awaited, part_with_row};
 ghost use Rattle.rc_ownership.specs.Parts.{part_before};
@@ -10,7 +9,7 @@ ghost use Rattle.rc_ownership.specs.Replay.{Waiting, all_waiting, NoneIsEmpty};
 
 use crate::part::{Before, FetchedPart};
 use crate::rows::FetchedRow;
-use rc_types::{Entry, Fault, ServerId, Shared, TryClone};
+use rc_types::{Entry, ServerId, Shared, TryClone};
 use std::alloc::{AllocError, Global};
 use std::collections::VecDeque;
 use std::marker::Model;
@@ -170,7 +169,7 @@ pub(crate) fn take_row(
     seg: u16,
     from: ServerId,
     entries: &[Entry],
-) -> Result<Before, Fault>
+) -> Result<Before, AllocError>
     requires { list_any (is_awaited seg from) part.old.rows ≡ true }
     ensures part { OnOk result (part.new ≡ joined (part_with_row seg from entries.now part.old)) }
     ensures replay { OnOk result (replay.new ≡ record replay.old {
@@ -180,7 +179,6 @@ pub(crate) fn take_row(
     ensures before { IfOk result (λ before. part_before before part.new ≡ part.old) }
     ensures same_part { OnErr result (part.new ≡ part.old) }
     ensures same_replay { OnErr result (replay.new ≡ replay.old) }
-    ensures no_memory { IfErr result (λ fault. fault ≡ OutOfMemory) }
 {
     let place = part.put_row(alloc, seg, from, entries)?;
     if !part.has_all() {
@@ -188,7 +186,7 @@ pub(crate) fn take_row(
     }
     if replay.join(alloc, part.term(), part.rows()).is_err() {
         part.await_again(place);
-        return Err(Fault::OutOfMemory);
+        return Err(AllocError);
     }
     Ok(Before::Whole(part.join(alloc, place)))
 }

@@ -10,7 +10,7 @@ use crate::ends::error_text;
 use crate::reports::judgement_of;
 use rc_audit::audit;
 use rc_traces::{TraceFault, read_trace};
-use rc_types::{Breach, Fault, Message};
+use rc_types::{Breach, Message};
 use std::alloc::{AllocError, Global};
 
 /// What comes of a trace.
@@ -46,7 +46,7 @@ pub fn judge(alloc: Global, bytes: &[u8]) -> Result<Judgement, AllocError>
     match read_trace(alloc, bytes) {
         Ok(messages) => judge_messages(alloc, messages.as_slice()),
         Err(TraceFault::BadTrace(place)) => bad(alloc, place),
-        Err(TraceFault::OutOfMemory) => Err(Fault::OutOfMemory),
+        Err(TraceFault::OutOfMemory) => Err(AllocError),
     }
 }
 

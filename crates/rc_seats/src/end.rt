@@ -24,7 +24,8 @@ pub(crate) fn replayed<N: Naming>(
     let setup = journal.setup().try_clone(alloc)?;
     match run(alloc, World::new(alloc, setup, alloc), journal.events()) {
         Ok(world) => Ok(world),
-        Err((_, _, fault)) => Err(fault),
+        // (each event was possible when it was noted, so it was memory)
+        Err(_) => Err(AllocError),
     }
 }
 

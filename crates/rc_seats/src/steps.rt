@@ -3,7 +3,7 @@
 ghost use Rattle.std.specs.Prelude.{◌≡◌, ◌⊎◌, ◌↔◌, true, false, is_some, option_map, OnErr, IfOk, IfErr};
 ghost use Rattle.std.specs.Option.{IfSome};
 ghost use Rattle.rc_types.specs.declared.faults.Fault.TheVariants.{OutOfMemory, BadEvent};
-ghost use Rattle.rc_history.specs.Nodes.{Node, new_node, as node_name_of};
+ghost use Rattle.rc_history.specs.Nodes.{Node, new_node, name_of};
 ghost use Rattle.rc_world.specs.HostView.{IsWithinLimits};
 ghost use Rattle.rc_world.specs.NodeView.{node_seen, own_server, own_addr, may_take, NodeHasRoom};
 ghost use Rattle.rc_world.specs.NodeCalls.{event_of};
@@ -52,7 +52,7 @@ pub(crate) fn give(
     given: NodeWork,
 ) -> Result<Offer, Fault>
     requires room { NodeHasRoom (node_seen state.old) }
-    requires name { node_name_of (node_seen state.old) ≡ name }
+    requires name { name_of (node_seen state.old) ≡ name }
     requires given { is_delivery given ≡ false }
     ensures does { IfOk result (λ offer. Does (node_seen state.old) 0 given offer (node_seen state.new)) }
     ensures bad { (result ≡ Err BadEvent) ↔ (may_take (node_seen state.old) given ≡ false) }
@@ -68,7 +68,7 @@ pub(crate) fn give(
 /// A work that is no delivery as an event of its node. It moves what the work has.
 fn event_of(name: NodeName, own: ServerId, given: NodeWork) -> Event
     requires { is_delivery given ≡ false }
-    ensures { (node : Node) → node_name_of node ≡ name → own_server node ≡ own →
+    ensures { (node : Node) → name_of node ≡ name → own_server node ≡ own →
         result ≡ event_of node 0 given }
 {
     match given {
@@ -89,7 +89,7 @@ fn event_of(name: NodeName, own: ServerId, given: NodeWork) -> Event
 
 /// The address of a node: that of its own server, if it is a host.
 fn own_addr(name: NodeName, own: ServerId) -> Addr
-    ensures { (node : Node) → node_name_of node ≡ name → own_server node ≡ own → result ≡ own_addr node }
+    ensures { (node : Node) → name_of node ≡ name → own_server node ≡ own → result ≡ own_addr node }
 {
     match name {
         NodeName::Outside => Addr::Outside,

@@ -99,13 +99,12 @@ impl<N: Naming> Wire<N> {
         self,
         alloc: Global,
         seats: Vec<Seat<N>>,
-    ) -> Result<World<Global>, (Wire<N>, Vec<Seat<N>>, Fault)>
+    ) -> Result<World<Global>, (Wire<N>, Vec<Seat<N>>, AllocError)>
         ensures world { IfOk result (λ world. world.setup ≡ N.wire.setup) }
         ensures seats { IfOk result (λ world. All (Covers N.wire.setup world.events) seats.items) }
         ensures others { IfOk result (λ world. (number : ℕ) → N.wire.nodes ≤ number →
             events_of N.wire.setup (name_at number) world.events ≡ []) }
         ensures back { IfErr result (λ refused. refused.1.items ≡ seats.items) }
-        ensures no_memory { IfErr result (λ refused. refused.2 ≡ OutOfMemory) }
     {
         let mut journal = self.journal.into_inner();
         match replayed(alloc, &journal) {

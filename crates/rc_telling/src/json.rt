@@ -170,7 +170,7 @@ fn put_audit(alloc: Global, pen: &mut Pen, story: &Story<'_>) {
 }
 
 /// Messages by kind and addressee.
-fn put_groups(pen: &mut Pen, groups: &Table<(usize, Addr), Group>) {
+fn put_groups(pen: &mut Pen, groups: &Table<(u8, Addr), Group>) {
     pen.put("],\"lost\":[");
     for (place, group) in groups.entries.values().enumerate() {
         pen.put_all(

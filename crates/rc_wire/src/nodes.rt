@@ -198,7 +198,7 @@ fn run_in<'s, E, N: Naming + Send + Sync, R: Threads + Wait + Sync, G: Gate>(
         SomeCannotGoOn N.wire.setup seats.old.items steps.now seats.new.items) }
 {
     let Some(seat) = seats.pop() else {
-        return lead(rt, board, steps);
+        return Ok(lead(rt, board, steps)?);
     };
     let started = start(scope, rt, alloc, wire, board, seat, steps, gate);
     let others = run_in(scope, rt, alloc, wire, board, seats, steps, gate);
@@ -239,6 +239,6 @@ fn lead<R: Wait>(rt: &R, board: &Board, steps: &[Step]) -> Result<(), AllocError
     board.end(rt);
     match board.going(rt) {
         Ok(()) => Ok(()),
-        Err(_) => Err(Fault::OutOfMemory),
+        Err(_) => Err(AllocError),
     }
 }

@@ -14,7 +14,7 @@ use crate::turns::{deliver_rest, do_until};
 use rc_journal::Naming;
 use rc_seats::{Seat, Wire};
 use rc_types::{Fault, Message, NodeName};
-use std::alloc::Global;
+use std::alloc::{AllocError, Global};
 use std::sync::Wait;
 
 /// The gate, and the hints to whom a step sends something.
@@ -32,13 +32,13 @@ impl<'a, G: Gate> Around for Told<'a, G> {
         self.gate.before_commit(rt, seat);
     }
 
-    fn after_commit<R: Wait>(&mut self, rt: &R, seat: NodeName) -> Result<(), Fault> {
+    fn after_commit<R: Wait>(&mut self, rt: &R, seat: NodeName) -> Result<(), AllocError> {
         self.gate.after_commit(rt, seat);
         for number in &self.addressees {
             self.board.give(rt, *number, Hint::Look);
         }
         if self.refused {
-            return Err(Fault::OutOfMemory);
+            return Err(AllocError);
         }
         Ok(())
     }

@@ -328,7 +328,7 @@ fn outside_step(alloc: Global, work: &NodeWork, sent: &mut Vec<Message>) -> Resu
     ensures unsent { OnErr result (sent.new.items ≡ sent.old.items) }
 {
     match work {
-        NodeWork::Ask { to, body } if can_ask(*to, body) => ask(alloc, *to, body, sent),
+        NodeWork::Ask { to, body } if can_ask(*to, body) => Ok(ask(alloc, *to, body, sent)?),
         NodeWork::Deliver(_) => Ok(()),
         _ => Err(Fault::BadEvent),
     }
@@ -351,9 +351,9 @@ fn coordinator_step<A: Allocator + Clone>(
     ensures unsent { OnErr result (sent.new.items ≡ sent.old.items) }
 {
     match work {
-        NodeWork::Deliver(message) => coordinator.take(message, sent),
+        NodeWork::Deliver(message) => Ok(coordinator.take(message, sent)?),
         NodeWork::Ask { .. } | NodeWork::Stop | NodeWork::Start { .. } => Err(Fault::BadEvent),
-        _ => coordinator.step_into(work, sent),
+        _ => Ok(coordinator.step_into(work, sent)?),
     }
 }
 
@@ -371,13 +371,13 @@ fn host_step(host: &mut Host, work: &NodeWork, sent: &mut Vec<Message>) -> Resul
         return Err(Fault::BadEvent);
     }
     match work {
-        NodeWork::Deliver(message) => host.take(message, sent),
-        NodeWork::Tick => host.tick(sent),
+        NodeWork::Deliver(message) => Ok(host.take(message, sent)?),
+        NodeWork::Tick => Ok(host.tick(sent)?),
         NodeWork::Stop => {
             host.stop();
             Ok(())
         }
-        NodeWork::Start { kept } => host.start(kept.as_slice(), sent),
+        NodeWork::Start { kept } => Ok(host.start(kept.as_slice(), sent)?),
         _ => unreachable!(),
     }
 }
