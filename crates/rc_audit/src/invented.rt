@@ -38,7 +38,11 @@ fn invented_in_segment(
 }
 
 /// The first place of this recovery that was not made one way.
-fn invented_in(alloc: Global, runs: &Runs, recovery: &Recovery<'_>) -> Result<Option<Breach>, AllocError>
+fn invented_in(
+    alloc: Global,
+    runs: &Runs,
+    recovery: &Recovery<'_>,
+) -> Result<Option<Breach>, AllocError>
     ensures found { IfOk result (λ found. (sent : List Message) → AreRuns runs.now sent → found ≡
         first_invented sent (accepted_of recovery.now) (ascending (segments_of recovery.now.rows.now))) }
 {

@@ -84,7 +84,11 @@ impl Backup {
     /// # Errors
     ///
     /// `OutOfMemory` (F1): memory was refused. Then the backup and what was sent are as before.
-    pub fn step_into(&mut self, message: &Message, sent: &mut Vec<Message>) -> Result<(), AllocError>
+    pub fn step_into(
+        &mut self,
+        message: &Message,
+        sent: &mut Vec<Message>,
+    ) -> Result<(), AllocError>
         ensures state { OnOk result (backup_of self.new ≡
             (backup_takes (backup_of self.old) message.now.from message.now.body).0) }
         ensures sends { OnOk result (sent.new.items ≡

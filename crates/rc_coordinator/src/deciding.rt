@@ -45,7 +45,11 @@ impl<A: Allocator + Clone> State<A> {
     }
 
     /// Takes a Decide.
-    pub(crate) fn decide(&mut self, master: ServerId, sent: &mut Vec<Message>) -> Result<(), AllocError>
+    pub(crate) fn decide(
+        &mut self,
+        master: ServerId,
+        sent: &mut Vec<Message>,
+    ) -> Result<(), AllocError>
         requires { HasNumbers (state_view self.old) }
         ensures state { OnOk result (state_view self.new ≡ (decides (state_view self.old) master).0) }
         ensures sends { OnOk result (sent.new.items ≡ sent.old.items ++ (decides (state_view self.old) master).1) }
@@ -112,7 +116,12 @@ impl<A: Allocator + Clone> State<A> {
     }
 
     /// The parts of a master's tablets, given to these ids in turn from this place on.
-    fn parts(&self, master: ServerId, first: u32, ids: &[ServerId]) -> Result<Vec<GivenPart>, AllocError>
+    fn parts(
+        &self,
+        master: ServerId,
+        first: u32,
+        ids: &[ServerId],
+    ) -> Result<Vec<GivenPart>, AllocError>
         requires numbers { HasNumbers (state_view self.now) }
         requires someone { 0 < length ids.now }
         ensures ok { IfOk result (λ parts. parts.items ≡ gives_parts ids.now first

@@ -121,7 +121,11 @@ impl<A: Allocator + Clone> State<A> {
     }
 
     /// Takes a Ready.
-    pub(crate) fn note_ready(&mut self, id: ServerId, sent: &mut Vec<Message>) -> Result<(), AllocError>
+    pub(crate) fn note_ready(
+        &mut self,
+        id: ServerId,
+        sent: &mut Vec<Message>,
+    ) -> Result<(), AllocError>
         ensures state { OnOk result (state_view self.new ≡ (notes_ready (state_view self.old) id).0) }
         ensures sends { OnOk result (sent.new.items ≡ sent.old.items ++ (notes_ready (state_view self.old) id).1) }
         ensures err { OnErr result (book_of self.new ≡ book_of self.old) }
@@ -136,7 +140,11 @@ impl<A: Allocator + Clone> State<A> {
     }
 
     /// Takes a suspicion.
-    pub(crate) fn suspect(&mut self, id: ServerId, sent: &mut Vec<Message>) -> Result<(), AllocError>
+    pub(crate) fn suspect(
+        &mut self,
+        id: ServerId,
+        sent: &mut Vec<Message>,
+    ) -> Result<(), AllocError>
         requires { HasNumbers (state_view self.old) }
         ensures state { OnOk result (state_view self.new ≡ (suspects (state_view self.old) id).0) }
         ensures sends { OnOk result (sent.new.items ≡ sent.old.items ++ (suspects (state_view self.old) id).1) }

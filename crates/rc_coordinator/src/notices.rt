@@ -93,7 +93,10 @@ pub(crate) fn list_to(
 }
 
 /// The list, to every server that is up. Only memory can be refused (F1).
-pub(crate) fn spread_list(alloc: Global, servers: &mut ServerList) -> Result<Vec<Message>, AllocError>
+pub(crate) fn spread_list(
+    alloc: Global,
+    servers: &mut ServerList,
+) -> Result<Vec<Message>, AllocError>
     ensures same { servers.new ≡ servers.old }
     ensures ok { IfOk result (λ messages. messages.items ≡ spreads_list servers.old) }
 {

@@ -171,7 +171,12 @@ impl Recoveries {
 
     /// Keeps an answer to the attempt of this number. Only memory can be refused (F1), and then
     /// nothing has changed.
-    pub(crate) fn keep(&mut self, number: u32, from: ServerId, rows: Seq<Row>) -> Result<(), AllocError>
+    pub(crate) fn keep(
+        &mut self,
+        number: u32,
+        from: ServerId,
+        rows: Seq<Row>,
+    ) -> Result<(), AllocError>
         requires { (0 < number) × (number ≤ length self.old.attempts) }
         ensures ok { OnOk result ((attempt : Attempted) → attempt_of self.old.attempts number ≡ Some attempt →
             self.new ≡ record self.old

@@ -75,7 +75,11 @@ pub(crate) fn cut_scene(
 }
 
 /// Each running server stops.
-fn add_stops(world: &World<Global>, hosts: u8, scene: &mut Vec<ScenarioEvent>) -> Result<(), AllocError>
+fn add_stops(
+    world: &World<Global>,
+    hosts: u8,
+    scene: &mut Vec<ScenarioEvent>,
+) -> Result<(), AllocError>
     ensures ok { OnOk result (scene.new.items ≡ scene.old.items ++ gathered (stop_of (replayed world.now)) hosts) }
 {
     for host in 0..hosts {
@@ -85,7 +89,11 @@ fn add_stops(world: &World<Global>, hosts: u8, scene: &mut Vec<ScenarioEvent>) -
 }
 
 /// The newest server of the host stops, where it runs.
-fn add_stop(world: &World<Global>, host: u8, scene: &mut Vec<ScenarioEvent>) -> Result<(), AllocError>
+fn add_stop(
+    world: &World<Global>,
+    host: u8,
+    scene: &mut Vec<ScenarioEvent>,
+) -> Result<(), AllocError>
     ensures ok { OnOk result (scene.new.items ≡ scene.old.items ++ stop_of (replayed world.now) host) }
 {
     let id = newest_server(world, host);

@@ -25,7 +25,12 @@ use std::alloc::{AllocError, Global};
 /// # Errors
 ///
 /// `OutOfMemory` (F1): memory was refused.
-pub fn drawn_run(alloc: Global, seed: u64, steps: usize, free: bool) -> Result<Run<Global>, AllocError>
+pub fn drawn_run(
+    alloc: Global,
+    seed: u64,
+    steps: usize,
+    free: bool,
+) -> Result<Run<Global>, AllocError>
     ensures world { IfOk result (λ run. replayed run ≡ drawn_world seed steps free) }
     ensures events { IfOk result (λ run. run.events ≡ drawn seed steps free) }
     ensures few { IfOk result (λ run. length run.events ≤ MAX_EVENTS) }
@@ -115,7 +120,12 @@ fn fresh_start(alloc: Global, host: u8) -> ScenarioEvent
 }
 
 /// The steps.
-fn draw_steps(alloc: Global, run: &mut Run<Global>, seed: u64, steps: usize) -> Result<(), AllocError>
+fn draw_steps(
+    alloc: Global,
+    run: &mut Run<Global>,
+    seed: u64,
+    steps: usize,
+) -> Result<(), AllocError>
     ensures ok { OnOk result (replayed run.new ≡ drawn_from steps 0 (generator seed) (replayed run.old)) }
 {
     let mut generator = generator_of(seed);
@@ -127,7 +137,12 @@ fn draw_steps(alloc: Global, run: &mut Run<Global>, seed: u64, steps: usize) -> 
 }
 
 /// One step, of this number.
-fn draw_step(alloc: Global, run: &mut Run<Global>, number: usize, words: Words) -> Result<(), AllocError>
+fn draw_step(
+    alloc: Global,
+    run: &mut Run<Global>,
+    number: usize,
+    words: Words,
+) -> Result<(), AllocError>
     ensures ok { OnOk result (replayed run.new ≡ drawn_step (replayed run.old) number words) }
 {
     match event_of(alloc, run.world(), number, words)? {

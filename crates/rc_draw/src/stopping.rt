@@ -46,7 +46,12 @@ pub fn stops(alloc: Global, seed: u64, steps: usize) -> Result<(usize, usize), A
 /// # Errors
 ///
 /// `OutOfMemory` (F1): memory was refused.
-pub fn cut_each(alloc: Global, setup: &Setup, hosts: u8, events: &[Event]) -> Result<usize, AllocError>
+pub fn cut_each(
+    alloc: Global,
+    setup: &Setup,
+    hosts: u8,
+    events: &[Event],
+) -> Result<usize, AllocError>
     requires within { IsWithinLimits setup.now }
     requires few { length events.now ≤ MAX_EVENTS }
     ensures ok { IfOk result (λ count. count ≡ breaches_of setup.now hosts events.now (length events.now)) }
@@ -61,7 +66,12 @@ pub fn cut_each(alloc: Global, setup: &Setup, hosts: u8, events: &[Event]) -> Re
 
 /// In how many of the three ways a power failure after these events leads to a breach.
 #[tactic(auto, unfolding(crate::specs::Stops::breaches_at))]
-fn breaches_after(alloc: Global, setup: &Setup, hosts: u8, events: &[Event]) -> Result<usize, AllocError>
+fn breaches_after(
+    alloc: Global,
+    setup: &Setup,
+    hosts: u8,
+    events: &[Event],
+) -> Result<usize, AllocError>
     requires within { IsWithinLimits setup.now }
     requires few { length events.now ≤ MAX_EVENTS }
     ensures ok { IfOk result (λ count. count ≡ breaches_at setup.now hosts events.now) }
@@ -140,7 +150,12 @@ fn breaks(alloc: Global, run: Run<Global>, hosts: u8, keeping: Keeping) -> Resul
 }
 
 /// The run, and what follows a power failure in it.
-fn cut(alloc: Global, run: Run<Global>, hosts: u8, keeping: Keeping) -> Result<Run<Global>, AllocError>
+fn cut(
+    alloc: Global,
+    run: Run<Global>,
+    hosts: u8,
+    keeping: Keeping,
+) -> Result<Run<Global>, AllocError>
     ensures ok { IfOk result (λ cut. replayed cut ≡ cut_from hosts keeping (replayed run)) }
 {
     let mut run = run;

@@ -58,8 +58,7 @@ impl Search {
     }
 
     /// A term is met for the first time.
-    fn meet(&mut self, term: u32) -> Result<(), AllocError>
-    {
+    fn meet(&mut self, term: u32) -> Result<(), AllocError> {
         let number = self.met.len() as u64;
         self.met.insert(term, number)?;
         self.open.push(term)?;
@@ -69,8 +68,7 @@ impl Search {
     }
 
     /// A previous term is gone on to. Where it is on the way, the terms met since then are in one circle with it.
-    fn go_on(&mut self, previous: u32) -> Result<(), AllocError>
-    {
+    fn go_on(&mut self, previous: u32) -> Result<(), AllocError> {
         let Some(number) = self.met.get(&previous).copied() else {
             return self.meet(previous);
         };
@@ -84,8 +82,7 @@ impl Search {
 
     /// All grants of this term are gone over. If it heads a circle, or stands alone, those open since then get a
     /// place.
-    fn close(&mut self, term: u32, grants: &Grants) -> Result<(), AllocError>
-    {
+    fn close(&mut self, term: u32, grants: &Grants) -> Result<(), AllocError> {
         if self.heads.last().copied() != self.met.get(&term).copied() {
             return Ok(());
         }
@@ -109,8 +106,7 @@ impl Search {
     }
 
     /// One step of the search; whether there was one to go.
-    fn step(&mut self, grants: &Grants) -> Result<bool, AllocError>
-    {
+    fn step(&mut self, grants: &Grants) -> Result<bool, AllocError> {
         let Some(visit) = self.visits.pop() else {
             return Ok(false);
         };
@@ -129,8 +125,7 @@ impl Search {
     }
 
     /// All terms that come before this one are given a place, and so is it.
-    fn run(&mut self, term: u32, grants: &Grants) -> Result<(), AllocError>
-    {
+    fn run(&mut self, term: u32, grants: &Grants) -> Result<(), AllocError> {
         if self.met.contains_key(&term) {
             return Ok(());
         }
@@ -160,8 +155,7 @@ fn comes_before_itself(grants: &Grants, term: u32) -> bool {
 
 /// An order of all terms that were granted, and of their previous ones. Who uses it has to see that it keeps to
 /// the grants.
-pub(crate) fn find_order(alloc: Global, grants: &Grants) -> Result<Order, AllocError>
-{
+pub(crate) fn find_order(alloc: Global, grants: &Grants) -> Result<Order, AllocError> {
     let mut search = Search::new(alloc);
     for (term, _) in grants {
         search.run(*term, grants)?;

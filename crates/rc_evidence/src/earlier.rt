@@ -10,7 +10,11 @@ use std::alloc::{AllocError, Global};
 use std::collections::BTreeSet;
 
 /// Notes a term, and that the ones before it are still to be found, where it is a new one.
-fn note_term(before: &mut BTreeSet<u32>, waiting: &mut Vec<u32>, term: u32) -> Result<(), AllocError>
+fn note_term(
+    before: &mut BTreeSet<u32>,
+    waiting: &mut Vec<u32>,
+    term: u32,
+) -> Result<(), AllocError>
     ensures noted { OnOk result (NotesTerm before.old before.new waiting.old.items waiting.new.items term) }
 {
     if before.insert(term)? {

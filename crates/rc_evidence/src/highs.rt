@@ -4,8 +4,8 @@ ghost use Rattle.std.specs.Prelude.{◌≡◌, OnOk};
 ghost use Rattle.rc_evidence.specs.Highs.{NotesVersion, entry_key, high_at, is_above, is_level};
 
 use rc_types::Entry;
-use std::collections::BTreeMap;
 use std::alloc::AllocError;
+use std::collections::BTreeMap;
 
 /// A key of a table, under a term.
 #[derive(Clone, Copy, PartialEq, Eq, PartialOrd, Ord)]

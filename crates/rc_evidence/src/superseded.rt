@@ -15,7 +15,12 @@ use std::alloc::{AllocError, Global};
 use std::collections::BTreeMap;
 
 /// Notes the version of the entry at this offset, where that is below `reach`.
-fn note_entry(highs: &mut Highs, offset: usize, entry: &Entry, reach: usize) -> Result<(), AllocError>
+fn note_entry(
+    highs: &mut Highs,
+    offset: usize,
+    entry: &Entry,
+    reach: usize,
+) -> Result<(), AllocError>
     ensures noted { OnOk result
         (Supersedes highs.old highs.new (λ ack. nat_lt offset reach && is_greater ack entry.now)) }
 {

@@ -15,8 +15,8 @@ use crate::state::State;
 use rc_notices::{add_head_places, add_places};
 use rc_serverlist::ServerList;
 use rc_types::{Fault, Message, ServerId};
-use std::mem;
 use std::alloc::AllocError;
+use std::mem;
 
 /// A refusal, if it is for want of memory. Another one only says that a rule can do nothing.
 fn unless_memory(fault: Fault) -> Result<(), AllocError>

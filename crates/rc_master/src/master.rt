@@ -113,7 +113,12 @@ impl Master {
     /// # Errors
     ///
     /// `OutOfMemory` (F1): memory was refused. Then the master and what was sent are as before.
-    pub fn take(&mut self, from: Addr, body: &Body, sent: &mut Vec<Message>) -> Result<(), AllocError>
+    pub fn take(
+        &mut self,
+        from: Addr,
+        body: &Body,
+        sent: &mut Vec<Message>,
+    ) -> Result<(), AllocError>
         requires { HasVersions (master_of self.old) }
         ensures state { OnOk result (master_of self.new ≡ (master_takes (master_of self.old) from body.now).0) }
         ensures sends { OnOk result (sent.new.items ≡ sent.old.items ++

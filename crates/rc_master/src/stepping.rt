@@ -44,7 +44,12 @@ impl State {
     }
 
     /// Takes a message, before the rules that follow up.
-    fn take_first(&mut self, from: Addr, body: &Body, sent: &mut Vec<Message>) -> Result<(), AllocError>
+    fn take_first(
+        &mut self,
+        from: Addr,
+        body: &Body,
+        sent: &mut Vec<Message>,
+    ) -> Result<(), AllocError>
         requires noted { IsNoted self.old }
         requires versions { HasVersions (state_view self.old) }
         requires start { IsAtStart self.old }
@@ -99,7 +104,12 @@ impl State {
     }
 
     /// Takes a message and follows up. Where memory is refused, the state is any.
-    fn try_take(&mut self, from: Addr, body: &Body, sent: &mut Vec<Message>) -> Result<(), AllocError>
+    fn try_take(
+        &mut self,
+        from: Addr,
+        body: &Body,
+        sent: &mut Vec<Message>,
+    ) -> Result<(), AllocError>
         requires noted { IsNoted self.old }
         requires versions { HasVersions (state_view self.old) }
         requires start { IsAtStart self.old }

@@ -104,7 +104,12 @@ impl State {
     }
 
     /// A client's read: the greatest durable version under the term of its range.
-    pub(crate) fn read(&self, table: u32, key: u64, sent: &mut Vec<Message>) -> Result<(), AllocError>
+    pub(crate) fn read(
+        &self,
+        table: u32,
+        key: u64,
+        sent: &mut Vec<Message>,
+    ) -> Result<(), AllocError>
         requires noted { IsNoted self.now }
         ensures state { OnOk result (state_view self.now ≡ (reads (state_view self.now) table key).0) }
         ensures sends { OnOk result (sent.new.items ≡ sent.old.items ++ (reads (state_view self.now) table key).1) }

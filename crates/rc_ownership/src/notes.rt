@@ -121,7 +121,12 @@ impl Notes {
     }
 
     /// Notes an entry after the others, and whether the replay had handed it out. Only memory can be refused (F1).
-    pub(crate) fn note(&mut self, alloc: Global, entry: &Entry, replayed: bool) -> Result<(), AllocError>
+    pub(crate) fn note(
+        &mut self,
+        alloc: Global,
+        entry: &Entry,
+        replayed: bool,
+    ) -> Result<(), AllocError>
         ensures ok { OnOk result (self.new ≡ record self.old {
           noted = self.old.noted ++ entry.now ∷ [];
           replayed = self.old.replayed ++ replayed ∷ [];

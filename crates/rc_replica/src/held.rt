@@ -98,7 +98,12 @@ impl Held {
 
     /// Takes a Place, an Append or a Close of this segment, and gives the answer, if there is one.
     /// Only memory can be refused (F1), and then nothing has changed.
-    pub fn store(&mut self, alloc: Global, seg: u16, body: &Body) -> Result<Option<Body>, AllocError>
+    pub fn store(
+        &mut self,
+        alloc: Global,
+        seg: u16,
+        body: &Body,
+    ) -> Result<Option<Body>, AllocError>
         ensures state { OnOk result (self.new ≡ with_replica self.old seg (next_replica self.old seg body.now)) }
         ensures answer { IfOk result (λ answer. answer ≡ stored_after seg (next_replica self.old seg body.now)) }
         ensures err { OnErr result (self.new ≡ self.old) }

@@ -85,7 +85,12 @@ impl Replica {
     /// Takes an Append of these entries, of which the first stands at `offset`: those past the
     /// replica's length are added. A closed replica, or one that has not all entries before
     /// `offset`, stays as it is. Only memory can be refused (F1), and then the replica is as it was.
-    pub fn append(&mut self, alloc: Global, offset: usize, entries: &[Entry]) -> Result<(), AllocError>
+    pub fn append(
+        &mut self,
+        alloc: Global,
+        offset: usize,
+        entries: &[Entry],
+    ) -> Result<(), AllocError>
         ensures ok { OnOk result (self.new ≡ appended self.old offset entries.now) }
         ensures err { OnErr result (self.new ≡ self.old) }
     {

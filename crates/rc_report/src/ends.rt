@@ -8,7 +8,12 @@ use std::alloc::{AllocError, Global};
 
 /// Adds the line of a run that stopped at this event of the scenario, counted from 0. It fails only where memory
 /// was refused (F1); the text is then as before.
-pub fn add_stopped(alloc: Global, text: &mut String, code: Code, event: usize) -> Result<(), AllocError>
+pub fn add_stopped(
+    alloc: Global,
+    text: &mut String,
+    code: Code,
+    event: usize,
+) -> Result<(), AllocError>
     ensures ok { OnOk result (string_bytes text.new ≡ string_bytes text.old ++ stopped_line code event) }
     ensures unchanged { OnErr result (string_bytes text.new ≡ string_bytes text.old) }
 {

@@ -65,7 +65,12 @@ impl<N: Naming> Wire<N> {
     /// # Errors
     ///
     /// `OutOfMemory` (F1): memory was refused. The seat is as before.
-    pub fn fetch(&self, rt: &impl Wait, seat: &mut Seat<N>, number: usize) -> Result<bool, AllocError>
+    pub fn fetch(
+        &self,
+        rt: &impl Wait,
+        seat: &mut Seat<N>,
+        number: usize,
+    ) -> Result<bool, AllocError>
         ensures ok { IfOk result (λ found. Fetches N.wire.setup seat.old number found seat.new) }
         ensures err { OnErr result (seat.new ≡ seat.old) }
     {

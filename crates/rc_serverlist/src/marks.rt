@@ -10,8 +10,8 @@ ghost use Rattle.rc_model.specs.ServerList.{knows, is_newest, marked_up, index_c
 
 use indexmap::IndexMap;
 use rc_types::ServerId;
-use std::mem;
 use std::alloc::AllocError;
+use std::mem;
 
 /// Adds a row for the id, unless it has one.
 pub(crate) fn insert_if_unknown(

@@ -304,11 +304,7 @@ fn nobody() -> Addr
     })
 }
 
-fn place(
-    from: Option<ServerId>,
-    seg: Option<u16>,
-    entries: Option<Seq<Entry>>,
-) -> Option<Message>
+fn place(from: Option<ServerId>, seg: Option<u16>, entries: Option<Seq<Entry>>) -> Option<Message>
     ensures { result ≡ given3 place_with from seg entries }
 {
     Some(Message {

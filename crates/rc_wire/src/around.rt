@@ -3,8 +3,8 @@
 ghost use Rattle.std.specs.Prelude.{◌≡◌};
 
 use rc_types::{Message, NodeName};
-use std::sync::Wait;
 use std::alloc::AllocError;
+use std::sync::Wait;
 
 /// What is done before and after each commit of a seat. No clause of a turn depends on it.
 pub trait Around {

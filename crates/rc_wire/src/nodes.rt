@@ -223,8 +223,7 @@ fn joined(others: Result<(), Fault>, outcome: Result<(), Fault>) -> Result<(), F
 
 /// Gives the works to the threads, step by step, waits where the steps say so, and then ends all. Where a fault has
 /// ended it, the seat that had it tells which it was; here want of memory is told.
-fn lead<R: Wait>(rt: &R, board: &Board, steps: &[Step]) -> Result<(), AllocError>
-{
+fn lead<R: Wait>(rt: &R, board: &Board, steps: &[Step]) -> Result<(), AllocError> {
     for (at, step) in steps.iter().enumerate() {
         if board.going(rt).is_err() {
             break;

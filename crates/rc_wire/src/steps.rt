@@ -17,7 +17,11 @@ pub enum Step {
 }
 
 /// A copy of the step's work, where the step is one of this seat.
-pub(crate) fn own_work(alloc: Global, step: &Step, name: NodeName) -> Result<Option<Work>, AllocError>
+pub(crate) fn own_work(
+    alloc: Global,
+    step: &Step,
+    name: NodeName,
+) -> Result<Option<Work>, AllocError>
     ensures copy { IfOk result (λ own. own ≡ own_work name step.now) }
 {
     match step {

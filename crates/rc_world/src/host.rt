@@ -193,7 +193,11 @@ impl Host {
     }
 
     /// A message reaches the host. Where its addressee does not run, it does nothing.
-    pub(crate) fn take(&mut self, message: &Message, sent: &mut Vec<Message>) -> Result<(), AllocError>
+    pub(crate) fn take(
+        &mut self,
+        message: &Message,
+        sent: &mut Vec<Message>,
+    ) -> Result<(), AllocError>
         requires { HostHasRoom (host_of self.old) }
         ensures state { OnOk result (host_of self.new ≡ (host_step (host_of self.old) (Take message.now)).0) }
         ensures sends { OnOk result (sent.new.items ≡

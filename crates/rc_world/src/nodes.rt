@@ -128,7 +128,11 @@ impl<A: Allocator + Clone> Nodes<A> {
     }
 
     /// The coordinator takes a work.
-    fn tell_coordinator(&mut self, work: &NodeWork, sent: &mut Vec<Message>) -> Result<(), AllocError>
+    fn tell_coordinator(
+        &mut self,
+        work: &NodeWork,
+        sent: &mut Vec<Message>,
+    ) -> Result<(), AllocError>
         requires { HasNumbers (coordinator_in self.old) }
         ensures coordinator { OnOk result (coordinator_in self.new ≡ (steps (coordinator_in self.old) work.now).0) }
         ensures sends { OnOk result (sent.new.items ≡ sent.old.items ++ (steps (coordinator_in self.old) work.now).1) }
