@@ -33,9 +33,11 @@ impl<A: Allocator + Clone> State<A> {
         }
         let older = self.up_of_host(id.index)?;
         let mut servers = self.servers.try_clone(self.alloc)?;
-        if servers.enlist(id).is_err() {
-            // (the id is the newest, so it was memory)
-            return Err(AllocError);
+        match servers.enlist(id) {
+            Ok(()) => {}
+            Err(Fault::OutOfMemory) => return Err(AllocError),
+            // (the id is the newest)
+            Err(_) => unreachable!(),
         }
         match older {
             Some(older) => self.follow(servers, older, sent),

@@ -45,7 +45,7 @@ pub(crate) fn play(
             let _world = run.world();
             Ok(())
         }
-        Err((_, Fault::OutOfMemory)) => Err(AllocError),
-        Err(_) => Ok(()),
+        Err((_, Fault::BadEvent)) => Ok(()),
+        Err(_) => Err(AllocError),
     }
 }

@@ -204,7 +204,8 @@ fn take(alloc: Global, run: &mut Run<Global>, event: &Event) -> Result<(), Alloc
     ensures more { OnOk result (length run.new.events ≤ length run.old.events + 1) }
 {
     match run.take(alloc, event) {
-        Err(Fault::OutOfMemory) => Err(AllocError),
-        _ => Ok(()),
+        Ok(()) => Ok(()),
+        Err(Fault::BadEvent) => Ok(()),
+        Err(_) => Err(AllocError),
     }
 }

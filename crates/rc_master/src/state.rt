@@ -98,8 +98,9 @@ impl State {
         };
         match appended {
             Ok(_) => Ok(()),
-            // (the head takes entries and has room, so it was memory)
-            Err(_) => Err(AllocError),
+            Err(Fault::OutOfMemory) => Err(AllocError),
+            // (the head takes entries and has room)
+            Err(_) => unreachable!(),
         }
     }
 

@@ -7,7 +7,7 @@ ghost use Rattle.rc_seats.specs.Calls.{Covers};
 
 use crate::seat::Seat;
 use rc_journal::{Journal, Naming};
-use rc_types::TryClone;
+use rc_types::{Fault, TryClone};
 use rc_world::{World, run};
 use std::alloc::{AllocError, Global};
 
@@ -24,8 +24,9 @@ pub(crate) fn replayed<N: Naming>(
     let setup = journal.setup().try_clone(alloc)?;
     match run(alloc, World::new(alloc, setup, alloc), journal.events()) {
         Ok(world) => Ok(world),
-        // (each event was possible when it was noted, so it was memory)
-        Err(_) => Err(AllocError),
+        Err((_, _, Fault::OutOfMemory)) => Err(AllocError),
+        // (each event was possible when it was noted)
+        Err(_) => unreachable!(),
     }
 }
 
