@@ -64,7 +64,7 @@ fn falls_from(
     later: &AckedWrite,
 ) -> Result<Option<Breach>, AllocError>
     requires { AreGrants grants.now messages.now }
-    ensures found { IfOk result (λ found.
+    ensures { IfOk result (λ found.
         found ≡ first_fall messages.now (ack_of later.now) (all_acknowledged messages.now)) }
 {
     let before = terms_before(alloc, grants, later.term, later.table, later.key)?;
@@ -111,7 +111,7 @@ fn falls_by_bars(
 /// earlier ownership of its key, with the first such one. Most writes are seen to rise by bars that are
 /// found at once for all keys under all terms.
 pub fn falling_version(alloc: Global, messages: &[Message]) -> Result<Option<Breach>, AllocError>
-    ensures found { IfOk result (λ found.
+    ensures { IfOk result (λ found.
         found ≡ falls_of messages.now (all_acknowledged messages.now)) }
 {
     let grants = grants_in(alloc, messages)?;

@@ -43,7 +43,7 @@ fn invented_in(
     runs: &Runs,
     recovery: &Recovery<'_>,
 ) -> Result<Option<Breach>, AllocError>
-    ensures found { IfOk result (λ found. (sent : List Message) → AreRuns runs.now sent → found ≡
+    ensures { IfOk result (λ found. (sent : List Message) → AreRuns runs.now sent → found ≡
         first_invented sent (accepted_of recovery.now) (ascending (segments_of recovery.now.rows.now))) }
 {
     let reaches = reaches(alloc, recovery.rows)?;
@@ -64,7 +64,7 @@ pub fn invented_place(
     runs: &Runs,
 ) -> Result<Option<Breach>, AllocError>
     requires { AreRuns runs.now evidence.now.messages.now }
-    ensures found { IfOk result (λ found. found ≡
+    ensures { IfOk result (λ found. found ≡
         invented_of evidence.now.messages.now (accepted evidence.now.messages.now)) }
 {
     for message in evidence.messages {

@@ -40,7 +40,7 @@ use std::alloc::{AllocError, Global};
 /// key under a term under which one does not rise so, the chain of owners before that term is gone
 /// over once.
 pub fn audit(alloc: Global, messages: &[Message]) -> Result<Option<Breach>, AllocError>
-    ensures found { IfOk result (λ found. found ≡ breach messages.now) }
+    ensures { IfOk result (λ found. found ≡ breach messages.now) }
 {
     let evidence = Evidence::new(alloc, messages)?;
     let standings = standings_in(alloc, &evidence)?;

@@ -111,7 +111,7 @@ fn missing_among(
 ) -> Result<Option<Breach>, AllocError>
     requires reached { HasReaches reaches.now recovery.now.rows.now }
     requires sent { messages_in sent.now ≡ sent_by recovery.now.master evidence.now.messages.now }
-    ensures found { IfOk result (λ found. found ≡
+    ensures { IfOk result (λ found. found ≡
         first_missing_of evidence.now.messages.now (accepted_of recovery.now)
         (acknowledged evidence.now.messages.now recovery.now.master)) }
 {
@@ -132,7 +132,7 @@ fn missing_from(
     requires senders { AreSenders senders.now evidence.now.messages.now }
     requires standings { StandsFor standings.now evidence.now.messages.now
         (acknowledged evidence.now.messages.now) }
-    ensures found { IfOk result (λ found. found ≡
+    ensures { IfOk result (λ found. found ≡
         first_missing_of evidence.now.messages.now (accepted_of recovery.now)
         (acknowledged evidence.now.messages.now recovery.now.master)) }
 {
@@ -212,7 +212,7 @@ pub fn missing_write(
     requires senders { AreSenders senders.now evidence.now.messages.now }
     requires standings { StandsFor standings.now evidence.now.messages.now
         (acknowledged evidence.now.messages.now) }
-    ensures found { IfOk result (λ found. found ≡
+    ensures { IfOk result (λ found. found ≡
         missing_of evidence.now.messages.now (accepted evidence.now.messages.now)) }
 {
     let mut clean = BTreeMap::new(alloc);

@@ -184,7 +184,7 @@ impl Backup {
     ///
     /// `OutOfMemory` (F1): the memory for the list was refused.
     pub fn open_names(&self) -> Result<Vec<(ServerId, u16)>, AllocError>
-        ensures ok { IfOk result (λ names. names.items ≡ open_names (backup_of self.now)) }
+        ensures { IfOk result (λ names. names.items ≡ open_names (backup_of self.now)) }
     {
         let mut names = Vec::new(self.alloc);
         for (master, held) in &self.held {
@@ -268,7 +268,7 @@ impl Backup {
 
     /// A row for each replica that is kept of the master, in order of segment.
     fn rows(&self, master: ServerId) -> Result<Seq<Row>, AllocError>
-        ensures ok { IfOk result (λ rows. rows ≡ rows_of_replicas ((backup_of self.now).held master).replicas) }
+        ensures { IfOk result (λ rows. rows ≡ rows_of_replicas ((backup_of self.now).held master).replicas) }
     {
         match self.held.get(&master) {
             Some(held) => held.rows(self.alloc),
@@ -312,7 +312,7 @@ impl Backup {
 
     /// The answer to a Fetch, if there is one.
     fn data(&self, master: ServerId, request: &Request) -> Result<Option<Body>, AllocError>
-        ensures ok { IfOk result (λ answer. answer ≡ fetched ((backup_of self.now).held master)
+        ensures { IfOk result (λ answer. answer ≡ fetched ((backup_of self.now).held master)
             request.now.attempt request.now.seg request.now.len request.now.part) }
     {
         match self.held.get(&master) {

@@ -46,7 +46,7 @@ pub(crate) fn candidates(
     own: ServerId,
     servers: &ServerList,
 ) -> Result<Vec<ServerId>, AllocError>
-    ensures ok { IfOk result (λ ids. ids.items ≡ candidates seg own servers.now) }
+    ensures { IfOk result (λ ids. ids.items ≡ candidates seg own servers.now) }
 {
     let up = servers.up(alloc)?;
     let mut ids = of_other_hosts(alloc, own, up.as_slice())?;

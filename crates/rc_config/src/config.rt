@@ -286,7 +286,7 @@ impl Config {
         own: ServerId,
         servers: &ServerList,
     ) -> Result<Option<Vec<ServerId>>, AllocError>
-        ensures ok { IfOk result (λ found.
+        ensures { IfOk result (λ found.
             option_map (λ ids. ids.items) found ≡ substitutes_for own servers.now self.now) }
     {
         let ids = choosing::candidates(alloc, self.seg, own, servers)?;

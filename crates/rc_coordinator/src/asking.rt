@@ -34,7 +34,7 @@ impl<A: Allocator + Clone> State<A> {
     /// added.
     fn ask_all_again(&self, ids: &[ServerId], messages: &mut Vec<Message>) -> Result<(), AllocError>
         requires { ids.now ≡ up (state_view self.now).servers }
-        ensures ok { OnOk result (messages.new.items ≡ messages.old.items ++ asks_again_of (state_view self.now) 1
+        ensures { OnOk result (messages.new.items ≡ messages.old.items ++ asks_again_of (state_view self.now) 1
             (state_view self.now).attempts) }
     {
         self.ask_each(self.recoveries.asked(), ids, messages)
@@ -48,7 +48,7 @@ impl<A: Allocator + Clone> State<A> {
         messages: &mut Vec<Message>,
     ) -> Result<(), AllocError>
         requires { ids.now ≡ up (state_view self.now).servers }
-        ensures ok { OnOk result (messages.new.items ≡
+        ensures { OnOk result (messages.new.items ≡
             messages.old.items ++ asks_of_all (state_view self.now) numbers.now) }
     {
         for number in numbers {
@@ -66,7 +66,7 @@ impl<A: Allocator + Clone> State<A> {
         messages: &mut Vec<Message>,
     ) -> Result<(), AllocError>
         requires { ids.now ≡ up (state_view self.now).servers }
-        ensures ok { OnOk result (messages.new.items ≡ messages.old.items ++ asks_of (state_view self.now) number
+        ensures { OnOk result (messages.new.items ≡ messages.old.items ++ asks_of (state_view self.now) number
             (attempt_at (state_view self.now) number)) }
     {
         match self.recoveries.attempt(number) {
@@ -86,7 +86,7 @@ impl<A: Allocator + Clone> State<A> {
         messages: &mut Vec<Message>,
     ) -> Result<(), AllocError>
         requires { ids.now ≡ up (state_view self.now).servers }
-        ensures ok { OnOk result (messages.new.items ≡ messages.old.items ++ asks_again (state_view self.now) number
+        ensures { OnOk result (messages.new.items ≡ messages.old.items ++ asks_again (state_view self.now) number
             attempt.now attempt.now.decided) }
     {
         match attempt.decided() {
@@ -103,7 +103,7 @@ impl<A: Allocator + Clone> State<A> {
 
     /// Those of these ids that have a part whose term isn't granted.
     fn open_ids(&self, decision: &Decision, ids: &[ServerId]) -> Result<Vec<ServerId>, AllocError>
-        ensures ok { IfOk result (λ those. those.items ≡ filter (has_open_part (state_view self.now) decision.now)
+        ensures { IfOk result (λ those. those.items ≡ filter (has_open_part (state_view self.now) decision.now)
             ids.now) }
     {
         let mut open = Vec::new(self.alloc);

@@ -68,7 +68,7 @@ impl<A: Allocator + Clone> State<A> {
 
     /// The servers that are up and ready, in order. Only memory can be refused (F1).
     fn ready_ids(&self) -> Result<Vec<ServerId>, AllocError>
-        ensures ok { IfOk result (λ ids. ids.items ≡ ready_ids (state_view self.now)) }
+        ensures { IfOk result (λ ids. ids.items ≡ ready_ids (state_view self.now)) }
     {
         let mut ids = self.servers.up(self.alloc)?;
         ids.retain(|id| self.ready.has(*id));

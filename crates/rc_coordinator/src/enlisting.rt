@@ -47,7 +47,7 @@ impl<A: Allocator + Clone> State<A> {
 
     /// The id of this host that is up.
     fn up_of_host(&self, index: u8) -> Result<Option<ServerId>, AllocError>
-        ensures ok { IfOk result (λ found. found ≡ up_of_host index (state_view self.now).servers) }
+        ensures { IfOk result (λ found. found ≡ up_of_host index (state_view self.now).servers) }
     {
         let ids = self.servers.up(self.alloc)?;
         Ok(of_host(&ids, index))
@@ -105,7 +105,7 @@ impl<A: Allocator + Clone> State<A> {
 
     /// Whether an attempt begins for this id under this list: it has crashed, and has tablets.
     fn begins(&self, servers: &ServerList, gone: ServerId) -> Result<bool, AllocError>
-        ensures ok { IfOk result (λ begins.
+        ensures { IfOk result (λ begins.
             begins ≡ (has_crashed servers.now gone && has_tablets (state_view self.now) gone)) }
     {
         if !servers.has_crashed(gone) {
@@ -116,7 +116,7 @@ impl<A: Allocator + Clone> State<A> {
 
     /// Whether the master has tablets.
     fn has_tablets(&self, master: ServerId) -> Result<bool, AllocError>
-        ensures ok { IfOk result (λ some. some ≡ has_tablets (state_view self.now) master) }
+        ensures { IfOk result (λ some. some ≡ has_tablets (state_view self.now) master) }
     {
         let tablets = self.tablets.tablets_of(self.alloc, master)?;
         Ok(tablets.len() > 0)

@@ -125,7 +125,7 @@ fn rows_to_each(
     rows: &Shared<(ServerId, bool)>,
     ids: &[ServerId],
 ) -> Result<Vec<Message>, AllocError>
-    ensures ok { IfOk result (λ messages. messages.items ≡ to_each ids.now (Listed version rows.now)) }
+    ensures { IfOk result (λ messages. messages.items ≡ to_each ids.now (Listed version rows.now)) }
 {
     let mut messages = Vec::with_capacity(alloc, ids.len())?;
     for id in ids {
@@ -144,7 +144,7 @@ pub(crate) fn add_gathers(
     master: ServerId,
     messages: &mut Vec<Message>,
 ) -> Result<(), AllocError>
-    ensures ok { OnOk result (messages.new.items ≡ messages.old.items ++
+    ensures { OnOk result (messages.new.items ≡ messages.old.items ++
         to_each (up servers.now) (Gather attempt master)) }
 {
     for id in &servers.up(alloc)? {
@@ -161,7 +161,7 @@ pub(crate) fn gather_again(
     ids: &[ServerId],
     messages: &mut Vec<Message>,
 ) -> Result<(), AllocError>
-    ensures ok { OnOk result (messages.new.items ≡ messages.old.items ++
+    ensures { OnOk result (messages.new.items ≡ messages.old.items ++
         to_each (filter (λ id. not (has_answered id attempt.now.replies)) ids.now) (Gather number attempt.now.master)) }
 {
     let master = attempt.master();

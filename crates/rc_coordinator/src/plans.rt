@@ -57,7 +57,7 @@ pub(crate) fn give_parts(
 
 /// The parts of one recovery master. Only memory can be refused (F1).
 fn parts_of(alloc: Global, id: ServerId, given: &[GivenPart]) -> Result<Vec<Part>, AllocError>
-    ensures ok { IfOk result (λ parts. parts.items ≡ parts_of id given.now) }
+    ensures { IfOk result (λ parts. parts.items ≡ parts_of id given.now) }
 {
     let mut parts = Vec::new(alloc);
     for one in given {
@@ -77,7 +77,7 @@ fn plan_to(
     id: ServerId,
     parts: Vec<Part>,
 ) -> Result<Message, AllocError>
-    ensures ok { IfOk result (λ message. message ≡ from_coordinator id
+    ensures { IfOk result (λ message. message ≡ from_coordinator id
         (Planned plan.now.head number master plan.now.rows parts.items)) }
 {
     let rows = plan.rows.try_clone(alloc)?;
@@ -102,7 +102,7 @@ pub(crate) fn plan_messages(
     decision: &Decision,
     ids: &[ServerId],
 ) -> Result<Vec<Message>, AllocError>
-    ensures ok { IfOk result (λ messages. messages.items ≡ plan_messages number master decision.now ids.now) }
+    ensures { IfOk result (λ messages. messages.items ≡ plan_messages number master decision.now ids.now) }
 {
     let mut messages = Vec::new(alloc);
     for id in ids {

@@ -54,7 +54,7 @@ pub(crate) fn event_of(
     number: usize,
     words: Words,
 ) -> Result<Option<Event>, AllocError>
-    ensures ok { IfOk result (λ event. event ≡ event_of (replayed world.now) number words) }
+    ensures { IfOk result (λ event. event ≡ event_of (replayed world.now) number words) }
 {
     let host = (words.target % HOSTS as u32) as u8;
     let generation = world.newest(host);
@@ -74,7 +74,7 @@ fn chosen(
     choice: Choice,
     words: Words,
 ) -> Result<Option<Event>, AllocError>
-    ensures ok { IfOk result (λ event. event ≡ chosen (replayed world.now) number id choice words) }
+    ensures { IfOk result (λ event. event ≡ chosen (replayed world.now) number id choice words) }
 {
     Ok(match choice {
         Choice::Deliver => delivery_of(world.sent().len(), words.target),
@@ -101,7 +101,7 @@ fn delivery_of(sent: usize, word: u32) -> Option<Event>
 
 /// A write of one of the keys; its value is the step's number, in decimal digits.
 fn write_of(alloc: Global, to: ServerId, word: u32, number: usize) -> Result<Event, AllocError>
-    ensures ok { IfOk result (λ event. event ≡ write_of to word number) }
+    ensures { IfOk result (λ event. event ≡ write_of to word number) }
 {
     let text = format!(in alloc; "{number}")?;
     let body = Body::Write {
@@ -114,7 +114,7 @@ fn write_of(alloc: Global, to: ServerId, word: u32, number: usize) -> Result<Eve
 
 /// A start of the host, with all of its open replicas or with none.
 fn start_of(alloc: Global, world: &World<Global>, host: u8, word: u32) -> Result<Event, AllocError>
-    ensures ok { IfOk result (λ event. event ≡ start_of ((replayed world.now).hosts host) host word) }
+    ensures { IfOk result (λ event. event ≡ start_of ((replayed world.now).hosts host) host word) }
 {
     let kept = if word % 4 == 0 {
         Vec::new(alloc)

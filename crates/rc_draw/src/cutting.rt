@@ -40,7 +40,7 @@ impl Keeping {
 
     /// Whether it keeps all open replicas of these hosts, so that they start as they do where all are kept.
     pub(crate) fn keeps_all(self, world: &World<Global>, hosts: u8) -> Result<bool, AllocError>
-        ensures ok { IfOk result (λ all. all ≡ true →
+        ensures { IfOk result (λ all. all ≡ true →
             gathered (start_of self (replayed world.now)) hosts ≡ gathered (start_of All (replayed world.now)) hosts) }
     {
         for host in 0..hosts {
@@ -61,7 +61,7 @@ pub(crate) fn cut_scene(
     hosts: u8,
     keeping: Keeping,
 ) -> Result<Vec<ScenarioEvent>, AllocError>
-    ensures ok { IfOk result (λ scene. scene.items ≡ cut_scene hosts keeping (replayed world.now)) }
+    ensures { IfOk result (λ scene. scene.items ≡ cut_scene hosts keeping (replayed world.now)) }
 {
     let mut scene = Vec::new(alloc);
     add_stops(world, hosts, &mut scene)?;
@@ -80,7 +80,7 @@ fn add_stops(
     hosts: u8,
     scene: &mut Vec<ScenarioEvent>,
 ) -> Result<(), AllocError>
-    ensures ok { OnOk result (scene.new.items ≡ scene.old.items ++ gathered (stop_of (replayed world.now)) hosts) }
+    ensures { OnOk result (scene.new.items ≡ scene.old.items ++ gathered (stop_of (replayed world.now)) hosts) }
 {
     for host in 0..hosts {
         add_stop(world, host, scene)?;
@@ -94,7 +94,7 @@ fn add_stop(
     host: u8,
     scene: &mut Vec<ScenarioEvent>,
 ) -> Result<(), AllocError>
-    ensures ok { OnOk result (scene.new.items ≡ scene.old.items ++ stop_of (replayed world.now) host) }
+    ensures { OnOk result (scene.new.items ≡ scene.old.items ++ stop_of (replayed world.now) host) }
 {
     let id = newest_server(world, host);
     if world.is_running(id) {
@@ -110,7 +110,7 @@ fn add_starts(
     keeping: Keeping,
     scene: &mut Vec<ScenarioEvent>,
 ) -> Result<(), AllocError>
-    ensures ok { OnOk result
+    ensures { OnOk result
         (scene.new.items ≡ scene.old.items ++ gathered (start_of keeping (replayed world.now)) hosts) }
 {
     for host in 0..hosts {
@@ -126,7 +126,7 @@ fn add_start(
     host: u8,
     scene: &mut Vec<ScenarioEvent>,
 ) -> Result<(), AllocError>
-    ensures ok { OnOk result (scene.new.items ≡ scene.old.items ++ start_of keeping (replayed world.now) host) }
+    ensures { OnOk result (scene.new.items ≡ scene.old.items ++ start_of keeping (replayed world.now) host) }
 {
     if world.newest(host) > 0 {
         let kept = Seq::from_vec(keeping.of(world.open_replicas(host)?));
@@ -141,7 +141,7 @@ fn add_decisions(
     hosts: u8,
     scene: &mut Vec<ScenarioEvent>,
 ) -> Result<(), AllocError>
-    ensures ok { OnOk result (scene.new.items ≡ scene.old.items ++ gathered (decisions_of (replayed world.now)) hosts) }
+    ensures { OnOk result (scene.new.items ≡ scene.old.items ++ gathered (decisions_of (replayed world.now)) hosts) }
 {
     for host in 0..hosts {
         add_decisions_of(host, world.newest(host), scene)?;
@@ -151,7 +151,7 @@ fn add_decisions(
 
 /// The recovery of each of the host's servers up to this one is decided.
 fn add_decisions_of(host: u8, newest: u32, scene: &mut Vec<ScenarioEvent>) -> Result<(), AllocError>
-    ensures ok { OnOk result (scene.new.items ≡ scene.old.items ++ gathered (decision_of host) newest) }
+    ensures { OnOk result (scene.new.items ≡ scene.old.items ++ gathered (decision_of host) newest) }
 {
     for before in 0..newest {
         let id = ServerId {

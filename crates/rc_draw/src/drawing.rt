@@ -66,7 +66,7 @@ pub fn draw(alloc: Global, seed: u64, steps: usize, free: bool) -> Result<Vec<Ev
 
 /// A copy of these events.
 fn copied(alloc: Global, events: &[Event]) -> Result<Vec<Event>, AllocError>
-    ensures ok { IfOk result (λ copies. copies.items ≡ events.now) }
+    ensures { IfOk result (λ copies. copies.items ≡ events.now) }
 {
     let mut copies = Vec::with_capacity(alloc, events.len())?;
     for event in events {
@@ -77,7 +77,7 @@ fn copied(alloc: Global, events: &[Event]) -> Result<Vec<Event>, AllocError>
 
 /// The run before the first step.
 fn begun(alloc: Global, free: bool) -> Result<Run<Global>, AllocError>
-    ensures ok { IfOk result (λ run. replayed run ≡ begun free) }
+    ensures { IfOk result (λ run. replayed run ≡ begun free) }
 {
     let mut run = Run::new(alloc, drawing_setup(alloc, free), alloc);
     match begin(alloc, &mut run) {
@@ -88,7 +88,7 @@ fn begun(alloc: Global, free: bool) -> Result<Run<Global>, AllocError>
 
 /// What happens before the first step.
 fn begin(alloc: Global, run: &mut Run<Global>) -> Result<(), AllocError>
-    ensures ok { OnOk result (replayed run.new ≡ played (replayed run.old) beginning) }
+    ensures { OnOk result (replayed run.new ≡ played (replayed run.old) beginning) }
 {
     let beginning = [
         fresh_start(alloc, 0),
@@ -126,7 +126,7 @@ fn draw_steps(
     seed: u64,
     steps: usize,
 ) -> Result<(), AllocError>
-    ensures ok { OnOk result (replayed run.new ≡ drawn_from steps 0 (generator seed) (replayed run.old)) }
+    ensures { OnOk result (replayed run.new ≡ drawn_from steps 0 (generator seed) (replayed run.old)) }
 {
     let mut generator = generator_of(seed);
     for number in 0..steps {
@@ -143,7 +143,7 @@ fn draw_step(
     number: usize,
     words: Words,
 ) -> Result<(), AllocError>
-    ensures ok { OnOk result (replayed run.new ≡ drawn_step (replayed run.old) number words) }
+    ensures { OnOk result (replayed run.new ≡ drawn_step (replayed run.old) number words) }
 {
     match event_of(alloc, run.world(), number, words)? {
         Some(event) => play(alloc, run, &[ScenarioEvent::Core(event)]),

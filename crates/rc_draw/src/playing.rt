@@ -38,7 +38,7 @@ pub(crate) fn play(
     run: &mut Run<Global>,
     events: &[ScenarioEvent],
 ) -> Result<(), AllocError>
-    ensures ok { OnOk result (replayed run.new ≡ played (replayed run.old) events.now) }
+    ensures { OnOk result (replayed run.new ≡ played (replayed run.old) events.now) }
 {
     match run.play_all(alloc, events) {
         Ok(()) => {

@@ -156,7 +156,7 @@ fn cut(
     hosts: u8,
     keeping: Keeping,
 ) -> Result<Run<Global>, AllocError>
-    ensures ok { IfOk result (λ cut. replayed cut ≡ cut_from hosts keeping (replayed run)) }
+    ensures { IfOk result (λ cut. replayed cut ≡ cut_from hosts keeping (replayed run)) }
 {
     let mut run = run;
     let scene = match cut_scene(alloc, run.world(), hosts, keeping) {
@@ -173,7 +173,7 @@ fn cut(
 fn run_of(alloc: Global, setup: &Setup, events: &[Event]) -> Result<Run<Global>, AllocError>
     requires within { IsWithinLimits setup.now }
     requires few { length events.now ≤ MAX_EVENTS }
-    ensures ok { IfOk result (λ run. replayed run ≡ replay setup.now events.now) }
+    ensures { IfOk result (λ run. replayed run ≡ replay setup.now events.now) }
 {
     let setup = match setup.try_clone(alloc) {
         Ok(setup) => setup,
@@ -189,7 +189,7 @@ fn run_of(alloc: Global, setup: &Setup, events: &[Event]) -> Result<Run<Global>,
 /// Takes these events, one after another.
 fn take_all(alloc: Global, run: &mut Run<Global>, events: &[Event]) -> Result<(), AllocError>
     requires { length run.old.events + length events.now ≤ MAX_EVENTS }
-    ensures ok { OnOk result (replayed run.new ≡ replay_from (replayed run.old) events.now) }
+    ensures { OnOk result (replayed run.new ≡ replay_from (replayed run.old) events.now) }
 {
     for event in events {
         take(alloc, run, event)?;

@@ -23,7 +23,7 @@ pub type Bars = BTreeMap<TermKey, Option<u64>>;
 
 /// Notes the version that this message acknowledges, if it does.
 fn note_acked(highs: &mut Highs, message: &Message) -> Result<(), AllocError>
-    ensures noted { OnOk result (NotesAcks highs.old highs.new (ack_in message.now.body)) }
+    ensures { OnOk result (NotesAcks highs.old highs.new (ack_in message.now.body)) }
 {
     let Some(write) = write_in(&message.body) else {
         return Ok(());
@@ -34,7 +34,7 @@ fn note_acked(highs: &mut Highs, message: &Message) -> Result<(), AllocError>
 
 /// The greatest acknowledged version of each key under each term.
 pub fn acked_highs(alloc: Global, messages: &[Message]) -> Result<Highs, AllocError>
-    ensures levels { IfOk result (λ highs. HasLevels highs messages.now) }
+    ensures { IfOk result (λ highs. HasLevels highs messages.now) }
 {
     let mut highs = BTreeMap::new(alloc);
     for message in messages {
@@ -83,7 +83,7 @@ fn find_bar(
     highs: &Highs,
     key: TermKey,
 ) -> Result<Option<u64>, AllocError>
-    ensures bar { IfOk result (λ bar. (sent : List Message) →
+    ensures { IfOk result (λ bar. (sent : List Message) →
         AreGrants grants.now sent → HasLevels highs.now sent → IsBar bar sent key) }
 {
     let before = terms_before(alloc, grants, key.term, key.table, key.key)?;

@@ -15,7 +15,7 @@ fn note_term(
     waiting: &mut Vec<u32>,
     term: u32,
 ) -> Result<(), AllocError>
-    ensures noted { OnOk result (NotesTerm before.old before.new waiting.old.items waiting.new.items term) }
+    ensures { OnOk result (NotesTerm before.old before.new waiting.old.items waiting.new.items term) }
 {
     if before.insert(term)? {
         waiting.push(term)?;
@@ -31,7 +31,7 @@ fn follow_grant(
     before: &mut BTreeSet<u32>,
     waiting: &mut Vec<u32>,
 ) -> Result<(), AllocError>
-    ensures followed { OnOk result (Follows table key (grant.now ∷ [])
+    ensures { OnOk result (Follows table key (grant.now ∷ [])
         before.old before.new waiting.old.items waiting.new.items) }
 {
     if grant.holds(table, key) {
@@ -48,7 +48,7 @@ fn follow_grants(
     before: &mut BTreeSet<u32>,
     waiting: &mut Vec<u32>,
 ) -> Result<(), AllocError>
-    ensures followed { OnOk result (Follows table key grants.now
+    ensures { OnOk result (Follows table key grants.now
         before.old before.new waiting.old.items waiting.new.items) }
 {
     for grant in grants {
@@ -66,7 +66,7 @@ fn follow(
     before: &mut BTreeSet<u32>,
     waiting: &mut Vec<u32>,
 ) -> Result<(), AllocError>
-    ensures followed { OnOk result (Follows table key (grants_at grants.now term)
+    ensures { OnOk result (Follows table key (grants_at grants.now term)
         before.old before.new waiting.old.items waiting.new.items) }
 {
     let Some(of_term) = grants.get(&term) else {
@@ -85,7 +85,7 @@ pub fn terms_before(
     table: u32,
     key: u64,
 ) -> Result<BTreeSet<u32>, AllocError>
-    ensures before { IfOk result (λ before. (sent : List Message) → AreGrants grants.now sent →
+    ensures { IfOk result (λ before. (sent : List Message) → AreGrants grants.now sent →
         AreEarlier before sent table key term) }
 {
     let mut before = BTreeSet::new(alloc);

@@ -25,7 +25,7 @@ pub struct Evidence<'a> {
 impl<'a> Evidence<'a> {
     /// The evidence of these messages.
     pub fn new(alloc: Global, messages: &'a [Message]) -> Result<Evidence<'a>, AllocError>
-        ensures messages { IfOk result (λ evidence. evidence.messages.now ≡ messages.now) }
+        ensures { IfOk result (λ evidence. evidence.messages.now ≡ messages.now) }
     {
         let made = made_in(alloc, messages)?;
         Ok(Evidence { messages, made })

@@ -68,7 +68,7 @@ fn grant_in(message: &Message) -> Option<Grant>
 
 /// Notes one more grant.
 fn note_grant(alloc: Global, grants: &mut Grants, grant: Grant) -> Result<(), AllocError>
-    ensures noted { OnOk result (NotesGrant grants.old grants.new grant) }
+    ensures { OnOk result (NotesGrant grants.old grants.new grant) }
 {
     let mut of_term = match grants.remove(&grant.term) {
         Some(of_term) => of_term,
@@ -83,7 +83,7 @@ fn note_grant(alloc: Global, grants: &mut Grants, grant: Grant) -> Result<(), Al
 
 /// Notes this message, where it is a grant.
 fn note_message(alloc: Global, grants: &mut Grants, message: &Message) -> Result<(), AllocError>
-    ensures noted { OnOk result (AddsGrants grants.old grants.new
+    ensures { OnOk result (AddsGrants grants.old grants.new
         (map grant_of (model_grant_in message.now.to message.now.body))) }
 {
     match grant_in(message) {
@@ -94,7 +94,7 @@ fn note_message(alloc: Global, grants: &mut Grants, message: &Message) -> Result
 
 /// The grants of each term, of all that these messages are.
 pub fn grants_in(alloc: Global, messages: &[Message]) -> Result<Grants, AllocError>
-    ensures grants { IfOk result (λ grants. AreGrants grants messages.now) }
+    ensures { IfOk result (λ grants. AreGrants grants messages.now) }
 {
     let mut grants = BTreeMap::new(alloc);
     for message in messages {

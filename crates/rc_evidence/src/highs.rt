@@ -34,7 +34,7 @@ pub fn key_of(entry: &Entry) -> TermKey
 
 /// Notes a version of this key.
 pub fn note_version(highs: &mut Highs, key: TermKey, version: u64) -> Result<(), AllocError>
-    ensures noted { OnOk result (NotesVersion highs.old highs.new key version) }
+    ensures { OnOk result (NotesVersion highs.old highs.new key version) }
 {
     let high = highs.get(&key).copied().unwrap_or(0);
     highs.insert(key, high.max(version))?;

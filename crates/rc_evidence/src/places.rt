@@ -45,7 +45,7 @@ fn is_alike(one: &Entry, other: &Entry) -> bool
 
 /// Notes that this entry was sent for this place.
 fn note<'a>(made: &mut Made<'a>, place: PlaceKey, entry: &'a Entry) -> Result<(), AllocError>
-    ensures noted { OnOk result (NotesEntry made.old made.new place entry.now) }
+    ensures { OnOk result (NotesEntry made.old made.new place entry.now) }
 {
     let seen = match made.get(&place).copied() {
         None => Seen {
@@ -72,7 +72,7 @@ fn note_entries<'a>(
     start: usize,
     entries: &'a [Entry],
 ) -> Result<(), AllocError>
-    ensures noted { OnOk result
+    ensures { OnOk result
         (NotesSent made.old made.new (entry_of_run master seg start entries.now)) }
 {
     for (index, entry) in entries.iter().enumerate() {
@@ -91,7 +91,7 @@ fn note_entries<'a>(
 
 /// Notes what this message sends for its sender's log.
 fn note_message<'a>(made: &mut Made<'a>, message: &'a Message) -> Result<(), AllocError>
-    ensures noted { OnOk result (NotesSent made.old made.new (sent_at message.now)) }
+    ensures { OnOk result (NotesSent made.old made.new (sent_at message.now)) }
 {
     let Addr::Server(master) = message.from else {
         return Ok(());
@@ -109,7 +109,7 @@ fn note_message<'a>(made: &mut Made<'a>, message: &'a Message) -> Result<(), All
 
 /// What was sent for each place, in these messages.
 pub fn made_in<'a>(alloc: Global, messages: &'a [Message]) -> Result<Made<'a>, AllocError>
-    ensures indexed { IfOk result (λ made. Indexes made messages.now) }
+    ensures { IfOk result (λ made. Indexes made messages.now) }
 {
     let mut made = BTreeMap::new(alloc);
     for message in messages {

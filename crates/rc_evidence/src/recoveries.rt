@@ -64,7 +64,7 @@ pub fn raise(numbers: &mut BySegment, seg: u16, least: usize) -> Result<(), Allo
 
 /// How far the rows reach in each of their segments.
 pub fn reaches(alloc: Global, rows: &[PlanRow]) -> Result<BySegment, AllocError>
-    ensures reaches { IfOk result (λ reaches. HasReaches reaches rows.now) }
+    ensures { IfOk result (λ reaches. HasReaches reaches rows.now) }
 {
     let mut reaches = BTreeMap::new(alloc);
     for row in rows.iter().rev() {

@@ -42,7 +42,7 @@ fn count_run(evidence: &Evidence<'_>, master: ServerId, seg: u16) -> usize
 
 /// The runs of all segments. A segment of which the first place was not made has none.
 pub fn runs_in(alloc: Global, evidence: &Evidence<'_>) -> Result<Runs, AllocError>
-    ensures runs { IfOk result (λ runs. AreRuns runs evidence.now.messages.now) }
+    ensures { IfOk result (λ runs. AreRuns runs evidence.now.messages.now) }
 {
     let mut runs = BTreeMap::new(alloc);
     for place in evidence.made.keys() {

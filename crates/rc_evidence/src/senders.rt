@@ -27,7 +27,7 @@ fn note_first<'a>(
     message: &'a Message,
 ) -> Result<(), AllocError>
     requires { get id_order senders.old master ≡ None }
-    ensures noted { OnOk result (NotesSender senders.old senders.new master message.now) }
+    ensures { OnOk result (NotesSender senders.old senders.new master message.now) }
 {
     let messages = vec![in alloc; message]?;
     senders.insert(master, Sent { messages })?;
@@ -41,7 +41,7 @@ fn note_sent<'a>(
     master: ServerId,
     message: &'a Message,
 ) -> Result<(), AllocError>
-    ensures noted { OnOk result (NotesSender senders.old senders.new master message.now) }
+    ensures { OnOk result (NotesSender senders.old senders.new master message.now) }
 {
     match senders.get_mut(&master) {
         Some(sent) => {
@@ -58,7 +58,7 @@ fn note_message<'a>(
     senders: &mut Senders<'a>,
     message: &'a Message,
 ) -> Result<(), AllocError>
-    ensures noted { OnOk result (AddsMessage senders.old senders.new message.now) }
+    ensures { OnOk result (AddsMessage senders.old senders.new message.now) }
 {
     match message.from {
         Addr::Server(master) => note_sent(alloc, senders, master, message),
@@ -68,7 +68,7 @@ fn note_message<'a>(
 
 /// The messages of each server, of all of these.
 pub fn senders_in<'a>(alloc: Global, messages: &'a [Message]) -> Result<Senders<'a>, AllocError>
-    ensures senders { IfOk result (λ senders. AreSenders senders messages.now) }
+    ensures { IfOk result (λ senders. AreSenders senders messages.now) }
 {
     let mut senders = BTreeMap::new(alloc);
     for message in messages {

@@ -32,7 +32,7 @@ fn note_write(
     write: &AckedWrite,
     agrees: bool,
 ) -> Result<(), AllocError>
-    ensures added { OnOk result
+    ensures { OnOk result
         (AddsWrite standings.old standings.new master (ack_of write.now) agrees) }
 {
     let mut standing = match standings.remove(&master) {
@@ -50,7 +50,7 @@ fn note_write(
 
 /// The standing of each master in these messages.
 pub fn standings_in(alloc: Global, evidence: &Evidence<'_>) -> Result<Standings, AllocError>
-    ensures standings { IfOk result (λ standings. StandsFor standings evidence.now.messages.now
+    ensures { IfOk result (λ standings. StandsFor standings evidence.now.messages.now
         (acknowledged evidence.now.messages.now)) }
 {
     let mut standings = BTreeMap::new(alloc);

@@ -21,7 +21,7 @@ fn note_entry(
     entry: &Entry,
     reach: usize,
 ) -> Result<(), AllocError>
-    ensures noted { OnOk result
+    ensures { OnOk result
         (Supersedes highs.old highs.new (λ ack. nat_lt offset reach && is_greater ack entry.now)) }
 {
     if offset < reach {
@@ -38,7 +38,7 @@ fn note_entries(
     entries: &[Entry],
     reach: usize,
 ) -> Result<(), AllocError>
-    ensures noted { OnOk result
+    ensures { OnOk result
         (Supersedes highs.old highs.new (λ ack. greater_below reach ack start entries.now)) }
 {
     for (index, entry) in entries.iter().enumerate() {
@@ -55,7 +55,7 @@ fn note_message(
     message: &Message,
 ) -> Result<(), AllocError>
     requires { HasReaches reaches.now recovery.now.rows.now }
-    ensures noted { OnOk result (Supersedes highs.old highs.new
+    ensures { OnOk result (Supersedes highs.old highs.new
         (λ ack. holds_greater recovery.now.rows.now ack message.now.body)) }
 {
     match &message.body {
@@ -86,7 +86,7 @@ pub fn recovered_highs(
     reaches: &BySegment,
 ) -> Result<Highs, AllocError>
     requires { HasReaches reaches.now recovery.now.rows.now }
-    ensures highs { IfOk result (λ highs. (ack : Ack) → says_above highs ack ≡
+    ensures { IfOk result (λ highs. (ack : Ack) → says_above highs ack ≡
         superseded_in recovery.now.rows.now (messages_in sent.now) ack) }
 {
     let mut highs = BTreeMap::new(alloc);

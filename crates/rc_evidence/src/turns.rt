@@ -31,7 +31,7 @@ pub(crate) struct Turn {
 
 /// Adds the two turns of a key, if its term has a place.
 fn add_turns(order: &Order, turns: &mut BTreeSet<Turn>, key: TermKey) -> Result<(), AllocError>
-    ensures added { OnOk result (HasTurn order.now turns.old turns.new key) }
+    ensures { OnOk result (HasTurn order.now turns.old turns.new key) }
 {
     let Some(span) = order.get(&key.term).copied() else {
         return Ok(());
@@ -51,7 +51,7 @@ fn add_turns(order: &Order, turns: &mut BTreeSet<Turn>, key: TermKey) -> Result<
 
 /// The turns of all keys.
 fn turns_of(alloc: Global, order: &Order, highs: &Highs) -> Result<BTreeSet<Turn>, AllocError>
-    ensures turns { IfOk result (λ turns. HasTurns order.now highs.now turns) }
+    ensures { IfOk result (λ turns. HasTurns order.now highs.now turns) }
 {
     let mut turns = BTreeSet::new(alloc);
     for (key, _) in highs {
@@ -79,7 +79,7 @@ fn take_turn(
     bars: &mut Bars,
     turn: &Turn,
 ) -> Result<(), AllocError>
-    ensures taken { OnOk result (TakesTurn order.now highs.now noted.old noted.new bars.old bars.new turn.now) }
+    ensures { OnOk result (TakesTurn order.now highs.now noted.old noted.new bars.old bars.new turn.now) }
 {
     let key = of_all_terms(turn.key);
     if turn.is_noted {
@@ -100,7 +100,7 @@ fn take_turn(
 
 /// For each key whose term has a place, a version that is over those under the terms before it.
 fn over_all(alloc: Global, order: &Order, highs: &Highs) -> Result<Bars, AllocError>
-    ensures over { IfOk result (λ bars. AreOver order.now highs.now bars) }
+    ensures { IfOk result (λ bars. AreOver order.now highs.now bars) }
 {
     let turns = turns_of(alloc, order, highs)?;
     let mut noted = BTreeMap::new(alloc);
@@ -114,7 +114,7 @@ fn over_all(alloc: Global, order: &Order, highs: &Highs) -> Result<Bars, AllocEr
 /// The bars of all keys under terms that were granted: all at once, by an order of the terms. Where the order
 /// that was found does not keep to the grants, there is no bar.
 pub fn all_bars(alloc: Global, grants: &Grants, highs: &Highs) -> Result<Bars, AllocError>
-    ensures bars { IfOk result (λ bars. (sent : List Message) →
+    ensures { IfOk result (λ bars. (sent : List Message) →
         AreGrants grants.now sent → HasLevels highs.now sent → AreBars bars sent) }
 {
     let order = find_order(alloc, grants)?;

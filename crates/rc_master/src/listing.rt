@@ -20,7 +20,7 @@ use std::mem;
 
 /// A refusal, if it is for want of memory. Another one only says that a rule can do nothing.
 fn unless_memory(fault: Fault) -> Result<(), AllocError>
-    ensures other { OnOk result (fault ≢ OutOfMemory) }
+    ensures { OnOk result (fault ≢ OutOfMemory) }
 {
     match fault {
         Fault::OutOfMemory => Err(AllocError),

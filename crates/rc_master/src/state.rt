@@ -66,7 +66,7 @@ impl State {
 
     /// Says no to a client.
     pub(crate) fn refuse(&self, fault: Fault, sent: &mut Vec<Message>) -> Result<(), AllocError>
-        ensures sends { OnOk result (sent.new.items ≡ sent.old.items ++ refuses self.now.log.own fault ∷ []) }
+        ensures { OnOk result (sent.new.items ≡ sent.old.items ++ refuses self.now.log.own fault ∷ []) }
     {
         sent.push(refusal(self.log.own(), fault))?;
         Ok(())

@@ -265,7 +265,7 @@ impl State {
     /// Says again what was not answered, but for what the list rules have just sent.
     fn remind(&self, sent: &mut Vec<Message>) -> Result<(), AllocError>
         requires noted { IsNoted self.now }
-        ensures sends { OnOk result (sent.new.items ≡ sent.old.items ++
+        ensures { OnOk result (sent.new.items ≡ sent.old.items ++
             (reminds (before_of self.now.log) (state_view self.now)).1) }
     {
         add_reminders(

@@ -245,7 +245,7 @@ impl Notes {
         table: u32,
         key: u64,
     ) -> Result<(u64, Option<Shared<u8>>), AllocError>
-        ensures ok { IfOk result (λ found. read_of term table key (take self.now.durable self.now.noted) ≡ record
+        ensures { IfOk result (λ found. read_of term table key (take self.now.durable self.now.noted) ≡ record
             { version = found.0; value = found.1 }) }
     {
         let Some((place, _)) = self.durable_highs(term, table, key).last() else {

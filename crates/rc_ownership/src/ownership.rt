@@ -247,7 +247,7 @@ impl Ownership {
         table: u32,
         key: u64,
     ) -> Result<(u64, Option<Shared<u8>>), AllocError>
-        ensures ok { IfOk result (λ found. versions.read_of term table key
+        ensures { IfOk result (λ found. versions.read_of term table key
             (durable_of self.now) ≡ record { version = found.0; value = found.1 }) }
     {
         self.notes.read(alloc, term, table, key)
@@ -409,7 +409,7 @@ impl Ownership {
     ///
     /// - `OutOfMemory` (F1): the memory for the list was refused.
     pub fn awaiting_grant(&self, alloc: Global) -> Result<Vec<u32>, AllocError>
-        ensures ok { IfOk result (λ terms. terms.items ≡ awaiting_grant (replayed_of self.now) self.now.own
+        ensures { IfOk result (λ terms. terms.items ≡ awaiting_grant (replayed_of self.now) self.now.own
             self.now.own.parts) }
     {
         let terms = self.parts.awaiting_grant(alloc, &self.notes)?;

@@ -38,7 +38,7 @@ impl Model for Pieces {
 impl Pieces {
     /// Copies of these entries. Only memory can be refused (F1).
     pub(crate) fn from_entries(alloc: Global, entries: &[Entry]) -> Result<Pieces, AllocError>
-        ensures ok { IfOk result (λ pieces. pieces ≡ entries.now) }
+        ensures { IfOk result (λ pieces. pieces ≡ entries.now) }
     {
         let (front, after) = split_piece(entries);
         let first = shared_copies(alloc, front)?;

@@ -41,7 +41,7 @@ impl JoinedRow {
 
     /// A copy of the entry at a place, under its term. Only memory can be refused (F1).
     fn copy_at(&self, alloc: Global, place: usize) -> Result<Option<Entry>, AllocError>
-        ensures ok { IfOk result (λ entry. entry ≡ slice_get self.now place) }
+        ensures { IfOk result (λ entry. entry ≡ slice_get self.now place) }
     {
         let Some(entry) = self.entries.get(place) else {
             return Ok(None);

@@ -7,7 +7,7 @@ use std::alloc::{AllocError, Global};
 
 /// Copies of the entries, to be shared. Only memory can be refused (F1).
 pub(crate) fn shared_copies(alloc: Global, entries: &[Entry]) -> Result<Shared<Entry>, AllocError>
-    ensures ok { IfOk result (λ shared. shared ≡ entries.now) }
+    ensures { IfOk result (λ shared. shared ≡ entries.now) }
 {
     let copies = copies_of(alloc, entries)?;
     Ok(Shared::from_vec(alloc, copies)?)
@@ -15,7 +15,7 @@ pub(crate) fn shared_copies(alloc: Global, entries: &[Entry]) -> Result<Shared<E
 
 /// Copies of the entries. Only memory can be refused (F1).
 fn copies_of(alloc: Global, entries: &[Entry]) -> Result<Vec<Entry>, AllocError>
-    ensures ok { IfOk result (λ copies. copies.items ≡ entries.now) }
+    ensures { IfOk result (λ copies. copies.items ≡ entries.now) }
 {
     let mut copies = Vec::with_capacity(alloc, entries.len())?;
     for entry in entries {

@@ -73,7 +73,7 @@ impl<A: Allocator + Clone> RangeTree<A> {
     /// F1 where memory is refused.
     pub fn from_tablets(alloc: A, tablets: &[Tablet]) -> Result<Self, AllocError>
         requires { AreTablets tablets.now }
-        ensures list { IfOk result (λ tree. tree.tablets ≡ tablets.now) }
+        ensures { IfOk result (λ tree. tree.tablets ≡ tablets.now) }
     {
         let root = balanced(&alloc, tablets)?;
         Ok(RangeTree {
@@ -144,7 +144,7 @@ impl<A: Allocator + Clone> RangeTree<A> {
     ///
     /// F1 where memory is refused.
     pub fn tablets_of(&self, alloc: Global, owner: ServerId) -> Result<Vec<Tablet>, AllocError>
-        ensures list { IfOk result (λ tablets. tablets.items ≡ tablets_of owner self.now.tablets) }
+        ensures { IfOk result (λ tablets. tablets.items ≡ tablets_of owner self.now.tablets) }
     {
         let mut tablets = Vec::new(alloc);
         self.root.list_owned_into(owner, &mut tablets)?;
@@ -244,7 +244,7 @@ impl<A: Allocator + Clone> RangeTree<A> {
     ///
     /// F1 where memory is refused.
     pub fn try_clone_in<B: Allocator + Clone>(&self, alloc: B) -> Result<RangeTree<B>, AllocError>
-        ensures list { IfOk result (λ copy. copy ≡ self.now) }
+        ensures { IfOk result (λ copy. copy ≡ self.now) }
     {
         let root = self.root.try_clone_in(&alloc)?;
         Ok(RangeTree {

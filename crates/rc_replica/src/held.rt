@@ -133,7 +133,7 @@ impl Held {
 
     /// A row for each replica, in order of segment. Only memory can be refused (F1).
     pub fn rows(&self, alloc: Global) -> Result<Seq<Row>, AllocError>
-        ensures ok { IfOk result (λ rows. rows ≡ rows_of_replicas self.now.replicas) }
+        ensures { IfOk result (λ rows. rows ≡ rows_of_replicas self.now.replicas) }
     {
         let mut rows = Vec::with_capacity(alloc, self.replicas.len())?;
         for (seg, replica) in &self.replicas {
@@ -145,7 +145,7 @@ impl Held {
     /// The answer to a Fetch, where the master is fenced and the replica has as many entries as are
     /// asked for. Only memory can be refused (F1).
     pub fn data(&self, alloc: Global, request: &Request) -> Result<Option<Body>, AllocError>
-        ensures ok { IfOk result (λ answer. answer ≡
+        ensures { IfOk result (λ answer. answer ≡
             fetched self.now request.now.attempt request.now.seg request.now.len request.now.part) }
     {
         if !self.fenced {

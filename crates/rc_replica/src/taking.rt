@@ -24,7 +24,7 @@ pub struct Request {
 
 /// The row of a replica. Only memory can be refused (F1).
 pub(crate) fn row(seg: u16, replica: &Replica) -> Result<Row, AllocError>
-    ensures ok { IfOk result (λ row. row ≡ row_of_replica (seg, replica.now)) }
+    ensures { IfOk result (λ row. row ≡ row_of_replica (seg, replica.now)) }
 {
     let digest = replica.share_digest()?;
     Ok(Row {
@@ -125,7 +125,7 @@ fn is_in_part(part: &Part, entry: &Entry) -> bool
 
 /// Copies of those entries that belong to the part, in their order. Only memory can be refused (F1).
 fn entries_in_part(alloc: Global, part: &Part, entries: &[Entry]) -> Result<Seq<Entry>, AllocError>
-    ensures ok { IfOk result (λ chosen. chosen ≡ filter (is_in_part part.now) entries.now) }
+    ensures { IfOk result (λ chosen. chosen ≡ filter (is_in_part part.now) entries.now) }
 {
     let mut chosen = Vec::new(alloc);
     for entry in entries {
@@ -143,7 +143,7 @@ pub(crate) fn data(
     request: &Request,
     replica: &Replica,
 ) -> Result<Option<Body>, AllocError>
-    ensures ok { IfOk result (λ answer. answer ≡
+    ensures { IfOk result (λ answer. answer ≡
         data_from request.now.attempt request.now.seg request.now.len request.now.part (Some replica.now)) }
 {
     let Some(first) = replica.entries().get(..request.len) else {

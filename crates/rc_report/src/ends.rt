@@ -25,7 +25,7 @@ pub fn add_stopped(
 
 /// The one line of an input that is wrong at this place. It fails only where memory was refused (F1).
 pub fn error_text(alloc: Global, place: usize) -> Result<String, AllocError>
-    ensures ok { IfOk result (λ text. string_bytes text ≡ error_line place) }
+    ensures { IfOk result (λ text. string_bytes text ≡ error_line place) }
 {
     Ok(format!(in alloc; "error F17 at {place}\n")?)
 }

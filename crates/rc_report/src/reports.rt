@@ -18,7 +18,7 @@ use std::alloc::{AllocError, Global};
 ///
 /// `OutOfMemory` (F1): memory was refused.
 pub fn report(alloc: Global, messages: &[Message]) -> Result<String, AllocError>
-    ensures ok { IfOk result (λ text. string_bytes text ≡ report messages.now) }
+    ensures { IfOk result (λ text. string_bytes text ≡ report messages.now) }
 {
     let found = audit(alloc, messages)?;
     report_of(alloc, messages, found)

@@ -46,7 +46,7 @@ pub fn dues<A: Allocator + Clone>(
     coordinator: &Coordinator<A>,
     seen: &Seen<'_>,
 ) -> Result<Vec<Due>, AllocError>
-    ensures dues { IfOk result (λ list. list.items ≡
+    ensures { IfOk result (λ list. list.items ≡
         dues coordinator.now seen.now.heard.now seen.now.silent.now seen.now.stuck.now) }
 {
     let tablets = coordinator.tablets(alloc)?;
@@ -84,7 +84,7 @@ fn decisions<A: Allocator + Clone>(
     coordinator: &Coordinator<A>,
     owners: &[ServerId],
 ) -> Result<Vec<Due>, AllocError>
-    ensures list { IfOk result (λ list. list.items ≡
+    ensures { IfOk result (λ list. list.items ≡
         map Due.Decide (filter (spec.is_ripe coordinator.now (up coordinator.now.servers)) owners.now)) }
 {
     let up = coordinator.servers().up(alloc)?;
@@ -98,7 +98,7 @@ fn ripe<A: Allocator + Clone>(
     up: &[ServerId],
     owners: &[ServerId],
 ) -> Result<Vec<Due>, AllocError>
-    ensures list { IfOk result (λ list. list.items ≡
+    ensures { IfOk result (λ list. list.items ≡
         map Due.Decide (filter (spec.is_ripe coordinator.now up.now) owners.now)) }
 {
     let list = owners

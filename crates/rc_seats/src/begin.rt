@@ -20,7 +20,7 @@ pub(crate) fn seats_of<N: Naming>(
     requires limits { IsWithinLimits setup.now }
     requires tokens { tokens.items ≡ new_places N.wire.nodes }
     requires few { N.wire.nodes ≤ 258 }
-    ensures seats { IfOk result (λ seats. seats.items ≡ new_seats N.wire.nodes) }
+    ensures { IfOk result (λ seats. seats.items ≡ new_seats N.wire.nodes) }
 {
     let mut tokens = tokens;
     let nodes = tokens.len();

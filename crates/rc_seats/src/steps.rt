@@ -148,7 +148,7 @@ fn deliver(
 
 /// A copy of a message, if there is one.
 pub(crate) fn copy_of(alloc: Global, found: Option<&Message>) -> Result<Option<Message>, AllocError>
-    ensures copy { IfOk result (λ copy. copy ≡ option_map (λ message. message.now) found.entry) }
+    ensures { IfOk result (λ copy. copy ≡ option_map (λ message. message.now) found.entry) }
 {
     match found {
         Some(message) => Ok(Some(message.try_clone(alloc)?)),

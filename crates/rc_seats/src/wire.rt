@@ -40,7 +40,7 @@ impl<N: Naming> Wire<N> {
         requires name { opening ≡ N.wire }
         requires limits { IsWithinLimits opening.setup }
         requires hosts { opening.nodes ≤ MAX_HOSTS + 2 }
-        ensures seats { IfOk result (λ made. made.1.items ≡ new_seats N.wire.nodes) }
+        ensures { IfOk result (λ made. made.1.items ≡ new_seats N.wire.nodes) }
     {
         let (journal, tokens) = Journal::open(alloc, opening)?;
         let seats = seats_of(alloc, journal.setup(), tokens)?;

@@ -72,7 +72,7 @@ impl ServerList {
         version: u32,
         rows: &[(ServerId, bool)],
     ) -> Result<ServerList, AllocError>
-        ensures ok { IfOk result (λ list. list ≡ from_rows version rows.now) }
+        ensures { IfOk result (λ list. list ≡ from_rows version rows.now) }
     {
         let mut first = IndexMap::with_capacity(alloc, rows.len())?;
         for (id, up) in rows {
@@ -87,7 +87,7 @@ impl ServerList {
 
     /// A copy, which equals the list. Only memory can be refused (F1).
     pub fn try_clone(&self, alloc: Global) -> Result<ServerList, AllocError>
-        ensures ok { IfOk result (λ copy. copy ≡ self.now) }
+        ensures { IfOk result (λ copy. copy ≡ self.now) }
     {
         let copy = self.rows.iter().map(|(id, up)| (*id, *up)).collect(alloc)?;
         Ok(ServerList {
@@ -155,7 +155,7 @@ impl ServerList {
 
     /// The ids that are up, by index and then by generation. Only memory can be refused (F1).
     pub fn up(&self, alloc: Global) -> Result<Vec<ServerId>, AllocError>
-        ensures ok { IfOk result (λ ids. ids.items ≡ up self.now) }
+        ensures { IfOk result (λ ids. ids.items ≡ up self.now) }
     {
         let mut ids = Vec::new(alloc);
         for (id, up) in self.rows.iter().rev() {

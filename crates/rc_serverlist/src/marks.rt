@@ -19,7 +19,7 @@ pub(crate) fn insert_if_unknown(
     id: ServerId,
     up: bool,
 ) -> Result<(), AllocError>
-    ensures ok { OnOk result (rows.new.entries ≡ (if knows rows.old.entries id then rows.old.entries
+    ensures { OnOk result (rows.new.entries ≡ (if knows rows.old.entries id then rows.old.entries
         else rows.old.entries ++ (id, up) ∷ [])) }
 {
     if !rows.contains_key(&id) {
@@ -97,7 +97,7 @@ fn place_before(ids: &[ServerId], id: ServerId) -> Option<usize>
 
 /// Puts the id before the first of the ids that it comes before.
 pub(crate) fn insert_in_order(ids: &mut Vec<ServerId>, id: ServerId) -> Result<(), AllocError>
-    ensures ok { OnOk result (ids.new.items ≡ insert_id id ids.old.items) }
+    ensures { OnOk result (ids.new.items ≡ insert_id id ids.old.items) }
 {
     let place = place_before(ids, id).unwrap_or(ids.len());
     ids.insert(place, id)?;

@@ -99,7 +99,7 @@ impl<T: PartialEq> PartialEq for Seq<T> {
 pub trait TryClone {
     /// The copy, made with this allocator.
     fn try_clone(&self, alloc: Global) -> Result<Self, AllocError>
-        ensures copy { IfOk result (λ c. c ≡ self.now) };
+        ensures { IfOk result (λ c. c ≡ self.now) };
 }
 
 impl TryClone for u8 {

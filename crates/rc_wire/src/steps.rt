@@ -22,7 +22,7 @@ pub(crate) fn own_work(
     step: &Step,
     name: NodeName,
 ) -> Result<Option<Work>, AllocError>
-    ensures copy { IfOk result (λ own. own ≡ own_work name step.now) }
+    ensures { IfOk result (λ own. own ≡ own_work name step.now) }
 {
     match step {
         Step::Do(who, work) if who.number() == name.number() => Ok(Some(copy_of(alloc, work)?)),
@@ -32,7 +32,7 @@ pub(crate) fn own_work(
 
 /// A copy of a work.
 fn copy_of(alloc: Global, work: &Work) -> Result<Work, AllocError>
-    ensures copy { IfOk result (λ copy. copy ≡ work.now) }
+    ensures { IfOk result (λ copy. copy ≡ work.now) }
 {
     Ok(match work {
         Work::Fetched => Work::Fetched,

@@ -187,7 +187,7 @@ impl Host {
 
     /// The names of the host's open replicas, in order of master and then of segment.
     pub(crate) fn open_names(&self) -> Result<Vec<(ServerId, u16)>, AllocError>
-        ensures ok { IfOk result (λ names. names.items ≡ open_names (host_of self.now).backup) }
+        ensures { IfOk result (λ names. names.items ≡ open_names (host_of self.now).backup) }
     {
         self.backup.open_names()
     }

@@ -93,7 +93,7 @@ impl<A: Allocator + Clone> Nodes<A> {
 
     /// The names of the host's open replicas, in order of master and then of segment.
     pub(crate) fn open_replicas(&self, host: u8) -> Result<Vec<(ServerId, u16)>, AllocError>
-        ensures ok { IfOk result (λ names. names.items ≡ open_names (hosts_in self.now host).backup) }
+        ensures { IfOk result (λ names. names.items ≡ open_names (hosts_in self.now host).backup) }
     {
         match self.hosts.get(&host) {
             Some(host) => host.open_names(),

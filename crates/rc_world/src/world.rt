@@ -168,7 +168,7 @@ impl<A: Allocator + Clone> World<A> {
     ///
     /// `OutOfMemory` (F1): the memory for the list was refused.
     pub fn open_replicas(&self, host: u8) -> Result<Vec<(ServerId, u16)>, AllocError>
-        ensures ok { IfOk result (λ names. names.items ≡ open_names ((replayed self.now).hosts host).backup) }
+        ensures { IfOk result (λ names. names.items ≡ open_names ((replayed self.now).hosts host).backup) }
     {
         self.nodes.open_replicas(host)
     }

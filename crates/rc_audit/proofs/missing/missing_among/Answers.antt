@@ -8,7 +8,7 @@ first_missing-requires-clause-superseded c =
     superseded_told _ c.args.evidence.now.messages.now (messages_in c.args.sent.now) (accepted_of c.args.recovery.now)
     c.requires.sent c.in_ok-highs.ensures.highs
 
-pub returns-clause-found : goal.returns-clause-found
-returns-clause-found c =
+pub returns : goal.returns
+returns c =
     missing_told c.args.evidence.now.messages.now (messages_in c.args.sent.now) (accepted_of c.args.recovery.now)
     c.first_missing.result c.requires.sent c.first_missing.ensures

@@ -10,4 +10,4 @@ pub loop-turn-preserved : goal.loop-turn-preserved
 loop-turn-preserved c =
     taking_more c.args.order.now c.args.highs.now c.loop-turn.turn-iterator c.next.new.self c.in-Some.turn.now
     c.loop-turn.noted c.take_turn.new.noted c.loop-turn.bars c.take_turn.new.bars c.in-Some.ensures.steps
-    c.loop-turn.invariant c.in_ok-take_turn.ensures.taken
+    c.loop-turn.invariant c.in_ok-take_turn.ensures

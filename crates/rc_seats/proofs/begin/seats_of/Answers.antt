@@ -55,8 +55,8 @@ loop-number-preserved g c =
           ∙ (ap (λ s. new_seats number ++ s ∷ []) (c.new.ensures ∙ ap new_seat c.seat_named.ensures) ∙ sym (seats-push number)));
     }
 
-pub returns-clause-seats : goal.returns-clause-seats
-returns-clause-seats g c =
+pub returns : goal.returns
+returns g c =
     let all : length c.args.tokens.items ≡ g.N.Naming.wire.nodes =
     ap length c.requires.tokens ∙ length-map-range_with_len new_place 0 g.N.Naming.wire.nodes in
     let last : c.loop-number.number ≡ g.N.Naming.wire.nodes =

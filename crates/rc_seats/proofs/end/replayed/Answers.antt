@@ -8,7 +8,7 @@ pub returns-clause-no_memory : goal.returns-clause-no_memory
 returns-clause-no_memory g c =
     let events = c.events.result.now in
     let stopped = c.in-Err.ensures.stopped in
-    let opened_is = c.new.ensures ∙ ap opened (c.in_ok-setup.ensures.copy ∙ c.setup.ensures) in
+    let opened_is = c.new.ensures ∙ ap opened (c.in_ok-setup.ensures ∙ c.setup.ensures) in
     ⊎_elim (λ (e : c.in-Err.fault ≡ OutOfMemory). e)
     (λ (e : c.in-Err.fault ≡ BadEvent).
     absurd (not-refused g.N.Naming.wire events c.in-Err.field-0-1 c.in-Err.field-0-0 c.events.ensures.history stopped.0

@@ -13,7 +13,7 @@ pub returns-in-Some-clause-ok : goal.returns-in-Some-clause-ok
 returns-in-Some-clause-ok g c =
     let step = c.index-steps-at.result in
     let own : own_work c.args.seat.now.name step ≡ Some c.in-Some.work =
-    ap (λ (n : NodeName). own_work n step) (sym c.name.ensures.name) ∙ (sym c.in_ok-work.ensures.copy ∙ c.in-Some.is) in
+    ap (λ (n : NodeName). own_work n step) (sym c.name.ensures.name) ∙ (sym c.in_ok-work.ensures ∙ c.in-Some.is) in
     on-ok c.take_step.result (λ takes start from p.
     progress-done g.N.Naming.wire.setup start c.args.steps.now c.args.at from c.args.seat.now c.take_step.new.seat step
     c.in-Some.work p c.requires.works (get-index c.args.steps.now c.args.at step c.requires.within c.index-steps-at.is) own takes)
@@ -23,7 +23,7 @@ pub returns-in-None-clause-ok : goal.returns-in-None-clause-ok
 returns-in-None-clause-ok g c =
     let step = c.index-steps-at.result in
     let other : own_work c.args.seat.now.name step ≡ None =
-    ap (λ (n : NodeName). own_work n step) (sym c.name.ensures.name) ∙ (sym c.in_ok-work.ensures.copy ∙ c.in-None.is) in
+    ap (λ (n : NodeName). own_work n step) (sym c.name.ensures.name) ∙ (sym c.in_ok-work.ensures ∙ c.in-None.is) in
     λ start from p. progress-skipped g.N.Naming.wire.setup start c.args.steps.now c.args.at from c.args.seat.now step p
     (get-index c.args.steps.now c.args.at step c.requires.within c.index-steps-at.is) other
 
@@ -59,7 +59,7 @@ returns-in-Some-clause-bad g c =
     let new = c.take_step.new.seat in
     let step = c.index-steps-at.result in
     let own : own_work seat.name step ≡ Some c.in-Some.work =
-    ap (λ (n : NodeName). own_work n step) (sym c.name.ensures.name) ∙ (sym c.in_ok-work.ensures.copy ∙ c.in-Some.is) in
+    ap (λ (n : NodeName). own_work n step) (sym c.name.ensures.name) ∙ (sym c.in_ok-work.ensures ∙ c.in-Some.is) in
     bad-then (IsRefused setup seat c.in-Some.work new)
     ((start : SeatData) (from : ℕ) → Progress setup start steps c.args.at from seat → CannotGoOn setup start steps new)
     c.take_step.result

@@ -8,4 +8,4 @@ pub returns-clause-ok : goal.returns-clause-ok
 returns-clause-ok g c =
     on_ok_weaker c.ask_each.result (λ asked. asked ∙ ap (λ those. c.args.messages.now.items ++ those)
     (asks-of_asked (state_view c.args.self.now) c.args.self.now.recoveries.current c.asked.result.now refl c.asked.ensures))
-    c.ask_each.ensures.ok
+    c.ask_each.ensures

@@ -27,8 +27,8 @@ invariant_of-result c = record {
       c.loop-piece.invariant.entries c.in_default.ensures c.split_piece.ensures.whole));
 }
 
-pub returns-clause-ok : goal.returns-clause-ok
-returns-clause-ok c =
+pub returns : goal.returns
+returns c =
     all-cut c.in_ok-first.first c.split_piece.result.0.now c.loop-piece.others.items c.loop-piece.rest.now
     c.split_piece.result.1.now c.args.entries.now c.in_ok-first.ensures.ok c.loop-piece.invariant.entries
     c.in_default.ensures c.split_piece.ensures.whole
