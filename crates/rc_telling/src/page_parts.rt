@@ -17,8 +17,8 @@ pub(crate) const HEAD: &str = r##"<!DOCTYPE html>
 @media (prefers-color-scheme: dark) {
   :root { --ground: #13161c; --ink: #e6e9f0; --soft: #9aa3b5; --line: #3a4150; --band: #2f4a76; --opening: #2a303b;
     --closing: #6b5220; --deposed: #6b2b27; --copy: #8d97ab; --message: #8fb0f0;
-    --good: #5fcf92; --bad: #ff8a80; --grant: #cf9cf2; --chosen: #4a3f12; --stale: #ffb454; --doubt: #4a3517;
-    --replaced: #5e2723; --panel: #1c2129; }
+    --good: #5fcf92; --bad: #ff8a80; --grant: #cf9cf2; --chosen: #4a3f12; --stale: #ffb454; --doubt: #7d5c22;
+    --replaced: #93423a; --panel: #1c2129; }
 }
 * { box-sizing: border-box; }
 body { margin: 0; padding: 12px; background: var(--ground); color: var(--ink);
