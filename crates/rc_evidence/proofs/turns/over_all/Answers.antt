@@ -3,7 +3,7 @@ use Rattle.rc_evidence.proofs.turns.over_all.Goals as goal
 
 pub loop-turn-init : goal.loop-turn-init
 loop-turn-init c = taking_begins c.args.order.now c.args.highs.now c.in_ok-turns.turns c.into_iter-turn-iterator.result
-    c.new-noted.result c.new-bars.result c.in_ok-turns.ensures.turns c.into_iter-turn-iterator.ensures.into_iter_gives.0
+    c.new-noted.result c.new-bars.result c.in_ok-turns.ensures c.into_iter-turn-iterator.ensures.into_iter_gives.0
     c.into_iter-turn-iterator.ensures.into_iter_gives.4 c.new-bars.ensures.empty
 
 pub loop-turn-preserved : goal.loop-turn-preserved

@@ -6,4 +6,4 @@ use Rattle.rc_coordinator.proofs.state.State.ready_ids.Goals as goal
 pub returns-clause-ok : goal.returns-clause-ok
 returns-clause-ok g c =
     filter_same _ (is_among c.args.self.now.ready) _ (λ x b f k. search (rules, tests)) _ _ c.retain.ensures.filtered
-    ∙ ap (filter (is_among c.args.self.now.ready)) c.in_ok-ids.ensures.ok
+    ∙ ap (filter (is_among c.args.self.now.ready)) c.in_ok-ids.ensures
