@@ -8,7 +8,7 @@ pub items-preserved : goal.items-preserved
 items-preserved c =
     let l = c.items in
     item_taken take_row (Some []) l.rows c.args.depth _ l.reader l.invariant row_of (added at_end l.rows) _ _ c.take_end_array.new.self _
-    (grind arith) c.in_ok-row.ensures c.in_ok-row.ensures.shorter (λ d. refl) c.in_ok-rows.ensures
+    (grind arith) c.in_ok-row.ensures.ok c.in_ok-row.ensures.shorter (λ d. refl) c.in_ok-rows.ensures
 
 pub returns-in_err-row-clause-bad : goal.returns-in_err-row-clause-bad
 returns-in_err-row-clause-bad c place is =
