@@ -21,10 +21,10 @@ loop-message-preserved c =
     let place = c.loop-message.message-index in
     let message = c.message-item.result in
     let after = c.reserve.new.self in
-    let k : c.number.result ≡ number_of (node_of message.to) = c.number.ensures.number ∙ ap number_of c.at.ensures in
+    let k : c.number.result ≡ number_of (node_of message.to) = c.number.ensures.is ∙ ap number_of c.at.ensures in
     let all : length lists ≡ NODE_NUMBERS =
     sym (length-map lists (λ list. list.items)) ∙ (ap length c.loop-message.invariant.same ∙ c.requires) in
-    let within : number_of (node_of message.to) < length lists = omega (arith, all, k, c.number.ensures.within) in
+    let within : number_of (node_of message.to) < length lists = omega (arith, all, k, c.number.ensures.few) in
     let at : slice_get messages place ≡ Some message =
     slice_get_read messages (length messages) place message refl c.loop-message-test.true c.message-item.is in
     record {
