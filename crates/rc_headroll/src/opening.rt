@@ -162,7 +162,8 @@ impl LogHead {
         let head = self.head();
         let mut digest = without_dead(alloc, self.newest().digest(), head, dead)?;
         digest.push(head + 1)?;
-        Shared::from_vec(alloc, digest)
+        let shared = Shared::from_vec(alloc, digest)?;
+        Ok(shared)
     }
 
     /// Opens a head with this digest on these members. With it comes room to keep how it was when a step began.
