@@ -56,12 +56,12 @@ const PATTERNS = '<defs><pattern id="hatched" width="4" height="4" patternUnits=
   '<pattern id="replaced" width="9" height="9" patternUnits="userSpaceOnUse" ' +
   'patternTransform="rotate(45)"><rect width="6" height="9" fill="var(--replaced)"/></pattern></defs>';
 
-// The picture. Only the rows that can be seen are drawn, and as many above and below, so that one can scroll a while.
+// The picture. Only the rows that can be seen are drawn, and some above and below, so that one can scroll a while.
 const view = byId("view"), headings = byId("heads"), picture = byId("picture"), space = byId("space");
 const ROW = 28, TOP = 44, RIGHT = 36, LONG = 400, NARROWEST = 76, FOLD = 22, FOLDS = 220;
 let left = 84, width = 0, thin = FOLD, full = 0, aside = 0, places = new Map();
-// where what is drawn begins, how tall it is, and how tall all would be; the first row that the heads were drawn for
-let begin = 0, tall = 0, all = 0, headed = -1, folded = () => false;
+// where what is drawn begins, how tall it is, and how tall all would be; what the heads are
+let begin = 0, tall = 0, all = 0, heading = "", folded = () => false;
 const x = (name) => places.get(name);
 const yOf = (row) => TOP + ROW * (row + 0.5) - begin;
 const y = (event) => yOf(rowOf[event]);
@@ -294,8 +294,8 @@ function copyText(bar) {
 
 // The heads stay at the top, and have what the servers are in the first row that is seen.
 function heads() {
-  headed = Math.min(Math.ceil(view.scrollTop / ROW), shown.length - 1);
-  const event = headed >= 0 ? shown[headed].event : 0, parts = [`<rect class="ground" width="${full}" height="${TOP}"/>`];
+  const row = Math.min(Math.ceil(view.scrollTop / ROW), shown.length - 1), event = row >= 0 ? shown[row].event : 0;
+  const parts = [`<rect class="ground" width="${full}" height="${TOP}"/>`];
   for (const name of columns) {
     const text = !folded(name) ? title(name) : thin < FOLD ? "" : "·";
     parts.push(`<text class="name" x="${x(name)}" y="17">${text}<title>${title(name)}</title></text>`);
@@ -307,17 +307,21 @@ function heads() {
   parts.push(`<rect class="ground" x="${aside}" width="${left - 4}" height="${TOP}"/>` +
     `<text class="place" x="${aside + 6}" y="${left < 84 ? 33 : 17}">at</text>` +
     `<text class="number" x="${aside + left - 8}" y="17">event</text>`);
-  headings.setAttribute("width", full);
-  headings.setAttribute("height", TOP);
-  headings.innerHTML = parts.join("");
+  if (parts.join("") !== heading) {
+    heading = parts.join("");
+    headings.setAttribute("width", full);
+    headings.setAttribute("height", TOP);
+    headings.innerHTML = heading;
+  }
 }
 
-// From which row to which one it is drawn.
+// From which row to which one it is drawn: so many times what is seen above it, and below it.
+const AROUND = 2;
 function reach() {
   const height = view.clientHeight;
   all = Math.max(TOP + ROW * (shown.length + 1), height);
-  begin = Math.max(0, Math.min(view.scrollTop - height, all - 3 * height));
-  tall = Math.min(3 * height, all - begin);
+  begin = Math.max(0, Math.min(view.scrollTop - AROUND * height, all - (2 * AROUND + 1) * height));
+  tall = Math.min((2 * AROUND + 1) * height, all - begin);
   aside = view.scrollLeft;
   return [Math.max(0, Math.floor((begin - TOP) / ROW) - 1),
     Math.min(shown.length - 1, Math.ceil((begin + tall - TOP) / ROW) + 1)];
@@ -361,7 +365,7 @@ function scrolled() {
   const height = view.clientHeight, above = view.scrollTop - begin, below = begin + tall - view.scrollTop - height;
   if (view.scrollLeft !== aside || (above < height / 2 && begin > 0) || (below < height / 2 && begin + tall < all)) {
     redraw();
-  } else if (Math.min(Math.ceil(view.scrollTop / ROW), shown.length - 1) !== headed) {
+  } else {
     heads();
   }
 }
