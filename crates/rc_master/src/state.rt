@@ -91,16 +91,16 @@ impl State {
     {
         add_append(self.alloc, &self.log, &entry, sent)?;
         self.ownership.note(self.alloc, &entry)?;
-        let appended = if client {
-            self.log.append_write(entry)
+        if client {
+            match self.log.append_write(entry) {
+                Ok(_) => Ok(()),
+                Err(fault) => Err(only_memory(fault)),
+            }
         } else {
-            self.log.append(entry)
-        };
-        match appended {
-            Ok(_) => Ok(()),
-            Err(Fault::OutOfMemory) => Err(AllocError),
-            // (the head takes entries and has room)
-            Err(_) => unreachable!(),
+            match self.log.append(entry) {
+                Ok(_) => Ok(()),
+                Err(fault) => Err(only_memory(fault)),
+            }
         }
     }
 
@@ -128,5 +128,15 @@ impl State {
             &self.ownership,
             sent,
         )
+    }
+}
+
+/// What was refused where the head takes entries and has room: that can be memory alone.
+fn only_memory(fault: Fault) -> AllocError
+    requires { fault ≡ OutOfMemory }
+{
+    match fault {
+        Fault::OutOfMemory => AllocError,
+        _ => unreachable!(),
     }
 }
