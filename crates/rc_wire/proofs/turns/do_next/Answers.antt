@@ -1,4 +1,5 @@
-use Rattle.std.proofs.Common.{◌≡◌, ℕ, Some, None, sym, ap, ◌∙◌}
+use Rattle.rc_types.specs.declared.faults.Fault.TheVariants.{OutOfMemory}
+use Rattle.std.proofs.Common.{◌≡◌, ℕ, Some, None, sym, ap, ◌∙◌, refl}
 use Rattle.std.specs.Prelude.{Err}
 use Rattle.std.proofs.lemmas.Result.{err_from_is_err_and}
 use Rattle.rc_seats.specs.SeatView.{SeatData}
@@ -48,8 +49,7 @@ returns-in_err-work-clause-bad g c =
     let steps = c.args.steps.now in
     let p = err_from_is_err_and c.from_residual.result c.from_residual.ensures.1 in
     bad-at ((start : SeatData) (from : ℕ) → Progress setup start steps c.args.at from seat → CannotGoOn setup start steps seat)
-    c.from_residual.result c.in_err-work.field-0.0 (p.1 ∙ ap Err p.2)
-    (memory-not-bad _ c.in_err-work.field-0.0 c.in_err-work.ensures.no_memory)
+    c.from_residual.result OutOfMemory (p.1 ∙ ap Err p.2) (memory-not-bad _ OutOfMemory refl)
 
 pub returns-in-Some-clause-bad : goal.returns-in-Some-clause-bad
 returns-in-Some-clause-bad g c =
