@@ -63,12 +63,7 @@ impl Sum {
         let mut pen = Pen::new(*text.allocator(), Spelling::Plain);
         tell_counts(&mut pen, &self.total);
         self.tell_outcomes(&mut pen);
-        tell_named(
-            &mut pen,
-            "rules-in-runs",
-            RULE_NAMES.iter().copied(),
-            &self.rules,
-        );
+        tell_named(&mut pen, "rules-in-runs", &RULE_NAMES, &self.rules);
         pen.put_all(
             "runs %\nbreaches %\n",
             &[Piece::U64(self.runs), Piece::U64(self.breaches)],

@@ -1,30 +1,38 @@
 //! The lines that tell what a run has reached.
 
-use crate::counts::Counts;
+use crate::counts::{BODIES, Counts, EVENTS};
 use crate::rules::RULE_NAMES;
 use rc_pen::{Pen, Piece};
 use rc_types::{EventKind, Kind};
 
+/// The names of the kinds of events, in the order in which they are counted.
+fn event_names() -> [&'static str; EVENTS] {
+    let mut names = [""; EVENTS];
+    for (at, kind) in EventKind::ALL.iter().enumerate() {
+        names[at] = kind.name();
+    }
+    names
+}
+
+/// The names of the kinds of messages, in the order in which they are counted.
+fn message_names() -> [&'static str; BODIES] {
+    let mut names = [""; BODIES];
+    for (at, kind) in Kind::ALL.iter().enumerate() {
+        names[at] = kind.name();
+    }
+    names
+}
+
 /// The lines of what was counted: the events, the messages and the refusals by kind, what came of them, and what was
 /// not reached.
 pub(crate) fn tell_counts(pen: &mut Pen, counts: &Counts) {
-    tell_named(
-        pen,
-        "events",
-        EventKind::ALL.iter().map(|kind| kind.name()),
-        &counts.events,
-    );
-    tell_named(
-        pen,
-        "messages",
-        Kind::ALL.iter().map(|kind| kind.name()),
-        &counts.bodies,
-    );
+    tell_named(pen, "events", &event_names(), &counts.events);
+    tell_named(pen, "messages", &message_names(), &counts.bodies);
     tell_refusals(pen, &counts.refused);
     tell_reached(pen, counts);
     tell_unreached(pen, counts);
     pen.put("unreached-rules");
-    tell_missing(pen, RULE_NAMES.iter().copied(), &counts.rules);
+    tell_missing(pen, &RULE_NAMES, &counts.rules);
     pen.put("\n");
 }
 
@@ -43,14 +51,9 @@ pub(crate) fn tell_count(pen: &mut Pen, name: &'static str, count: u64) {
 }
 
 /// A line of counts by name; where one is 0, it is left out.
-pub(crate) fn tell_named<N: Iterator<Item = &'static str> + Drop>(
-    pen: &mut Pen,
-    word: &str,
-    names: N,
-    counts: &[u64],
-) {
+pub(crate) fn tell_named(pen: &mut Pen, word: &str, names: &[&'static str], counts: &[u64]) {
     pen.put(word);
-    for (name, count) in names.zip(counts) {
+    for (name, count) in names.iter().zip(counts) {
         if *count > 0 {
             tell_count(pen, name, *count);
         }
@@ -72,11 +75,7 @@ fn tell_refusals(pen: &mut Pen, counts: &[u64]) {
 /// A line of all that has not been reached: kinds of messages that were never sent, and what never came of the events.
 fn tell_unreached(pen: &mut Pen, counts: &Counts) {
     pen.put("unreached");
-    tell_missing(
-        pen,
-        Kind::ALL.iter().map(|kind| kind.name()),
-        &counts.bodies,
-    );
+    tell_missing(pen, &message_names(), &counts.bodies);
     for (name, count) in &counts.outcomes() {
         if *count == 0 {
             pen.put(" ");
@@ -87,8 +86,8 @@ fn tell_unreached(pen: &mut Pen, counts: &Counts) {
 }
 
 /// The names whose count is 0.
-fn tell_missing<N: Iterator<Item = &'static str> + Drop>(pen: &mut Pen, names: N, counts: &[u64]) {
-    for (name, count) in names.zip(counts) {
+fn tell_missing(pen: &mut Pen, names: &[&'static str], counts: &[u64]) {
+    for (name, count) in names.iter().zip(counts) {
         if *count == 0 {
             pen.put(" ");
             pen.put(name);
