@@ -1,5 +1,6 @@
 //! The end of a wire.
 
+ghost use Rattle.rc_types.specs.declared.faults.Fault.TheVariants.{OutOfMemory};
 ghost use Rattle.std.specs.Prelude.{◌≡◌, All, IfOk};
 ghost use Rattle.rc_world.specs.HostView.{IsWithinLimits};
 ghost use Rattle.rc_journal.specs.Sound.{IsHistory};
@@ -24,9 +25,17 @@ pub(crate) fn replayed<N: Naming>(
     let setup = journal.setup().try_clone(alloc)?;
     match run(alloc, World::new(alloc, setup, alloc), journal.events()) {
         Ok(world) => Ok(world),
-        Err((_, _, Fault::OutOfMemory)) => Err(AllocError),
-        // (each event was possible when it was noted)
-        Err(_) => unreachable!(),
+        Err((_, _, fault)) => Err(only_memory(fault)),
+    }
+}
+
+/// What was refused where each event was possible when it was noted: that can be memory alone.
+fn only_memory(fault: Fault) -> AllocError
+    requires { fault ≡ OutOfMemory }
+{
+    match fault {
+        Fault::OutOfMemory => AllocError,
+        _ => unreachable!(),
     }
 }
 
