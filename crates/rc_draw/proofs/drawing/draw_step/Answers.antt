@@ -9,7 +9,7 @@ unfolding drawn_step
 returns-in-Some c =
     let world = replayed c.args.run.now in
     let same : Some c.in-Some.event ≡ event_of world c.args.number c.args.words =
-    sym c.in-Some.is ∙ c.in_ok-event.ensures.ok
+    sym c.in-Some.is ∙ c.in_ok-event.ensures
     ∙ ap (λ w. event_of (replayed w) c.args.number c.args.words) c.world.ensures.world in
     step_played c.play.result world (replayed c.play.new.run) c.in-Some.event
     (event_of world c.args.number c.args.words) same c.play.ensures
@@ -19,6 +19,6 @@ unfolding drawn_step
 returns-in-None c =
     let world = replayed c.args.run.now in
     let same : None ≡ event_of world c.args.number c.args.words =
-    sym c.in-None.is ∙ c.in_ok-event.ensures.ok
+    sym c.in-None.is ∙ c.in_ok-event.ensures
     ∙ ap (λ w. event_of (replayed w) c.args.number c.args.words) c.world.ensures.world in
     step_passed world (event_of world c.args.number c.args.words) same
