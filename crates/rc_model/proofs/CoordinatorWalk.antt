@@ -140,7 +140,7 @@ module _ (c : Coordinator) (H : Addr → Body → Type 0) (N M : Coordinator × 
       (λ both. w.begins new messages master n (and_parts (has_crashed new.servers master) (has_tablets new master) both).0)
       (λ _. subst (λ all. M (new, all)) (sym (append-nil messages)) (w.done new messages n))
 
-  walked-suspects : (id : ServerId) → M (suspects c id)
+  pub walked-suspects : (id : ServerId) → M (suspects c id)
   walked-suspects id =
       either M (is_up c.servers id) (spreads_then_begins (with_crashed c id) id) (begins_if_needed c id)
       (λ is. walked-begins (with_crashed c id) (spreads_list (with_crashed c id).servers) id (w.crashes id is))
@@ -196,7 +196,7 @@ module _ (c : Coordinator) (H : Addr → Body → Type 0) (N M : Coordinator × 
   walked-picks master attempt (Ok plan) [] is undecided e = s.refuses NotReady
   walked-picks master attempt (Ok plan) (id ∷ ids) is undecided e = w.decides master attempt plan id ids is undecided e
 
-  walked-decides : (master : ServerId) (found : Option Attempt) → attempt_at c (c.current master) ≡ found →
+  pub walked-decides : (master : ServerId) (found : Option Attempt) → attempt_at c (c.current master) ≡ found →
       M (decides_attempt c master found)
   walked-decides master None is = s.refuses StaleAttempt
   walked-decides master (Some attempt) is =
@@ -235,7 +235,7 @@ module _ (c : Coordinator) (H : Addr → Body → Type 0) (N M : Coordinator × 
       either M (is_up c.servers id) (grants_or_repeats c id number term (grant_to c id term)) (c, refuses_server id Deposed ∷ [])
       (λ is. walked-grants id number term (grant_to c id term) h is refl) (λ _. s.denies id Deposed refl)
 
-  walked-creates : (table : ℕ) (owner : ServerId) → M (creates c table owner)
+  pub walked-creates : (table : ℕ) (owner : ServerId) → M (creates c table owner)
   walked-creates table owner =
       either M (not (is_up c.servers owner && c.ready owner)) (c, coordinator_refuses NotReady ∷ [])
       (cond (has_table c.tablets table) (c, coordinator_refuses TableExists ∷ [])
@@ -249,7 +249,7 @@ module _ (c : Coordinator) (H : Addr → Body → Type 0) (N M : Coordinator × 
       (w.creates table owner (and_parts (is_up c.servers owner) (c.ready owner)
       (not-false (is_up c.servers owner && c.ready owner) able)).0 fresh)))
 
-  walked-splits : (table at : ℕ) (found : Option Tablet) → tablet_of c.tablets table at ≡ found →
+  pub walked-splits : (table at : ℕ) (found : Option Tablet) → tablet_of c.tablets table at ≡ found →
       M (splits_unless c table at (split_fault c.tablets at found))
   walked-splits table at None is = s.refuses NoTable
   walked-splits table at (Some tablet) is =
