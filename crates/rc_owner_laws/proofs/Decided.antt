@@ -3,10 +3,10 @@ use Rattle.std.proofs.Common.{◌≡◌, ◌⊎◌, ℕ, ◌+◌, ◌-◌, ◌<�
 use Rattle.std.proofs.Common.{◌&&◌, slice_set, Some, None, refl, sym, ap, ◌∙◌, subst, inl, inr, arith, nat_eq, Option}
 use Rattle.rc_model.specs.Model.{ServerId, Row, Part, Message, put_id, same_id, Attempt, Decision, GivenPart}
 use Rattle.rc_model.specs.Model.{from_coordinator, new_attempt, parts_of, begins_attempt, with_answer, In}
-use Rattle.rc_model.specs.Model.{part_in, part_if_current, is_current, grant_to, is_grant_to}
+use Rattle.rc_model.specs.Model.{Grant, part_in, part_if_current, is_current, grant_to, is_grant_to}
 use Rattle.rc_types.specs.declared.messages.Body.TheVariants.{Plan as PlanBody}
 use Rattle.rc_model.specs.Coordinator.{Coordinator}
-use Rattle.rc_model.proofs.Members.{In-get}
+use Rattle.rc_model.proofs.Members.{In-get, In-left}
 use Rattle.rc_model.proofs.Sending.{Each}
 use Rattle.rc_step_laws.proofs.Lists.{get-append, get-within, get-set}
 use Rattle.rc_owner_laws.specs.Grants.{IsDecided, GoodGrants, own_said, IsGiven}
@@ -47,6 +47,15 @@ given-in id (first ∷ parts) part at = by (same_id id first.to) refl (given-in 
         both p q j = record { to = p j; part = q j }
     by true e rec (inr rest) = inr (rec rest)
     by false e rec rest = inr (rec rest)
+
+-- what was given stays so with one more grant
+pub given-more : (grants : List Grant) (grant : Grant) (given : GivenPart) → IsGiven grants given → IsGiven (grants ++ grant ∷ []) given
+given-more grants grant given is = record {
+  grant = is.grant;
+  among = In-left is.grant grants (grant ∷ []) is.among;
+  term = is.term;
+  owner = is.owner;
+}
 
 -- Messages
 

@@ -32,7 +32,7 @@ use Rattle.rc_owner_laws.proofs.Tablets.{some-none, owner_at-marked, apart-marke
 use Rattle.rc_owner_laws.proofs.Tablets.{owner_at-beside, owner_at-before, apart-new, assigned-beside, assigned-within, apart-assigned}
 use Rattle.rc_owner_laws.proofs.Chains.{found-at, of_owner, apart-of_owner, IsPartOf, part-of, length-gives, parts-apart, part-once}
 use Rattle.rc_owner_laws.proofs.Granting.{kept-good, IsNewGrant, granted-good}
-use Rattle.rc_owner_laws.proofs.Decided.{gives, OwnSaid, plan-said, begun-good, answered-decided, newly-decided}
+use Rattle.rc_owner_laws.proofs.Decided.{gives, given-more, OwnSaid, plan-said, begun-good, answered-decided, newly-decided}
 use Rattle.rc_owner_laws.proofs.Decided.{IsSenders, senders, senders-decided, senders-open}
 use Rattle.rc_model.proofs.Ids.{same_id-true}
 use Rattle.rc_model.proofs.Tests.{true_false}
@@ -289,7 +289,7 @@ module _ (sent : List Message) (c : Coordinator) (base : GoodCoordinator sent c)
     elsewhere = λ other master decision decided current given at not_given table key within e.
         clash other master decision decided current given at not_given table key within e
         (first_same master mine.attempt.master given.part.previous part.previous
-        (sym (good.waiting other master decision decided current given at (λ old. not_given (more given old)) table key
+        (sym (good.waiting other master decision decided current given at (λ old. not_given (given-more c.grants (grant_of number id part) given old)) table key
         within) ∙ waits table key e));
   }
     where
@@ -309,14 +309,6 @@ module _ (sent : List Message) (c : Coordinator) (base : GoodCoordinator sent c)
         where
           one_pair : (p q : ServerId × ℕ) → Some p ≡ Some q → p ≡ q
           one_pair p q e = cc
-
-      more : (given : GivenPart) → IsGiven c.grants given → IsGiven (c.grants ++ grant_of number id part ∷ []) given
-      more given p = record {
-        grant = p.grant;
-        among = In-left p.grant c.grants (grant_of number id part ∷ []) p.among;
-        term = p.term;
-        owner = p.owner;
-      }
 
       clash : (other : ℕ) (master : ServerId) (decision : Decision) → IsDecided c.attempts other master decision →
           c.current master ≡ other → (given : GivenPart) → In given decision.parts →
@@ -363,21 +355,12 @@ module _ (sent : List Message) (c : Coordinator) (base : GoodCoordinator sent c)
     more = omega arith;
     up = λ gone. true_false (sym is_up_now ∙ crashed-not-up c.servers owner gone);
     elsewhere = λ number master decision decided current given at not_given other key within e.
-        some-none (sym (good.waiting number master decision decided current given at (λ old. not_given (more given old))
+        some-none (sym (good.waiting number master decision decided current given at (λ old. not_given (given-more c.grants (first_grant table owner (c.last_term + 1)) given old))
         other key within) ∙ before other key e);
   }
     where
       before : (other key : ℕ) → holds (whole_table table owner (c.last_term + 1)) other key ≡ true → owner_at c.tablets other key ≡ None
       before other key e = owner_at-before table (c.last_term + 1) other key owner c.tablets fresh e
-
-      more : (given : GivenPart) → IsGiven c.grants given → IsGiven (c.grants ++ first_grant table owner (c.last_term + 1) ∷ []) given
-      more given p = record {
-        grant = p.grant;
-        among = In-left p.grant c.grants
-            (first_grant table owner (c.last_term + 1) ∷ []) p.among;
-        term = p.term;
-        owner = p.owner;
-      }
 
   -- All of them
 
