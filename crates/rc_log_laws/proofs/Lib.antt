@@ -18,7 +18,7 @@ pub mod EachMaster
 pub mod Keeping
 pub mod KeptWorlds
 pub mod Crashing
-mod LeastPairs
+pub mod LeastPairs
 pub mod Silent
 pub mod Stays
 pub mod Walk
