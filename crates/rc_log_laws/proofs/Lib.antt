@@ -7,6 +7,7 @@ pub mod Granted
 pub mod Worlds
 pub mod MasterWorlds
 pub mod HostWorlds
+pub mod NodeWalk
 pub mod Replays
 pub mod Since
 pub mod Stored
