@@ -12,7 +12,7 @@ use Rattle.rc_model.specs.Model.{is_possible, node_done, job_done, step, replay_
 use Rattle.rc_types.specs.declared.ids.Addr.TheVariants.{Coordinator as AtCoordinator}
 use Rattle.rc_model.specs.Coordinator.{Coordinator}
 use Rattle.rc_model.proofs.Replays.{replay_from-push}
-use Rattle.rc_log_laws.proofs.Replays.{GoodWorld, IsGiven, work_of-given, to-coordinator-is, led-step, good-world}
+use Rattle.rc_log_laws.proofs.Replays.{GoodWorld, IsGiven, work_of-given, taken-at, led-step, good-world}
 use Rattle.rc_log_laws.proofs.LeastPairs.{WasTold, told-step}
 use Rattle.rc_write_laws.specs.CommitClaims.{CommitsAreInOrder, LeastPairsAreInOrder}
 use Rattle.rc_write_laws.proofs.Ordering.{commits-are-asked-in-order}
@@ -25,14 +25,9 @@ Asked sent c m pair = (pair ≡ c.least m) ⊎ In (to_coordinator m (Commit pair
 
 asked-step : (sent : List Message) (c : Coordinator) (work : Work) → IsGiven sent TheCoordinator work → (m : ServerId) →
     Asked sent c m ((coordinator_step c work).0.least m)
-asked-step sent c work given m = by (told-step c (λ from body. In (record { from = from; to = AtCoordinator; body = body }) sent) work hears m)
+asked-step sent c work given m =
+    by (told-step c (λ from body. In (record { from = from; to = AtCoordinator; body = body }) sent) work (taken-at sent work given) m)
   where
-    hears : (message : Message) → work ≡ Take message → In (record { from = message.from; to = AtCoordinator; body = message.body }) sent
-    hears message e =
-        let taken : IsGiven sent TheCoordinator (Take message) = subst (IsGiven sent TheCoordinator) e given in
-        subst (λ (to : Addr). In (record { from = message.from; to = to; body = message.body }) sent)
-        (to-coordinator-is message.to taken.1) taken.0
-
     by : WasTold c (λ from body. In (record { from = from; to = AtCoordinator; body = body }) sent)
         (coordinator_step c work).1 m ((coordinator_step c work).0.least m) →
         Asked sent c m ((coordinator_step c work).0.least m)
