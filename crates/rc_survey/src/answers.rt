@@ -1,10 +1,17 @@
 //! What a step has answered.
 
-use crate::replicas::Replica;
 use rc_types::{Addr, Body, Code, Message};
 
+/// What a backup answers of a replica.
+#[derive(Clone, Copy)]
+pub(crate) struct Stored {
+    pub(crate) epoch: u16,
+    pub(crate) len: usize,
+    pub(crate) closed: bool,
+}
+
 /// What was stored, as a backup answers it.
-pub(crate) fn stored_in(answer: &[Message]) -> Option<Replica> {
+pub(crate) fn stored_in(answer: &[Message]) -> Option<Stored> {
     for message in answer {
         if let Body::Stored {
             epoch,
@@ -13,7 +20,7 @@ pub(crate) fn stored_in(answer: &[Message]) -> Option<Replica> {
             ..
         } = &message.body
         {
-            return Some(Replica {
+            return Some(Stored {
                 epoch: *epoch,
                 len: *len,
                 closed: *closed,

@@ -1,44 +1,101 @@
 //! The rules that a backup reaches.
 
-use crate::answers::stored_in;
-use crate::replicas::Replica;
+use crate::answers::{Stored, stored_in};
 use crate::rules::Rule;
 use crate::surveying::Survey;
-use rc_types::{Body, Message, Seq, ServerId};
-use std::alloc::AllocError;
+use rc_backup::Held;
+use rc_types::{Body, Message, ServerId};
+use rc_world::World;
+use std::alloc::Global;
 
-/// A master's segment at a backup.
+/// What a backup keeps of a segment of a master.
 #[derive(Clone, Copy)]
 pub(crate) struct Kept {
-    pub(crate) backup: ServerId,
-    pub(crate) master: ServerId,
-    pub(crate) seg: u16,
+    /// Whether it has fenced the master.
+    is_fenced: bool,
+    /// Whether the segment was freed.
+    is_freed: bool,
+    /// How many entries its replica has, if it has an open one.
+    open: Option<usize>,
+}
+
+impl Kept {
+    /// What the backup keeps of this segment of the master.
+    pub(crate) fn at(world: &World<Global>, backup: ServerId, master: ServerId, seg: u16) -> Kept {
+        match held_of(world, backup, master) {
+            Some(held) => Kept {
+                is_fenced: held.is_fenced(),
+                is_freed: held.freed().contains(&seg),
+                open: open_len(held, seg),
+            },
+            None => Kept {
+                is_fenced: false,
+                is_freed: false,
+                open: None,
+            },
+        }
+    }
+}
+
+/// What the host of the backup keeps of the master, if anything.
+fn held_of(world: &World<Global>, backup: ServerId, master: ServerId) -> Option<&Held> {
+    world.backup(backup.index)?.kept().get(&master)
+}
+
+/// How many entries the replica of this segment has, if it is open.
+fn open_len(held: &Held, seg: u16) -> Option<usize> {
+    let replica = held.replicas().get(&seg)?;
+    match replica.is_closed() {
+        true => None,
+        false => Some(replica.len()),
+    }
+}
+
+/// Whether the backup has fenced the master.
+pub(crate) fn is_fenced(world: &World<Global>, backup: ServerId, master: ServerId) -> bool {
+    match world.backup(backup.index) {
+        Some(kept) => kept.is_fenced(master),
+        None => false,
+    }
+}
+
+/// How many open replicas the host has. All of its replicas are gone over, as a start does too.
+pub(crate) fn count_open(world: &World<Global>, host: u8) -> usize {
+    let mut count = 0usize;
+    if let Some(backup) = world.backup(host) {
+        for (_, held) in backup.kept() {
+            count = count.saturating_add(held.count_open());
+        }
+    }
+    count
+}
+
+/// Whether the host has a closed replica.
+fn has_closed(world: &World<Global>, host: u8) -> bool {
+    match world.backup(host) {
+        Some(backup) => backup
+            .kept()
+            .values()
+            .any(|held| held.count_open() < held.len()),
+        None => false,
+    }
 }
 
 impl Survey {
-    /// A Place, an Append or a Close has come to a backup that runs.
-    pub(crate) fn store(&mut self, kept: Kept, body: &Body, answer: &[Message]) {
+    /// A Place, an Append or a Close of a master has come to a backup that keeps this.
+    pub(crate) fn store(&mut self, kept: Kept, master: ServerId, body: &Body, answer: &[Message]) {
         match stored_in(answer) {
             Some(now) => self.stored(kept, body, now),
-            None => self.unanswered(kept, body),
-        }
-    }
-
-    /// It was not answered.
-    fn unanswered(&mut self, kept: Kept, body: &Body) {
-        if self.servers.has_fenced(kept.backup, kept.master) {
-            self.at_fence(kept.master, body);
-        } else if self.freed.has(kept.backup, kept.master, kept.seg) {
-            self.counts.reach(Rule::FreedMark);
-        } else {
-            self.counts.reach(Rule::AppendWithoutReplica);
+            None if kept.is_fenced => self.at_fence(master, body),
+            None if kept.is_freed => self.counts.reach(Rule::FreedMark),
+            None => self.counts.reach(Rule::AppendWithoutReplica),
         }
     }
 
     /// It has come to a backup that has fenced the master.
     fn at_fence(&mut self, master: ServerId, body: &Body) {
         self.counts.fenced = self.counts.fenced.saturating_add(1);
-        if !self.servers.is_suspected(master) {
+        if !self.memory.is_suspected(master) {
             return;
         }
         self.counts.reach(match body {
@@ -49,7 +106,7 @@ impl Survey {
     }
 
     /// It was answered that the replica is now so.
-    fn stored(&mut self, kept: Kept, body: &Body, now: Replica) {
+    fn stored(&mut self, kept: Kept, body: &Body, now: Stored) {
         match body {
             Body::Place { epoch, closed, .. } => {
                 self.counts
@@ -67,30 +124,20 @@ impl Survey {
     }
 
     /// So many entries were to be appended at this place.
-    fn appended(&mut self, kept: Kept, offset: usize, count: usize, now: Replica) {
+    fn appended(&mut self, kept: Kept, offset: usize, count: usize, now: Stored) {
         self.counts
             .reach_if(now.closed, Rule::AppendAtClosedReplica);
         self.counts
             .reach_if(now.len < offset, Rule::AppendAboveLength);
-        let Some(segment) = self.servers.segment(kept.master, kept.seg) else {
-            return;
-        };
-        if let Some(before) = segment.open_at(kept.backup.index) {
+        if let Some(len) = kept.open {
             self.counts.reach_if(
-                before.len >= offset.saturating_add(count),
+                len >= offset.saturating_add(count),
                 Rule::AppendOfKnownEntries,
             );
         }
     }
 
-    /// A Gather has come to a backup that runs.
-    pub(crate) fn gather(&mut self, backup: ServerId, master: ServerId) -> Result<(), AllocError> {
-        let again = self.servers.fence(backup, master)?;
-        self.counts.reach_if(again, Rule::GatherAgain);
-        Ok(())
-    }
-
-    /// A Fetch of so many entries has come to a backup that runs.
+    /// A Fetch of so many entries has come to a backup.
     pub(crate) fn fetch(&mut self, len: usize, answer: &[Message]) {
         for message in answer {
             if let Body::Data { entries, .. } = &message.body {
@@ -100,32 +147,17 @@ impl Survey {
         }
     }
 
-    /// A Free has come to a backup that runs.
-    pub(crate) fn free(&mut self, kept: Kept) -> Result<(), AllocError> {
-        if self.servers.has_fenced(kept.backup, kept.master) {
-            self.counts.reach(Rule::FreeAtFence);
-            return Ok(());
-        }
-        self.freed.add(kept.backup, kept.master, kept.seg)?;
-        self.servers
-            .drop_open(kept.backup.index, kept.master, kept.seg);
-        Ok(())
+    /// A Free has come to a backup that keeps this.
+    pub(crate) fn free(&mut self, kept: Kept) {
+        self.counts.reach_if(kept.is_fenced, Rule::FreeAtFence);
     }
 
-    /// A host is started, and keeps these of its open replicas.
-    pub(crate) fn start(
-        &mut self,
-        host: u8,
-        kept: &Seq<(ServerId, u16)>,
-    ) -> Result<(), AllocError> {
-        self.servers.start(host)?;
-        let restart = self.servers.keep(host, kept)?;
+    /// A host was started that had so many open replicas.
+    pub(crate) fn start(&mut self, host: u8, open: usize, world: &World<Global>) {
+        let left = count_open(world, host);
+        self.counts.reach_if(left > 0, Rule::RestartKeepsNamed);
+        self.counts.reach_if(left < open, Rule::RestartDropsUnnamed);
         self.counts
-            .reach_if(restart.keeps_named, Rule::RestartKeepsNamed);
-        self.counts
-            .reach_if(restart.drops_unnamed, Rule::RestartDropsUnnamed);
-        self.counts
-            .reach_if(restart.keeps_closed, Rule::RestartKeepsClosed);
-        Ok(())
+            .reach_if(has_closed(world, host), Rule::RestartKeepsClosed);
     }
 }

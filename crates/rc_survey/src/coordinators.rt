@@ -3,7 +3,7 @@
 use crate::answers::{gathers, is_refused};
 use crate::rules::Rule;
 use crate::surveying::Survey;
-use rc_types::{Body, Code, Message, Pair, PlanRow, Row, Seq, ServerId};
+use rc_types::{Body, Code, Message, Pair, Part, PlanRow, Row, Seq, ServerId};
 use std::alloc::AllocError;
 
 impl Survey {
@@ -39,7 +39,7 @@ impl Survey {
     fn commit(&mut self, from: ServerId, pair: Pair, answer: &[Message]) {
         if is_refused(answer, Code::Deposed) {
             self.counts.reach(Rule::CommitOfCrashed);
-        } else if pair < self.servers.least_of(from) {
+        } else if pair < self.memory.least_of(from) {
             self.counts.reach(Rule::LeastPairStays);
         }
     }
@@ -56,7 +56,7 @@ impl Survey {
         let Some(known) = self.recoveries.attempt(attempt) else {
             return Ok(());
         };
-        let least = self.servers.least_of(known.master);
+        let least = self.memory.least_of(known.master);
         if self.is_replaced(attempt) {
             self.counts.reach(Rule::AnswerOfReplacedAttempt);
             return Ok(());
@@ -69,7 +69,7 @@ impl Survey {
         let Some(known) = self.recoveries.attempt(attempt) else {
             return false;
         };
-        match self.servers.attempt_for(known.master) {
+        match self.memory.attempt_for(known.master) {
             Some(newest) => newest > attempt,
             None => false,
         }
@@ -95,5 +95,62 @@ impl Survey {
             self.counts
                 .reach_if(known.has_both(row.seg), Rule::ClosedRowFirst);
         }
+    }
+
+    /// What a message from the coordinator to a server tells.
+    pub(crate) fn learn_of_coordinator(
+        &mut self,
+        to: ServerId,
+        message: &Message,
+    ) -> Result<(), AllocError> {
+        match &message.body {
+            Body::Gather { attempt, master } => {
+                if self.recoveries.gather(*attempt, *master)? {
+                    let replaces = self.memory.recover(*master, *attempt)?;
+                    self.counts.reach_if(replaces, Rule::AttemptReplaced);
+                }
+            }
+            Body::Plan { parts, .. } => return self.plan(to, parts),
+            Body::CommitOk { seg, epoch } => {
+                if *epoch > 0 {
+                    self.counts.epochs = self.counts.epochs.saturating_add(1);
+                }
+                let pair = Pair {
+                    seg: *seg,
+                    epoch: *epoch,
+                };
+                self.memory.commit(to, pair)?;
+            }
+            Body::Own {
+                table,
+                lo,
+                hi,
+                term,
+                ..
+            } => self.own(*table, *lo, *hi, *term),
+            _ => {}
+        }
+        Ok(())
+    }
+
+    /// A plan was sent to a recovery master.
+    fn plan(&mut self, to: ServerId, parts: &Seq<Part>) -> Result<(), AllocError> {
+        for part in parts.as_slice() {
+            self.counts.reach_if(part.lo > 0, Rule::SplitRangeRecovered);
+            if self.recoveries.give(to, *part)? {
+                self.memory.await_part(to, *part)?;
+            }
+        }
+        Ok(())
+    }
+
+    /// A range was granted, for the first time or once more.
+    fn own(&mut self, table: u32, lo: u64, hi: u64, term: u32) {
+        self.recoveries.own(table, lo, hi, term);
+        if let Some(master) = self.recoveries.grant(term) {
+            self.counts.recovered = self.counts.recovered.saturating_add(1);
+            self.memory.grant(master, term);
+        }
+        self.counts.owners = self.counts.owners.max(self.recoveries.owners());
     }
 }

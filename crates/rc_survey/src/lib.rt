@@ -1,13 +1,14 @@
 //! What a run has reached: events, messages and refusals by kind, what came of them, and which rules of the protocol
 //! were reached.
 //!
-//! A survey is told each event with what it has sent, and looks at nothing else: neither at a node nor at a world. It
-//! notes what the messages tell of servers, replicas, segments and recoveries, and sees by that which rule a step has
-//! reached. "Explored events" in `docs/FORMATS.md` says of each rule what is counted. Nothing is claimed of the counts.
+//! A survey looks at a world before each event and after it: at the nodes that the event concerns, and at what it has
+//! sent. It keeps no node's state, and only a little that none shows. "Explored events" in `docs/FORMATS.md` says of
+//! each rule what is counted. Nothing is claimed of the counts.
 //!
-//! To be read in this order: `rules` and `counts`; `servers`, `replicas`, `logs` and `recoveries`, what is noted;
-//! `answers`, what a step sent; `backups`, `masters` and `coordinators`, the rules by who takes the event; `surveying`;
-//! `telling`, `runs` and `sums`, the lines of it; `goals`, what a run is to reach.
+//! To be read in this order: `rules` and `counts`; `sights`, what is seen before an event, and `steps`; `answers`, what
+//! a step sent; `memory` and `recoveries`, what is kept in mind; `backups`, `masters`, `segments` and `coordinators`,
+//! the rules by who takes the event; `surveying`; `telling`, `runs` and `sums`, the lines of it; `goals`, what a run is
+//! to reach.
 #![tactic(auto)]
 
 mod answers;
@@ -15,18 +16,20 @@ mod backups;
 mod coordinators;
 mod counts;
 mod goals;
-mod logs;
 mod masters;
+mod memory;
 mod recoveries;
-mod replicas;
 mod rules;
 mod runs;
-mod servers;
+mod segments;
+mod sights;
+mod steps;
 mod sums;
 mod surveying;
 mod telling;
 
 pub use counts::Counts;
 pub use goals::Goal;
+pub use sights::Sight;
 pub use sums::Sum;
 pub use surveying::Survey;

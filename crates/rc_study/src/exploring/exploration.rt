@@ -5,7 +5,7 @@ use crate::exploring::mail::Mail;
 use crate::exploring::options::Options;
 use crate::exploring::roster::{KEYS, Roster};
 use rand_pcg::Pcg32;
-use rc_survey::{Counts, Goal, Survey};
+use rc_survey::{Counts, Goal, Sight, Survey};
 use rc_types::{Addr, Body, Event, Fault, Seq, ServerId, Shared};
 use rc_world::World;
 use std::alloc::Global;
@@ -163,17 +163,18 @@ impl Exploration {
 
     /// One more event, if it is possible; and what it sends waits.
     fn take(&mut self, alloc: Global, event: &Event) -> Result<(), Fault> {
+        let sight = Sight::of(&self.world, event);
         match self.world.take(alloc, event) {
-            Ok(()) => self.notice(event),
+            Ok(()) => self.notice(&sight, event),
             Err(Fault::BadEvent) => Ok(()),
             Err(fault) => Err(fault),
         }
     }
 
-    /// Notes what was sent by this event.
-    fn notice(&mut self, event: &Event) -> Result<(), Fault> {
+    /// Notes what was sent by this event, before which this was seen.
+    fn notice(&mut self, sight: &Sight, event: &Event) -> Result<(), Fault> {
         let sent = self.world.sent();
-        self.survey.note(event, sent, self.noticed)?;
+        self.survey.note(sight, event, &self.world, self.noticed)?;
         if self.found.is_none() && is_reached(self.goal, self.survey.counts()) {
             self.found = Some(self.world.events().len().saturating_sub(1));
         }
