@@ -2,37 +2,29 @@
 
 use crate::answers::{Stored, stored_in};
 use crate::rules::Rule;
+use crate::sights::{Host, Seen};
+use crate::steps::Step;
 use crate::surveying::Survey;
-use rc_backup::Held;
+use rc_backup::{Backup, Held};
 use rc_types::{Body, Message, ServerId};
 use rc_world::World;
-use std::alloc::Global;
+use std::alloc::{AllocError, Global};
 
-/// What a backup keeps of a segment of a master.
+/// A master's segment at a backup.
 #[derive(Clone, Copy)]
 pub(crate) struct Kept {
-    /// Whether it has fenced the master.
-    is_fenced: bool,
-    /// Whether the segment was freed.
-    is_freed: bool,
-    /// How many entries its replica has, if it has an open one.
-    open: Option<usize>,
+    backup: ServerId,
+    master: ServerId,
+    seg: u16,
 }
 
 impl Kept {
-    /// What the backup keeps of this segment of the master.
-    pub(crate) fn at(world: &World<Global>, backup: ServerId, master: ServerId, seg: u16) -> Kept {
-        match held_of(world, backup, master) {
-            Some(held) => Kept {
-                is_fenced: held.is_fenced(),
-                is_freed: held.freed().contains(&seg),
-                open: open_len(held, seg),
-            },
-            None => Kept {
-                is_fenced: false,
-                is_freed: false,
-                open: None,
-            },
+    /// This segment of the master, at this backup.
+    pub(crate) fn new(backup: ServerId, master: ServerId, seg: u16) -> Kept {
+        Kept {
+            backup,
+            master,
+            seg,
         }
     }
 }
@@ -42,53 +34,84 @@ fn held_of(world: &World<Global>, backup: ServerId, master: ServerId) -> Option<
     world.backup(backup.index)?.kept().get(&master)
 }
 
-/// How many entries the replica of this segment has, if it is open.
-fn open_len(held: &Held, seg: u16) -> Option<usize> {
-    let replica = held.replicas().get(&seg)?;
+/// How many entries the host of the backup has of the master's segment, if its replica is open.
+pub(crate) fn open_len(
+    world: &World<Global>,
+    backup: ServerId,
+    master: ServerId,
+    seg: u16,
+) -> Option<usize> {
+    let replica = held_of(world, backup, master)?.replicas().get(&seg)?;
     match replica.is_closed() {
         true => None,
         false => Some(replica.len()),
     }
 }
 
-/// Whether the backup has fenced the master.
+/// Whether the master is fenced at the host of the backup.
 pub(crate) fn is_fenced(world: &World<Global>, backup: ServerId, master: ServerId) -> bool {
-    match world.backup(backup.index) {
-        Some(kept) => kept.is_fenced(master),
+    match held_of(world, backup, master) {
+        Some(held) => held.is_fenced(),
         None => false,
     }
 }
 
-/// How many open replicas the host has. All of its replicas are gone over, as a start does too.
-pub(crate) fn count_open(world: &World<Global>, host: u8) -> usize {
+/// Whether the master's segment was freed at the host of the backup.
+fn is_freed(world: &World<Global>, kept: Kept) -> bool {
+    match held_of(world, kept.backup, kept.master) {
+        Some(held) => held.freed().contains(&kept.seg),
+        None => false,
+    }
+}
+
+/// How many open replicas there are. All replicas are gone over, as a start of the host does too.
+pub(crate) fn count_open(backup: &Backup) -> usize {
     let mut count = 0usize;
-    if let Some(backup) = world.backup(host) {
-        for (_, held) in backup.kept() {
-            count = count.saturating_add(held.count_open());
-        }
+    for (_, held) in backup.kept() {
+        count = count.saturating_add(held.count_open());
     }
     count
 }
 
-/// Whether the host has a closed replica.
-fn has_closed(world: &World<Global>, host: u8) -> bool {
-    match world.backup(host) {
-        Some(backup) => backup
-            .kept()
-            .values()
-            .any(|held| held.count_open() < held.len()),
-        None => false,
+/// The masters that are fenced.
+pub(crate) fn fenced_by(alloc: Global, backup: &Backup) -> Result<Vec<ServerId>, AllocError> {
+    let mut fenced = Vec::new(alloc);
+    for (master, held) in backup.kept() {
+        if held.is_fenced() {
+            fenced.push(*master)?;
+        }
     }
+    Ok(fenced)
+}
+
+/// Whether there is a closed replica.
+fn has_closed(backup: &Backup) -> bool {
+    for (_, held) in backup.kept() {
+        if held.count_open() < held.len() {
+            return true;
+        }
+    }
+    false
 }
 
 impl Survey {
-    /// A Place, an Append or a Close of a master has come to a backup that keeps this.
-    pub(crate) fn store(&mut self, kept: Kept, master: ServerId, body: &Body, answer: &[Message]) {
+    /// A Place, an Append or a Close has come to a backup.
+    pub(crate) fn store(&mut self, step: Step<'_>, kept: Kept, body: &Body, answer: &[Message]) {
         match stored_in(answer) {
-            Some(now) => self.stored(kept, body, now),
-            None if kept.is_fenced => self.at_fence(master, body),
-            None if kept.is_freed => self.counts.reach(Rule::FreedMark),
-            None => self.counts.reach(Rule::AppendWithoutReplica),
+            Some(now) => self.stored(step, body, now),
+            None if step.world.is_running(kept.backup) => self.unanswered(step, kept, body),
+            None => {}
+        }
+    }
+
+    /// It was not answered.
+    fn unanswered(&mut self, step: Step<'_>, kept: Kept, body: &Body) {
+        if is_fenced(step.world, kept.backup, kept.master) {
+            self.at_fence(kept.master, body);
+        } else if is_freed(step.world, kept) {
+            self.counts.reach(Rule::FreedMark);
+        } else {
+            self.counts.reach(Rule::AppendWithoutReplica);
         }
     }
 
@@ -106,7 +129,7 @@ impl Survey {
     }
 
     /// It was answered that the replica is now so.
-    fn stored(&mut self, kept: Kept, body: &Body, now: Stored) {
+    fn stored(&mut self, step: Step<'_>, body: &Body, now: Stored) {
         match body {
             Body::Place { epoch, closed, .. } => {
                 self.counts
@@ -118,22 +141,29 @@ impl Survey {
                 offset,
                 entries,
                 ..
-            } => self.appended(kept, *offset, entries.len(), now),
+            } => self.appended(step, *offset, entries.len(), now),
             _ => self.counts.reach_if(!now.closed, Rule::CloseAtOtherLength),
         }
     }
 
     /// So many entries were to be appended at this place.
-    fn appended(&mut self, kept: Kept, offset: usize, count: usize, now: Stored) {
+    fn appended(&mut self, step: Step<'_>, offset: usize, count: usize, now: Stored) {
         self.counts
             .reach_if(now.closed, Rule::AppendAtClosedReplica);
         self.counts
             .reach_if(now.len < offset, Rule::AppendAboveLength);
-        if let Some(len) = kept.open {
+        if let Seen::Entries(len) = step.seen {
             self.counts.reach_if(
-                len >= offset.saturating_add(count),
+                *len >= offset.saturating_add(count),
                 Rule::AppendOfKnownEntries,
             );
+        }
+    }
+
+    /// A Gather has come to a backup: perhaps to one that has fenced the master already.
+    pub(crate) fn gather(&mut self, step: Step<'_>, answer: &[Message]) {
+        if let Seen::Fence = step.seen {
+            self.counts.reach_if(!answer.is_empty(), Rule::GatherAgain);
         }
     }
 
@@ -147,17 +177,26 @@ impl Survey {
         }
     }
 
-    /// A Free has come to a backup that keeps this.
-    pub(crate) fn free(&mut self, kept: Kept) {
-        self.counts.reach_if(kept.is_fenced, Rule::FreeAtFence);
+    /// A Free has come to a backup.
+    pub(crate) fn free(&mut self, step: Step<'_>, kept: Kept) {
+        let runs = step.world.is_running(kept.backup);
+        let fenced = is_fenced(step.world, kept.backup, kept.master);
+        self.counts.reach_if(runs && fenced, Rule::FreeAtFence);
     }
 
-    /// A host was started that had so many open replicas.
-    pub(crate) fn start(&mut self, host: u8, open: usize, world: &World<Global>) {
-        let left = count_open(world, host);
-        self.counts.reach_if(left > 0, Rule::RestartKeepsNamed);
-        self.counts.reach_if(left < open, Rule::RestartDropsUnnamed);
-        self.counts
-            .reach_if(has_closed(world, host), Rule::RestartKeepsClosed);
+    /// A host was started that stood so before.
+    pub(crate) fn start(&mut self, world: &World<Global>, host: &Host) -> Result<(), AllocError> {
+        if let Some(backup) = world.backup(host.server.index) {
+            let left = count_open(backup);
+            self.counts.reach_if(left > 0, Rule::RestartKeepsNamed);
+            self.counts
+                .reach_if(left < host.open, Rule::RestartDropsUnnamed);
+            self.counts
+                .reach_if(has_closed(backup), Rule::RestartKeepsClosed);
+        }
+        for master in &host.fenced {
+            self.memory.fence(host.server, *master)?;
+        }
+        Ok(())
     }
 }

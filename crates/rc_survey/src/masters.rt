@@ -7,17 +7,26 @@ use crate::segments::Stand;
 use crate::steps::{Kind, Step};
 use crate::surveying::Survey;
 use rc_headroll::{LogHead, Segment};
+use rc_master::Master;
 use rc_types::{Body, Code, Message, ServerId, Shared};
 use rc_world::World;
 use std::alloc::{AllocError, Global};
 
+/// The master of the server, if it runs.
+pub(crate) fn master_of(world: &World<Global>, id: ServerId) -> Option<&Master> {
+    match world.master(id.index) {
+        Some(master) if master.id() == id => Some(master),
+        _ => None,
+    }
+}
+
 /// The segment of the server's master, if it runs and has one of this number.
 pub(crate) fn segment_of(world: &World<Global>, id: ServerId, seg: u16) -> Option<&Segment> {
-    world.master(id.index)?.log().segment(seg)
+    master_of(world, id)?.log().segment(seg)
 }
 
 impl Survey {
-    /// A message for the master has come to a server that runs.
+    /// A message for a master has come to a server.
     pub(crate) fn ask(
         &mut self,
         step: Step<'_>,
@@ -57,7 +66,7 @@ impl Survey {
         let Some(version) = version_read(answer) else {
             return;
         };
-        if let Some(known) = step.world.master(master.index) {
+        if let Some(known) = master_of(step.world, master) {
             let newest = newest_version(known.log(), table, key);
             self.counts
                 .reach_if(version < newest, Rule::ReadBeforeStored);
@@ -76,7 +85,7 @@ impl Survey {
 
     /// An epoch of a segment is committed.
     fn committed(&mut self, step: Step<'_>, id: ServerId, seg: u16, epoch: u16) {
-        let Some(master) = step.world.master(id.index) else {
+        let Some(master) = master_of(step.world, id) else {
             return;
         };
         if let Some(segment) = master.log().segment(seg) {
@@ -95,10 +104,13 @@ impl Survey {
         rows: &Shared<(ServerId, bool)>,
         answer: &[Message],
     ) -> Result<(), AllocError> {
-        if !self.memory.list(master, version)? {
-            self.counts.reach(Rule::StaleList);
-        } else if let Some(stand) = step.stand() {
+        let Some(stand) = step.stand() else {
+            return Ok(());
+        };
+        if self.memory.list(master, version)? {
             self.not_replaced(stand, rows, answer);
+        } else {
+            self.counts.reach(Rule::StaleList);
         }
         Ok(())
     }
@@ -148,9 +160,18 @@ impl Survey {
         };
         let mut fenced = true;
         for member in segment.config().members() {
-            fenced = fenced && is_fenced(world, member.id, master);
+            fenced = fenced && self.has_fenced(world, member.id, master);
         }
         self.counts.reach_if(!fenced, Rule::ZombieAcknowledges);
+    }
+
+    /// Whether the backup has fenced the master, or had when its host was started once more.
+    fn has_fenced(&self, world: &World<Global>, backup: ServerId, master: ServerId) -> bool {
+        if world.newest(backup.index) == backup.generation {
+            is_fenced(world, backup, master)
+        } else {
+            self.memory.had_fenced(backup, master)
+        }
     }
 }
 

@@ -22,6 +22,8 @@ struct Remembered {
     is_suspected: bool,
     /// The greatest version of a list that it was given. A master does not show its list.
     list: u32,
+    /// Whom it had fenced when its host was started once more. No node keeps that.
+    fenced: Vec<ServerId>,
     /// The Close that it has sent last. A segment knows those of its present epoch alone.
     closing: Option<Closing>,
     /// Its segments with entries of a recovered log, ascending. Else its log would have to be gone over.
@@ -40,6 +42,7 @@ impl Remembered {
         Remembered {
             is_suspected: false,
             list: 0,
+            fenced: Vec::new(alloc),
             closing: None,
             replayed: Vec::new(alloc),
             waiting: Vec::new(alloc),
@@ -94,6 +97,20 @@ impl Memory {
     pub(crate) fn is_suspected(&self, id: ServerId) -> bool {
         match self.servers.get(&id) {
             Some(server) => server.is_suspected,
+            None => false,
+        }
+    }
+
+    /// The backup had fenced the master when its host was started once more.
+    pub(crate) fn fence(&mut self, backup: ServerId, master: ServerId) -> Result<(), AllocError> {
+        self.of(backup)?.fenced.push(master)?;
+        Ok(())
+    }
+
+    /// Whether the backup had fenced the master when its host was started once more.
+    pub(crate) fn had_fenced(&self, backup: ServerId, master: ServerId) -> bool {
+        match self.servers.get(&backup) {
+            Some(server) => server.fenced.contains(&master),
             None => false,
         }
     }

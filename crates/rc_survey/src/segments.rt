@@ -75,12 +75,17 @@ pub(crate) struct Placed<'a> {
 }
 
 impl Survey {
-    /// A master has placed a segment. That one is a new head, or a shut segment of which only a list makes someone a
-    /// new member, or has a new epoch; else a member is reminded.
+    /// A master has placed a segment. Where members are not replaced, only a new head is placed.
     pub(crate) fn placed(&mut self, step: Step<'_>, placed: Placed<'_>) {
-        let Some(stand) = step.stand() else {
-            return;
-        };
+        match step.stand() {
+            Some(stand) => self.placed_among(step, placed, stand),
+            None => self.opened(step, placed),
+        }
+    }
+
+    /// A master whose log stood so has placed a segment: a new head; a shut one, of which only a list makes someone a
+    /// new member; or one under a new epoch. Else a member is reminded.
+    fn placed_among(&mut self, step: Step<'_>, placed: Placed<'_>, stand: &Stand) {
         if placed.seg > stand.head {
             self.opened(step, placed);
         } else if placed.closed {

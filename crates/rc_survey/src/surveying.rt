@@ -1,5 +1,6 @@
 //! The survey of a run, event by event.
 
+use crate::backups::Kept;
 use crate::counts::Counts;
 use crate::memory::Memory;
 use crate::recoveries::Recoveries;
@@ -13,6 +14,7 @@ use std::alloc::{AllocError, Global};
 
 /// What a run has reached so far, and what has to be kept in mind to see more.
 pub struct Survey {
+    pub(crate) alloc: Global,
     pub(crate) counts: Counts,
     pub(crate) memory: Memory,
     pub(crate) recoveries: Recoveries,
@@ -21,6 +23,7 @@ pub struct Survey {
 impl Drop for Survey {
     fn drop(self) {
         let Survey {
+            alloc: _,
             counts: _,
             memory: _,
             recoveries: _,
@@ -32,6 +35,7 @@ impl Survey {
     /// Nothing has happened.
     pub fn new(alloc: Global) -> Survey {
         Survey {
+            alloc,
             counts: Counts::new(),
             memory: Memory::new(alloc),
             recoveries: Recoveries::new(alloc),
@@ -86,7 +90,7 @@ impl Survey {
         }
         match (event, step.seen) {
             (Event::Tick(_), _) => self.counts.reach_if(!answer.is_empty(), Rule::TickRepeats),
-            (Event::Start { host, .. }, Seen::Open(open)) => self.start(*host, *open, step.world),
+            (_, Seen::Host(host)) => self.start(step.world, host)?,
             (Event::Suspect(id), _) => self.memory.suspect(*id)?,
             (Event::Decide(_), _) => self.decide(answer),
             _ => {}
@@ -101,20 +105,33 @@ impl Survey {
         message: &Message,
         answer: &[Message],
     ) -> Result<(), AllocError> {
-        let body = &message.body;
-        match (message.from, message.to, step.seen) {
-            (Addr::Server(master), _, Seen::Kept(kept)) => match body {
-                Body::Free { .. } => self.free(*kept),
-                _ => self.store(*kept, master, body, answer),
-            },
-            (_, _, Seen::Fence(again)) => self.counts.reach_if(*again, Rule::GatherAgain),
-            (_, Addr::Server(to), Seen::Stand(_)) => return self.ask(step, to, body, answer),
-            (Addr::Server(from), Addr::Coordinator, _) => return self.report(from, body, answer),
-            _ => {
-                if let Body::Fetch { len, .. } = body {
-                    self.fetch(*len, answer);
-                }
+        match (message.from, message.to) {
+            (from, Addr::Server(to)) => self.at_server(step, from, to, &message.body, answer),
+            (Addr::Server(from), Addr::Coordinator) => self.report(from, &message.body, answer),
+            _ => Ok(()),
+        }
+    }
+
+    /// What a delivery to a server has reached.
+    fn at_server(
+        &mut self,
+        step: Step<'_>,
+        from: Addr,
+        to: ServerId,
+        body: &Body,
+        answer: &[Message],
+    ) -> Result<(), AllocError> {
+        match (from, body) {
+            (
+                Addr::Server(master),
+                Body::Place { seg, .. } | Body::Append { seg, .. } | Body::Close { seg, .. },
+            ) => self.store(step, Kept::new(to, master, *seg), body, answer),
+            (Addr::Server(master), Body::Free { seg }) => {
+                self.free(step, Kept::new(to, master, *seg));
             }
+            (_, Body::Gather { .. }) => self.gather(step, answer),
+            (_, Body::Fetch { len, .. }) => self.fetch(*len, answer),
+            _ => return self.ask(step, to, body, answer),
         }
         Ok(())
     }

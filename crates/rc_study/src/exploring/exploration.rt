@@ -163,7 +163,7 @@ impl Exploration {
 
     /// One more event, if it is possible; and what it sends waits.
     fn take(&mut self, alloc: Global, event: &Event) -> Result<(), Fault> {
-        let sight = Sight::of(&self.world, event);
+        let sight = self.survey.look(&self.world, event)?;
         match self.world.take(alloc, event) {
             Ok(()) => self.notice(&sight, event),
             Err(Fault::BadEvent) => Ok(()),
