@@ -55,6 +55,16 @@ pub(crate) fn gathers(answer: &[Message]) -> bool {
     false
 }
 
+/// Whether a Plan was sent.
+pub(crate) fn plans(answer: &[Message]) -> bool {
+    for message in answer {
+        if let Body::Plan { .. } = &message.body {
+            return true;
+        }
+    }
+    false
+}
+
 /// Whether a segment was placed.
 pub(crate) fn places(answer: &[Message], wanted: u16) -> bool {
     for message in answer {

@@ -1,19 +1,45 @@
 //! The rules that the coordinator reaches.
 
-use crate::answers::{gathers, is_refused};
+use crate::answers::{gathers, is_refused, plans};
+use crate::found::Found;
 use crate::rules::Rule;
+use crate::sights::Seen;
+use crate::steps::Step;
 use crate::surveying::Survey;
-use rc_types::{Body, Code, Message, Pair, Part, PlanRow, Row, Seq, ServerId};
-use std::alloc::AllocError;
+use rc_attempts::Attempt;
+use rc_attempts::least::least_of;
+use rc_attempts::numbers::{attempt_of, current_number};
+use rc_types::{Addr, Body, Code, Message, Pair, Part, PlanRow, Seq, ServerId};
+use rc_world::World;
+use std::alloc::{AllocError, Global};
+
+/// The number of the newest attempt to recover the master, 0 if there is none.
+pub(crate) fn newest_attempt(world: &World<Global>, master: ServerId) -> u32 {
+    current_number(world.coordinator().current(), master)
+}
+
+/// The attempt of this number.
+fn attempt_in(world: &World<Global>, number: u32) -> Option<&Attempt> {
+    attempt_of(world.coordinator().attempts(), number)
+}
+
+/// Whether the attempt was replaced by a later one of the same master.
+fn is_replaced(world: &World<Global>, number: u32) -> bool {
+    match attempt_in(world, number) {
+        Some(attempt) => newest_attempt(world, attempt.master()) > number,
+        None => false,
+    }
+}
 
 impl Survey {
     /// A message of a server has come to the coordinator.
     pub(crate) fn report(
         &mut self,
+        step: Step<'_>,
         from: ServerId,
         body: &Body,
         answer: &[Message],
-    ) -> Result<(), AllocError> {
+    ) {
         match body {
             Body::Enlist => {
                 let stale = is_refused(answer, Code::StaleGeneration);
@@ -26,74 +52,83 @@ impl Survey {
                     seg: *seg,
                     epoch: *epoch,
                 };
-                self.commit(from, pair, answer);
+                self.commit(step.world, from, pair, answer);
             }
-            Body::Recovered { attempt, .. } => self.recovered(*attempt, answer),
-            Body::Replicas { attempt, rows } => return self.replicas(*attempt, rows),
+            Body::Recovered { attempt, .. } => {
+                let late = is_refused(answer, Code::StaleAttempt);
+                self.counts.reach_if(
+                    late && is_replaced(step.world, *attempt),
+                    Rule::RecoveredOfReplacedAttempt,
+                );
+            }
+            Body::Replicas { attempt, .. } => self.counts.reach_if(
+                is_replaced(step.world, *attempt),
+                Rule::AnswerOfReplacedAttempt,
+            ),
             _ => {}
         }
-        Ok(())
     }
 
-    /// A pair was to be committed.
-    fn commit(&mut self, from: ServerId, pair: Pair, answer: &[Message]) {
+    /// A pair was to be committed. Where it is below the least pair now, it was so before.
+    fn commit(&mut self, world: &World<Global>, from: ServerId, pair: Pair, answer: &[Message]) {
         if is_refused(answer, Code::Deposed) {
             self.counts.reach(Rule::CommitOfCrashed);
-        } else if pair < self.memory.least_of(from) {
+        } else if pair < least_of(world.coordinator().least(), from) {
             self.counts.reach(Rule::LeastPairStays);
         }
     }
 
-    /// A part was recovered.
-    fn recovered(&mut self, attempt: u32, answer: &[Message]) {
-        if is_refused(answer, Code::StaleAttempt) && self.is_replaced(attempt) {
-            self.counts.reach(Rule::RecoveredOfReplacedAttempt);
+    /// The master is suspected.
+    pub(crate) fn suspect(&mut self, step: Step<'_>, master: ServerId) -> Result<(), AllocError> {
+        if let Seen::Attempt(number) = step.seen {
+            self.counts.reach_if(
+                newest_attempt(step.world, master) > *number,
+                Rule::AttemptReplaced,
+            );
         }
+        self.memory.suspect(master)
     }
 
-    /// A backup has answered what it holds.
-    fn replicas(&mut self, attempt: u32, rows: &Seq<Row>) -> Result<(), AllocError> {
-        let Some(known) = self.recoveries.attempt(attempt) else {
+    /// The recovery of a master is to be decided.
+    pub(crate) fn decide(
+        &mut self,
+        world: &World<Global>,
+        master: ServerId,
+        answer: &[Message],
+    ) -> Result<(), AllocError> {
+        if !plans(answer) {
+            return Ok(());
+        }
+        let Some(attempt) = attempt_in(world, newest_attempt(world, master)) else {
             return Ok(());
         };
-        let least = self.memory.least_of(known.master);
-        if self.is_replaced(attempt) {
-            self.counts.reach(Rule::AnswerOfReplacedAttempt);
-            return Ok(());
-        }
-        self.recoveries.answer(attempt, rows, least)
-    }
-
-    /// Whether the attempt was replaced by a later one of the same master.
-    fn is_replaced(&self, attempt: u32) -> bool {
-        let Some(known) = self.recoveries.attempt(attempt) else {
-            return false;
-        };
-        match self.memory.attempt_for(known.master) {
-            Some(newest) => newest > attempt,
-            None => false,
-        }
-    }
-
-    /// A recovery was decided.
-    pub(crate) fn decide(&mut self, answer: &[Message]) {
+        let least = least_of(world.coordinator().least(), master);
+        let found = Found::of(self.alloc, attempt, least)?;
         for message in answer {
-            if let Body::Plan { attempt, rows, .. } = &message.body {
-                self.planned(*attempt, rows);
-            }
+            self.decided(&found, message)?;
         }
+        Ok(())
     }
 
-    /// The attempt has a plan with these rows.
-    fn planned(&mut self, attempt: u32, rows: &Seq<PlanRow>) {
-        let Some(known) = self.recoveries.attempt(attempt) else {
-            return;
+    /// It was decided, after this was found, and this was sent.
+    fn decided(&mut self, found: &Found, message: &Message) -> Result<(), AllocError> {
+        let (Addr::Server(to), Body::Plan { rows, parts, .. }) = (message.to, &message.body) else {
+            return Ok(());
         };
+        self.planned(found, rows);
+        for part in parts.as_slice() {
+            self.memory.await_part(to, *part)?;
+        }
+        Ok(())
+    }
+
+    /// A plan with these rows was made of what was found.
+    fn planned(&mut self, found: &Found, rows: &Seq<PlanRow>) {
         self.counts
-            .reach_if(known.has_stale, Rule::OpenRowBelowLeastPair);
+            .reach_if(found.has_stale(), Rule::OpenRowBelowLeastPair);
         for row in rows.as_slice() {
             self.counts
-                .reach_if(known.has_both(row.seg), Rule::ClosedRowFirst);
+                .reach_if(found.has_both(row.seg), Rule::ClosedRowFirst);
         }
     }
 
@@ -104,53 +139,41 @@ impl Survey {
         message: &Message,
     ) -> Result<(), AllocError> {
         match &message.body {
-            Body::Gather { attempt, master } => {
-                if self.recoveries.gather(*attempt, *master)? {
-                    let replaces = self.memory.recover(*master, *attempt)?;
-                    self.counts.reach_if(replaces, Rule::AttemptReplaced);
-                }
-            }
-            Body::Plan { parts, .. } => return self.plan(to, parts),
-            Body::CommitOk { seg, epoch } => {
-                if *epoch > 0 {
-                    self.counts.epochs = self.counts.epochs.saturating_add(1);
-                }
-                let pair = Pair {
-                    seg: *seg,
-                    epoch: *epoch,
-                };
-                self.memory.commit(to, pair)?;
+            Body::Plan { parts, .. } => self.given(parts),
+            Body::CommitOk { epoch, .. } if *epoch > 0 => {
+                self.counts.epochs = self.counts.epochs.saturating_add(1);
             }
             Body::Own {
                 table,
                 lo,
                 hi,
                 term,
+                attempt,
                 ..
-            } => self.own(*table, *lo, *hi, *term),
+            } => {
+                self.owners.own(*table, *lo, *hi, *term);
+                self.counts.owners = self.counts.owners.max(self.owners.most());
+                if *attempt > 0 {
+                    self.granted(to, *term)?;
+                }
+            }
             _ => {}
         }
         Ok(())
     }
 
-    /// A plan was sent to a recovery master.
-    fn plan(&mut self, to: ServerId, parts: &Seq<Part>) -> Result<(), AllocError> {
+    /// Parts of a plan were sent.
+    fn given(&mut self, parts: &Seq<Part>) {
         for part in parts.as_slice() {
             self.counts.reach_if(part.lo > 0, Rule::SplitRangeRecovered);
-            if self.recoveries.give(to, *part)? {
-                self.memory.await_part(to, *part)?;
-            }
         }
-        Ok(())
     }
 
-    /// A range was granted, for the first time or once more.
-    fn own(&mut self, table: u32, lo: u64, hi: u64, term: u32) {
-        self.recoveries.own(table, lo, hi, term);
-        if let Some(master) = self.recoveries.grant(term) {
+    /// The part of this term was granted, for the first time or once more.
+    fn granted(&mut self, to: ServerId, term: u32) -> Result<(), AllocError> {
+        if self.memory.grant(to, term)? {
             self.counts.recovered = self.counts.recovered.saturating_add(1);
-            self.memory.grant(master, term);
         }
-        self.counts.owners = self.counts.owners.max(self.recoveries.owners());
+        Ok(())
     }
 }

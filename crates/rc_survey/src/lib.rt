@@ -6,19 +6,20 @@
 //! each rule what is counted. Nothing is claimed of the counts.
 //!
 //! To be read in this order: `rules` and `counts`; `sights`, what is seen before an event, and `steps`; `answers`, what
-//! a step sent; `memory` and `recoveries`, what is kept in mind; `backups`, `masters`, `segments` and `coordinators`,
-//! the rules by who takes the event; `surveying`; `telling`, `runs` and `sums`, the lines of it; `goals`, what a run is
-//! to reach.
+//! a step sent; `memory` and `owners`, what is kept in mind; `backups`, `masters`, `segments` and `coordinators`, with
+//! `found`, the rules by who takes the event; `surveying`; `telling`, `runs` and `sums`, the lines of it; `goals`, what
+//! a run is to reach.
 #![tactic(auto)]
 
 mod answers;
 mod backups;
 mod coordinators;
 mod counts;
+mod found;
 mod goals;
 mod masters;
 mod memory;
-mod recoveries;
+mod owners;
 mod rules;
 mod runs;
 mod segments;

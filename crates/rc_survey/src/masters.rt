@@ -4,6 +4,7 @@ use crate::answers::{acknowledged, places, refusal_in, version_read};
 use crate::backups::is_fenced;
 use crate::rules::Rule;
 use crate::segments::Stand;
+use crate::sights::Seen;
 use crate::steps::{Kind, Step};
 use crate::surveying::Survey;
 use rc_headroll::{LogHead, Segment};
@@ -104,13 +105,13 @@ impl Survey {
         rows: &Shared<(ServerId, bool)>,
         answer: &[Message],
     ) -> Result<(), AllocError> {
-        let Some(stand) = step.stand() else {
-            return Ok(());
-        };
-        if self.memory.list(master, version)? {
-            self.not_replaced(stand, rows, answer);
-        } else {
-            self.counts.reach(Rule::StaleList);
+        match step.seen {
+            Seen::OldList => self.counts.reach(Rule::StaleList),
+            Seen::Stand(stand) => {
+                self.not_replaced(stand, rows, answer);
+                self.memory.list(master, version)?;
+            }
+            _ => {}
         }
         Ok(())
     }
@@ -138,7 +139,7 @@ impl Survey {
                 version,
                 ..
             } => {
-                let replayed = *version > 1 && self.recoveries.has_part(*term);
+                let replayed = *version > 1 && self.memory.is_recovered(*term);
                 self.counts.reach_if(replayed, Rule::VersionGoesOn);
                 if self.memory.is_suspected(from) {
                     self.zombie(step.world, from, *seg);

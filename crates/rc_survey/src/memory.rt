@@ -1,11 +1,8 @@
 //! What no node shows, or only to whoever goes over all that it has: a little of each server.
 
-use rc_types::{Pair, Part, ServerId, Shared};
+use rc_types::{Part, ServerId, Shared};
 use std::alloc::{AllocError, Global};
-use std::collections::HashMap;
-
-/// No pair is below it.
-const LEAST: Pair = Pair { seg: 0, epoch: 0 };
+use std::collections::{HashMap, HashSet};
 
 /// The epoch under which a segment was closed.
 #[derive(Clone, Copy)]
@@ -26,14 +23,10 @@ struct Remembered {
     fenced: Vec<ServerId>,
     /// The Close that it has sent last. A segment knows those of its present epoch alone.
     closing: Option<Closing>,
-    /// Its segments with entries of a recovered log, ascending. Else its log would have to be gone over.
-    replayed: Vec<u16>,
+    /// Its segments with entries of a recovered log. Else its log would have to be gone over.
+    replayed: HashSet<u16>,
     /// The parts of plans that it was given and that were not granted. Else all parts would have to be gone over.
     waiting: Vec<Part>,
-    /// The least pair of its log.
-    least: Pair,
-    /// The newest attempt to recover it.
-    attempt: Option<u32>,
 }
 
 impl Remembered {
@@ -44,10 +37,8 @@ impl Remembered {
             list: 0,
             fenced: Vec::new(alloc),
             closing: None,
-            replayed: Vec::new(alloc),
+            replayed: HashSet::new(alloc),
             waiting: Vec::new(alloc),
-            least: LEAST,
-            attempt: None,
         }
     }
 
@@ -58,7 +49,7 @@ impl Remembered {
 
     /// Whether one of these segments has entries of a recovered log.
     fn has_replayed(&self, segs: &[u16]) -> bool {
-        self.replayed.iter().any(|seg| segs.contains(seg))
+        segs.iter().any(|seg| self.replayed.contains(seg))
     }
 }
 
@@ -67,6 +58,8 @@ impl Remembered {
 pub(crate) struct Memory {
     alloc: Global,
     servers: HashMap<ServerId, Remembered>,
+    /// The terms under which parts were granted. A master does not tell by its term what was recovered.
+    recovered: HashSet<u32>,
 }
 
 impl Memory {
@@ -75,6 +68,7 @@ impl Memory {
         Memory {
             alloc,
             servers: HashMap::new(alloc),
+            recovered: HashSet::new(alloc),
         }
     }
 
@@ -115,12 +109,18 @@ impl Memory {
         }
     }
 
-    /// The server is given a list of this version: whether that is a greater one than it had.
-    pub(crate) fn list(&mut self, id: ServerId, version: u32) -> Result<bool, AllocError> {
-        let server = self.of(id)?;
-        let is_newer = version > server.list;
-        server.list = server.list.max(version);
-        Ok(is_newer)
+    /// Whether a list of this version is a greater one than the server was given.
+    pub(crate) fn is_newer(&self, id: ServerId, version: u32) -> bool {
+        match self.servers.get(&id) {
+            Some(server) => version > server.list,
+            None => version > 0,
+        }
+    }
+
+    /// The server is given a list of this version.
+    pub(crate) fn list(&mut self, id: ServerId, version: u32) -> Result<(), AllocError> {
+        self.of(id)?.list = version;
+        Ok(())
     }
 
     /// The master closes a segment under this epoch: whether it has done so under an earlier one.
@@ -136,12 +136,9 @@ impl Memory {
         }
     }
 
-    /// An entry of a recovered log is appended to the master's segment, its newest one.
+    /// Entries of a recovered log are appended to the master's segment.
     pub(crate) fn replay(&mut self, master: ServerId, seg: u16) -> Result<(), AllocError> {
-        let server = self.of(master)?;
-        if server.replayed.last() != Some(&seg) {
-            server.replayed.push(seg)?;
-        }
+        self.of(master)?.replayed.insert(seg)?;
         Ok(())
     }
 
@@ -159,11 +156,17 @@ impl Memory {
         Ok(())
     }
 
-    /// The master is granted the part of this term.
-    pub(crate) fn grant(&mut self, master: ServerId, term: u32) {
+    /// The master is granted the part of this term: whether that is the first time.
+    pub(crate) fn grant(&mut self, master: ServerId, term: u32) -> Result<bool, AllocError> {
         if let Some(server) = self.servers.get_mut(&master) {
             server.waiting.retain(|part| part.term != term);
         }
+        Ok(self.recovered.insert(term)?)
+    }
+
+    /// Whether a part was granted under this term.
+    pub(crate) fn is_recovered(&self, term: u32) -> bool {
+        self.recovered.contains(&term)
     }
 
     /// Whether the master was given a part with this key that was not granted.
@@ -172,30 +175,5 @@ impl Memory {
             Some(server) => server.awaits(table, key),
             None => false,
         }
-    }
-
-    /// A pair of the master's log is committed.
-    pub(crate) fn commit(&mut self, master: ServerId, pair: Pair) -> Result<(), AllocError> {
-        let server = self.of(master)?;
-        server.least = server.least.max(pair);
-        Ok(())
-    }
-
-    /// The least pair of the master's log.
-    pub(crate) fn least_of(&self, master: ServerId) -> Pair {
-        match self.servers.get(&master) {
-            Some(server) => server.least,
-            None => LEAST,
-        }
-    }
-
-    /// An attempt to recover the master has begun: whether it replaces an earlier one.
-    pub(crate) fn recover(&mut self, master: ServerId, attempt: u32) -> Result<bool, AllocError> {
-        Ok(self.of(master)?.attempt.replace(attempt).is_some())
-    }
-
-    /// The newest attempt to recover the master, if there is one.
-    pub(crate) fn attempt_for(&self, master: ServerId) -> Option<u32> {
-        self.servers.get(&master)?.attempt
     }
 }

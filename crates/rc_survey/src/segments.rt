@@ -2,6 +2,7 @@
 
 use crate::masters::segment_of;
 use crate::rules::Rule;
+use crate::sights::Seen;
 use crate::steps::{Kind, Step};
 use crate::surveying::Survey;
 use rc_config::MemberIds;
@@ -75,21 +76,22 @@ pub(crate) struct Placed<'a> {
 }
 
 impl Survey {
-    /// A master has placed a segment. Where members are not replaced, only a new head is placed.
+    /// A master has placed a segment. Where it has neither obeyed a newer list nor reminded anyone, that is a new head.
     pub(crate) fn placed(&mut self, step: Step<'_>, placed: Placed<'_>) {
-        match step.stand() {
-            Some(stand) => self.placed_among(step, placed, stand),
-            None => self.opened(step, placed),
+        match step.seen {
+            Seen::Stand(stand) => self.placed_by_list(step, placed, stand),
+            Seen::Head(head) if placed.seg <= *head => {}
+            _ => self.opened(step, placed),
         }
     }
 
-    /// A master whose log stood so has placed a segment: a new head; a shut one, of which only a list makes someone a
-    /// new member; or one under a new epoch. Else a member is reminded.
-    fn placed_among(&mut self, step: Step<'_>, placed: Placed<'_>, stand: &Stand) {
+    /// A master whose log stood so has obeyed a newer list, and placed a segment: a new head; a shut one, at a new
+    /// member; or one under a new epoch.
+    fn placed_by_list(&mut self, step: Step<'_>, placed: Placed<'_>, stand: &Stand) {
         if placed.seg > stand.head {
             self.opened(step, placed);
         } else if placed.closed {
-            self.counts.reach_if(step.kind == Kind::List, Rule::Refill);
+            self.counts.reach(Rule::Refill);
         } else if let Some(before) = stand.before(placed.seg, placed.epoch) {
             self.changed(step, placed, before, stand.head);
         }
@@ -121,18 +123,18 @@ impl Survey {
         }
     }
 
-    /// A master has sent an entry at this place.
-    pub(crate) fn sent_entry(
+    /// A master has sent entries of a segment. Those of clients are sent as they are written, and the timer only sends
+    /// entries again, so else they are of a recovered log.
+    pub(crate) fn sent_entries(
         &mut self,
         step: Step<'_>,
         master: ServerId,
         seg: u16,
-        offset: usize,
     ) -> Result<(), AllocError> {
-        if step.kind != Kind::Write && is_replayed(step, master, seg, offset) {
-            self.memory.replay(master, seg)?;
+        match step.kind {
+            Kind::Write | Kind::Tick => Ok(()),
+            _ => self.memory.replay(master, seg),
         }
-        Ok(())
     }
 
     /// A master has sent a Close of a segment.
@@ -157,17 +159,6 @@ fn is_first(step: Step<'_>, placed: Placed<'_>) -> bool {
     };
     match segment.config().members().first() {
         Some(member) => member.id == placed.backup,
-        None => false,
-    }
-}
-
-/// Whether the entry at this place is of a recovered log.
-fn is_replayed(step: Step<'_>, master: ServerId, seg: u16, offset: usize) -> bool {
-    let Some(segment) = segment_of(step.world, master, seg) else {
-        return false;
-    };
-    match segment.entries().get(offset) {
-        Some((_, is_written)) => !*is_written,
         None => false,
     }
 }

@@ -1,6 +1,5 @@
 //! A step that was taken.
 
-use crate::segments::Stand;
 use crate::sights::Seen;
 use rc_types::{Body, Event, Message};
 use rc_world::World;
@@ -11,7 +10,6 @@ use std::alloc::Global;
 pub(crate) enum Kind {
     Write,
     Stored,
-    List,
     Tick,
     Other,
 }
@@ -28,7 +26,6 @@ impl Kind {
         match &message.body {
             Body::Write { .. } => Kind::Write,
             Body::Stored { .. } => Kind::Stored,
-            Body::List { .. } => Kind::List,
             _ => Kind::Other,
         }
     }
@@ -40,14 +37,4 @@ pub(crate) struct Step<'a> {
     pub(crate) kind: Kind,
     pub(crate) seen: &'a Seen,
     pub(crate) world: &'a World<Global>,
-}
-
-impl<'a> Step<'a> {
-    /// How the log of the master stood that has taken the step, if one has.
-    pub(crate) fn stand(self) -> Option<&'a Stand> {
-        match self.seen {
-            Seen::Stand(stand) => Some(stand),
-            _ => None,
-        }
-    }
 }

@@ -3,7 +3,7 @@
 use crate::backups::Kept;
 use crate::counts::Counts;
 use crate::memory::Memory;
-use crate::recoveries::Recoveries;
+use crate::owners::Owners;
 use crate::rules::Rule;
 use crate::segments::Placed;
 use crate::sights::{Seen, Sight};
@@ -17,7 +17,7 @@ pub struct Survey {
     pub(crate) alloc: Global,
     pub(crate) counts: Counts,
     pub(crate) memory: Memory,
-    pub(crate) recoveries: Recoveries,
+    pub(crate) owners: Owners,
 }
 
 impl Drop for Survey {
@@ -26,7 +26,7 @@ impl Drop for Survey {
             alloc: _,
             counts: _,
             memory: _,
-            recoveries: _,
+            owners: _,
         } = self;
     }
 }
@@ -38,7 +38,7 @@ impl Survey {
             alloc,
             counts: Counts::new(),
             memory: Memory::new(alloc),
-            recoveries: Recoveries::new(alloc),
+            owners: Owners::new(),
         }
     }
 
@@ -91,8 +91,8 @@ impl Survey {
         match (event, step.seen) {
             (Event::Tick(_), _) => self.counts.reach_if(!answer.is_empty(), Rule::TickRepeats),
             (_, Seen::Host(host)) => self.start(step.world, host)?,
-            (Event::Suspect(id), _) => self.memory.suspect(*id)?,
-            (Event::Decide(_), _) => self.decide(answer),
+            (Event::Suspect(id), _) => self.suspect(step, *id)?,
+            (Event::Decide(id), _) => self.decide(step.world, *id, answer)?,
             _ => {}
         }
         Ok(())
@@ -107,7 +107,10 @@ impl Survey {
     ) -> Result<(), AllocError> {
         match (message.from, message.to) {
             (from, Addr::Server(to)) => self.at_server(step, from, to, &message.body, answer),
-            (Addr::Server(from), Addr::Coordinator) => self.report(from, &message.body, answer),
+            (Addr::Server(from), Addr::Coordinator) => {
+                self.report(step, from, &message.body, answer);
+                Ok(())
+            }
             _ => Ok(()),
         }
     }
@@ -178,7 +181,7 @@ impl Survey {
                 );
                 Ok(())
             }
-            Body::Append { seg, offset, .. } => self.sent_entry(step, from, *seg, *offset),
+            Body::Append { seg, .. } => self.sent_entries(step, from, *seg),
             Body::Close { seg, .. } => self.closed(step, from, *seg),
             _ => Ok(()),
         }

@@ -9,6 +9,7 @@ ghost use Rattle.rc_model.specs.Tables.{put};
 ghost use Rattle.rc_model.specs.Backup.{open_names};
 ghost use Rattle.rc_model.specs.Nodes.{Take, Tick, Stop, Start, host_can, is_running_at};
 ghost use Rattle.rc_model.specs.World.{opening, is_possible};
+ghost use Rattle.rc_coordinator.specs.Book.{coordinator_of};
 ghost use Rattle.rc_coordinator.specs.Steps.{steps, HasNumbers};
 ghost use Rattle.rc_backup.specs.BackupView.{backup_of};
 ghost use Rattle.rc_master.specs.Data.{master_of};
@@ -89,6 +90,13 @@ impl<A: Allocator + Clone> Nodes<A> {
             Some(host) if host.generation() > 0 => Some(host.backup()),
             _ => None,
         }
+    }
+
+    /// The coordinator.
+    pub(crate) fn coordinator(&self) -> &Coordinator<A>
+        ensures { coordinator_of result.now ≡ coordinator_in self.now }
+    {
+        &self.coordinator
     }
 
     /// The names of the host's open replicas, in order of master and then of segment.
