@@ -97,6 +97,13 @@ same-config : (servers : ServerList) (config : Config) → are_marked servers co
 same-config servers config marked =
     ap (λ (ms : List Member). record config { members = ms }) (marked-same servers config.members marked)
 
+is-memory : Fault → Bool
+is-memory OutOfMemory = true
+is-memory _ = false
+
+not-memory : NoBackups ≡ OutOfMemory → ⊥
+not-memory e = false≢true (ap is-memory e)
+
 module _ (own : ServerId) (servers : ServerList) (config : Config) where
   refill-marked : are_marked servers config.members ≡ true →
       refill own servers config ≡ refills_with config (substitutes_for own servers config)
@@ -109,14 +116,14 @@ module _ (own : ServerId) (servers : ServerList) (config : Config) where
   none-found (Some ids) new fault e =
       absurd (false≢true (sym (ap (λ (r : Config × Result (List ServerId) Fault). is_ok r.1) e)))
 
-  -- it was tried, and refused for another reason than memory
-  pub helpless-from : (new : Config) (fault : Fault) (same : Type 0) → are_marked servers config.members ≡ true →
-      ((fault ≡ OutOfMemory) × same) ⊎ (refill own servers config ≡ (new, Err fault)) → (fault ≡ OutOfMemory → ⊥) →
-      is_helpless own servers config ≡ true
-  helpless-from new fault same marked (inl memory) other = absurd (other memory.0)
-  helpless-from new fault same marked (inr e) other =
+  -- it was tried, and there was nobody
+  pub helpless-from : (tried new : Config) (same : Type 0) → tried ≡ config → are_marked servers config.members ≡ true →
+      ((NoBackups ≡ OutOfMemory) × same) ⊎ (refill own servers tried ≡ (new, Err NoBackups)) → is_helpless own servers config ≡ true
+  helpless-from tried new same is marked (inl memory) = absurd (not-memory memory.0)
+  helpless-from tried new same is marked (inr e) =
       and_from (are_marked servers config.members) (is_none (substitutes_for own servers config)) marked
-      (none-found (substitutes_for own servers config) new fault (sym (refill-marked marked) ∙ e))
+      (none-found (substitutes_for own servers config) new NoBackups
+      (sym (refill-marked marked) ∙ ap (refill own servers) (sym is) ∙ e))
 
   refused : (found : Option (List ServerId)) → is_none found ≡ true → refills_with config found ≡ (config, Err NoBackups)
   refused None none = refl
