@@ -1,7 +1,7 @@
-use Rattle.std.proofs.Common.{◌≡◌, true, false, ap, sym, ◌∙◌, subst}
+use Rattle.std.proofs.Common.{◌≡◌, true, false, ap, sym, ◌∙◌}
 use Rattle.std.specs.List.{list_all}
 use Rattle.rc_model.specs.Model.{Member, any_lost}
-use Rattle.rc_headroll.specs.Watching.{is_under}
+use Rattle.rc_headroll.specs.Watching.{Watched, is_under}
 use Rattle.rc_headroll.proofs.WatchLemmas.{found-whole}
 use Rattle.rc_headroll.proofs.watch.Watch.file.Goals as goal
 
@@ -12,4 +12,9 @@ returns-clause-filed c = λ is.
     let filed : list_all (λ member. is_under c.file_under_all.new.filed.entries member.id c.args.seg) c.args.config.now.members ≡ true =
     ap (list_all (λ (member : Member). is_under c.file_under_all.new.filed.entries member.id c.args.seg)) (sym c.members-2.ensures)
     ∙ c.in_ok-file_under_all.ensures.filed in
-    found-whole c.args.own _ c.args.seg c.args.config.now none filed
+    let watch : Watched = record {
+      awake = c.self.inside.awake;
+      filed = c.file_under_all.new.filed.entries;
+      stuck = c.self.inside.stuck;
+    } in
+    found-whole c.args.own watch c.args.seg c.args.config.now none filed
