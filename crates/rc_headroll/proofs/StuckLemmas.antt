@@ -117,12 +117,13 @@ module _ (own : ServerId) (servers : ServerList) (config : Config) where
       absurd (false≢true (sym (ap (λ (r : Config × Result (List ServerId) Fault). is_ok r.1) e)))
 
   -- it was tried, and there was nobody
-  pub helpless-from : (tried new : Config) (same : Type 0) → tried ≡ config → are_marked servers config.members ≡ true →
-      ((NoBackups ≡ OutOfMemory) × same) ⊎ (refill own servers tried ≡ (new, Err NoBackups)) → is_helpless own servers config ≡ true
-  helpless-from tried new same is marked (inl memory) = absurd (not-memory memory.0)
-  helpless-from tried new same is marked (inr e) =
+  pub helpless-from : (tried new : Config) (fault : Fault) (same : Type 0) → fault ≡ NoBackups → tried ≡ config →
+      are_marked servers config.members ≡ true → ((fault ≡ OutOfMemory) × same) ⊎ (refill own servers tried ≡ (new, Err fault)) →
+      is_helpless own servers config ≡ true
+  helpless-from tried new fault same nobody is marked (inl memory) = absurd (not-memory (sym nobody ∙ memory.0))
+  helpless-from tried new fault same nobody is marked (inr e) =
       and_from (are_marked servers config.members) (is_none (substitutes_for own servers config)) marked
-      (none-found (substitutes_for own servers config) new NoBackups
+      (none-found (substitutes_for own servers config) new fault
       (sym (refill-marked marked) ∙ ap (refill own servers) (sym is) ∙ e))
 
   refused : (found : Option (List ServerId)) → is_none found ≡ true → refills_with config found ≡ (config, Err NoBackups)
