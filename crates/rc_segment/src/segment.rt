@@ -194,7 +194,8 @@ impl Segment {
     pub fn wants_nothing(&self) -> bool
         ensures { result ≡ wants_nothing self.now }
     {
-        self.shut && (self.config.is_committed() && (self.freed || have_told(self.config.members())))
+        self.shut
+            && (self.config.is_committed() && (self.freed || have_told(self.config.members())))
     }
 
     /// Whether a member is lost, or the list shows one crashed.
