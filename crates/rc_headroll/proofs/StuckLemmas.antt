@@ -97,7 +97,7 @@ same-config : (servers : ServerList) (config : Config) → are_marked servers co
 same-config servers config marked =
     ap (λ (ms : List Member). record config { members = ms }) (marked-same servers config.members marked)
 
-is-memory : Fault → Bool
+abbrev is-memory : Fault → Bool
 is-memory OutOfMemory = true
 is-memory _ = false
 
