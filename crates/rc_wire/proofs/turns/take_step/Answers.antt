@@ -13,8 +13,8 @@ returns-in_err-commit-clause-err g c =
     (grows-prepared g.N.Naming.wire.setup c.args.seat.now c.args.work c.prepare.new.self c.in_ok-prepare.ensures.ok)
     (grows-later c.prepare.new.self c.commit.new.seat c.in_err-commit.ensures.err))
 
-pub returns-in_ok-after_commit-clause-ok : goal.returns-in_ok-after_commit-clause-ok
-returns-in_ok-after_commit-clause-ok g c =
+pub returns-clause-ok : goal.returns-clause-ok
+returns-clause-ok g c =
     (takes-committed g.N.Naming.wire.setup c.args.seat.now c.args.work c.prepare.new.self c.in_ok-commit.field-0 c.commit.new.seat
     c.in_ok-prepare.ensures.ok c.in_ok-commit.ensures.ok)
 
