@@ -6,9 +6,8 @@ use crate::network::Network;
 use crate::node::Node;
 use crate::outcome::Counts;
 use crate::told::Told;
-use crate::who::Who;
 use rc_codec::{DecodeFault, decode_message};
-use rc_types::{Body, Fault, Message, NodeWork, Seq, ServerId};
+use rc_types::{Body, Fault, Message, NodeName, NodeWork, Seq, ServerId};
 use rc_world::{NodeState, StepFault};
 use std::alloc::Global;
 
@@ -51,10 +50,10 @@ impl Cluster {
     pub(crate) fn new(alloc: Global, seed: u64) -> Cluster {
         Cluster {
             nodes: [
-                Node::new(alloc, Who::Host(0)),
-                Node::new(alloc, Who::Host(1)),
-                Node::new(alloc, Who::Host(2)),
-                Node::new(alloc, Who::Coordinator),
+                Node::new(alloc, NodeName::Host(0)),
+                Node::new(alloc, NodeName::Host(1)),
+                Node::new(alloc, NodeName::Host(2)),
+                Node::new(alloc, NodeName::Coordinator),
             ],
             outside: NodeState::outside(alloc),
             network: Network::new(alloc),

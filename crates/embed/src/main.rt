@@ -9,10 +9,12 @@
 //! counts.
 //!
 //! To be read in this order: `node`, a node in its process; `disk`, its files; `cluster`, all nodes, and what follows a
-//! work; `life`, a run of a seed; `told`, what must not be forgotten. The rest serves these: `who`, which node it is;
-//! `network`, what is on its way; `client`, whom the outside asks; `dice`, what is drawn; `outcome`, what came of it.
+//! work; `life`, a run of a seed; `told`, what must not be forgotten. The rest serves these: `beginning`, how each node
+//! begins; `network`, what is on its way; `client`, whom the outside asks; `dice`, what is drawn; `outcome`, what came
+//! of it.
 #![tactic(auto)]
 
+mod beginning;
 mod client;
 mod cluster;
 mod dice;
@@ -22,7 +24,6 @@ mod network;
 mod node;
 mod outcome;
 mod told;
-mod who;
 
 use life::run;
 use outcome::{Outcome, Totals};

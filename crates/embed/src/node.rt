@@ -1,11 +1,11 @@
 //! A node in its process, with its disk.
 
+use crate::beginning::begun;
 use crate::dice::Dice;
 use crate::disk::{Disk, Stage};
-use crate::who::Who;
 use rc_process::{BackFault, MessageFault, Process};
 use rc_saves::SaveFault;
-use rc_types::{Fault, Message, NodeWork, ServerId};
+use rc_types::{Fault, Message, NodeName, NodeWork, ServerId};
 use rc_world::{NodeState, StepFault};
 use std::alloc::Global;
 
@@ -16,7 +16,7 @@ const LONG: usize = 1_024;
 /// known elsewhere to be safe.
 #[derive(Drop)]
 pub(crate) struct Node {
-    who: Who,
+    name: NodeName,
     process: Option<Process<Global>>,
     pending: Vec<u8>,
     disk: Disk,
@@ -26,9 +26,9 @@ pub(crate) struct Node {
 
 impl Node {
     /// A node that was not set up yet. It takes no memory.
-    pub(crate) fn new(alloc: Global, who: Who) -> Node {
+    pub(crate) fn new(alloc: Global, name: NodeName) -> Node {
         Node {
-            who,
+            name,
             process: None,
             pending: Vec::new(alloc),
             disk: Disk::new(alloc),
@@ -40,7 +40,7 @@ impl Node {
     /// The node is set up: its journal is the save of a new node, and that is safe.
     pub(crate) fn set_up(&mut self, alloc: Global) -> Result<(), Fault> {
         let mut save = Vec::new(alloc);
-        match Process::begin(alloc, self.who.begun(alloc), &mut save) {
+        match Process::begin(alloc, begun(self.name, alloc), &mut save) {
             Ok(process) => self.process = Some(process),
             Err(SaveFault::OutOfMemory) => return Err(Fault::OutOfMemory),
             Err(SaveFault::Outside) => return Err(Fault::BadEvent),

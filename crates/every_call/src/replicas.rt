@@ -4,11 +4,11 @@ use crate::values::{OTHER, OWNER, entry, gather};
 use rc_backup::Backup;
 use rc_digestpick::pick;
 use rc_replica::Replica;
-use rc_types::{Fault, Pair};
+use rc_types::{Fault, Pair, Shared};
 use std::alloc::Global;
 
 pub(crate) fn call(alloc: Global) -> Result<(), Fault> {
-    let mut replica = Replica::new(0, false, Vec::new(alloc), Vec::new(alloc));
+    let mut replica = Replica::new(0, false, Shared::empty(), Vec::new(alloc));
     let entries = vec![in alloc; entry(alloc)?]?;
     Replica::place(&mut replica, alloc, 0, entries.as_slice(), false)?;
     Replica::append(&mut replica, alloc, 1, entries.as_slice())?;

@@ -6,9 +6,9 @@ ghost use Rattle.rc_world.specs.HostView.{IsWithinLimits};
 ghost use Rattle.rc_journal.specs.Calls.{IsStep};
 
 use rc_journal::Token;
-use rc_types::{Event, Fault, Message, Seq, Setup};
-use rc_wire::{Gate, Journal, Naming, Opening, Seat, SeatName, Step, Wire, Work, run_nodes};
-use std::alloc::Global;
+use rc_types::{Event, Fault, Message, NodeName, Seq, Setup};
+use rc_wire::{Gate, Journal, Naming, Opening, Seat, Step, Wire, Work, run_nodes};
+use std::alloc::{AllocError, Global};
 use std::marker::Brand;
 use std::sync::Wait;
 use std::thread::Threads;
@@ -17,9 +17,9 @@ use std::thread::Threads;
 struct Free;
 
 impl Gate for Free {
-    fn before_commit<R: Wait>(&self, _rt: &R, _seat: SeatName) {}
+    fn before_commit<R: Wait>(&self, _rt: &R, _seat: NodeName) {}
 
-    fn after_commit<R: Wait>(&self, _rt: &R, _seat: SeatName) {}
+    fn after_commit<R: Wait>(&self, _rt: &R, _seat: NodeName) {}
 }
 
 pub(crate) fn call<R: Threads + Wait + Sync>(rt: &R, alloc: Global) -> Result<(), Fault> {
@@ -28,7 +28,7 @@ pub(crate) fn call<R: Threads + Wait + Sync>(rt: &R, alloc: Global) -> Result<()
 }
 
 /// The beginning of a wire with one host.
-fn opened(alloc: Global) -> Result<Opening, Fault>
+fn opened(alloc: Global) -> Result<Opening, AllocError>
     ensures limits { IfOk result (λ opening. IsWithinLimits opening.setup) }
     ensures nodes { IfOk result (λ opening. opening.nodes ≡ 3) }
 {
@@ -61,7 +61,7 @@ fn turn<N: Naming + Send + Sync, R: Threads + Wait + Sync>(
     }
     match Wire::close(wire, alloc, seats) {
         Ok(_) => Ok(()),
-        Err((_, _, fault)) => Err(fault),
+        Err((_, _, error)) => Err(error.into()),
     }
 }
 
@@ -93,6 +93,6 @@ pub(crate) fn add<N: Naming>(
 ) -> Option<usize>
     requires { IsStep N.wire journal.old seat.old event messages.items }
 {
-    let _ = Journal::numbers(journal, SeatName::Outside);
+    let _ = Journal::numbers(journal, NodeName::Outside);
     Journal::push(journal, seat, event, messages).ok()
 }

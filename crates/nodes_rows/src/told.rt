@@ -224,9 +224,9 @@ fn place(alloc: Global, numbers: &mut Numbers) -> Result<Body, AllocError> {
 }
 
 /// So many segments as the next number says.
-fn digest(alloc: Global, numbers: &mut Numbers) -> Result<Seq<u16>, AllocError> {
+fn digest(alloc: Global, numbers: &mut Numbers) -> Result<Shared<u16>, AllocError> {
     let count = numbers.size();
-    Ok(Seq::from_vec(numbers.segments(alloc, count)?))
+    Shared::from_vec(alloc, numbers.segments(alloc, count)?)
 }
 
 fn append(alloc: Global, numbers: &mut Numbers) -> Result<Body, AllocError> {

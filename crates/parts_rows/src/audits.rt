@@ -2,7 +2,7 @@
 
 use crate::entries::whole_entries;
 use rc_audit::audit;
-use rc_types::{Addr, Body, Fault, Message, PlanRow, Seq, ServerId};
+use rc_types::{Addr, Body, Fault, Message, PlanRow, Seq, ServerId, Shared};
 use rows::{Numbers, Page};
 use std::alloc::{AllocError, Global};
 
@@ -93,7 +93,7 @@ fn place(alloc: Global, numbers: &mut Numbers) -> Result<Body, AllocError> {
     Ok(Body::Place {
         seg,
         epoch: 0,
-        digest: Seq::new(alloc),
+        digest: Shared::empty(),
         entries,
         closed: false,
     })

@@ -2,7 +2,7 @@
 
 use crate::entries::write_keys;
 use rc_backup::Backup;
-use rc_types::{Addr, Body, Entry, Fault, Message, Part, Row, Seq, ServerId};
+use rc_types::{Addr, Body, Entry, Fault, Message, Part, Row, Seq, ServerId, Shared};
 use rows::{Numbers, Page};
 use std::alloc::{AllocError, Global};
 use std::mem;
@@ -88,7 +88,7 @@ fn place(alloc: Global, numbers: &mut Numbers, is_marked: bool) -> Result<Body, 
     Ok(Body::Place {
         seg,
         epoch,
-        digest: Seq::from_vec(digest),
+        digest: Shared::from_vec(alloc, digest)?,
         entries,
         closed,
     })

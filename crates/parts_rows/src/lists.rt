@@ -3,7 +3,7 @@
 use rc_serverlist::ServerList;
 use rc_types::{Fault, ServerId};
 use rows::{Numbers, Page};
-use std::alloc::Global;
+use std::alloc::{AllocError, Global};
 
 /// One command for the list.
 pub fn take(
@@ -33,7 +33,7 @@ pub fn take(
 }
 
 /// The list of this version and these servers.
-fn told(alloc: Global, numbers: &mut Numbers) -> Result<ServerList, Fault> {
+fn told(alloc: Global, numbers: &mut Numbers) -> Result<ServerList, AllocError> {
     let version = numbers.long();
     let rows = numbers.servers(alloc)?;
     ServerList::from_rows(alloc, version, rows.as_slice())

@@ -70,7 +70,7 @@ pub fn take(
 }
 
 /// The list of these hosts in their first generations, each with a mark: 1 for one that has crashed.
-pub fn hosts(alloc: Global, numbers: &mut Numbers) -> Result<ServerList, Fault> {
+pub fn hosts(alloc: Global, numbers: &mut Numbers) -> Result<ServerList, AllocError> {
     let mut rows = Vec::new(alloc);
     for _ in 0..numbers.left() / 2 {
         let id = numbers.host();
@@ -184,7 +184,7 @@ fn change_until(
 }
 
 /// The list of hosts 1 and 2, of which this one has crashed.
-fn turn(alloc: Global, crashed: u8) -> Result<ServerList, Fault> {
+fn turn(alloc: Global, crashed: u8) -> Result<ServerList, AllocError> {
     let rows = [(host(1), crashed != 1), (host(2), crashed != 2)];
     ServerList::from_rows(alloc, 1, &rows)
 }

@@ -1,7 +1,7 @@
 //! The choice of the log that a recovery takes.
 
 use rc_digestpick::pick;
-use rc_types::{Fault, Pair, Row, Seq, ServerId};
+use rc_types::{Fault, Pair, Row, Seq, ServerId, Shared};
 use rows::{Numbers, Page};
 use std::alloc::{AllocError, Global};
 use std::mem;
@@ -57,7 +57,7 @@ fn row(alloc: Global, numbers: &mut Numbers) -> Result<Row, AllocError> {
         epoch,
         closed,
         len,
-        digest: Seq::from_vec(digest),
+        digest: Shared::from_vec(alloc, digest)?,
     })
 }
 

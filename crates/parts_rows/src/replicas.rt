@@ -2,14 +2,14 @@
 
 use crate::entries::{entries, write_keys};
 use rc_replica::Replica;
-use rc_types::Fault;
+use rc_types::{Fault, Shared};
 use rows::{Numbers, Page};
 use std::alloc::{AllocError, Global};
 
 /// An empty replica under an epoch, whose segment was opened with these segments as its digest.
 pub fn new(alloc: Global, numbers: &mut Numbers) -> Result<Replica, AllocError> {
     let epoch = numbers.short();
-    let digest = numbers.segments(alloc, numbers.left())?;
+    let digest = Shared::from_vec(alloc, numbers.segments(alloc, numbers.left())?)?;
     Ok(Replica::new(epoch, false, digest, Vec::new(alloc)))
 }
 
@@ -37,13 +37,13 @@ pub fn take(
     Ok(())
 }
 
-fn append(alloc: Global, replica: &mut Replica, numbers: &mut Numbers) -> Result<(), Fault> {
+fn append(alloc: Global, replica: &mut Replica, numbers: &mut Numbers) -> Result<(), AllocError> {
     let offset = numbers.size();
     let added = entries(alloc, numbers)?;
     replica.append(alloc, offset, added.as_slice())
 }
 
-fn place(alloc: Global, replica: &mut Replica, numbers: &mut Numbers) -> Result<(), Fault> {
+fn place(alloc: Global, replica: &mut Replica, numbers: &mut Numbers) -> Result<(), AllocError> {
     let epoch = numbers.short();
     let closed = numbers.mark();
     let whole = entries(alloc, numbers)?;

@@ -1,15 +1,14 @@
 //! An attempt to recover a crashed master, with the answers of the backups and what was decided.
 
 ghost use Rattle.std.specs.Prelude.{◌≡◌, ◌++◌, ◌∷◌, [], nat_eq, true, length, find};
-ghost use Rattle.std.specs.Prelude.{Some, OnOk, OnErr, IfErr};
+ghost use Rattle.std.specs.Prelude.{Some, OnOk, OnErr};
 ghost use Rattle.std.specs.Option.{option_copied};
-ghost use Rattle.rc_types.specs.declared.faults.Fault.TheVariants.{OutOfMemory};
 ghost use Rattle.rc_model.specs.Attempts.{new_attempt, has_answered, is_gathering, parts_of};
 ghost use Rattle.rc_model.specs.Deciding.{part_in};
 ghost use Rattle.rc_attempts.specs.Terms.{terms_rise, part_if};
 
-use rc_types::{Fault, Part, Plan, Row, Seq, ServerId};
-use std::alloc::Global;
+use rc_types::{Part, Plan, Row, Seq, ServerId};
+use std::alloc::{AllocError, Global};
 use std::marker::Model;
 
 /// A part of a recovery, and the master that recovers it.
@@ -226,10 +225,9 @@ impl Attempt {
     }
 
     /// Keeps an answer. Only memory can be refused (F1), and then the attempt is as it was.
-    pub fn keep(&mut self, from: ServerId, rows: Seq<Row>) -> Result<(), Fault>
+    pub fn keep(&mut self, from: ServerId, rows: Seq<Row>) -> Result<(), AllocError>
         ensures ok { OnOk result (self.new ≡ record self.old { replies = self.old.replies ++ (from, rows) ∷ [] }) }
         ensures err { OnErr result (self.new ≡ self.old) }
-        ensures no_memory { IfErr result (λ fault. fault ≡ OutOfMemory) }
     {
         self.replies.push((from, rows))?;
         Ok(())

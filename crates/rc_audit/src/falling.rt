@@ -1,9 +1,8 @@
 //! Versions rise over owners.
 
-ghost use Rattle.std.specs.Prelude.{◌≡◌, ◌&&◌, not, nat_eq, nat_lt, List, None, IsTrue, OnOk, IfOk, IfErr};
+ghost use Rattle.std.specs.Prelude.{◌≡◌, ◌&&◌, not, nat_eq, nat_lt, List, None, IsTrue, OnOk, IfOk};
 ghost use Rattle.std.specs.Ordering.{nat_cmp};
 ghost use Rattle.std.specs.BTreeSet.{contains};
-ghost use Rattle.rc_types.specs.declared.faults.Fault.TheVariants.{OutOfMemory};
 ghost use Rattle.rc_model.specs.Recovered.{all_acknowledged};
 ghost use Rattle.rc_model.specs.Breach.{falls_of, first_fall};
 ghost use Rattle.rc_evidence.specs.Earlier.{AreEarlier};
@@ -18,8 +17,8 @@ use rc_evidence::grants::{Grants, grants_in};
 use rc_evidence::highs::{Highs, is_level};
 use rc_evidence::turns::all_bars;
 use rc_evidence::writes::{AckedWrite, write_in};
-use rc_types::{Breach, Fault, Message};
-use std::alloc::Global;
+use rc_types::{Breach, Message};
+use std::alloc::{AllocError, Global};
 use std::collections::{BTreeMap, BTreeSet};
 
 /// Whether the later write's version is not above that of the earlier one, which is of the same key
@@ -63,11 +62,10 @@ fn falls_from(
     messages: &[Message],
     grants: &Grants,
     later: &AckedWrite,
-) -> Result<Option<Breach>, Fault>
+) -> Result<Option<Breach>, AllocError>
     requires { AreGrants grants.now messages.now }
-    ensures found { IfOk result (λ found.
+    ensures { IfOk result (λ found.
         found ≡ first_fall messages.now (ack_of later.now) (all_acknowledged messages.now)) }
-    ensures err { IfErr result (λ e. e ≡ OutOfMemory) }
 {
     let before = terms_before(alloc, grants, later.term, later.table, later.key)?;
     Ok(first_among(messages, &before, later))
@@ -93,14 +91,13 @@ fn falls_by_bars(
     highs: &Highs,
     bars: &mut Bars,
     later: &AckedWrite,
-) -> Result<Option<Breach>, Fault>
+) -> Result<Option<Breach>, AllocError>
     requires grants { AreGrants grants.now messages.now }
     requires levels { HasLevels highs.now messages.now }
     requires bars { AreBars bars.old messages.now }
     ensures found { IfOk result (λ found.
         found ≡ first_fall messages.now (ack_of later.now) (all_acknowledged messages.now)) }
     ensures bars { OnOk result (AreBars bars.new messages.now) }
-    ensures err { IfErr result (λ e. e ≡ OutOfMemory) }
 {
     let bar = bar_of(alloc, grants, highs, bars, later.term_key())?;
     if !is_level(bar, later.version) {
@@ -113,10 +110,9 @@ fn falls_by_bars(
 /// The first acknowledged write whose version is not above that of one that was acknowledged under an
 /// earlier ownership of its key, with the first such one. Most writes are seen to rise by bars that are
 /// found at once for all keys under all terms.
-pub fn falling_version(alloc: Global, messages: &[Message]) -> Result<Option<Breach>, Fault>
-    ensures found { IfOk result (λ found.
+pub fn falling_version(alloc: Global, messages: &[Message]) -> Result<Option<Breach>, AllocError>
+    ensures { IfOk result (λ found.
         found ≡ falls_of messages.now (all_acknowledged messages.now)) }
-    ensures err { IfErr result (λ e. e ≡ OutOfMemory) }
 {
     let grants = grants_in(alloc, messages)?;
     let highs = acked_highs(alloc, messages)?;

@@ -1,7 +1,6 @@
 //! Nothing recovered is invented.
 
-ghost use Rattle.std.specs.Prelude.{◌≡◌, List, IfOk, IfErr};
-ghost use Rattle.rc_types.specs.declared.faults.Fault.TheVariants.{OutOfMemory};
+ghost use Rattle.std.specs.Prelude.{◌≡◌, List, IfOk};
 ghost use Rattle.rc_types.specs.declared.messages.Message.{Message};
 ghost use Rattle.rc_model.specs.Ascending.{ascending};
 ghost use Rattle.rc_model.specs.Recovered.{accepted};
@@ -13,8 +12,8 @@ ghost use Rattle.rc_evidence.specs.Runs.{AreRuns};
 use rc_evidence::evidence::Evidence;
 use rc_evidence::recoveries::{Recovery, number_of, reaches, recovery_in};
 use rc_evidence::runs::{Runs, run_of};
-use rc_types::{Breach, Fault};
-use std::alloc::Global;
+use rc_types::Breach;
+use std::alloc::{AllocError, Global};
 
 /// The first place of the segment below `reach` that was not made one way: the one after its run.
 fn invented_in_segment(
@@ -39,10 +38,13 @@ fn invented_in_segment(
 }
 
 /// The first place of this recovery that was not made one way.
-fn invented_in(alloc: Global, runs: &Runs, recovery: &Recovery<'_>) -> Result<Option<Breach>, Fault>
-    ensures found { IfOk result (λ found. (sent : List Message) → AreRuns runs.now sent → found ≡
+fn invented_in(
+    alloc: Global,
+    runs: &Runs,
+    recovery: &Recovery<'_>,
+) -> Result<Option<Breach>, AllocError>
+    ensures { IfOk result (λ found. (sent : List Message) → AreRuns runs.now sent → found ≡
         first_invented sent (accepted_of recovery.now) (ascending (segments_of recovery.now.rows.now))) }
-    ensures err { IfErr result (λ e. e ≡ OutOfMemory) }
 {
     let reaches = reaches(alloc, recovery.rows)?;
     for seg in reaches.keys() {
@@ -60,11 +62,10 @@ pub fn invented_place(
     alloc: Global,
     evidence: &Evidence<'_>,
     runs: &Runs,
-) -> Result<Option<Breach>, Fault>
+) -> Result<Option<Breach>, AllocError>
     requires { AreRuns runs.now evidence.now.messages.now }
-    ensures found { IfOk result (λ found. found ≡
+    ensures { IfOk result (λ found. found ≡
         invented_of evidence.now.messages.now (accepted evidence.now.messages.now)) }
-    ensures err { IfErr result (λ e. e ≡ OutOfMemory) }
 {
     for message in evidence.messages {
         let Some(recovery) = recovery_in(&message.body) else {

@@ -3,8 +3,7 @@
 //! kinds of breach has a module: `missing`, `invented`, `falling`.
 #![tactic(auto)]
 
-ghost use Rattle.std.specs.Prelude.{◌≡◌, IfOk, IfErr};
-ghost use Rattle.rc_types.specs.declared.faults.Fault.TheVariants.{OutOfMemory};
+ghost use Rattle.std.specs.Prelude.{◌≡◌, IfOk};
 ghost use Rattle.rc_model.specs.Breach.{breach};
 
 mod falling;
@@ -18,8 +17,8 @@ use rc_evidence::evidence::Evidence;
 use rc_evidence::runs::runs_in;
 use rc_evidence::senders::senders_in;
 use rc_evidence::standing::standings_in;
-use rc_types::{Breach, Fault, Message};
-use std::alloc::Global;
+use rc_types::{Breach, Message};
+use std::alloc::{AllocError, Global};
 
 /// The first breach of the headline in these messages, or `None`: for each accepted recovery, in
 /// order, the first write that its master has acknowledged and that is not in the recovered log,
@@ -40,9 +39,8 @@ use std::alloc::Global;
 /// along one order of the terms, each after its previous ones, is seen in O(n log n) steps; for each
 /// key under a term under which one does not rise so, the chain of owners before that term is gone
 /// over once.
-pub fn audit(alloc: Global, messages: &[Message]) -> Result<Option<Breach>, Fault>
-    ensures found { IfOk result (λ found. found ≡ breach messages.now) }
-    ensures err { IfErr result (λ e. e ≡ OutOfMemory) }
+pub fn audit(alloc: Global, messages: &[Message]) -> Result<Option<Breach>, AllocError>
+    ensures { IfOk result (λ found. found ≡ breach messages.now) }
 {
     let evidence = Evidence::new(alloc, messages)?;
     let standings = standings_in(alloc, &evidence)?;

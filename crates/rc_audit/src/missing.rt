@@ -1,9 +1,8 @@
 //! Nothing acknowledged is missing.
 
-ghost use Rattle.std.specs.Prelude.{◌≡◌, ◌≤◌, ◌↔◌, List, ℕ, true, None, IfOk, IfErr, unwrap_or};
+ghost use Rattle.std.specs.Prelude.{◌≡◌, ◌≤◌, ◌↔◌, List, ℕ, true, None, IfOk, unwrap_or};
 ghost use Rattle.std.specs.Ordering.{nat_cmp};
 ghost use Rattle.std.specs.BTreeMap.{get};
-ghost use Rattle.rc_types.specs.declared.faults.Fault.TheVariants.{OutOfMemory};
 ghost use Rattle.rc_model.specs.Recovered.{acknowledged, all_acknowledged, accepted};
 ghost use Rattle.rc_model.specs.Breach.{is_missing as is_missing_from, missing_of};
 ghost use Rattle.rc_model.specs.Breach.{first_missing as first_missing_of};
@@ -22,8 +21,8 @@ use rc_evidence::senders::{Senders, Sent};
 use rc_evidence::standing::Standings;
 use rc_evidence::superseded::recovered_highs;
 use rc_evidence::writes::{AckedWrite, write_in};
-use rc_types::{Breach, Fault, PlanRow, ServerId};
-use std::alloc::Global;
+use rc_types::{Breach, PlanRow, ServerId};
+use std::alloc::{AllocError, Global};
 use std::collections::BTreeMap;
 
 /// What the number of rows is made with: odd, and its bits are spread.
@@ -109,13 +108,12 @@ fn missing_among(
     sent: &Sent<'_>,
     recovery: &Recovery<'_>,
     reaches: &BySegment,
-) -> Result<Option<Breach>, Fault>
+) -> Result<Option<Breach>, AllocError>
     requires reached { HasReaches reaches.now recovery.now.rows.now }
     requires sent { messages_in sent.now ≡ sent_by recovery.now.master evidence.now.messages.now }
-    ensures found { IfOk result (λ found. found ≡
+    ensures { IfOk result (λ found. found ≡
         first_missing_of evidence.now.messages.now (accepted_of recovery.now)
         (acknowledged evidence.now.messages.now recovery.now.master)) }
-    ensures err { IfErr result (λ e. e ≡ OutOfMemory) }
 {
     let highs = recovered_highs(alloc, sent, recovery, reaches)?;
     Ok(first_missing(evidence, sent, recovery, reaches, &highs))
@@ -130,14 +128,13 @@ fn missing_from(
     senders: &Senders<'_>,
     standings: &Standings,
     recovery: &Recovery<'_>,
-) -> Result<Option<Breach>, Fault>
+) -> Result<Option<Breach>, AllocError>
     requires senders { AreSenders senders.now evidence.now.messages.now }
     requires standings { StandsFor standings.now evidence.now.messages.now
         (acknowledged evidence.now.messages.now) }
-    ensures found { IfOk result (λ found. found ≡
+    ensures { IfOk result (λ found. found ≡
         first_missing_of evidence.now.messages.now (accepted_of recovery.now)
         (acknowledged evidence.now.messages.now recovery.now.master)) }
-    ensures err { IfErr result (λ e. e ≡ OutOfMemory) }
 {
     let reaches = reaches(alloc, recovery.rows)?;
     if is_kept(standings, recovery.master, &reaches) {
@@ -211,13 +208,12 @@ pub fn missing_write(
     evidence: &Evidence<'_>,
     senders: &Senders<'_>,
     standings: &Standings,
-) -> Result<Option<Breach>, Fault>
+) -> Result<Option<Breach>, AllocError>
     requires senders { AreSenders senders.now evidence.now.messages.now }
     requires standings { StandsFor standings.now evidence.now.messages.now
         (acknowledged evidence.now.messages.now) }
-    ensures found { IfOk result (λ found. found ≡
+    ensures { IfOk result (λ found. found ≡
         missing_of evidence.now.messages.now (accepted evidence.now.messages.now)) }
-    ensures err { IfErr result (λ e. e ≡ OutOfMemory) }
 {
     let mut clean = BTreeMap::new(alloc);
     for message in evidence.messages {

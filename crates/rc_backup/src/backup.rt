@@ -1,8 +1,7 @@
 //! The backup.
 
-ghost use Rattle.std.specs.Prelude.{◌≡◌, ◌++◌, true, None, OnOk, OnErr, IfOk, IfErr};
+ghost use Rattle.std.specs.Prelude.{◌≡◌, ◌++◌, true, None, OnOk, OnErr, IfOk};
 ghost use Rattle.std.specs.BTreeMap.{insert_entry};
-ghost use Rattle.rc_types.specs.declared.faults.Fault.TheVariants.{OutOfMemory};
 ghost use Rattle.rc_model.specs.Backup.{nothing_held, with_held, new_backup, stores, frees, fences, backup_takes};
 ghost use Rattle.rc_model.specs.Backup.{restart, open_names, rows_of_replicas, answers_fetch, data_of};
 ghost use Rattle.rc_model.specs.Backup.{replica_of, replica_after};
@@ -11,7 +10,7 @@ ghost use Rattle.rc_backup.specs.BackupView.{backup_of, id_order, put_first};
 ghost use Rattle.rc_replica.specs.HeldAfter.{next_replica, stored_after, held_without, fetched};
 
 use rc_replica::{Held, Request};
-use rc_types::{Addr, Body, Fault, Message, Row, Seq, ServerId};
+use rc_types::{Addr, Body, Message, Row, Seq, ServerId};
 use std::alloc::{AllocError, Global};
 use std::collections::BTreeMap;
 use std::fmt;
@@ -85,14 +84,17 @@ impl Backup {
     /// # Errors
     ///
     /// `OutOfMemory` (F1): memory was refused. Then the backup and what was sent are as before.
-    pub fn step_into(&mut self, message: &Message, sent: &mut Vec<Message>) -> Result<(), Fault>
+    pub fn step_into(
+        &mut self,
+        message: &Message,
+        sent: &mut Vec<Message>,
+    ) -> Result<(), AllocError>
         ensures state { OnOk result (backup_of self.new ≡
             (backup_takes (backup_of self.old) message.now.from message.now.body).0) }
         ensures sends { OnOk result (sent.new.items ≡
             sent.old.items ++ (backup_takes (backup_of self.old) message.now.from message.now.body).1) }
         ensures err { OnErr result (self.new ≡ self.old) }
         ensures unsent { OnErr result (sent.new.items ≡ sent.old.items) }
-        ensures no_memory { IfErr result (λ fault. fault ≡ OutOfMemory) }
     {
         let body = &message.body;
         match (message.from, body) {
@@ -133,13 +135,12 @@ impl Backup {
     /// # Errors
     ///
     /// `OutOfMemory` (F1): memory was refused. Then the backup is as before.
-    pub fn step(&mut self, message: &Message) -> Result<Vec<Message>, Fault>
+    pub fn step(&mut self, message: &Message) -> Result<Vec<Message>, AllocError>
         ensures state { OnOk result (backup_of self.new ≡
             (backup_takes (backup_of self.old) message.now.from message.now.body).0) }
         ensures sends { IfOk result (λ sent. sent.items ≡
             (backup_takes (backup_of self.old) message.now.from message.now.body).1) }
         ensures err { OnErr result (self.new ≡ self.old) }
-        ensures no_memory { IfErr result (λ fault. fault ≡ OutOfMemory) }
     {
         let mut sent = Vec::new(self.alloc);
         self.step_into(message, &mut sent)?;
@@ -182,9 +183,8 @@ impl Backup {
     /// # Errors
     ///
     /// `OutOfMemory` (F1): the memory for the list was refused.
-    pub fn open_names(&self) -> Result<Vec<(ServerId, u16)>, Fault>
-        ensures ok { IfOk result (λ names. names.items ≡ open_names (backup_of self.now)) }
-        ensures no_memory { IfErr result (λ fault. fault ≡ OutOfMemory) }
+    pub fn open_names(&self) -> Result<Vec<(ServerId, u16)>, AllocError>
+        ensures { IfOk result (λ names. names.items ≡ open_names (backup_of self.now)) }
     {
         let mut names = Vec::new(self.alloc);
         for (master, held) in &self.held {
@@ -200,13 +200,12 @@ impl Backup {
         seg: u16,
         body: &Body,
         sent: &mut Vec<Message>,
-    ) -> Result<(), Fault>
+    ) -> Result<(), AllocError>
         ensures state { OnOk result (backup_of self.new ≡ (stores (backup_of self.old) master seg body.now).0) }
         ensures sends { OnOk result (sent.new.items ≡
             sent.old.items ++ (stores (backup_of self.old) master seg body.now).1) }
         ensures err { OnErr result (self.new ≡ self.old) }
         ensures unsent { OnErr result (sent.new.items ≡ sent.old.items) }
-        ensures no_memory { IfErr result (λ fault. fault ≡ OutOfMemory) }
     {
         sent.reserve(1)?;
         let own = self.id;
@@ -218,12 +217,11 @@ impl Backup {
 
     /// Keeps what a Place, an Append or a Close of this segment of the master's makes of the
     /// replica, and gives the answer, if there is one.
-    fn keep(&mut self, master: ServerId, seg: u16, body: &Body) -> Result<Option<Body>, Fault>
+    fn keep(&mut self, master: ServerId, seg: u16, body: &Body) -> Result<Option<Body>, AllocError>
         ensures state { OnOk result (backup_of self.new ≡ (stores (backup_of self.old) master seg body.now).0) }
         ensures answer { IfOk result (λ answer. answer ≡
             stored_after seg (next_replica ((backup_of self.old).held master) seg body.now)) }
         ensures err { OnErr result (self.new ≡ self.old) }
-        ensures no_memory { IfErr result (λ fault. fault ≡ OutOfMemory) }
     {
         match self.held.get_mut(&master) {
             Some(held) => held.store(self.alloc, seg, body),
@@ -248,13 +246,12 @@ impl Backup {
         attempt: u32,
         master: ServerId,
         sent: &mut Vec<Message>,
-    ) -> Result<(), Fault>
+    ) -> Result<(), AllocError>
         ensures state { OnOk result (backup_of self.new ≡ (fences (backup_of self.old) attempt master).0) }
         ensures sends { OnOk result (sent.new.items ≡
             sent.old.items ++ (fences (backup_of self.old) attempt master).1) }
         ensures err { OnErr result (self.new ≡ self.old) }
         ensures unsent { OnErr result (sent.new.items ≡ sent.old.items) }
-        ensures no_memory { IfErr result (λ fault. fault ≡ OutOfMemory) }
     {
         let rows = self.rows(master)?;
         sent.reserve(1)?;
@@ -270,9 +267,8 @@ impl Backup {
     }
 
     /// A row for each replica that is kept of the master, in order of segment.
-    fn rows(&self, master: ServerId) -> Result<Seq<Row>, Fault>
-        ensures ok { IfOk result (λ rows. rows ≡ rows_of_replicas ((backup_of self.now).held master).replicas) }
-        ensures no_memory { IfErr result (λ fault. fault ≡ OutOfMemory) }
+    fn rows(&self, master: ServerId) -> Result<Seq<Row>, AllocError>
+        ensures { IfOk result (λ rows. rows ≡ rows_of_replicas ((backup_of self.now).held master).replicas) }
     {
         match self.held.get(&master) {
             Some(held) => held.rows(self.alloc),
@@ -302,12 +298,11 @@ impl Backup {
         master: ServerId,
         request: &Request,
         sent: &mut Vec<Message>,
-    ) -> Result<(), Fault>
+    ) -> Result<(), AllocError>
         ensures sends { OnOk result (sent.new.items ≡ sent.old.items ++ answers_fetch (backup_of self.now) asker master
             (data_of request.now.attempt request.now.seg request.now.len request.now.part
             (replica_of request.now.seg ((backup_of self.now).held master).replicas))) }
         ensures unsent { OnErr result (sent.new.items ≡ sent.old.items) }
-        ensures no_memory { IfErr result (λ fault. fault ≡ OutOfMemory) }
     {
         if let Some(answer) = self.data(master, request)? {
             sent.push(between(self.id, asker, answer))?;
@@ -316,10 +311,9 @@ impl Backup {
     }
 
     /// The answer to a Fetch, if there is one.
-    fn data(&self, master: ServerId, request: &Request) -> Result<Option<Body>, Fault>
-        ensures ok { IfOk result (λ answer. answer ≡ fetched ((backup_of self.now).held master)
+    fn data(&self, master: ServerId, request: &Request) -> Result<Option<Body>, AllocError>
+        ensures { IfOk result (λ answer. answer ≡ fetched ((backup_of self.now).held master)
             request.now.attempt request.now.seg request.now.len request.now.part) }
-        ensures no_memory { IfErr result (λ fault. fault ≡ OutOfMemory) }
     {
         match self.held.get(&master) {
             Some(held) => held.data(self.alloc, request),
@@ -347,12 +341,11 @@ fn keep_first(
     master: ServerId,
     seg: u16,
     body: &Body,
-) -> Result<Option<Body>, Fault>
+) -> Result<Option<Body>, AllocError>
     ensures state { OnOk result (held.new.entries ≡
         put_first held.old.entries master seg (replica_after None body.now)) }
     ensures answer { IfOk result (λ answer. answer ≡ stored_after seg (replica_after None body.now)) }
     ensures err { OnErr result (held.new.entries ≡ held.old.entries) }
-    ensures no_memory { IfErr result (λ fault. fault ≡ OutOfMemory) }
 {
     let mut one = Held::new(alloc);
     let answer = one.store(alloc, seg, body)?;

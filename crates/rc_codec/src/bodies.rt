@@ -209,7 +209,7 @@ fn take_place(alloc: Global, bytes: &[u8]) -> Result<(Body, &[u8]), DecodeFault>
     let ((seg, epoch, digest, entries, closed), rest) = <(
         u16,
         u16,
-        Seq<u16>,
+        Shared<u16>,
         Seq<Entry>,
         bool,
     )>::take(alloc, bytes)?;

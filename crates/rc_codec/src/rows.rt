@@ -160,9 +160,13 @@ impl Take for Row {
     ghost read = { row_at };
 
     fn take(alloc: Global, bytes: &[u8]) -> Result<(Row, &[u8]), DecodeFault> {
-        let ((seg, epoch, closed, len, digest), rest) = <(u16, u16, bool, usize, Seq<u16>)>::take(
-            alloc, bytes,
-        )?;
+        let ((seg, epoch, closed, len, digest), rest) = <(
+            u16,
+            u16,
+            bool,
+            usize,
+            Shared<u16>,
+        )>::take(alloc, bytes)?;
         let read = Row {
             seg,
             epoch,

@@ -1,10 +1,9 @@
 //! What the command line of `ramseg` asks for, read with `clap`.
 
-ghost use Rattle.std.specs.Prelude.{◌≡◌, ◌≢◌, ◌↔◌, Some, None, true, false, map, codes, string_bytes, IfOk, IfErr};
+ghost use Rattle.std.specs.Prelude.{◌≡◌, ◌≢◌, ◌↔◌, Some, None, true, false, map, codes, string_bytes, IfOk};
 ghost use Rattle.std.specs.Prelude.{option_map, MatchResult, option_and_then, List, ℕ};
 ghost use Rattle.clap.specs.Faults.{fault_of};
 ghost use Rattle.clap.specs.Words.{app_of, found_of, kind_of, rows_of, subcommand_rows_of};
-ghost use Rattle.rc_types.specs.declared.faults.Fault.TheVariants.{OutOfMemory};
 ghost use Rattle.rc_commands.specs.Asking.{IsInRange, Tells, as_command, asked_in, asks_for_text, audit_in};
 ghost use Rattle.rc_commands.specs.Asking.{command_in, drawn_in, explain_in, explained_in, explore_in, fuzz_in};
 ghost use Rattle.rc_commands.specs.Asking.{fuzz_line, heap_line, is_alone, is_plain, is_request, is_text, named_in};
@@ -18,8 +17,8 @@ use crate::commands::program;
 use crate::numbers::{BadWord, has_flag, has_option, json_of, number_of, seeds_of};
 use clap::error::ErrorKind;
 use clap::{ArgMatches, Error};
-use rc_types::{Fault, Seq};
-use std::alloc::Global;
+use rc_types::Seq;
+use std::alloc::{AllocError, Global};
 
 /// What a command line asks for. Where a command has `json`, that says whether a JSON document is wanted in place of
 /// the text.
@@ -136,7 +135,7 @@ pub enum Asked {
 }
 
 /// What the words after the program's name ask for. Fails only where memory was refused (F1).
-pub fn asked_for(alloc: Global, words: &[String]) -> Result<Asked, Fault>
+pub fn asked_for(alloc: Global, words: &[String]) -> Result<Asked, AllocError>
     // Exactly the command that `clap` finds in the words, with its options; else a text.
     ensures command { IfOk result (λ a. as_command a ≡ asked_in (map string_bytes words.now)) }
     ensures tells { IfOk result (Tells (fault_of ramseg (map string_bytes words.now))) }
@@ -181,7 +180,6 @@ pub fn asked_for(alloc: Global, words: &[String]) -> Result<Asked, Fault>
     ensures cut { IfOk result (λ a. (seed steps : List ℕ) → map string_bytes words.now ≡ stops_line seed steps
         → as_command a ≡ option_zip_with (λ s n. Asked.Stops s n false)
         (decimal_in 0 18446744073709551615 seed) (decimal_in 0 1000 steps)) }
-    ensures memory { IfErr result (λ e. e ≡ OutOfMemory) }
 {
     match program(alloc)?.try_get_matches_from(words) {
         Ok(matches) => found(alloc, &matches),
@@ -190,12 +188,11 @@ pub fn asked_for(alloc: Global, words: &[String]) -> Result<Asked, Fault>
 }
 
 /// The command that was found, or what is wrong with one of its numbers.
-fn found(alloc: Global, matches: &ArgMatches<'_>) -> Result<Asked, Fault>
+fn found(alloc: Global, matches: &ArgMatches<'_>) -> Result<Asked, AllocError>
     ensures command { IfOk result (λ a. as_command a
         ≡ option_and_then (λ p. command_in p.0 p.1) (subcommand_rows_of matches.now)) }
     ensures text { IfOk result (λ a. is_text a ≡ false) }
     ensures ranges { IfOk result IsInRange }
-    ensures memory { IfErr result (λ e. e ≡ OutOfMemory) }
 {
     match matches.subcommand() {
         Some((name, given)) => found_named(alloc, name, given),
@@ -204,11 +201,10 @@ fn found(alloc: Global, matches: &ArgMatches<'_>) -> Result<Asked, Fault>
 }
 
 /// The command of this name, or what is wrong with what was given for it.
-fn found_named(alloc: Global, name: &str, given: &ArgMatches<'_>) -> Result<Asked, Fault>
+fn found_named(alloc: Global, name: &str, given: &ArgMatches<'_>) -> Result<Asked, AllocError>
     ensures command { IfOk result (λ a. as_command a ≡ command_in name.now (rows_of (found_of given.now))) }
     ensures text { IfOk result (λ a. is_text a ≡ false) }
     ensures ranges { IfOk result IsInRange }
-    ensures memory { IfErr result (λ e. e ≡ OutOfMemory) }
 {
     match name {
         "shrink" => shrink_of(alloc, given),
@@ -222,21 +218,19 @@ fn found_named(alloc: Global, name: &str, given: &ArgMatches<'_>) -> Result<Aske
 }
 
 /// What is wrong with a word.
-fn wrong(alloc: Global, word: &BadWord<'_>) -> Result<Asked, Fault>
+fn wrong(alloc: Global, word: &BadWord<'_>) -> Result<Asked, AllocError>
     ensures command { IfOk result (λ a. as_command a ≡ None) }
     ensures text { IfOk result (λ a. is_text a ≡ false) }
     ensures ranges { IfOk result IsInRange }
-    ensures memory { IfErr result (λ e. e ≡ OutOfMemory) }
 {
     Ok(Asked::Wrong(word.to_string(alloc)?))
 }
 
 /// `shrink` with its text.
-fn shrink_of(alloc: Global, given: &ArgMatches<'_>) -> Result<Asked, Fault>
+fn shrink_of(alloc: Global, given: &ArgMatches<'_>) -> Result<Asked, AllocError>
     ensures command { IfOk result (λ a. as_command a ≡ shrink_in (rows_of (found_of given.now))) }
     ensures text { IfOk result (λ a. is_text a ≡ false) }
     ensures ranges { IfOk result IsInRange }
-    ensures memory { IfErr result (λ e. e ≡ OutOfMemory) }
 {
     let Some(text) = given.get_str("keep") else {
         return wrong(alloc, &BadWord::NoText);
@@ -408,11 +402,10 @@ fn threads_of<'a>(given: &ArgMatches<'a>) -> Result<Asked, BadWord<'a>>
 }
 
 /// `explore` with its options.
-fn explore_of(alloc: Global, given: &ArgMatches<'_>) -> Result<Asked, Fault>
+fn explore_of(alloc: Global, given: &ArgMatches<'_>) -> Result<Asked, AllocError>
     ensures command { IfOk result (λ a. as_command a ≡ explore_in (rows_of (found_of given.now))) }
     ensures text { IfOk result (λ a. is_text a ≡ false) }
     ensures ranges { IfOk result IsInRange }
-    ensures memory { IfErr result (λ e. e ≡ OutOfMemory) }
 {
     match given.get_str("until") {
         Some(goal) => until_named(alloc, given, goal),
@@ -421,11 +414,10 @@ fn explore_of(alloc: Global, given: &ArgMatches<'_>) -> Result<Asked, Fault>
 }
 
 /// `explore` of several seeds until one reaches what is named so.
-fn until_named(alloc: Global, given: &ArgMatches<'_>, name: &str) -> Result<Asked, Fault>
+fn until_named(alloc: Global, given: &ArgMatches<'_>, name: &str) -> Result<Asked, AllocError>
     ensures command { IfOk result (λ a. as_command a ≡ until_in name.now (rows_of (found_of given.now))) }
     ensures text { IfOk result (λ a. is_text a ≡ false) }
     ensures ranges { IfOk result IsInRange }
-    ensures memory { IfErr result (λ e. e ≡ OutOfMemory) }
 {
     let goal = Seq::from_vec(name.as_bytes().to_vec(alloc)?);
     match until_of(given, goal) {
@@ -435,11 +427,10 @@ fn until_named(alloc: Global, given: &ArgMatches<'_>, name: &str) -> Result<Aske
 }
 
 /// `explore` of one seed or of several, or what is wrong with it.
-fn drawn(alloc: Global, given: &ArgMatches<'_>) -> Result<Asked, Fault>
+fn drawn(alloc: Global, given: &ArgMatches<'_>) -> Result<Asked, AllocError>
     ensures command { IfOk result (λ a. as_command a ≡ drawn_in (rows_of (found_of given.now))) }
     ensures text { IfOk result (λ a. is_text a ≡ false) }
     ensures ranges { IfOk result IsInRange }
-    ensures memory { IfErr result (λ e. e ≡ OutOfMemory) }
 {
     match drawn_of(given) {
         Ok(command) => Ok(command),
@@ -588,11 +579,10 @@ fn sought_of<'a>(
 }
 
 /// `explain` with its option and its word.
-fn explain_of(alloc: Global, given: &ArgMatches<'_>) -> Result<Asked, Fault>
+fn explain_of(alloc: Global, given: &ArgMatches<'_>) -> Result<Asked, AllocError>
     ensures command { IfOk result (λ a. as_command a ≡ explain_in (rows_of (found_of given.now))) }
     ensures text { IfOk result (λ a. is_text a ≡ false) }
     ensures ranges { IfOk result IsInRange }
-    ensures memory { IfErr result (λ e. e ≡ OutOfMemory) }
 {
     match json_of(given) {
         Ok(json) => explained_of(alloc, given, json),
@@ -601,11 +591,10 @@ fn explain_of(alloc: Global, given: &ArgMatches<'_>) -> Result<Asked, Fault>
 }
 
 /// `explain` with its word.
-fn explained_of(alloc: Global, given: &ArgMatches<'_>, json: bool) -> Result<Asked, Fault>
+fn explained_of(alloc: Global, given: &ArgMatches<'_>, json: bool) -> Result<Asked, AllocError>
     ensures command { IfOk result (λ a. as_command a ≡ explained_in json (rows_of (found_of given.now))) }
     ensures text { IfOk result (λ a. is_text a ≡ false) }
     ensures ranges { IfOk result IsInRange }
-    ensures memory { IfErr result (λ e. e ≡ OutOfMemory) }
 {
     let Some(text) = given.get_str("word") else {
         return Ok(Asked::Explain { word: None, json });
@@ -615,15 +604,14 @@ fn explained_of(alloc: Global, given: &ArgMatches<'_>, json: bool) -> Result<Ask
 }
 
 /// What is told in place of a command's work: help and the version, or what is wrong.
-fn refused(alloc: Global, error: &Error) -> Result<Asked, Fault>
+fn refused(alloc: Global, error: &Error) -> Result<Asked, AllocError>
     ensures command { IfOk result (λ a. as_command a ≡ None) }
     ensures kind { IfOk result (λ a. (kind_of error.now ≢ ErrorKind.OutOfMemory)
         × (is_request (kind_of error.now) ≡ is_text a)) }
     ensures ranges { IfOk result IsInRange }
-    ensures memory { IfErr result (λ e. e ≡ OutOfMemory) }
 {
     if error.kind() == ErrorKind::OutOfMemory {
-        return Err(Fault::OutOfMemory);
+        return Err(AllocError);
     }
     let text = error.to_string(alloc)?;
     if error.use_stderr() {

@@ -45,9 +45,8 @@ pub(crate) fn candidates(
     seg: u16,
     own: ServerId,
     servers: &ServerList,
-) -> Result<Vec<ServerId>, Fault>
-    ensures ok { IfOk result (λ ids. ids.items ≡ candidates seg own servers.now) }
-    ensures no_memory { IfErr result (λ fault. fault ≡ OutOfMemory) }
+) -> Result<Vec<ServerId>, AllocError>
+    ensures { IfOk result (λ ids. ids.items ≡ candidates seg own servers.now) }
 {
     let up = servers.up(alloc)?;
     let mut ids = of_other_hosts(alloc, own, up.as_slice())?;

@@ -9,7 +9,7 @@ use crate::{choosing, members, replacing};
 use rc_serverlist::ServerList;
 use rc_types::limits::{LAST_EPOCH, MAX_FACTOR};
 use rc_types::{Fault, Member, ServerId};
-use std::alloc::Global;
+use std::alloc::{AllocError, Global};
 use std::marker::Model;
 
 /// How many members a segment has at most: the greatest replication factor.
@@ -285,10 +285,9 @@ impl Config {
         alloc: Global,
         own: ServerId,
         servers: &ServerList,
-    ) -> Result<Option<Vec<ServerId>>, Fault>
-        ensures ok { IfOk result (λ found.
+    ) -> Result<Option<Vec<ServerId>>, AllocError>
+        ensures { IfOk result (λ found.
             option_map (λ ids. ids.items) found ≡ substitutes_for own servers.now self.now) }
-        ensures no_memory { IfErr result (λ fault. fault ≡ OutOfMemory) }
     {
         let ids = choosing::candidates(alloc, self.seg, own, servers)?;
         let found = replacing::substitutes(alloc, ids.as_slice(), self.members())?;

@@ -1,7 +1,6 @@
 //! What the coordinator asks for again when its timer goes off.
 
-ghost use Rattle.std.specs.Prelude.{◌≡◌, ◌++◌, filter, IfOk, OnOk, OnErr, IfErr};
-ghost use Rattle.rc_types.specs.declared.faults.Fault.TheVariants.{OutOfMemory};
+ghost use Rattle.std.specs.Prelude.{◌≡◌, ◌++◌, filter, IfOk, OnOk, OnErr};
 ghost use Rattle.rc_model.specs.ServerList.{up};
 ghost use Rattle.rc_model.specs.Coordinator.{attempt_at};
 ghost use Rattle.rc_model.specs.CoordinatorStep.{has_open_part, asks_again, asks_again_of, coordinator_ticks};
@@ -12,17 +11,16 @@ ghost use Rattle.rc_coordinator.specs.Asked.{asks_of, asks_of_all};
 use crate::state::State;
 use crate::{notices, plans};
 use rc_attempts::{Attempt, Decision};
-use rc_types::{Fault, Message, ServerId};
-use std::alloc::Allocator;
+use rc_types::{Message, ServerId};
+use std::alloc::{AllocError, Allocator};
 
 impl<A: Allocator + Clone> State<A> {
     /// Takes the timer: the list goes out again, and then what each current attempt waits for.
-    pub(crate) fn tick(&mut self, sent: &mut Vec<Message>) -> Result<(), Fault>
+    pub(crate) fn tick(&mut self, sent: &mut Vec<Message>) -> Result<(), AllocError>
         requires { HasNumbers (state_view self.old) }
         ensures same { book_of self.new ≡ book_of self.old }
         ensures sends { OnOk result (sent.new.items ≡ sent.old.items ++ coordinator_ticks (state_view self.old)) }
         ensures unsent { OnErr result (sent.new.items ≡ sent.old.items) }
-        ensures no_memory { IfErr result (λ fault. fault ≡ OutOfMemory) }
     {
         self.recoveries.pass_over_quiet();
         let ids = self.servers.up(self.alloc)?;
@@ -34,11 +32,10 @@ impl<A: Allocator + Clone> State<A> {
 
     /// Adds what each current attempt waits for. Where memory is refused (F1), some may have been
     /// added.
-    fn ask_all_again(&self, ids: &[ServerId], messages: &mut Vec<Message>) -> Result<(), Fault>
+    fn ask_all_again(&self, ids: &[ServerId], messages: &mut Vec<Message>) -> Result<(), AllocError>
         requires { ids.now ≡ up (state_view self.now).servers }
-        ensures ok { OnOk result (messages.new.items ≡ messages.old.items ++ asks_again_of (state_view self.now) 1
+        ensures { OnOk result (messages.new.items ≡ messages.old.items ++ asks_again_of (state_view self.now) 1
             (state_view self.now).attempts) }
-        ensures no_memory { IfErr result (λ fault. fault ≡ OutOfMemory) }
     {
         self.ask_each(self.recoveries.asked(), ids, messages)
     }
@@ -49,11 +46,10 @@ impl<A: Allocator + Clone> State<A> {
         numbers: &[u32],
         ids: &[ServerId],
         messages: &mut Vec<Message>,
-    ) -> Result<(), Fault>
+    ) -> Result<(), AllocError>
         requires { ids.now ≡ up (state_view self.now).servers }
-        ensures ok { OnOk result (messages.new.items ≡
+        ensures { OnOk result (messages.new.items ≡
             messages.old.items ++ asks_of_all (state_view self.now) numbers.now) }
-        ensures no_memory { IfErr result (λ fault. fault ≡ OutOfMemory) }
     {
         for number in numbers {
             self.ask_if_current(*number, ids, messages)?;
@@ -68,11 +64,10 @@ impl<A: Allocator + Clone> State<A> {
         number: u32,
         ids: &[ServerId],
         messages: &mut Vec<Message>,
-    ) -> Result<(), Fault>
+    ) -> Result<(), AllocError>
         requires { ids.now ≡ up (state_view self.now).servers }
-        ensures ok { OnOk result (messages.new.items ≡ messages.old.items ++ asks_of (state_view self.now) number
+        ensures { OnOk result (messages.new.items ≡ messages.old.items ++ asks_of (state_view self.now) number
             (attempt_at (state_view self.now) number)) }
-        ensures no_memory { IfErr result (λ fault. fault ≡ OutOfMemory) }
     {
         match self.recoveries.attempt(number) {
             Some(attempt) if self.recoveries.current_number(attempt.master()) == number => {
@@ -89,11 +84,10 @@ impl<A: Allocator + Clone> State<A> {
         attempt: &Attempt,
         ids: &[ServerId],
         messages: &mut Vec<Message>,
-    ) -> Result<(), Fault>
+    ) -> Result<(), AllocError>
         requires { ids.now ≡ up (state_view self.now).servers }
-        ensures ok { OnOk result (messages.new.items ≡ messages.old.items ++ asks_again (state_view self.now) number
+        ensures { OnOk result (messages.new.items ≡ messages.old.items ++ asks_again (state_view self.now) number
             attempt.now attempt.now.decided) }
-        ensures no_memory { IfErr result (λ fault. fault ≡ OutOfMemory) }
     {
         match attempt.decided() {
             Some(decision) => {
@@ -108,10 +102,9 @@ impl<A: Allocator + Clone> State<A> {
     }
 
     /// Those of these ids that have a part whose term isn't granted.
-    fn open_ids(&self, decision: &Decision, ids: &[ServerId]) -> Result<Vec<ServerId>, Fault>
-        ensures ok { IfOk result (λ those. those.items ≡ filter (has_open_part (state_view self.now) decision.now)
+    fn open_ids(&self, decision: &Decision, ids: &[ServerId]) -> Result<Vec<ServerId>, AllocError>
+        ensures { IfOk result (λ those. those.items ≡ filter (has_open_part (state_view self.now) decision.now)
             ids.now) }
-        ensures no_memory { IfErr result (λ fault. fault ≡ OutOfMemory) }
     {
         let mut open = Vec::new(self.alloc);
         for id in ids {

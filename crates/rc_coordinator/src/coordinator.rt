@@ -1,7 +1,6 @@
 //! The coordinator, as its callers see it.
 
 ghost use Rattle.std.specs.Prelude.{◌≡◌, ◌↔◌, ◌++◌, ◌^◌, ◌<◌, true, length, IfOk, OnOk, OnErr, IfErr};
-ghost use Rattle.rc_types.specs.declared.faults.Fault.TheVariants.{OutOfMemory};
 ghost use Rattle.rc_model.specs.Coordinator.{new_coordinator};
 ghost use Rattle.rc_model.specs.CoordinatorStep.{coordinator_takes};
 ghost use Rattle.rc_rangetree.specs.Ranges.{AreTablets};
@@ -16,8 +15,8 @@ use crate::state::State;
 use indexmap::IndexMap;
 use rc_attempts::Attempt;
 use rc_serverlist::ServerList;
-use rc_types::{Fault, Grant, Message, NodeWork, Pair, ServerId, Tablet};
-use std::alloc::{Allocator, Global};
+use rc_types::{Grant, Message, NodeWork, Pair, ServerId, Tablet};
+use std::alloc::{AllocError, Allocator, Global};
 use std::fmt;
 use std::marker::Model;
 
@@ -92,13 +91,12 @@ impl<A: Allocator + Clone> Coordinator<A> {
     /// # Errors
     ///
     /// `OutOfMemory` (F1): memory was refused. Then the coordinator and what was sent are as before.
-    pub fn step_into(&mut self, work: &NodeWork, sent: &mut Vec<Message>) -> Result<(), Fault>
+    pub fn step_into(&mut self, work: &NodeWork, sent: &mut Vec<Message>) -> Result<(), AllocError>
         requires { HasNumbers (coordinator_of self.old) }
         ensures state { OnOk result (coordinator_of self.new ≡ (steps (coordinator_of self.old) work.now).0) }
         ensures sends { OnOk result (sent.new.items ≡ sent.old.items ++ (steps (coordinator_of self.old) work.now).1) }
         ensures err { OnErr result (self.new ≡ self.old) }
         ensures unsent { OnErr result (sent.new.items ≡ sent.old.items) }
-        ensures no_memory { IfErr result (λ fault. fault ≡ OutOfMemory) }
     {
         self.state.step_into(work, sent)
     }
@@ -108,7 +106,7 @@ impl<A: Allocator + Clone> Coordinator<A> {
     /// # Errors
     ///
     /// `OutOfMemory` (F1): memory was refused. Then the coordinator and what was sent are as before.
-    pub fn take(&mut self, message: &Message, sent: &mut Vec<Message>) -> Result<(), Fault>
+    pub fn take(&mut self, message: &Message, sent: &mut Vec<Message>) -> Result<(), AllocError>
         requires { HasNumbers (coordinator_of self.old) }
         ensures state { OnOk result (coordinator_of self.new ≡
             (coordinator_takes (coordinator_of self.old) message.now.from message.now.body).0) }
@@ -116,7 +114,6 @@ impl<A: Allocator + Clone> Coordinator<A> {
             sent.old.items ++ (coordinator_takes (coordinator_of self.old) message.now.from message.now.body).1) }
         ensures err { OnErr result (self.new ≡ self.old) }
         ensures unsent { OnErr result (sent.new.items ≡ sent.old.items) }
-        ensures no_memory { IfErr result (λ fault. fault ≡ OutOfMemory) }
     {
         self.state.take(message.from, &message.body, sent)
     }
@@ -126,12 +123,11 @@ impl<A: Allocator + Clone> Coordinator<A> {
     /// # Errors
     ///
     /// `OutOfMemory` (F1): memory was refused. Then the coordinator is as before.
-    pub fn step(&mut self, work: &NodeWork) -> Result<Vec<Message>, Fault>
+    pub fn step(&mut self, work: &NodeWork) -> Result<Vec<Message>, AllocError>
         requires { HasNumbers (coordinator_of self.old) }
         ensures state { OnOk result (coordinator_of self.new ≡ (steps (coordinator_of self.old) work.now).0) }
         ensures sends { IfOk result (λ sent. sent.items ≡ (steps (coordinator_of self.old) work.now).1) }
         ensures err { OnErr result (self.new ≡ self.old) }
-        ensures no_memory { IfErr result (λ fault. fault ≡ OutOfMemory) }
     {
         let mut sent = Vec::new(self.state.alloc);
         self.step_into(work, &mut sent)?;
@@ -180,10 +176,9 @@ impl<A: Allocator + Clone> Coordinator<A> {
     /// # Errors
     ///
     /// `OutOfMemory` (F1): memory was refused.
-    pub fn tablets(&self, alloc: Global) -> Result<Vec<Tablet>, Fault>
+    pub fn tablets(&self, alloc: Global) -> Result<Vec<Tablet>, AllocError>
         ensures list { IfOk result (λ tablets. tablets.items ≡ self.now.tablets) }
         ensures are_tablets { AreTablets self.now.tablets }
-        ensures no_memory { IfErr result (λ fault. fault ≡ OutOfMemory) }
     {
         self.state.tablets.tablets(alloc)
     }

@@ -18,7 +18,7 @@ use rc_attempts::least::least_of;
 use rc_attempts::{Decision, GivenPart};
 use rc_digestpick::pick;
 use rc_types::{Fault, Message, Row, Seq, ServerId, TryClone};
-use std::alloc::Allocator;
+use std::alloc::{AllocError, Allocator};
 
 impl<A: Allocator + Clone> State<A> {
     /// Takes the answer of a backup.
@@ -27,10 +27,9 @@ impl<A: Allocator + Clone> State<A> {
         from: ServerId,
         number: u32,
         rows: &Seq<Row>,
-    ) -> Result<(), Fault>
+    ) -> Result<(), AllocError>
         ensures state { OnOk result (state_view self.new ≡ keeps_answer (state_view self.old) from number rows.now) }
         ensures err { OnErr result (book_of self.new ≡ book_of self.old) }
-        ensures no_memory { IfErr result (λ fault. fault ≡ OutOfMemory) }
     {
         let Some(attempt) = self.recoveries.attempt(number) else {
             return Ok(());
@@ -46,17 +45,20 @@ impl<A: Allocator + Clone> State<A> {
     }
 
     /// Takes a Decide.
-    pub(crate) fn decide(&mut self, master: ServerId, sent: &mut Vec<Message>) -> Result<(), Fault>
+    pub(crate) fn decide(
+        &mut self,
+        master: ServerId,
+        sent: &mut Vec<Message>,
+    ) -> Result<(), AllocError>
         requires { HasNumbers (state_view self.old) }
         ensures state { OnOk result (state_view self.new ≡ (decides (state_view self.old) master).0) }
         ensures sends { OnOk result (sent.new.items ≡ sent.old.items ++ (decides (state_view self.old) master).1) }
         ensures err { OnErr result (book_of self.new ≡ book_of self.old) }
         ensures unsent { OnErr result (sent.new.items ≡ sent.old.items) }
-        ensures no_memory { IfErr result (λ fault. fault ≡ OutOfMemory) }
     {
         match self.choose(master) {
             Ok(choice) => self.decide_on(choice, sent),
-            Err(Fault::OutOfMemory) => Err(Fault::OutOfMemory),
+            Err(Fault::OutOfMemory) => Err(AllocError),
             Err(fault) => {
                 sent.push(notices::refusal(fault))?;
                 Ok(())
@@ -65,9 +67,8 @@ impl<A: Allocator + Clone> State<A> {
     }
 
     /// The servers that are up and ready, in order. Only memory can be refused (F1).
-    fn ready_ids(&self) -> Result<Vec<ServerId>, Fault>
-        ensures ok { IfOk result (λ ids. ids.items ≡ ready_ids (state_view self.now)) }
-        ensures no_memory { IfErr result (λ fault. fault ≡ OutOfMemory) }
+    fn ready_ids(&self) -> Result<Vec<ServerId>, AllocError>
+        ensures { IfOk result (λ ids. ids.items ≡ ready_ids (state_view self.now)) }
     {
         let mut ids = self.servers.up(self.alloc)?;
         ids.retain(|id| self.ready.has(*id));
@@ -115,20 +116,24 @@ impl<A: Allocator + Clone> State<A> {
     }
 
     /// The parts of a master's tablets, given to these ids in turn from this place on.
-    fn parts(&self, master: ServerId, first: u32, ids: &[ServerId]) -> Result<Vec<GivenPart>, Fault>
+    fn parts(
+        &self,
+        master: ServerId,
+        first: u32,
+        ids: &[ServerId],
+    ) -> Result<Vec<GivenPart>, AllocError>
         requires numbers { HasNumbers (state_view self.now) }
         requires someone { 0 < length ids.now }
         ensures ok { IfOk result (λ parts. parts.items ≡ gives_parts ids.now first
             ((state_view self.now).last_term + 1) (tablets_of master (state_view self.now).tablets)) }
         ensures few { IfOk result (λ parts. length parts.items ≤ length (state_view self.now).tablets) }
-        ensures no_memory { IfErr result (λ fault. fault ≡ OutOfMemory) }
     {
         let tablets = self.tablets.tablets_of(self.alloc, master)?;
         plans::give_parts(self.alloc, ids, first, self.last_term + 1, &tablets)
     }
 
     /// Sends the plan, and keeps the decision.
-    fn decide_on(&mut self, choice: Choice, sent: &mut Vec<Message>) -> Result<(), Fault>
+    fn decide_on(&mut self, choice: Choice, sent: &mut Vec<Message>) -> Result<(), AllocError>
         requires place { (0 < choice.number) × (choice.number ≤ length (state_view self.old).attempts) }
         requires gathers { (attempt : Attempted) → attempt_at (state_view self.old) choice.number ≡ Some attempt →
             is_gathering attempt ≡ true }
@@ -142,7 +147,6 @@ impl<A: Allocator + Clone> State<A> {
             (decides_on (state_view self.old) choice.number attempt choice.decision choice.ids.items).1) }
         ensures err { OnErr result (book_of self.new ≡ book_of self.old) }
         ensures unsent { OnErr result (sent.new.items ≡ sent.old.items) }
-        ensures no_memory { IfErr result (λ fault. fault ≡ OutOfMemory) }
     {
         let Choice {
             number,

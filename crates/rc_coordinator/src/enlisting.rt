@@ -1,7 +1,6 @@
 //! Who is up: what the coordinator does when a server enlists, is ready, or is suspected.
 
-ghost use Rattle.std.specs.Prelude.{◌≡◌, ◌++◌, ◌&&◌, nat_eq, find, None, IfOk, OnOk, OnErr, IfErr};
-ghost use Rattle.rc_types.specs.declared.faults.Fault.TheVariants.{OutOfMemory};
+ghost use Rattle.std.specs.Prelude.{◌≡◌, ◌++◌, ◌&&◌, nat_eq, find, None, IfOk, OnOk, OnErr};
 ghost use Rattle.rc_model.specs.ServerList.{has_crashed};
 ghost use Rattle.rc_model.specs.Tablets.{marked_crashed};
 ghost use Rattle.rc_model.specs.Coordinator.{enlists, notes_ready, suspects, begins_if_needed};
@@ -13,17 +12,16 @@ use crate::notices;
 use crate::state::State;
 use rc_serverlist::ServerList;
 use rc_types::{Fault, Message, ServerId, TryClone};
-use std::alloc::Allocator;
+use std::alloc::{AllocError, Allocator};
 
 impl<A: Allocator + Clone> State<A> {
     /// Takes an Enlist.
-    pub(crate) fn enlist(&mut self, id: ServerId, sent: &mut Vec<Message>) -> Result<(), Fault>
+    pub(crate) fn enlist(&mut self, id: ServerId, sent: &mut Vec<Message>) -> Result<(), AllocError>
         requires { HasNumbers (state_view self.old) }
         ensures state { OnOk result (state_view self.new ≡ (enlists (state_view self.old) id).0) }
         ensures sends { OnOk result (sent.new.items ≡ sent.old.items ++ (enlists (state_view self.old) id).1) }
         ensures err { OnErr result (book_of self.new ≡ book_of self.old) }
         ensures unsent { OnErr result (sent.new.items ≡ sent.old.items) }
-        ensures no_memory { IfErr result (λ fault. fault ≡ OutOfMemory) }
     {
         if self.servers.is_up(id) {
             sent.push(notices::list_to(self.alloc, &mut self.servers, id)?)?;
@@ -35,7 +33,12 @@ impl<A: Allocator + Clone> State<A> {
         }
         let older = self.up_of_host(id.index)?;
         let mut servers = self.servers.try_clone(self.alloc)?;
-        servers.enlist(id)?;
+        match servers.enlist(id) {
+            Ok(()) => {}
+            Err(Fault::OutOfMemory) => return Err(AllocError),
+            // (the id is the newest)
+            Err(_) => unreachable!(),
+        }
         match older {
             Some(older) => self.follow(servers, older, sent),
             None => self.spread(servers, sent),
@@ -43,23 +46,21 @@ impl<A: Allocator + Clone> State<A> {
     }
 
     /// The id of this host that is up.
-    fn up_of_host(&self, index: u8) -> Result<Option<ServerId>, Fault>
-        ensures ok { IfOk result (λ found. found ≡ up_of_host index (state_view self.now).servers) }
-        ensures no_memory { IfErr result (λ fault. fault ≡ OutOfMemory) }
+    fn up_of_host(&self, index: u8) -> Result<Option<ServerId>, AllocError>
+        ensures { IfOk result (λ found. found ≡ up_of_host index (state_view self.now).servers) }
     {
         let ids = self.servers.up(self.alloc)?;
         Ok(of_host(&ids, index))
     }
 
     /// Takes a new list, and spreads it.
-    fn spread(&mut self, servers: ServerList, sent: &mut Vec<Message>) -> Result<(), Fault>
+    fn spread(&mut self, servers: ServerList, sent: &mut Vec<Message>) -> Result<(), AllocError>
         ensures state { OnOk result
             (state_view self.new ≡ (follows_generation (record (state_view self.old) { servers = servers }) None).0) }
         ensures sends { OnOk result (sent.new.items ≡ sent.old.items ++
             (follows_generation (record (state_view self.old) { servers = servers }) None).1) }
         ensures err { OnErr result (book_of self.new ≡ book_of self.old) }
         ensures unsent { OnErr result (sent.new.items ≡ sent.old.items) }
-        ensures no_memory { IfErr result (λ fault. fault ≡ OutOfMemory) }
     {
         let mut servers = servers;
         let mut messages = notices::spread_list(self.alloc, &mut servers)?;
@@ -75,7 +76,7 @@ impl<A: Allocator + Clone> State<A> {
         servers: ServerList,
         gone: ServerId,
         sent: &mut Vec<Message>,
-    ) -> Result<(), Fault>
+    ) -> Result<(), AllocError>
         requires { HasNumbers (state_view self.old) }
         ensures state { let after = record (state_view self.old)
             { servers = servers; tablets = marked_crashed gone (state_view self.old).tablets } in
@@ -85,7 +86,6 @@ impl<A: Allocator + Clone> State<A> {
             OnOk result (sent.new.items ≡ sent.old.items ++ (spreads_then_begins after gone).1) }
         ensures err { OnErr result (book_of self.new ≡ book_of self.old) }
         ensures unsent { OnErr result (sent.new.items ≡ sent.old.items) }
-        ensures no_memory { IfErr result (λ fault. fault ≡ OutOfMemory) }
     {
         let begins = self.begins(&servers, gone)?;
         let mut servers = servers;
@@ -104,10 +104,9 @@ impl<A: Allocator + Clone> State<A> {
     }
 
     /// Whether an attempt begins for this id under this list: it has crashed, and has tablets.
-    fn begins(&self, servers: &ServerList, gone: ServerId) -> Result<bool, Fault>
-        ensures ok { IfOk result (λ begins.
+    fn begins(&self, servers: &ServerList, gone: ServerId) -> Result<bool, AllocError>
+        ensures { IfOk result (λ begins.
             begins ≡ (has_crashed servers.now gone && has_tablets (state_view self.now) gone)) }
-        ensures no_memory { IfErr result (λ fault. fault ≡ OutOfMemory) }
     {
         if !servers.has_crashed(gone) {
             return Ok(false);
@@ -116,21 +115,23 @@ impl<A: Allocator + Clone> State<A> {
     }
 
     /// Whether the master has tablets.
-    fn has_tablets(&self, master: ServerId) -> Result<bool, Fault>
-        ensures ok { IfOk result (λ some. some ≡ has_tablets (state_view self.now) master) }
-        ensures no_memory { IfErr result (λ fault. fault ≡ OutOfMemory) }
+    fn has_tablets(&self, master: ServerId) -> Result<bool, AllocError>
+        ensures { IfOk result (λ some. some ≡ has_tablets (state_view self.now) master) }
     {
         let tablets = self.tablets.tablets_of(self.alloc, master)?;
         Ok(tablets.len() > 0)
     }
 
     /// Takes a Ready.
-    pub(crate) fn note_ready(&mut self, id: ServerId, sent: &mut Vec<Message>) -> Result<(), Fault>
+    pub(crate) fn note_ready(
+        &mut self,
+        id: ServerId,
+        sent: &mut Vec<Message>,
+    ) -> Result<(), AllocError>
         ensures state { OnOk result (state_view self.new ≡ (notes_ready (state_view self.old) id).0) }
         ensures sends { OnOk result (sent.new.items ≡ sent.old.items ++ (notes_ready (state_view self.old) id).1) }
         ensures err { OnErr result (book_of self.new ≡ book_of self.old) }
         ensures unsent { OnErr result (sent.new.items ≡ sent.old.items) }
-        ensures no_memory { IfErr result (λ fault. fault ≡ OutOfMemory) }
     {
         if self.servers.is_up(id) {
             self.ready.note(id)?;
@@ -141,13 +142,16 @@ impl<A: Allocator + Clone> State<A> {
     }
 
     /// Takes a suspicion.
-    pub(crate) fn suspect(&mut self, id: ServerId, sent: &mut Vec<Message>) -> Result<(), Fault>
+    pub(crate) fn suspect(
+        &mut self,
+        id: ServerId,
+        sent: &mut Vec<Message>,
+    ) -> Result<(), AllocError>
         requires { HasNumbers (state_view self.old) }
         ensures state { OnOk result (state_view self.new ≡ (suspects (state_view self.old) id).0) }
         ensures sends { OnOk result (sent.new.items ≡ sent.old.items ++ (suspects (state_view self.old) id).1) }
         ensures err { OnErr result (book_of self.new ≡ book_of self.old) }
         ensures unsent { OnErr result (sent.new.items ≡ sent.old.items) }
-        ensures no_memory { IfErr result (λ fault. fault ≡ OutOfMemory) }
     {
         if self.servers.is_up(id) {
             let mut servers = self.servers.try_clone(self.alloc)?;
@@ -158,13 +162,12 @@ impl<A: Allocator + Clone> State<A> {
     }
 
     /// Begins an attempt for a master that has crashed and still has tablets.
-    fn begin_if_needed(&mut self, id: ServerId, sent: &mut Vec<Message>) -> Result<(), Fault>
+    fn begin_if_needed(&mut self, id: ServerId, sent: &mut Vec<Message>) -> Result<(), AllocError>
         requires { HasNumbers (state_view self.old) }
         ensures state { OnOk result (state_view self.new ≡ (begins_if_needed (state_view self.old) id).0) }
         ensures sends { OnOk result (sent.new.items ≡ sent.old.items ++ (begins_if_needed (state_view self.old) id).1) }
         ensures err { OnErr result (book_of self.new ≡ book_of self.old) }
         ensures unsent { OnErr result (sent.new.items ≡ sent.old.items) }
-        ensures no_memory { IfErr result (λ fault. fault ≡ OutOfMemory) }
     {
         if self.servers.has_crashed(id) && self.has_tablets(id)? {
             let mut messages = Vec::new(self.alloc);

@@ -1,7 +1,6 @@
 //! Who owns what: least pairs are committed, tables created and split, and recovered parts granted.
 
-ghost use Rattle.std.specs.Prelude.{◌≡◌, ◌≤◌, ◌++◌, length, false, OnOk, OnErr, IfErr};
-ghost use Rattle.rc_types.specs.declared.faults.Fault.TheVariants.{OutOfMemory};
+ghost use Rattle.std.specs.Prelude.{◌≡◌, ◌≤◌, ◌++◌, length, false, OnOk, OnErr};
 ghost use Rattle.rc_types.specs.declared.limits.TheConstants.{MAX_TABLETS as TABLETS};
 ghost use Rattle.rc_model.specs.Tablets.{has_table};
 ghost use Rattle.rc_model.specs.Coordinator.{commits_pair};
@@ -14,7 +13,7 @@ use crate::state::State;
 use crate::{grants, notices};
 use rc_attempts::least::raise_if_up;
 use rc_types::{Fault, Message, Pair, Part, ServerId};
-use std::alloc::Allocator;
+use std::alloc::{AllocError, Allocator};
 
 impl<A: Allocator + Clone> State<A> {
     /// Takes a Commit.
@@ -23,13 +22,12 @@ impl<A: Allocator + Clone> State<A> {
         id: ServerId,
         pair: Pair,
         sent: &mut Vec<Message>,
-    ) -> Result<(), Fault>
+    ) -> Result<(), AllocError>
         ensures state { OnOk result (state_view self.new ≡ (commits_pair (state_view self.old) id pair).0) }
         ensures sends { OnOk result (sent.new.items ≡ sent.old.items ++
             (commits_pair (state_view self.old) id pair).1) }
         ensures err { OnErr result (book_of self.new ≡ book_of self.old) }
         ensures unsent { OnErr result (sent.new.items ≡ sent.old.items) }
-        ensures no_memory { IfErr result (λ fault. fault ≡ OutOfMemory) }
     {
         sent.reserve(1)?;
         if !raise_if_up(&mut self.least, &self.servers, id, pair)? {
@@ -46,13 +44,12 @@ impl<A: Allocator + Clone> State<A> {
         table: u32,
         owner: ServerId,
         sent: &mut Vec<Message>,
-    ) -> Result<(), Fault>
+    ) -> Result<(), AllocError>
         requires { HasNumbers (state_view self.old) }
         ensures state { OnOk result (state_view self.new ≡ (creates (state_view self.old) table owner).0) }
         ensures sends { OnOk result (sent.new.items ≡ sent.old.items ++ (creates (state_view self.old) table owner).1) }
         ensures err { OnErr result (book_of self.new ≡ book_of self.old) }
         ensures unsent { OnErr result (sent.new.items ≡ sent.old.items) }
-        ensures no_memory { IfErr result (λ fault. fault ≡ OutOfMemory) }
     {
         let refused = if !(self.servers.is_up(owner) && self.ready.has(owner)) {
             Fault::NotReady
@@ -72,7 +69,7 @@ impl<A: Allocator + Clone> State<A> {
         table: u32,
         owner: ServerId,
         sent: &mut Vec<Message>,
-    ) -> Result<(), Fault>
+    ) -> Result<(), AllocError>
         requires numbers { HasNumbers (state_view self.old) }
         requires absent { has_table (state_view self.old).tablets table ≡ false }
         requires few { length (state_view self.old).tablets ≤ TABLETS }
@@ -81,7 +78,6 @@ impl<A: Allocator + Clone> State<A> {
             (creates_unless_full (state_view self.old) table owner).1) }
         ensures err { OnErr result (book_of self.new ≡ book_of self.old) }
         ensures unsent { OnErr result (sent.new.items ≡ sent.old.items) }
-        ensures no_memory { IfErr result (λ fault. fault ≡ OutOfMemory) }
     {
         let term = self.last_term + 1;
         self.recoveries.make_room()?;
@@ -94,7 +90,7 @@ impl<A: Allocator + Clone> State<A> {
                 self.last_term = term;
                 Ok(())
             }
-            Err(Fault::OutOfMemory) => Err(Fault::OutOfMemory),
+            Err(Fault::OutOfMemory) => Err(AllocError),
             Err(fault) => {
                 sent.push(notices::refusal(fault)).unwrap();
                 Ok(())
@@ -108,12 +104,11 @@ impl<A: Allocator + Clone> State<A> {
         table: u32,
         at: u64,
         sent: &mut Vec<Message>,
-    ) -> Result<(), Fault>
+    ) -> Result<(), AllocError>
         ensures state { OnOk result (state_view self.new ≡ (splits (state_view self.old) table at).0) }
         ensures sends { OnOk result (sent.new.items ≡ sent.old.items ++ (splits (state_view self.old) table at).1) }
         ensures err { OnErr result (book_of self.new ≡ book_of self.old) }
         ensures unsent { OnErr result (sent.new.items ≡ sent.old.items) }
-        ensures no_memory { IfErr result (λ fault. fault ≡ OutOfMemory) }
     {
         if self.tablets.find(table, at).is_none() {
             sent.push(notices::refusal(Fault::NoTable))?;
@@ -125,7 +120,7 @@ impl<A: Allocator + Clone> State<A> {
                 sent.push(notices::split_ok(table, at)).unwrap();
                 Ok(())
             }
-            Err(Fault::OutOfMemory) => Err(Fault::OutOfMemory),
+            Err(Fault::OutOfMemory) => Err(AllocError),
             Err(fault) => {
                 sent.push(notices::refusal(fault)).unwrap();
                 Ok(())
@@ -140,13 +135,12 @@ impl<A: Allocator + Clone> State<A> {
         number: u32,
         term: u32,
         sent: &mut Vec<Message>,
-    ) -> Result<(), Fault>
+    ) -> Result<(), AllocError>
         ensures state { OnOk result (state_view self.new ≡ (takes_recovered (state_view self.old) id number term).0) }
         ensures sends { OnOk result (sent.new.items ≡ sent.old.items ++
             (takes_recovered (state_view self.old) id number term).1) }
         ensures err { OnErr result (book_of self.new ≡ book_of self.old) }
         ensures unsent { OnErr result (sent.new.items ≡ sent.old.items) }
-        ensures no_memory { IfErr result (λ fault. fault ≡ OutOfMemory) }
     {
         let answer = if !self.servers.is_up(id) {
             notices::refusal_to(id, Fault::Deposed)
@@ -175,13 +169,12 @@ impl<A: Allocator + Clone> State<A> {
         number: u32,
         part: &Part,
         sent: &mut Vec<Message>,
-    ) -> Result<(), Fault>
+    ) -> Result<(), AllocError>
         ensures state { OnOk result (state_view self.new ≡ (grants_part (state_view self.old) id number part.now).0) }
         ensures sends { OnOk result (sent.new.items ≡ sent.old.items ++
             (grants_part (state_view self.old) id number part.now).1) }
         ensures err { OnErr result (book_of self.new ≡ book_of self.old) }
         ensures unsent { OnErr result (sent.new.items ≡ sent.old.items) }
-        ensures no_memory { IfErr result (λ fault. fault ≡ OutOfMemory) }
     {
         self.recoveries.make_room()?;
         sent.reserve(1)?;

@@ -1,7 +1,6 @@
 //! The messages that the coordinator sends, but for the plans.
 
-ghost use Rattle.std.specs.Prelude.{◌≡◌, ◌++◌, not, filter, IfOk, OnOk, IfErr};
-ghost use Rattle.rc_types.specs.declared.faults.Fault.TheVariants.{OutOfMemory};
+ghost use Rattle.std.specs.Prelude.{◌≡◌, ◌++◌, not, filter, IfOk, OnOk};
 ghost use Rattle.rc_types.specs.declared.messages.Body.TheVariants.{List as Listed, Gather, CommitOk, SplitOk};
 ghost use Rattle.rc_model.specs.Messages.{from_coordinator, to_each, coordinator_refuses, coordinator_tells};
 ghost use Rattle.rc_model.specs.ServerList.{up};
@@ -12,7 +11,7 @@ ghost use Rattle.rc_model.specs.Deciding.{own_body};
 use rc_attempts::Attempt;
 use rc_serverlist::ServerList;
 use rc_types::{Addr, Body, Fault, Grant, Message, Pair, ServerId, Shared};
-use std::alloc::Global;
+use std::alloc::{AllocError, Global};
 
 /// A message from the coordinator to a server.
 pub(crate) fn to_server(id: ServerId, body: Body) -> Message
@@ -84,10 +83,9 @@ pub(crate) fn list_to(
     alloc: Global,
     servers: &mut ServerList,
     id: ServerId,
-) -> Result<Message, Fault>
+) -> Result<Message, AllocError>
     ensures same { servers.new ≡ servers.old }
     ensures ok { IfOk result (λ message. message ≡ from_coordinator id (Listed servers.old.version servers.old.rows)) }
-    ensures no_memory { IfErr result (λ fault. fault ≡ OutOfMemory) }
 {
     let rows = servers.shared_rows(alloc)?;
     let version = servers.version();
@@ -95,10 +93,12 @@ pub(crate) fn list_to(
 }
 
 /// The list, to every server that is up. Only memory can be refused (F1).
-pub(crate) fn spread_list(alloc: Global, servers: &mut ServerList) -> Result<Vec<Message>, Fault>
+pub(crate) fn spread_list(
+    alloc: Global,
+    servers: &mut ServerList,
+) -> Result<Vec<Message>, AllocError>
     ensures same { servers.new ≡ servers.old }
     ensures ok { IfOk result (λ messages. messages.items ≡ spreads_list servers.old) }
-    ensures no_memory { IfErr result (λ fault. fault ≡ OutOfMemory) }
 {
     let ids = servers.up(alloc)?;
     list_to_each(alloc, servers, &ids)
@@ -109,11 +109,10 @@ pub(crate) fn list_to_each(
     alloc: Global,
     servers: &mut ServerList,
     ids: &[ServerId],
-) -> Result<Vec<Message>, Fault>
+) -> Result<Vec<Message>, AllocError>
     requires { ids.now ≡ up servers.old }
     ensures same { servers.new ≡ servers.old }
     ensures ok { IfOk result (λ messages. messages.items ≡ spreads_list servers.old) }
-    ensures no_memory { IfErr result (λ fault. fault ≡ OutOfMemory) }
 {
     let rows = servers.shared_rows(alloc)?;
     rows_to_each(alloc, servers.version(), &rows, ids)
@@ -125,9 +124,8 @@ fn rows_to_each(
     version: u32,
     rows: &Shared<(ServerId, bool)>,
     ids: &[ServerId],
-) -> Result<Vec<Message>, Fault>
-    ensures ok { IfOk result (λ messages. messages.items ≡ to_each ids.now (Listed version rows.now)) }
-    ensures no_memory { IfErr result (λ fault. fault ≡ OutOfMemory) }
+) -> Result<Vec<Message>, AllocError>
+    ensures { IfOk result (λ messages. messages.items ≡ to_each ids.now (Listed version rows.now)) }
 {
     let mut messages = Vec::with_capacity(alloc, ids.len())?;
     for id in ids {
@@ -145,10 +143,9 @@ pub(crate) fn add_gathers(
     attempt: u32,
     master: ServerId,
     messages: &mut Vec<Message>,
-) -> Result<(), Fault>
-    ensures ok { OnOk result (messages.new.items ≡ messages.old.items ++
+) -> Result<(), AllocError>
+    ensures { OnOk result (messages.new.items ≡ messages.old.items ++
         to_each (up servers.now) (Gather attempt master)) }
-    ensures no_memory { IfErr result (λ fault. fault ≡ OutOfMemory) }
 {
     for id in &servers.up(alloc)? {
         messages.push(to_server(*id, Body::Gather { attempt, master }))?;
@@ -163,10 +160,9 @@ pub(crate) fn gather_again(
     attempt: &Attempt,
     ids: &[ServerId],
     messages: &mut Vec<Message>,
-) -> Result<(), Fault>
-    ensures ok { OnOk result (messages.new.items ≡ messages.old.items ++
+) -> Result<(), AllocError>
+    ensures { OnOk result (messages.new.items ≡ messages.old.items ++
         to_each (filter (λ id. not (has_answered id attempt.now.replies)) ids.now) (Gather number attempt.now.master)) }
-    ensures no_memory { IfErr result (λ fault. fault ≡ OutOfMemory) }
 {
     let master = attempt.master();
     for id in ids {

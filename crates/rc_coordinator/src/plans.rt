@@ -1,15 +1,14 @@
 //! Who recovers which part of a crashed master's tablets, and the plans that tell them.
 
-ghost use Rattle.std.specs.Prelude.{◌≡◌, ◌+◌, ◌^◌, ◌<◌, ◌≤◌, length, IfOk, IfErr};
-ghost use Rattle.rc_types.specs.declared.faults.Fault.TheVariants.{OutOfMemory};
+ghost use Rattle.std.specs.Prelude.{◌≡◌, ◌+◌, ◌^◌, ◌<◌, ◌≤◌, length, IfOk};
 ghost use Rattle.rc_types.specs.declared.messages.Body.TheVariants.{Plan as Planned};
 ghost use Rattle.rc_model.specs.Messages.{from_coordinator};
 ghost use Rattle.rc_model.specs.Attempts.{part_of, gives_parts, parts_of, plan_messages};
 
 use crate::notices;
 use rc_attempts::{Decision, GivenPart};
-use rc_types::{Body, Fault, Message, Part, Plan, Seq, ServerId, Tablet, TryClone};
-use std::alloc::Global;
+use rc_types::{Body, Message, Part, Plan, Seq, ServerId, Tablet, TryClone};
+use std::alloc::{AllocError, Global};
 
 /// What a Decide comes to: which attempt, of which master, what is decided, and who is up and ready.
 #[derive(Drop)]
@@ -41,12 +40,11 @@ pub(crate) fn give_parts(
     first: u32,
     term: u32,
     tablets: &[Tablet],
-) -> Result<Vec<GivenPart>, Fault>
+) -> Result<Vec<GivenPart>, AllocError>
     requires someone { 0 < length ids.now }
     requires terms { term + length tablets.now < 2 ^ 32 }
     ensures ok { IfOk result (λ parts. parts.items ≡ gives_parts ids.now first term tablets.now) }
     ensures few { IfOk result (λ parts. length parts.items ≡ length tablets.now) }
-    ensures no_memory { IfErr result (λ fault. fault ≡ OutOfMemory) }
 {
     let mut parts = Vec::with_capacity(alloc, tablets.len())?;
     for (count, tablet) in tablets.iter().enumerate() {
@@ -58,9 +56,8 @@ pub(crate) fn give_parts(
 }
 
 /// The parts of one recovery master. Only memory can be refused (F1).
-fn parts_of(alloc: Global, id: ServerId, given: &[GivenPart]) -> Result<Vec<Part>, Fault>
-    ensures ok { IfOk result (λ parts. parts.items ≡ parts_of id given.now) }
-    ensures no_memory { IfErr result (λ fault. fault ≡ OutOfMemory) }
+fn parts_of(alloc: Global, id: ServerId, given: &[GivenPart]) -> Result<Vec<Part>, AllocError>
+    ensures { IfOk result (λ parts. parts.items ≡ parts_of id given.now) }
 {
     let mut parts = Vec::new(alloc);
     for one in given {
@@ -79,10 +76,9 @@ fn plan_to(
     plan: &Plan,
     id: ServerId,
     parts: Vec<Part>,
-) -> Result<Message, Fault>
-    ensures ok { IfOk result (λ message. message ≡ from_coordinator id
+) -> Result<Message, AllocError>
+    ensures { IfOk result (λ message. message ≡ from_coordinator id
         (Planned plan.now.head number master plan.now.rows parts.items)) }
-    ensures no_memory { IfErr result (λ fault. fault ≡ OutOfMemory) }
 {
     let rows = plan.rows.try_clone(alloc)?;
     Ok(notices::to_server(
@@ -105,9 +101,8 @@ pub(crate) fn plan_messages(
     master: ServerId,
     decision: &Decision,
     ids: &[ServerId],
-) -> Result<Vec<Message>, Fault>
-    ensures ok { IfOk result (λ messages. messages.items ≡ plan_messages number master decision.now ids.now) }
-    ensures no_memory { IfErr result (λ fault. fault ≡ OutOfMemory) }
+) -> Result<Vec<Message>, AllocError>
+    ensures { IfOk result (λ messages. messages.items ≡ plan_messages number master decision.now ids.now) }
 {
     let mut messages = Vec::new(alloc);
     for id in ids {

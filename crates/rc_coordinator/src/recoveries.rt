@@ -1,9 +1,8 @@
 //! What the coordinator remembers of recoveries: the attempts and the grants.
 
 ghost use Rattle.std.specs.Prelude.{◌≡◌, ◌+◌, ◌-◌, ◌^◌, ◌<◌, ◌≤◌, ◌++◌, ◌∷◌, [], true, false, length, find, filter};
-ghost use Rattle.std.specs.Prelude.{Some, slice_set, OnOk, OnErr, IfOk, IfErr};
+ghost use Rattle.std.specs.Prelude.{Some, slice_set, OnOk, OnErr, IfOk};
 ghost use Rattle.std.specs.Option.{option_copied};
-ghost use Rattle.rc_types.specs.declared.faults.Fault.TheVariants.{OutOfMemory};
 ghost use Rattle.rc_types.specs.declared.messages.Body.TheVariants.{Gather};
 ghost use Rattle.rc_model.specs.Tables.{put_id};
 ghost use Rattle.rc_model.specs.Messages.{to_each};
@@ -20,7 +19,7 @@ use indexmap::IndexMap;
 use rc_attempts::numbers::{attempt_of, current_number, part_of_sender};
 use rc_attempts::{Attempt, Decision, GivenPart};
 use rc_serverlist::ServerList;
-use rc_types::{Fault, Grant, Message, Part, Row, Seq, ServerId};
+use rc_types::{Grant, Message, Part, Row, Seq, ServerId};
 use std::alloc::{AllocError, Global};
 use std::marker::Model;
 
@@ -147,7 +146,7 @@ impl Recoveries {
         master: ServerId,
         messages: &mut Vec<Message>,
         sent: &mut Vec<Message>,
-    ) -> Result<(), Fault>
+    ) -> Result<(), AllocError>
         requires { length self.old.attempts < 2 ^ 32 - 1 }
         ensures attempts { OnOk result (self.new.attempts ≡ self.old.attempts ++ new_attempt master ∷ []) }
         ensures current { OnOk result (number_of self.new.current ≡ put_id (number_of self.old.current) master
@@ -157,7 +156,6 @@ impl Recoveries {
             (messages.old.items ++ to_each (up servers.now) (Gather (length self.old.attempts + 1) master))) }
         ensures err { OnErr result (self.new ≡ self.old) }
         ensures unsent { OnErr result (sent.new.items ≡ sent.old.items) }
-        ensures no_memory { IfErr result (λ fault. fault ≡ OutOfMemory) }
     {
         let number = self.attempts.len() as u32 + 1;
         notices::add_gathers(alloc, servers, number, master, messages)?;
@@ -173,13 +171,17 @@ impl Recoveries {
 
     /// Keeps an answer to the attempt of this number. Only memory can be refused (F1), and then
     /// nothing has changed.
-    pub(crate) fn keep(&mut self, number: u32, from: ServerId, rows: Seq<Row>) -> Result<(), Fault>
+    pub(crate) fn keep(
+        &mut self,
+        number: u32,
+        from: ServerId,
+        rows: Seq<Row>,
+    ) -> Result<(), AllocError>
         requires { (0 < number) × (number ≤ length self.old.attempts) }
         ensures ok { OnOk result ((attempt : Attempted) → attempt_of self.old.attempts number ≡ Some attempt →
             self.new ≡ record self.old
             { attempts = slice_set self.old.attempts (number - 1) (with_answer from rows attempt) }) }
         ensures err { OnErr result (self.new ≡ self.old) }
-        ensures no_memory { IfErr result (λ fault. fault ≡ OutOfMemory) }
     {
         self.attempts[number as usize - 1].keep(from, rows)
     }

@@ -1,7 +1,6 @@
 //! The coordinator's state, and which work it takes how.
 
-ghost use Rattle.std.specs.Prelude.{◌≡◌, ◌↔◌, ◌++◌, true, OnOk, OnErr, IfErr};
-ghost use Rattle.rc_types.specs.declared.faults.Fault.TheVariants.{OutOfMemory};
+ghost use Rattle.std.specs.Prelude.{◌≡◌, ◌↔◌, ◌++◌, true, OnOk, OnErr};
 ghost use Rattle.rc_model.specs.Coordinator.{new_coordinator};
 ghost use Rattle.rc_model.specs.CoordinatorStep.{coordinator_takes};
 ghost use Rattle.rc_coordinator.specs.View.{book_of, state_view};
@@ -12,8 +11,8 @@ use crate::recoveries::Recoveries;
 use indexmap::IndexMap;
 use rc_rangetree::RangeTree;
 use rc_serverlist::ServerList;
-use rc_types::{Addr, Body, Fault, Message, NodeWork, Pair, ServerId};
-use std::alloc::{Allocator, Global};
+use rc_types::{Addr, Body, Message, NodeWork, Pair, ServerId};
+use std::alloc::{AllocError, Allocator, Global};
 
 /// What the coordinator knows. The tablets lie in memory of the allocator `A`.
 #[derive(Drop)]
@@ -58,13 +57,12 @@ impl<A: Allocator + Clone> State<A> {
         &mut self,
         work: &NodeWork,
         sent: &mut Vec<Message>,
-    ) -> Result<(), Fault>
+    ) -> Result<(), AllocError>
         requires { HasNumbers (state_view self.old) }
         ensures state { OnOk result (state_view self.new ≡ (steps (state_view self.old) work.now).0) }
         ensures sends { OnOk result (sent.new.items ≡ sent.old.items ++ (steps (state_view self.old) work.now).1) }
         ensures err { OnErr result (book_of self.new ≡ book_of self.old) }
         ensures unsent { OnErr result (sent.new.items ≡ sent.old.items) }
-        ensures no_memory { IfErr result (λ fault. fault ≡ OutOfMemory) }
     {
         match work {
             NodeWork::Deliver(message) => self.take(message.from, &message.body, sent),
@@ -83,14 +81,13 @@ impl<A: Allocator + Clone> State<A> {
         from: Addr,
         body: &Body,
         sent: &mut Vec<Message>,
-    ) -> Result<(), Fault>
+    ) -> Result<(), AllocError>
         requires { HasNumbers (state_view self.old) }
         ensures state { OnOk result (state_view self.new ≡ (coordinator_takes (state_view self.old) from body.now).0) }
         ensures sends { OnOk result (sent.new.items ≡ sent.old.items ++
             (coordinator_takes (state_view self.old) from body.now).1) }
         ensures err { OnErr result (book_of self.new ≡ book_of self.old) }
         ensures unsent { OnErr result (sent.new.items ≡ sent.old.items) }
-        ensures no_memory { IfErr result (λ fault. fault ≡ OutOfMemory) }
     {
         match (from, body) {
             (Addr::Server(id), Body::Enlist) => self.enlist(id, sent),

@@ -1,15 +1,14 @@
 //! Which event three words choose.
 
-ghost use Rattle.std.specs.Prelude.{◌≡◌, ◌<◌, ◌+◌, ◌%◌, IfOk, IfErr};
-ghost use Rattle.rc_types.specs.declared.faults.Fault.TheVariants.{OutOfMemory};
+ghost use Rattle.std.specs.Prelude.{◌≡◌, ◌<◌, ◌+◌, ◌%◌, IfOk};
 ghost use Rattle.rc_world.specs.Happened.{replayed};
 ghost use Rattle.rc_draw.specs.Draw.{choice_of, delivery_of, write_of, start_of, decision_of, event_of, chosen};
 ghost use Rattle.rc_draw.specs.Draw.{newest_server};
 
 use crate::words::Words;
-use rc_types::{Addr, Body, Event, Fault, Seq, ServerId, Shared};
+use rc_types::{Addr, Body, Event, Seq, ServerId, Shared};
 use rc_world::World;
-use std::alloc::Global;
+use std::alloc::{AllocError, Global};
 
 /// How many hosts are started: those of the indexes below.
 pub(crate) const HOSTS: u8 = 5;
@@ -54,9 +53,8 @@ pub(crate) fn event_of(
     world: &World<Global>,
     number: usize,
     words: Words,
-) -> Result<Option<Event>, Fault>
-    ensures ok { IfOk result (λ event. event ≡ event_of (replayed world.now) number words) }
-    ensures no_memory { IfErr result (λ fault. fault ≡ OutOfMemory) }
+) -> Result<Option<Event>, AllocError>
+    ensures { IfOk result (λ event. event ≡ event_of (replayed world.now) number words) }
 {
     let host = (words.target % HOSTS as u32) as u8;
     let generation = world.newest(host);
@@ -75,9 +73,8 @@ fn chosen(
     id: ServerId,
     choice: Choice,
     words: Words,
-) -> Result<Option<Event>, Fault>
-    ensures ok { IfOk result (λ event. event ≡ chosen (replayed world.now) number id choice words) }
-    ensures no_memory { IfErr result (λ fault. fault ≡ OutOfMemory) }
+) -> Result<Option<Event>, AllocError>
+    ensures { IfOk result (λ event. event ≡ chosen (replayed world.now) number id choice words) }
 {
     Ok(match choice {
         Choice::Deliver => delivery_of(world.sent().len(), words.target),
@@ -103,9 +100,8 @@ fn delivery_of(sent: usize, word: u32) -> Option<Event>
 }
 
 /// A write of one of the keys; its value is the step's number, in decimal digits.
-fn write_of(alloc: Global, to: ServerId, word: u32, number: usize) -> Result<Event, Fault>
-    ensures ok { IfOk result (λ event. event ≡ write_of to word number) }
-    ensures no_memory { IfErr result (λ fault. fault ≡ OutOfMemory) }
+fn write_of(alloc: Global, to: ServerId, word: u32, number: usize) -> Result<Event, AllocError>
+    ensures { IfOk result (λ event. event ≡ write_of to word number) }
 {
     let text = format!(in alloc; "{number}")?;
     let body = Body::Write {
@@ -117,9 +113,8 @@ fn write_of(alloc: Global, to: ServerId, word: u32, number: usize) -> Result<Eve
 }
 
 /// A start of the host, with all of its open replicas or with none.
-fn start_of(alloc: Global, world: &World<Global>, host: u8, word: u32) -> Result<Event, Fault>
-    ensures ok { IfOk result (λ event. event ≡ start_of ((replayed world.now).hosts host) host word) }
-    ensures no_memory { IfErr result (λ fault. fault ≡ OutOfMemory) }
+fn start_of(alloc: Global, world: &World<Global>, host: u8, word: u32) -> Result<Event, AllocError>
+    ensures { IfOk result (λ event. event ≡ start_of ((replayed world.now).hosts host) host word) }
 {
     let kept = if word % 4 == 0 {
         Vec::new(alloc)

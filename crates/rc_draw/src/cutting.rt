@@ -1,8 +1,7 @@
 //! What follows a power failure: all servers stop, all hosts start again, and all crashed servers are
 //! recovered as far as that goes.
 
-ghost use Rattle.std.specs.Prelude.{◌≡◌, ◌++◌, ℕ, true, IfOk, OnOk, IfErr};
-ghost use Rattle.rc_types.specs.declared.faults.Fault.TheVariants.{OutOfMemory};
+ghost use Rattle.std.specs.Prelude.{◌≡◌, ◌++◌, ℕ, true, IfOk, OnOk};
 ghost use Rattle.rc_world.specs.Happened.{replayed};
 ghost use Rattle.rc_draw.specs.declared.cutting.Keeping.TheVariants.{All};
 ghost use Rattle.rc_draw.specs.Draw.{newest_server};
@@ -10,9 +9,9 @@ ghost use Rattle.rc_draw.specs.Stops.{keeps, gathered, stop_of, start_of, decisi
 
 use crate::playing::settled;
 use rc_reading::ScenarioEvent;
-use rc_types::{Addr, Event, Fault, Seq, ServerId};
+use rc_types::{Addr, Event, Seq, ServerId};
 use rc_world::World;
-use std::alloc::Global;
+use std::alloc::{AllocError, Global};
 
 /// Which of its open replicas a host keeps.
 #[derive(Clone, Copy)]
@@ -40,10 +39,9 @@ impl Keeping {
     }
 
     /// Whether it keeps all open replicas of these hosts, so that they start as they do where all are kept.
-    pub(crate) fn keeps_all(self, world: &World<Global>, hosts: u8) -> Result<bool, Fault>
-        ensures ok { IfOk result (λ all. all ≡ true →
+    pub(crate) fn keeps_all(self, world: &World<Global>, hosts: u8) -> Result<bool, AllocError>
+        ensures { IfOk result (λ all. all ≡ true →
             gathered (start_of self (replayed world.now)) hosts ≡ gathered (start_of All (replayed world.now)) hosts) }
-        ensures no_memory { IfErr result (λ fault. fault ≡ OutOfMemory) }
     {
         for host in 0..hosts {
             let names = world.open_replicas(host)?;
@@ -62,9 +60,8 @@ pub(crate) fn cut_scene(
     world: &World<Global>,
     hosts: u8,
     keeping: Keeping,
-) -> Result<Vec<ScenarioEvent>, Fault>
-    ensures ok { IfOk result (λ scene. scene.items ≡ cut_scene hosts keeping (replayed world.now)) }
-    ensures no_memory { IfErr result (λ fault. fault ≡ OutOfMemory) }
+) -> Result<Vec<ScenarioEvent>, AllocError>
+    ensures { IfOk result (λ scene. scene.items ≡ cut_scene hosts keeping (replayed world.now)) }
 {
     let mut scene = Vec::new(alloc);
     add_stops(world, hosts, &mut scene)?;
@@ -78,9 +75,12 @@ pub(crate) fn cut_scene(
 }
 
 /// Each running server stops.
-fn add_stops(world: &World<Global>, hosts: u8, scene: &mut Vec<ScenarioEvent>) -> Result<(), Fault>
-    ensures ok { OnOk result (scene.new.items ≡ scene.old.items ++ gathered (stop_of (replayed world.now)) hosts) }
-    ensures no_memory { IfErr result (λ fault. fault ≡ OutOfMemory) }
+fn add_stops(
+    world: &World<Global>,
+    hosts: u8,
+    scene: &mut Vec<ScenarioEvent>,
+) -> Result<(), AllocError>
+    ensures { OnOk result (scene.new.items ≡ scene.old.items ++ gathered (stop_of (replayed world.now)) hosts) }
 {
     for host in 0..hosts {
         add_stop(world, host, scene)?;
@@ -89,9 +89,12 @@ fn add_stops(world: &World<Global>, hosts: u8, scene: &mut Vec<ScenarioEvent>) -
 }
 
 /// The newest server of the host stops, where it runs.
-fn add_stop(world: &World<Global>, host: u8, scene: &mut Vec<ScenarioEvent>) -> Result<(), Fault>
-    ensures ok { OnOk result (scene.new.items ≡ scene.old.items ++ stop_of (replayed world.now) host) }
-    ensures no_memory { IfErr result (λ fault. fault ≡ OutOfMemory) }
+fn add_stop(
+    world: &World<Global>,
+    host: u8,
+    scene: &mut Vec<ScenarioEvent>,
+) -> Result<(), AllocError>
+    ensures { OnOk result (scene.new.items ≡ scene.old.items ++ stop_of (replayed world.now) host) }
 {
     let id = newest_server(world, host);
     if world.is_running(id) {
@@ -106,10 +109,9 @@ fn add_starts(
     hosts: u8,
     keeping: Keeping,
     scene: &mut Vec<ScenarioEvent>,
-) -> Result<(), Fault>
-    ensures ok { OnOk result
+) -> Result<(), AllocError>
+    ensures { OnOk result
         (scene.new.items ≡ scene.old.items ++ gathered (start_of keeping (replayed world.now)) hosts) }
-    ensures no_memory { IfErr result (λ fault. fault ≡ OutOfMemory) }
 {
     for host in 0..hosts {
         add_start(world, keeping, host, scene)?;
@@ -123,9 +125,8 @@ fn add_start(
     keeping: Keeping,
     host: u8,
     scene: &mut Vec<ScenarioEvent>,
-) -> Result<(), Fault>
-    ensures ok { OnOk result (scene.new.items ≡ scene.old.items ++ start_of keeping (replayed world.now) host) }
-    ensures no_memory { IfErr result (λ fault. fault ≡ OutOfMemory) }
+) -> Result<(), AllocError>
+    ensures { OnOk result (scene.new.items ≡ scene.old.items ++ start_of keeping (replayed world.now) host) }
 {
     if world.newest(host) > 0 {
         let kept = Seq::from_vec(keeping.of(world.open_replicas(host)?));
@@ -139,9 +140,8 @@ fn add_decisions(
     world: &World<Global>,
     hosts: u8,
     scene: &mut Vec<ScenarioEvent>,
-) -> Result<(), Fault>
-    ensures ok { OnOk result (scene.new.items ≡ scene.old.items ++ gathered (decisions_of (replayed world.now)) hosts) }
-    ensures no_memory { IfErr result (λ fault. fault ≡ OutOfMemory) }
+) -> Result<(), AllocError>
+    ensures { OnOk result (scene.new.items ≡ scene.old.items ++ gathered (decisions_of (replayed world.now)) hosts) }
 {
     for host in 0..hosts {
         add_decisions_of(host, world.newest(host), scene)?;
@@ -150,9 +150,8 @@ fn add_decisions(
 }
 
 /// The recovery of each of the host's servers up to this one is decided.
-fn add_decisions_of(host: u8, newest: u32, scene: &mut Vec<ScenarioEvent>) -> Result<(), Fault>
-    ensures ok { OnOk result (scene.new.items ≡ scene.old.items ++ gathered (decision_of host) newest) }
-    ensures no_memory { IfErr result (λ fault. fault ≡ OutOfMemory) }
+fn add_decisions_of(host: u8, newest: u32, scene: &mut Vec<ScenarioEvent>) -> Result<(), AllocError>
+    ensures { OnOk result (scene.new.items ≡ scene.old.items ++ gathered (decision_of host) newest) }
 {
     for before in 0..newest {
         let id = ServerId {

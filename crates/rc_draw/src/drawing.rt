@@ -1,7 +1,6 @@
 //! Runs whose events come from a seed.
 
-ghost use Rattle.std.specs.Prelude.{◌≡◌, ◌≤◌, [], length, OnOk, IfOk, IfErr};
-ghost use Rattle.rc_types.specs.declared.faults.Fault.TheVariants.{OutOfMemory};
+ghost use Rattle.std.specs.Prelude.{◌≡◌, ◌≤◌, [], length, OnOk, IfOk};
 ghost use Rattle.rc_types.specs.declared.limits.TheConstants.{MAX_EVENTS};
 ghost use Rattle.rc_types.specs.declared.events.Event.TheVariants.{Start};
 ghost use Rattle.rc_reading.specs.declared.scenarios.ScenarioEvent.TheVariants.{Core};
@@ -14,8 +13,8 @@ use crate::playing::{drawing_setup, play, settled};
 use crate::words::{Words, generator_of};
 use rc_reading::ScenarioEvent;
 use rc_runs::Run;
-use rc_types::{Event, Fault, Seq, ServerId, TryClone};
-use std::alloc::Global;
+use rc_types::{Event, Seq, ServerId, TryClone};
+use std::alloc::{AllocError, Global};
 
 /// The run of a drawing: hosts 0 to 4 are started and table 1 is created for the first server of host
 /// 0, each followed by a pass over the messages; then for each step three words of the seed's
@@ -26,11 +25,15 @@ use std::alloc::Global;
 /// # Errors
 ///
 /// `OutOfMemory` (F1): memory was refused.
-pub fn drawn_run(alloc: Global, seed: u64, steps: usize, free: bool) -> Result<Run<Global>, Fault>
+pub fn drawn_run(
+    alloc: Global,
+    seed: u64,
+    steps: usize,
+    free: bool,
+) -> Result<Run<Global>, AllocError>
     ensures world { IfOk result (λ run. replayed run ≡ drawn_world seed steps free) }
     ensures events { IfOk result (λ run. run.events ≡ drawn seed steps free) }
     ensures few { IfOk result (λ run. length run.events ≤ MAX_EVENTS) }
-    ensures no_memory { IfErr result (λ fault. fault ≡ OutOfMemory) }
 {
     let mut run = match begun(alloc, free) {
         Ok(run) => run,
@@ -51,10 +54,9 @@ pub fn drawn_run(alloc: Global, seed: u64, steps: usize, free: bool) -> Result<R
 /// # Errors
 ///
 /// `OutOfMemory` (F1): memory was refused.
-pub fn draw(alloc: Global, seed: u64, steps: usize, free: bool) -> Result<Vec<Event>, Fault>
+pub fn draw(alloc: Global, seed: u64, steps: usize, free: bool) -> Result<Vec<Event>, AllocError>
     ensures ok { IfOk result (λ events. events.items ≡ drawn seed steps free) }
     ensures few { IfOk result (λ events. length events.items ≤ MAX_EVENTS) }
-    ensures no_memory { IfErr result (λ fault. fault ≡ OutOfMemory) }
 {
     match drawn_run(alloc, seed, steps, free) {
         Ok(run) => copied(alloc, run.world().events()),
@@ -63,9 +65,8 @@ pub fn draw(alloc: Global, seed: u64, steps: usize, free: bool) -> Result<Vec<Ev
 }
 
 /// A copy of these events.
-fn copied(alloc: Global, events: &[Event]) -> Result<Vec<Event>, Fault>
-    ensures ok { IfOk result (λ copies. copies.items ≡ events.now) }
-    ensures no_memory { IfErr result (λ fault. fault ≡ OutOfMemory) }
+fn copied(alloc: Global, events: &[Event]) -> Result<Vec<Event>, AllocError>
+    ensures { IfOk result (λ copies. copies.items ≡ events.now) }
 {
     let mut copies = Vec::with_capacity(alloc, events.len())?;
     for event in events {
@@ -75,9 +76,8 @@ fn copied(alloc: Global, events: &[Event]) -> Result<Vec<Event>, Fault>
 }
 
 /// The run before the first step.
-fn begun(alloc: Global, free: bool) -> Result<Run<Global>, Fault>
-    ensures ok { IfOk result (λ run. replayed run ≡ begun free) }
-    ensures no_memory { IfErr result (λ fault. fault ≡ OutOfMemory) }
+fn begun(alloc: Global, free: bool) -> Result<Run<Global>, AllocError>
+    ensures { IfOk result (λ run. replayed run ≡ begun free) }
 {
     let mut run = Run::new(alloc, drawing_setup(alloc, free), alloc);
     match begin(alloc, &mut run) {
@@ -87,9 +87,8 @@ fn begun(alloc: Global, free: bool) -> Result<Run<Global>, Fault>
 }
 
 /// What happens before the first step.
-fn begin(alloc: Global, run: &mut Run<Global>) -> Result<(), Fault>
-    ensures ok { OnOk result (replayed run.new ≡ played (replayed run.old) beginning) }
-    ensures no_memory { IfErr result (λ fault. fault ≡ OutOfMemory) }
+fn begin(alloc: Global, run: &mut Run<Global>) -> Result<(), AllocError>
+    ensures { OnOk result (replayed run.new ≡ played (replayed run.old) beginning) }
 {
     let beginning = [
         fresh_start(alloc, 0),
@@ -121,9 +120,13 @@ fn fresh_start(alloc: Global, host: u8) -> ScenarioEvent
 }
 
 /// The steps.
-fn draw_steps(alloc: Global, run: &mut Run<Global>, seed: u64, steps: usize) -> Result<(), Fault>
-    ensures ok { OnOk result (replayed run.new ≡ drawn_from steps 0 (generator seed) (replayed run.old)) }
-    ensures no_memory { IfErr result (λ fault. fault ≡ OutOfMemory) }
+fn draw_steps(
+    alloc: Global,
+    run: &mut Run<Global>,
+    seed: u64,
+    steps: usize,
+) -> Result<(), AllocError>
+    ensures { OnOk result (replayed run.new ≡ drawn_from steps 0 (generator seed) (replayed run.old)) }
 {
     let mut generator = generator_of(seed);
     for number in 0..steps {
@@ -134,9 +137,13 @@ fn draw_steps(alloc: Global, run: &mut Run<Global>, seed: u64, steps: usize) -> 
 }
 
 /// One step, of this number.
-fn draw_step(alloc: Global, run: &mut Run<Global>, number: usize, words: Words) -> Result<(), Fault>
-    ensures ok { OnOk result (replayed run.new ≡ drawn_step (replayed run.old) number words) }
-    ensures no_memory { IfErr result (λ fault. fault ≡ OutOfMemory) }
+fn draw_step(
+    alloc: Global,
+    run: &mut Run<Global>,
+    number: usize,
+    words: Words,
+) -> Result<(), AllocError>
+    ensures { OnOk result (replayed run.new ≡ drawn_step (replayed run.old) number words) }
 {
     match event_of(alloc, run.world(), number, words)? {
         Some(event) => play(alloc, run, &[ScenarioEvent::Core(event)]),

@@ -1,14 +1,13 @@
 //! Parts of a run, which are scenarios.
 
-ghost use Rattle.std.specs.Prelude.{◌≡◌, OnOk, IfErr};
-ghost use Rattle.rc_types.specs.declared.faults.Fault.TheVariants.{OutOfMemory};
+ghost use Rattle.std.specs.Prelude.{◌≡◌, OnOk};
 ghost use Rattle.rc_world.specs.Happened.{replayed};
 ghost use Rattle.rc_draw.specs.Draw.{drawing_setup, settled, played};
 
 use rc_reading::{Hosts, Kinds, ScenarioEvent};
 use rc_runs::Run;
 use rc_types::{Fault, Seq, Setup};
-use std::alloc::Global;
+use std::alloc::{AllocError, Global};
 
 /// What the world of a drawing is opened with.
 pub(crate) fn drawing_setup(alloc: Global, free: bool) -> Setup
@@ -38,9 +37,8 @@ pub(crate) fn play(
     alloc: Global,
     run: &mut Run<Global>,
     events: &[ScenarioEvent],
-) -> Result<(), Fault>
-    ensures ok { OnOk result (replayed run.new ≡ played (replayed run.old) events.now) }
-    ensures no_memory { IfErr result (λ fault. fault ≡ OutOfMemory) }
+) -> Result<(), AllocError>
+    ensures { OnOk result (replayed run.new ≡ played (replayed run.old) events.now) }
 {
     match run.play_all(alloc, events) {
         Ok(()) => {
@@ -48,6 +46,6 @@ pub(crate) fn play(
             Ok(())
         }
         Err((_, Fault::BadEvent)) => Ok(()),
-        Err((_, fault)) => Err(fault),
+        Err(_) => Err(AllocError),
     }
 }

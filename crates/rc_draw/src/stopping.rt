@@ -1,7 +1,6 @@
 //! Power failure after each event of a drawing.
 
-ghost use Rattle.std.specs.Prelude.{◌≡◌, ◌≤◌, ◌<◌, ◌+◌, ◌*◌, true, false, length, IfOk, OnOk, IfErr};
-ghost use Rattle.rc_types.specs.declared.faults.Fault.TheVariants.{OutOfMemory};
+ghost use Rattle.std.specs.Prelude.{◌≡◌, ◌≤◌, ◌<◌, ◌+◌, ◌*◌, true, false, length, IfOk, OnOk};
 ghost use Rattle.rc_types.specs.declared.limits.TheConstants.{MAX_EVENTS};
 ghost use Rattle.rc_model.specs.World.{step, replay, replay_from};
 ghost use Rattle.rc_world.specs.Happened.{replayed};
@@ -16,7 +15,7 @@ use crate::playing::{drawing_setup, play};
 use rc_audit::audit;
 use rc_runs::Run;
 use rc_types::{Event, Fault, Setup, TryClone};
-use std::alloc::Global;
+use std::alloc::{AllocError, Global};
 
 /// Power failure after each event of a drawing without freeing, in three ways: after the events so
 /// far all servers stop, and all hosts start again with all of their open replicas, with those of
@@ -29,12 +28,11 @@ use std::alloc::Global;
 /// # Errors
 ///
 /// `OutOfMemory` (F1): memory was refused.
-pub fn stops(alloc: Global, seed: u64, steps: usize) -> Result<(usize, usize), Fault>
+pub fn stops(alloc: Global, seed: u64, steps: usize) -> Result<(usize, usize), AllocError>
     ensures cuts { IfOk result (λ numbers. numbers.0 ≡ 3 * length (drawn seed steps false)) }
     ensures breaches { IfOk result (λ numbers. numbers.1 ≡ breaches_below (drawn seed steps false)
         (length (drawn seed steps false))) }
     ensures none { IfOk result (λ numbers. numbers.1 ≡ 0) }
-    ensures no_memory { IfErr result (λ fault. fault ≡ OutOfMemory) }
 {
     let events = draw(alloc, seed, steps, false)?;
     let setup = drawing_setup(alloc, false);
@@ -48,12 +46,16 @@ pub fn stops(alloc: Global, seed: u64, steps: usize) -> Result<(usize, usize), F
 /// # Errors
 ///
 /// `OutOfMemory` (F1): memory was refused.
-pub fn cut_each(alloc: Global, setup: &Setup, hosts: u8, events: &[Event]) -> Result<usize, Fault>
+pub fn cut_each(
+    alloc: Global,
+    setup: &Setup,
+    hosts: u8,
+    events: &[Event],
+) -> Result<usize, AllocError>
     requires within { IsWithinLimits setup.now }
     requires few { length events.now ≤ MAX_EVENTS }
     ensures ok { IfOk result (λ count. count ≡ breaches_of setup.now hosts events.now (length events.now)) }
     ensures none { IfOk result (λ count. count ≡ 0) }
-    ensures no_memory { IfErr result (λ fault. fault ≡ OutOfMemory) }
 {
     let mut breaches = 0;
     for last in 0..events.len() {
@@ -64,12 +66,16 @@ pub fn cut_each(alloc: Global, setup: &Setup, hosts: u8, events: &[Event]) -> Re
 
 /// In how many of the three ways a power failure after these events leads to a breach.
 #[tactic(auto, unfolding(crate::specs::Stops::breaches_at))]
-fn breaches_after(alloc: Global, setup: &Setup, hosts: u8, events: &[Event]) -> Result<usize, Fault>
+fn breaches_after(
+    alloc: Global,
+    setup: &Setup,
+    hosts: u8,
+    events: &[Event],
+) -> Result<usize, AllocError>
     requires within { IsWithinLimits setup.now }
     requires few { length events.now ≤ MAX_EVENTS }
     ensures ok { IfOk result (λ count. count ≡ breaches_at setup.now hosts events.now) }
     ensures none { IfOk result (λ count. count ≡ 0) }
-    ensures no_memory { IfErr result (λ fault. fault ≡ OutOfMemory) }
 {
     let run = match run_of(alloc, setup, events) {
         Ok(run) => run,
@@ -109,14 +115,13 @@ fn breaks_unless(
     keeping: Keeping,
     is_all: bool,
     all: usize,
-) -> Result<usize, Fault>
+) -> Result<usize, AllocError>
     requires within { IsWithinLimits setup.now }
     requires few { length events.now ≤ MAX_EVENTS }
     requires none { all ≡ 0 }
     requires alike { is_all ≡ true → all ≡ breaks (cut_world setup.now hosts keeping events.now) }
     ensures ok { IfOk result (λ count. count ≡ breaks (cut_world setup.now hosts keeping events.now)) }
     ensures none { IfOk result (λ count. count ≡ 0) }
-    ensures no_memory { IfErr result (λ fault. fault ≡ OutOfMemory) }
 {
     if is_all {
         return Ok(all);
@@ -129,10 +134,9 @@ fn breaks_unless(
 
 /// 1 where a power failure now leads to a breach, else 0.
 #[tactic(auto, unfolding(crate::specs::Stops::breaks))]
-fn breaks(alloc: Global, run: Run<Global>, hosts: u8, keeping: Keeping) -> Result<usize, Fault>
+fn breaks(alloc: Global, run: Run<Global>, hosts: u8, keeping: Keeping) -> Result<usize, AllocError>
     ensures ok { IfOk result (λ count. count ≡ breaks (cut_from hosts keeping (replayed run))) }
     ensures none { IfOk result (λ count. count ≡ 0) }
-    ensures no_memory { IfErr result (λ fault. fault ≡ OutOfMemory) }
 {
     let run = match cut(alloc, run, hosts, keeping) {
         Ok(run) => run,
@@ -146,9 +150,13 @@ fn breaks(alloc: Global, run: Run<Global>, hosts: u8, keeping: Keeping) -> Resul
 }
 
 /// The run, and what follows a power failure in it.
-fn cut(alloc: Global, run: Run<Global>, hosts: u8, keeping: Keeping) -> Result<Run<Global>, Fault>
-    ensures ok { IfOk result (λ cut. replayed cut ≡ cut_from hosts keeping (replayed run)) }
-    ensures no_memory { IfErr result (λ fault. fault ≡ OutOfMemory) }
+fn cut(
+    alloc: Global,
+    run: Run<Global>,
+    hosts: u8,
+    keeping: Keeping,
+) -> Result<Run<Global>, AllocError>
+    ensures { IfOk result (λ cut. replayed cut ≡ cut_from hosts keeping (replayed run)) }
 {
     let mut run = run;
     let scene = match cut_scene(alloc, run.world(), hosts, keeping) {
@@ -162,11 +170,10 @@ fn cut(alloc: Global, run: Run<Global>, hosts: u8, keeping: Keeping) -> Result<R
 }
 
 /// The run of these events, of which those that can't happen are passed over.
-fn run_of(alloc: Global, setup: &Setup, events: &[Event]) -> Result<Run<Global>, Fault>
+fn run_of(alloc: Global, setup: &Setup, events: &[Event]) -> Result<Run<Global>, AllocError>
     requires within { IsWithinLimits setup.now }
     requires few { length events.now ≤ MAX_EVENTS }
-    ensures ok { IfOk result (λ run. replayed run ≡ replay setup.now events.now) }
-    ensures no_memory { IfErr result (λ fault. fault ≡ OutOfMemory) }
+    ensures { IfOk result (λ run. replayed run ≡ replay setup.now events.now) }
 {
     let setup = match setup.try_clone(alloc) {
         Ok(setup) => setup,
@@ -180,10 +187,9 @@ fn run_of(alloc: Global, setup: &Setup, events: &[Event]) -> Result<Run<Global>,
 }
 
 /// Takes these events, one after another.
-fn take_all(alloc: Global, run: &mut Run<Global>, events: &[Event]) -> Result<(), Fault>
+fn take_all(alloc: Global, run: &mut Run<Global>, events: &[Event]) -> Result<(), AllocError>
     requires { length run.old.events + length events.now ≤ MAX_EVENTS }
-    ensures ok { OnOk result (replayed run.new ≡ replay_from (replayed run.old) events.now) }
-    ensures no_memory { IfErr result (λ fault. fault ≡ OutOfMemory) }
+    ensures { OnOk result (replayed run.new ≡ replay_from (replayed run.old) events.now) }
 {
     for event in events {
         take(alloc, run, event)?;
@@ -192,15 +198,14 @@ fn take_all(alloc: Global, run: &mut Run<Global>, events: &[Event]) -> Result<()
 }
 
 /// Takes this event, or passes it over where it can't happen.
-fn take(alloc: Global, run: &mut Run<Global>, event: &Event) -> Result<(), Fault>
+fn take(alloc: Global, run: &mut Run<Global>, event: &Event) -> Result<(), AllocError>
     requires { length run.old.events < MAX_EVENTS }
     ensures ok { OnOk result (replayed run.new ≡ step (replayed run.old) event.now) }
     ensures more { OnOk result (length run.new.events ≤ length run.old.events + 1) }
-    ensures no_memory { IfErr result (λ fault. fault ≡ OutOfMemory) }
 {
     match run.take(alloc, event) {
         Ok(()) => Ok(()),
         Err(Fault::BadEvent) => Ok(()),
-        Err(fault) => Err(fault),
+        Err(_) => Err(AllocError),
     }
 }

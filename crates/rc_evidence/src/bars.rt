@@ -1,9 +1,8 @@
 //! The greatest version of a key that was acknowledged under the terms before a term.
 
-ghost use Rattle.std.specs.Prelude.{◌≡◌, List, ℕ, true, OnOk, IfOk, IfErr};
+ghost use Rattle.std.specs.Prelude.{◌≡◌, List, ℕ, true, OnOk, IfOk};
 ghost use Rattle.std.specs.Ordering.{nat_cmp};
 ghost use Rattle.std.specs.BTreeSet.{contains};
-ghost use Rattle.rc_types.specs.declared.faults.Fault.TheVariants.{OutOfMemory};
 ghost use Rattle.rc_types.specs.declared.messages.Message.{Message};
 ghost use Rattle.rc_model.specs.Recovered.{ack_in};
 ghost use Rattle.rc_evidence.specs.Bars.{AreBars, HasLevels, IsBar, NotesAcks};
@@ -14,8 +13,8 @@ use crate::earlier::terms_before;
 use crate::grants::Grants;
 use crate::highs::{Highs, TermKey, high_of, note_version};
 use crate::writes::write_in;
-use rc_types::{Fault, Message};
-use std::alloc::Global;
+use rc_types::Message;
+use std::alloc::{AllocError, Global};
 use std::collections::{BTreeMap, BTreeSet};
 
 /// For each key under a term that was asked for, the greatest version that was acknowledged of it
@@ -23,9 +22,8 @@ use std::collections::{BTreeMap, BTreeSet};
 pub type Bars = BTreeMap<TermKey, Option<u64>>;
 
 /// Notes the version that this message acknowledges, if it does.
-fn note_acked(highs: &mut Highs, message: &Message) -> Result<(), Fault>
-    ensures noted { OnOk result (NotesAcks highs.old highs.new (ack_in message.now.body)) }
-    ensures err { IfErr result (λ e. e ≡ OutOfMemory) }
+fn note_acked(highs: &mut Highs, message: &Message) -> Result<(), AllocError>
+    ensures { OnOk result (NotesAcks highs.old highs.new (ack_in message.now.body)) }
 {
     let Some(write) = write_in(&message.body) else {
         return Ok(());
@@ -35,9 +33,8 @@ fn note_acked(highs: &mut Highs, message: &Message) -> Result<(), Fault>
 }
 
 /// The greatest acknowledged version of each key under each term.
-pub fn acked_highs(alloc: Global, messages: &[Message]) -> Result<Highs, Fault>
-    ensures levels { IfOk result (λ highs. HasLevels highs messages.now) }
-    ensures err { IfErr result (λ e. e ≡ OutOfMemory) }
+pub fn acked_highs(alloc: Global, messages: &[Message]) -> Result<Highs, AllocError>
+    ensures { IfOk result (λ highs. HasLevels highs messages.now) }
 {
     let mut highs = BTreeMap::new(alloc);
     for message in messages {
@@ -85,10 +82,9 @@ fn find_bar(
     grants: &Grants,
     highs: &Highs,
     key: TermKey,
-) -> Result<Option<u64>, Fault>
-    ensures bar { IfOk result (λ bar. (sent : List Message) →
+) -> Result<Option<u64>, AllocError>
+    ensures { IfOk result (λ bar. (sent : List Message) →
         AreGrants grants.now sent → HasLevels highs.now sent → IsBar bar sent key) }
-    ensures err { IfErr result (λ e. e ≡ OutOfMemory) }
 {
     let before = terms_before(alloc, grants, key.term, key.table, key.key)?;
     Ok(highest_of(&before, highs, key.table, key.key))
@@ -101,12 +97,11 @@ pub fn bar_of(
     highs: &Highs,
     bars: &mut Bars,
     key: TermKey,
-) -> Result<Option<u64>, Fault>
+) -> Result<Option<u64>, AllocError>
     ensures bar { IfOk result (λ bar. (sent : List Message) →
         AreGrants grants.now sent → HasLevels highs.now sent → AreBars bars.old sent → IsBar bar sent key) }
     ensures bars { OnOk result ((sent : List Message) →
         AreGrants grants.now sent → HasLevels highs.now sent → AreBars bars.old sent → AreBars bars.new sent) }
-    ensures err { IfErr result (λ e. e ≡ OutOfMemory) }
 {
     if let Some(bar) = bars.get(&key).copied() {
         return Ok(bar);

@@ -1,13 +1,11 @@
 //! An order of the terms that were granted, each after its previous ones. It is found by one search through all
 //! grants, which gives terms that come before one another in a circle one place.
 
-ghost use Rattle.std.specs.Prelude.{◌≡◌, IfErr};
-ghost use Rattle.rc_types.specs.declared.faults.Fault.TheVariants.{OutOfMemory};
+ghost use Rattle.std.specs.Prelude.{◌≡◌};
 
 use crate::grants::Grants;
 use crate::orders::{Order, Span};
-use rc_types::Fault;
-use std::alloc::Global;
+use std::alloc::{AllocError, Global};
 use std::collections::BTreeMap;
 
 /// A term whose grants are being gone over.
@@ -60,9 +58,7 @@ impl Search {
     }
 
     /// A term is met for the first time.
-    fn meet(&mut self, term: u32) -> Result<(), Fault>
-        ensures { IfErr result (λ e. e ≡ OutOfMemory) }
-    {
+    fn meet(&mut self, term: u32) -> Result<(), AllocError> {
         let number = self.met.len() as u64;
         self.met.insert(term, number)?;
         self.open.push(term)?;
@@ -72,9 +68,7 @@ impl Search {
     }
 
     /// A previous term is gone on to. Where it is on the way, the terms met since then are in one circle with it.
-    fn go_on(&mut self, previous: u32) -> Result<(), Fault>
-        ensures { IfErr result (λ e. e ≡ OutOfMemory) }
-    {
+    fn go_on(&mut self, previous: u32) -> Result<(), AllocError> {
         let Some(number) = self.met.get(&previous).copied() else {
             return self.meet(previous);
         };
@@ -88,9 +82,7 @@ impl Search {
 
     /// All grants of this term are gone over. If it heads a circle, or stands alone, those open since then get a
     /// place.
-    fn close(&mut self, term: u32, grants: &Grants) -> Result<(), Fault>
-        ensures { IfErr result (λ e. e ≡ OutOfMemory) }
-    {
+    fn close(&mut self, term: u32, grants: &Grants) -> Result<(), AllocError> {
         if self.heads.last().copied() != self.met.get(&term).copied() {
             return Ok(());
         }
@@ -114,9 +106,7 @@ impl Search {
     }
 
     /// One step of the search; whether there was one to go.
-    fn step(&mut self, grants: &Grants) -> Result<bool, Fault>
-        ensures { IfErr result (λ e. e ≡ OutOfMemory) }
-    {
+    fn step(&mut self, grants: &Grants) -> Result<bool, AllocError> {
         let Some(visit) = self.visits.pop() else {
             return Ok(false);
         };
@@ -135,9 +125,7 @@ impl Search {
     }
 
     /// All terms that come before this one are given a place, and so is it.
-    fn run(&mut self, term: u32, grants: &Grants) -> Result<(), Fault>
-        ensures { IfErr result (λ e. e ≡ OutOfMemory) }
-    {
+    fn run(&mut self, term: u32, grants: &Grants) -> Result<(), AllocError> {
         if self.met.contains_key(&term) {
             return Ok(());
         }
@@ -167,9 +155,7 @@ fn comes_before_itself(grants: &Grants, term: u32) -> bool {
 
 /// An order of all terms that were granted, and of their previous ones. Who uses it has to see that it keeps to
 /// the grants.
-pub(crate) fn find_order(alloc: Global, grants: &Grants) -> Result<Order, Fault>
-    ensures { IfErr result (λ e. e ≡ OutOfMemory) }
-{
+pub(crate) fn find_order(alloc: Global, grants: &Grants) -> Result<Order, AllocError> {
     let mut search = Search::new(alloc);
     for (term, _) in grants {
         search.run(*term, grants)?;

@@ -1,20 +1,21 @@
 //! The terms that come before a term, at a point.
 
-ghost use Rattle.std.specs.Prelude.{◌≡◌, List, [], ◌∷◌, ℕ, OnOk, IfOk, IfErr};
-ghost use Rattle.rc_types.specs.declared.faults.Fault.TheVariants.{OutOfMemory};
+ghost use Rattle.std.specs.Prelude.{◌≡◌, List, [], ◌∷◌, ℕ, OnOk, IfOk};
 ghost use Rattle.rc_types.specs.declared.messages.Message.{Message};
 ghost use Rattle.rc_evidence.specs.Earlier.{AreEarlier, Follows, NotesTerm};
 ghost use Rattle.rc_evidence.specs.Grants.{AreGrants, grants_at};
 
 use crate::grants::{Grant, Grants};
-use rc_types::Fault;
-use std::alloc::Global;
+use std::alloc::{AllocError, Global};
 use std::collections::BTreeSet;
 
 /// Notes a term, and that the ones before it are still to be found, where it is a new one.
-fn note_term(before: &mut BTreeSet<u32>, waiting: &mut Vec<u32>, term: u32) -> Result<(), Fault>
-    ensures noted { OnOk result (NotesTerm before.old before.new waiting.old.items waiting.new.items term) }
-    ensures err { IfErr result (λ e. e ≡ OutOfMemory) }
+fn note_term(
+    before: &mut BTreeSet<u32>,
+    waiting: &mut Vec<u32>,
+    term: u32,
+) -> Result<(), AllocError>
+    ensures { OnOk result (NotesTerm before.old before.new waiting.old.items waiting.new.items term) }
 {
     if before.insert(term)? {
         waiting.push(term)?;
@@ -29,10 +30,9 @@ fn follow_grant(
     key: u64,
     before: &mut BTreeSet<u32>,
     waiting: &mut Vec<u32>,
-) -> Result<(), Fault>
-    ensures followed { OnOk result (Follows table key (grant.now ∷ [])
+) -> Result<(), AllocError>
+    ensures { OnOk result (Follows table key (grant.now ∷ [])
         before.old before.new waiting.old.items waiting.new.items) }
-    ensures err { IfErr result (λ e. e ≡ OutOfMemory) }
 {
     if grant.holds(table, key) {
         note_term(before, waiting, grant.previous)?;
@@ -47,10 +47,9 @@ fn follow_grants(
     key: u64,
     before: &mut BTreeSet<u32>,
     waiting: &mut Vec<u32>,
-) -> Result<(), Fault>
-    ensures followed { OnOk result (Follows table key grants.now
+) -> Result<(), AllocError>
+    ensures { OnOk result (Follows table key grants.now
         before.old before.new waiting.old.items waiting.new.items) }
-    ensures err { IfErr result (λ e. e ≡ OutOfMemory) }
 {
     for grant in grants {
         follow_grant(grant, table, key, before, waiting)?;
@@ -66,10 +65,9 @@ fn follow(
     key: u64,
     before: &mut BTreeSet<u32>,
     waiting: &mut Vec<u32>,
-) -> Result<(), Fault>
-    ensures followed { OnOk result (Follows table key (grants_at grants.now term)
+) -> Result<(), AllocError>
+    ensures { OnOk result (Follows table key (grants_at grants.now term)
         before.old before.new waiting.old.items waiting.new.items) }
-    ensures err { IfErr result (λ e. e ≡ OutOfMemory) }
 {
     let Some(of_term) = grants.get(&term) else {
         return Ok(());
@@ -86,10 +84,9 @@ pub fn terms_before(
     term: u32,
     table: u32,
     key: u64,
-) -> Result<BTreeSet<u32>, Fault>
-    ensures before { IfOk result (λ before. (sent : List Message) → AreGrants grants.now sent →
+) -> Result<BTreeSet<u32>, AllocError>
+    ensures { IfOk result (λ before. (sent : List Message) → AreGrants grants.now sent →
         AreEarlier before sent table key term) }
-    ensures err { IfErr result (λ e. e ≡ OutOfMemory) }
 {
     let mut before = BTreeSet::new(alloc);
     let mut waiting = Vec::new(alloc);

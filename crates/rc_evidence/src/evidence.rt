@@ -1,8 +1,7 @@
 //! The messages that are judged, with what they made of each place.
 
-ghost use Rattle.std.specs.Prelude.{◌≡◌, IfOk, IfErr};
+ghost use Rattle.std.specs.Prelude.{◌≡◌, IfOk};
 ghost use Rattle.std.specs.Option.{option_map};
-ghost use Rattle.rc_types.specs.declared.faults.Fault.TheVariants.{OutOfMemory};
 ghost use Rattle.rc_model.specs.Made.{made};
 ghost use Rattle.rc_model.specs.Breach.{is_one_entry, all_agree};
 ghost use Rattle.rc_evidence.specs.Places.{Indexes, Indexes-prop, summary_in, summary_of};
@@ -10,8 +9,8 @@ ghost use Rattle.rc_evidence.specs.Writes.{ack_of};
 
 use crate::places::{Made, PlaceKey, Seen, made_in};
 use crate::writes::AckedWrite;
-use rc_types::{Fault, Message, ServerId};
-use std::alloc::Global;
+use rc_types::{Message, ServerId};
+use std::alloc::{AllocError, Global};
 
 /// The messages that are judged, with an index of what was sent for each place.
 #[derive(Drop)]
@@ -25,9 +24,8 @@ pub struct Evidence<'a> {
 
 impl<'a> Evidence<'a> {
     /// The evidence of these messages.
-    pub fn new(alloc: Global, messages: &'a [Message]) -> Result<Evidence<'a>, Fault>
-        ensures messages { IfOk result (λ evidence. evidence.messages.now ≡ messages.now) }
-        ensures err { IfErr result (λ e. e ≡ OutOfMemory) }
+    pub fn new(alloc: Global, messages: &'a [Message]) -> Result<Evidence<'a>, AllocError>
+        ensures { IfOk result (λ evidence. evidence.messages.now ≡ messages.now) }
     {
         let made = made_in(alloc, messages)?;
         Ok(Evidence { messages, made })

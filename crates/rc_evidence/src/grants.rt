@@ -1,13 +1,12 @@
 //! The grants of each term.
 
-ghost use Rattle.std.specs.Prelude.{◌≡◌, map, OnOk, IfOk, IfErr};
+ghost use Rattle.std.specs.Prelude.{◌≡◌, map, OnOk, IfOk};
 ghost use Rattle.std.specs.Option.{option_to_list};
-ghost use Rattle.rc_types.specs.declared.faults.Fault.TheVariants.{OutOfMemory};
 ghost use Rattle.rc_model.specs.Owners.{grant_in as model_grant_in};
 ghost use Rattle.rc_evidence.specs.Grants.{AddsGrants, AreGrants, NotesGrant, grant_of, holds_point};
 
-use rc_types::{Body, Fault, Message};
-use std::alloc::Global;
+use rc_types::{Body, Message};
+use std::alloc::{AllocError, Global};
 use std::collections::BTreeMap;
 
 /// A grant of a range of keys, as far as a judge asks.
@@ -68,9 +67,8 @@ fn grant_in(message: &Message) -> Option<Grant>
 }
 
 /// Notes one more grant.
-fn note_grant(alloc: Global, grants: &mut Grants, grant: Grant) -> Result<(), Fault>
-    ensures noted { OnOk result (NotesGrant grants.old grants.new grant) }
-    ensures err { IfErr result (λ e. e ≡ OutOfMemory) }
+fn note_grant(alloc: Global, grants: &mut Grants, grant: Grant) -> Result<(), AllocError>
+    ensures { OnOk result (NotesGrant grants.old grants.new grant) }
 {
     let mut of_term = match grants.remove(&grant.term) {
         Some(of_term) => of_term,
@@ -84,10 +82,9 @@ fn note_grant(alloc: Global, grants: &mut Grants, grant: Grant) -> Result<(), Fa
 }
 
 /// Notes this message, where it is a grant.
-fn note_message(alloc: Global, grants: &mut Grants, message: &Message) -> Result<(), Fault>
-    ensures noted { OnOk result (AddsGrants grants.old grants.new
+fn note_message(alloc: Global, grants: &mut Grants, message: &Message) -> Result<(), AllocError>
+    ensures { OnOk result (AddsGrants grants.old grants.new
         (map grant_of (model_grant_in message.now.to message.now.body))) }
-    ensures err { IfErr result (λ e. e ≡ OutOfMemory) }
 {
     match grant_in(message) {
         Some(grant) => note_grant(alloc, grants, grant),
@@ -96,9 +93,8 @@ fn note_message(alloc: Global, grants: &mut Grants, message: &Message) -> Result
 }
 
 /// The grants of each term, of all that these messages are.
-pub fn grants_in(alloc: Global, messages: &[Message]) -> Result<Grants, Fault>
-    ensures grants { IfOk result (λ grants. AreGrants grants messages.now) }
-    ensures err { IfErr result (λ e. e ≡ OutOfMemory) }
+pub fn grants_in(alloc: Global, messages: &[Message]) -> Result<Grants, AllocError>
+    ensures { IfOk result (λ grants. AreGrants grants messages.now) }
 {
     let mut grants = BTreeMap::new(alloc);
     for message in messages {

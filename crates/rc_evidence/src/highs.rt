@@ -1,10 +1,10 @@
 //! The greatest version of each key under each term, among those that were noted.
 
-ghost use Rattle.std.specs.Prelude.{◌≡◌, OnOk, IfErr};
-ghost use Rattle.rc_types.specs.declared.faults.Fault.TheVariants.{OutOfMemory};
+ghost use Rattle.std.specs.Prelude.{◌≡◌, OnOk};
 ghost use Rattle.rc_evidence.specs.Highs.{NotesVersion, entry_key, high_at, is_above, is_level};
 
-use rc_types::{Entry, Fault};
+use rc_types::Entry;
+use std::alloc::AllocError;
 use std::collections::BTreeMap;
 
 /// A key of a table, under a term.
@@ -33,9 +33,8 @@ pub fn key_of(entry: &Entry) -> TermKey
 }
 
 /// Notes a version of this key.
-pub fn note_version(highs: &mut Highs, key: TermKey, version: u64) -> Result<(), Fault>
-    ensures noted { OnOk result (NotesVersion highs.old highs.new key version) }
-    ensures err { IfErr result (λ e. e ≡ OutOfMemory) }
+pub fn note_version(highs: &mut Highs, key: TermKey, version: u64) -> Result<(), AllocError>
+    ensures { OnOk result (NotesVersion highs.old highs.new key version) }
 {
     let high = highs.get(&key).copied().unwrap_or(0);
     highs.insert(key, high.max(version))?;

@@ -1,12 +1,11 @@
 //! What was sent for each place of each master's log.
 
-ghost use Rattle.std.specs.Prelude.{◌≡◌, OnOk, IfOk, IfErr};
-ghost use Rattle.rc_types.specs.declared.faults.Fault.TheVariants.{OutOfMemory};
+ghost use Rattle.std.specs.Prelude.{◌≡◌, OnOk, IfOk};
 ghost use Rattle.rc_evidence.specs.Places.{is_alike, NotesEntry, NotesSent, Indexes};
 ghost use Rattle.rc_evidence.specs.Places.{entry_of_run, sent_at};
 
-use rc_types::{Addr, Body, Entry, Fault, Message, ServerId};
-use std::alloc::Global;
+use rc_types::{Addr, Body, Entry, Message, ServerId};
+use std::alloc::{AllocError, Global};
 use std::collections::BTreeMap;
 
 /// A place of a master's log.
@@ -45,9 +44,8 @@ fn is_alike(one: &Entry, other: &Entry) -> bool
 }
 
 /// Notes that this entry was sent for this place.
-fn note<'a>(made: &mut Made<'a>, place: PlaceKey, entry: &'a Entry) -> Result<(), Fault>
-    ensures noted { OnOk result (NotesEntry made.old made.new place entry.now) }
-    ensures err { IfErr result (λ e. e ≡ OutOfMemory) }
+fn note<'a>(made: &mut Made<'a>, place: PlaceKey, entry: &'a Entry) -> Result<(), AllocError>
+    ensures { OnOk result (NotesEntry made.old made.new place entry.now) }
 {
     let seen = match made.get(&place).copied() {
         None => Seen {
@@ -73,10 +71,9 @@ fn note_entries<'a>(
     seg: u16,
     start: usize,
     entries: &'a [Entry],
-) -> Result<(), Fault>
-    ensures noted { OnOk result
+) -> Result<(), AllocError>
+    ensures { OnOk result
         (NotesSent made.old made.new (entry_of_run master seg start entries.now)) }
-    ensures err { IfErr result (λ e. e ≡ OutOfMemory) }
 {
     for (index, entry) in entries.iter().enumerate() {
         let Some(offset) = start.checked_add(index) else {
@@ -93,9 +90,8 @@ fn note_entries<'a>(
 }
 
 /// Notes what this message sends for its sender's log.
-fn note_message<'a>(made: &mut Made<'a>, message: &'a Message) -> Result<(), Fault>
-    ensures noted { OnOk result (NotesSent made.old made.new (sent_at message.now)) }
-    ensures err { IfErr result (λ e. e ≡ OutOfMemory) }
+fn note_message<'a>(made: &mut Made<'a>, message: &'a Message) -> Result<(), AllocError>
+    ensures { OnOk result (NotesSent made.old made.new (sent_at message.now)) }
 {
     let Addr::Server(master) = message.from else {
         return Ok(());
@@ -112,9 +108,8 @@ fn note_message<'a>(made: &mut Made<'a>, message: &'a Message) -> Result<(), Fau
 }
 
 /// What was sent for each place, in these messages.
-pub fn made_in<'a>(alloc: Global, messages: &'a [Message]) -> Result<Made<'a>, Fault>
-    ensures indexed { IfOk result (λ made. Indexes made messages.now) }
-    ensures err { IfErr result (λ e. e ≡ OutOfMemory) }
+pub fn made_in<'a>(alloc: Global, messages: &'a [Message]) -> Result<Made<'a>, AllocError>
+    ensures { IfOk result (λ made. Indexes made messages.now) }
 {
     let mut made = BTreeMap::new(alloc);
     for message in messages {

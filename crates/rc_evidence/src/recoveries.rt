@@ -1,16 +1,15 @@
 //! Accepted recoveries, and how far they reach.
 
-ghost use Rattle.std.specs.Prelude.{◌≡◌, unwrap_or, OnOk, IfOk, IfErr};
+ghost use Rattle.std.specs.Prelude.{◌≡◌, unwrap_or, OnOk, IfOk};
 ghost use Rattle.std.specs.Option.{option_map, option_to_list};
 ghost use Rattle.std.specs.Ordering.{nat_cmp};
 ghost use Rattle.std.specs.BTreeMap.{get, keys};
-ghost use Rattle.rc_types.specs.declared.faults.Fault.TheVariants.{OutOfMemory};
 ghost use Rattle.rc_model.specs.Ascending.{insert_once};
 ghost use Rattle.rc_model.specs.Recovered.{plan_in};
 ghost use Rattle.rc_evidence.specs.Recoveries.{accepted_of, HasReaches, Raises};
 
-use rc_types::{Body, Fault, PlanRow, ServerId};
-use std::alloc::Global;
+use rc_types::{Body, PlanRow, ServerId};
+use std::alloc::{AllocError, Global};
 use std::collections::BTreeMap;
 
 /// A number for each of some segments.
@@ -54,10 +53,9 @@ pub fn number_of(numbers: &BySegment, seg: u16) -> usize
 }
 
 /// Makes the number of this segment at least `least`.
-pub fn raise(numbers: &mut BySegment, seg: u16, least: usize) -> Result<(), Fault>
+pub fn raise(numbers: &mut BySegment, seg: u16, least: usize) -> Result<(), AllocError>
     ensures raised { OnOk result (Raises numbers.old numbers.new seg least) }
     ensures keys { OnOk result (keys numbers.new ≡ insert_once seg (keys numbers.old)) }
-    ensures err { IfErr result (λ e. e ≡ OutOfMemory) }
 {
     let number = number_of(numbers, seg).max(least);
     numbers.insert(seg, number)?;
@@ -65,9 +63,8 @@ pub fn raise(numbers: &mut BySegment, seg: u16, least: usize) -> Result<(), Faul
 }
 
 /// How far the rows reach in each of their segments.
-pub fn reaches(alloc: Global, rows: &[PlanRow]) -> Result<BySegment, Fault>
-    ensures reaches { IfOk result (λ reaches. HasReaches reaches rows.now) }
-    ensures err { IfErr result (λ e. e ≡ OutOfMemory) }
+pub fn reaches(alloc: Global, rows: &[PlanRow]) -> Result<BySegment, AllocError>
+    ensures { IfOk result (λ reaches. HasReaches reaches rows.now) }
 {
     let mut reaches = BTreeMap::new(alloc);
     for row in rows.iter().rev() {

@@ -1,12 +1,11 @@
 //! How many places of each segment, from its first on, were made one way.
 
-ghost use Rattle.std.specs.Prelude.{◌≡◌, IfOk, IfErr};
-ghost use Rattle.rc_types.specs.declared.faults.Fault.TheVariants.{OutOfMemory};
+ghost use Rattle.std.specs.Prelude.{◌≡◌, IfOk};
 ghost use Rattle.rc_evidence.specs.Runs.{run_at, IsRun, AreRuns};
 
 use crate::evidence::Evidence;
-use rc_types::{Fault, ServerId};
-use std::alloc::Global;
+use rc_types::ServerId;
+use std::alloc::{AllocError, Global};
 use std::collections::BTreeMap;
 
 /// A segment of a master's log.
@@ -42,9 +41,8 @@ fn count_run(evidence: &Evidence<'_>, master: ServerId, seg: u16) -> usize
 }
 
 /// The runs of all segments. A segment of which the first place was not made has none.
-pub fn runs_in(alloc: Global, evidence: &Evidence<'_>) -> Result<Runs, Fault>
-    ensures runs { IfOk result (λ runs. AreRuns runs evidence.now.messages.now) }
-    ensures err { IfErr result (λ e. e ≡ OutOfMemory) }
+pub fn runs_in(alloc: Global, evidence: &Evidence<'_>) -> Result<Runs, AllocError>
+    ensures { IfOk result (λ runs. AreRuns runs evidence.now.messages.now) }
 {
     let mut runs = BTreeMap::new(alloc);
     for place in evidence.made.keys() {

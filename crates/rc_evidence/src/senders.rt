@@ -1,13 +1,12 @@
 //! The messages of each server.
 
-ghost use Rattle.std.specs.Prelude.{◌≡◌, None, OnOk, IfOk, IfErr};
+ghost use Rattle.std.specs.Prelude.{◌≡◌, None, OnOk, IfOk};
 ghost use Rattle.std.specs.BTreeMap.{get};
-ghost use Rattle.rc_types.specs.declared.faults.Fault.TheVariants.{OutOfMemory};
 ghost use Rattle.rc_evidence.specs.Places.{id_order};
 ghost use Rattle.rc_evidence.specs.Senders.{AddsMessage, AreSenders, NotesSender};
 
-use rc_types::{Addr, Fault, Message, ServerId};
-use std::alloc::Global;
+use rc_types::{Addr, Message, ServerId};
+use std::alloc::{AllocError, Global};
 use std::collections::BTreeMap;
 
 /// The messages of one server, in the order in which they were sent.
@@ -26,10 +25,9 @@ fn note_first<'a>(
     senders: &mut Senders<'a>,
     master: ServerId,
     message: &'a Message,
-) -> Result<(), Fault>
+) -> Result<(), AllocError>
     requires { get id_order senders.old master ≡ None }
-    ensures noted { OnOk result (NotesSender senders.old senders.new master message.now) }
-    ensures err { IfErr result (λ e. e ≡ OutOfMemory) }
+    ensures { OnOk result (NotesSender senders.old senders.new master message.now) }
 {
     let messages = vec![in alloc; message]?;
     senders.insert(master, Sent { messages })?;
@@ -42,9 +40,8 @@ fn note_sent<'a>(
     senders: &mut Senders<'a>,
     master: ServerId,
     message: &'a Message,
-) -> Result<(), Fault>
-    ensures noted { OnOk result (NotesSender senders.old senders.new master message.now) }
-    ensures err { IfErr result (λ e. e ≡ OutOfMemory) }
+) -> Result<(), AllocError>
+    ensures { OnOk result (NotesSender senders.old senders.new master message.now) }
 {
     match senders.get_mut(&master) {
         Some(sent) => {
@@ -60,9 +57,8 @@ fn note_message<'a>(
     alloc: Global,
     senders: &mut Senders<'a>,
     message: &'a Message,
-) -> Result<(), Fault>
-    ensures noted { OnOk result (AddsMessage senders.old senders.new message.now) }
-    ensures err { IfErr result (λ e. e ≡ OutOfMemory) }
+) -> Result<(), AllocError>
+    ensures { OnOk result (AddsMessage senders.old senders.new message.now) }
 {
     match message.from {
         Addr::Server(master) => note_sent(alloc, senders, master, message),
@@ -71,9 +67,8 @@ fn note_message<'a>(
 }
 
 /// The messages of each server, of all of these.
-pub fn senders_in<'a>(alloc: Global, messages: &'a [Message]) -> Result<Senders<'a>, Fault>
-    ensures senders { IfOk result (λ senders. AreSenders senders messages.now) }
-    ensures err { IfErr result (λ e. e ≡ OutOfMemory) }
+pub fn senders_in<'a>(alloc: Global, messages: &'a [Message]) -> Result<Senders<'a>, AllocError>
+    ensures { IfOk result (λ senders. AreSenders senders messages.now) }
 {
     let mut senders = BTreeMap::new(alloc);
     for message in messages {

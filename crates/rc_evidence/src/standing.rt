@@ -1,7 +1,6 @@
 //! What the acknowledged writes of each master ask of a recovery of it.
 
-ghost use Rattle.std.specs.Prelude.{◌≡◌, OnOk, IfOk, IfErr};
-ghost use Rattle.rc_types.specs.declared.faults.Fault.TheVariants.{OutOfMemory};
+ghost use Rattle.std.specs.Prelude.{◌≡◌, OnOk, IfOk};
 ghost use Rattle.rc_model.specs.Recovered.{acknowledged};
 ghost use Rattle.rc_evidence.specs.Writes.{ack_of};
 ghost use Rattle.rc_evidence.specs.Standings.{StandsFor, AddsWrite};
@@ -9,8 +8,8 @@ ghost use Rattle.rc_evidence.specs.Standings.{StandsFor, AddsWrite};
 use crate::evidence::Evidence;
 use crate::recoveries::{BySegment, raise};
 use crate::writes::{AckedWrite, acked_in};
-use rc_types::{Fault, ServerId};
-use std::alloc::Global;
+use rc_types::ServerId;
+use std::alloc::{AllocError, Global};
 use std::collections::BTreeMap;
 
 /// The acknowledged writes of one master, taken together.
@@ -32,10 +31,9 @@ fn note_write(
     master: ServerId,
     write: &AckedWrite,
     agrees: bool,
-) -> Result<(), Fault>
-    ensures added { OnOk result
+) -> Result<(), AllocError>
+    ensures { OnOk result
         (AddsWrite standings.old standings.new master (ack_of write.now) agrees) }
-    ensures err { IfErr result (λ e. e ≡ OutOfMemory) }
 {
     let mut standing = match standings.remove(&master) {
         Some(standing) => standing,
@@ -51,10 +49,9 @@ fn note_write(
 }
 
 /// The standing of each master in these messages.
-pub fn standings_in(alloc: Global, evidence: &Evidence<'_>) -> Result<Standings, Fault>
-    ensures standings { IfOk result (λ standings. StandsFor standings evidence.now.messages.now
+pub fn standings_in(alloc: Global, evidence: &Evidence<'_>) -> Result<Standings, AllocError>
+    ensures { IfOk result (λ standings. StandsFor standings evidence.now.messages.now
         (acknowledged evidence.now.messages.now)) }
-    ensures err { IfErr result (λ e. e ≡ OutOfMemory) }
 {
     let mut standings = BTreeMap::new(alloc);
     for message in evidence.messages {

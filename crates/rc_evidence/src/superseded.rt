@@ -1,7 +1,6 @@
 //! The greatest versions that a recovery has of the keys of its log.
 
-ghost use Rattle.std.specs.Prelude.{◌≡◌, ◌&&◌, nat_lt, OnOk, IfOk, IfErr};
-ghost use Rattle.rc_types.specs.declared.faults.Fault.TheVariants.{OutOfMemory};
+ghost use Rattle.std.specs.Prelude.{◌≡◌, ◌&&◌, nat_lt, OnOk, IfOk};
 ghost use Rattle.rc_model.specs.Recovered.{Ack};
 ghost use Rattle.rc_model.specs.Breach.{holds_greater, is_greater};
 ghost use Rattle.rc_evidence.specs.Recoveries.{HasReaches};
@@ -11,15 +10,19 @@ ghost use Rattle.rc_evidence.specs.Superseded.{Supersedes, greater_below, says_a
 use crate::highs::{Highs, key_of, note_version};
 use crate::recoveries::{BySegment, Recovery, number_of};
 use crate::senders::Sent;
-use rc_types::{Body, Entry, Fault, Message};
-use std::alloc::Global;
+use rc_types::{Body, Entry, Message};
+use std::alloc::{AllocError, Global};
 use std::collections::BTreeMap;
 
 /// Notes the version of the entry at this offset, where that is below `reach`.
-fn note_entry(highs: &mut Highs, offset: usize, entry: &Entry, reach: usize) -> Result<(), Fault>
-    ensures noted { OnOk result
+fn note_entry(
+    highs: &mut Highs,
+    offset: usize,
+    entry: &Entry,
+    reach: usize,
+) -> Result<(), AllocError>
+    ensures { OnOk result
         (Supersedes highs.old highs.new (λ ack. nat_lt offset reach && is_greater ack entry.now)) }
-    ensures err { IfErr result (λ e. e ≡ OutOfMemory) }
 {
     if offset < reach {
         note_version(highs, key_of(entry), entry.version)?;
@@ -34,10 +37,9 @@ fn note_entries(
     start: usize,
     entries: &[Entry],
     reach: usize,
-) -> Result<(), Fault>
-    ensures noted { OnOk result
+) -> Result<(), AllocError>
+    ensures { OnOk result
         (Supersedes highs.old highs.new (λ ack. greater_below reach ack start entries.now)) }
-    ensures err { IfErr result (λ e. e ≡ OutOfMemory) }
 {
     for (index, entry) in entries.iter().enumerate() {
         note_entry(highs, start.saturating_add(index), entry, reach)?;
@@ -51,11 +53,10 @@ fn note_message(
     recovery: &Recovery<'_>,
     reaches: &BySegment,
     message: &Message,
-) -> Result<(), Fault>
+) -> Result<(), AllocError>
     requires { HasReaches reaches.now recovery.now.rows.now }
-    ensures noted { OnOk result (Supersedes highs.old highs.new
+    ensures { OnOk result (Supersedes highs.old highs.new
         (λ ack. holds_greater recovery.now.rows.now ack message.now.body)) }
-    ensures err { IfErr result (λ e. e ≡ OutOfMemory) }
 {
     match &message.body {
         Body::Place { seg, entries, .. } => {
@@ -83,11 +84,10 @@ pub fn recovered_highs(
     sent: &Sent<'_>,
     recovery: &Recovery<'_>,
     reaches: &BySegment,
-) -> Result<Highs, Fault>
+) -> Result<Highs, AllocError>
     requires { HasReaches reaches.now recovery.now.rows.now }
-    ensures highs { IfOk result (λ highs. (ack : Ack) → says_above highs ack ≡
+    ensures { IfOk result (λ highs. (ack : Ack) → says_above highs ack ≡
         superseded_in recovery.now.rows.now (messages_in sent.now) ack) }
-    ensures err { IfErr result (λ e. e ≡ OutOfMemory) }
 {
     let mut highs = BTreeMap::new(alloc);
     for message in sent.messages.iter() {

@@ -1,10 +1,9 @@
 //! The greatest versions before the terms of an order, found in the order's sequence.
 
-ghost use Rattle.std.specs.Prelude.{◌≡◌, ◌≤◌, ◌<◌, ℕ, List, true, Some, OnOk, IfOk, IfErr};
+ghost use Rattle.std.specs.Prelude.{◌≡◌, ◌≤◌, ◌<◌, ℕ, List, true, Some, OnOk, IfOk};
 ghost use Rattle.std.specs.Ordering.{nat_cmp};
 ghost use Rattle.std.specs.BTreeMap.{get};
 ghost use Rattle.std.specs.BTreeSet.{contains};
-ghost use Rattle.rc_types.specs.declared.faults.Fault.TheVariants.{OutOfMemory};
 ghost use Rattle.rc_types.specs.declared.messages.Message.{Message};
 ghost use Rattle.rc_evidence.specs.Bars.{AreBars, HasLevels};
 ghost use Rattle.rc_evidence.specs.Grants.{AreGrants};
@@ -16,8 +15,7 @@ use crate::circles::find_order;
 use crate::grants::Grants;
 use crate::highs::{Highs, TermKey, high_of, note_version};
 use crate::orders::{Order, keeps};
-use rc_types::Fault;
-use std::alloc::Global;
+use std::alloc::{AllocError, Global};
 use std::collections::{BTreeMap, BTreeSet};
 
 /// A turn of a key under a term, at a place of the order.
@@ -32,9 +30,8 @@ pub(crate) struct Turn {
 }
 
 /// Adds the two turns of a key, if its term has a place.
-fn add_turns(order: &Order, turns: &mut BTreeSet<Turn>, key: TermKey) -> Result<(), Fault>
-    ensures added { OnOk result (HasTurn order.now turns.old turns.new key) }
-    ensures err { IfErr result (λ e. e ≡ OutOfMemory) }
+fn add_turns(order: &Order, turns: &mut BTreeSet<Turn>, key: TermKey) -> Result<(), AllocError>
+    ensures { OnOk result (HasTurn order.now turns.old turns.new key) }
 {
     let Some(span) = order.get(&key.term).copied() else {
         return Ok(());
@@ -53,9 +50,8 @@ fn add_turns(order: &Order, turns: &mut BTreeSet<Turn>, key: TermKey) -> Result<
 }
 
 /// The turns of all keys.
-fn turns_of(alloc: Global, order: &Order, highs: &Highs) -> Result<BTreeSet<Turn>, Fault>
-    ensures turns { IfOk result (λ turns. HasTurns order.now highs.now turns) }
-    ensures err { IfErr result (λ e. e ≡ OutOfMemory) }
+fn turns_of(alloc: Global, order: &Order, highs: &Highs) -> Result<BTreeSet<Turn>, AllocError>
+    ensures { IfOk result (λ turns. HasTurns order.now highs.now turns) }
 {
     let mut turns = BTreeSet::new(alloc);
     for (key, _) in highs {
@@ -82,9 +78,8 @@ fn take_turn(
     noted: &mut Highs,
     bars: &mut Bars,
     turn: &Turn,
-) -> Result<(), Fault>
-    ensures taken { OnOk result (TakesTurn order.now highs.now noted.old noted.new bars.old bars.new turn.now) }
-    ensures err { IfErr result (λ e. e ≡ OutOfMemory) }
+) -> Result<(), AllocError>
+    ensures { OnOk result (TakesTurn order.now highs.now noted.old noted.new bars.old bars.new turn.now) }
 {
     let key = of_all_terms(turn.key);
     if turn.is_noted {
@@ -104,9 +99,8 @@ fn take_turn(
 }
 
 /// For each key whose term has a place, a version that is over those under the terms before it.
-fn over_all(alloc: Global, order: &Order, highs: &Highs) -> Result<Bars, Fault>
-    ensures over { IfOk result (λ bars. AreOver order.now highs.now bars) }
-    ensures err { IfErr result (λ e. e ≡ OutOfMemory) }
+fn over_all(alloc: Global, order: &Order, highs: &Highs) -> Result<Bars, AllocError>
+    ensures { IfOk result (λ bars. AreOver order.now highs.now bars) }
 {
     let turns = turns_of(alloc, order, highs)?;
     let mut noted = BTreeMap::new(alloc);
@@ -119,10 +113,9 @@ fn over_all(alloc: Global, order: &Order, highs: &Highs) -> Result<Bars, Fault>
 
 /// The bars of all keys under terms that were granted: all at once, by an order of the terms. Where the order
 /// that was found does not keep to the grants, there is no bar.
-pub fn all_bars(alloc: Global, grants: &Grants, highs: &Highs) -> Result<Bars, Fault>
-    ensures bars { IfOk result (λ bars. (sent : List Message) →
+pub fn all_bars(alloc: Global, grants: &Grants, highs: &Highs) -> Result<Bars, AllocError>
+    ensures { IfOk result (λ bars. (sent : List Message) →
         AreGrants grants.now sent → HasLevels highs.now sent → AreBars bars sent) }
-    ensures err { IfErr result (λ e. e ≡ OutOfMemory) }
 {
     let order = find_order(alloc, grants)?;
     if !keeps(&order, grants) {

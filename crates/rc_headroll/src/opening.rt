@@ -15,7 +15,7 @@ use rc_config::{MAX_MEMBERS, choose};
 use rc_segment::Segment;
 use rc_serverlist::ServerList;
 use rc_types::limits::LAST_SEGMENT;
-use rc_types::{Entry, Fault, Phase, ServerId};
+use rc_types::{Entry, Fault, Phase, ServerId, Shared};
 use std::alloc::{AllocError, Global};
 
 impl LogHead {
@@ -117,7 +117,7 @@ impl LogHead {
     {
         let ids = choose(alloc, 1, self.own, self.factor, servers)?;
         let digest = vec![in alloc; 1]?;
-        self.open_head(alloc, digest, ids.as_slice())?;
+        self.open_head(alloc, Shared::from_vec(alloc, digest)?, ids.as_slice())?;
         Ok(())
     }
 
@@ -153,31 +153,32 @@ impl LogHead {
     }
 
     /// The digest of the next head: that of the head without the dead segments, and with the new one.
-    fn next_digest(&self, alloc: Global, dead: &[u16]) -> Result<Vec<u16>, AllocError>
+    fn next_digest(&self, alloc: Global, dead: &[u16]) -> Result<Shared<u16>, AllocError>
         requires some { 0 < (log_of self.now).head }
         requires room { (log_of self.now).head < LAST_SEGMENT }
-        ensures digest { IfOk result (λ digest. digest.items ≡ next_digest (log_of self.now) dead.now) }
-        ensures known { IfOk result (λ digest. All (IsKnown ((log_of self.now).head + 1)) digest.items) }
+        ensures digest { IfOk result (λ digest. digest ≡ next_digest (log_of self.now) dead.now) }
+        ensures known { IfOk result (λ digest. All (IsKnown ((log_of self.now).head + 1)) digest) }
     {
         let head = self.head();
         let mut digest = without_dead(alloc, self.newest().digest(), head, dead)?;
         digest.push(head + 1)?;
-        Ok(digest)
+        let shared = Shared::from_vec(alloc, digest)?;
+        Ok(shared)
     }
 
     /// Opens a head with this digest on these members. With it comes room to keep how it was when a step began.
     fn open_head(
         &mut self,
         alloc: Global,
-        digest: Vec<u16>,
+        digest: Shared<u16>,
         ids: &[ServerId],
     ) -> Result<(), AllocError>
         requires room { (log_of self.old).head < LAST_SEGMENT }
         requires members { length ids.now ≤ MAX_MEMBERS }
-        requires known { All (IsKnown ((log_of self.old).head + 1)) digest.items }
+        requires known { All (IsKnown ((log_of self.old).head + 1)) digest }
         requires shut { (seg : ℕ) → 0 < seg → seg < (log_of self.old).head →
             ((log_of self.old).segments seg).shut ≡ true }
-        ensures ok { OnOk result (log_of self.new ≡ opens_head (log_of self.old) digest.items ids.now) }
+        ensures ok { OnOk result (log_of self.new ≡ opens_head (log_of self.old) digest ids.now) }
         ensures unchanged { OnErr result (self.new ≡ self.old) }
         ensures before { before_of self.new ≡ before_of self.old }
     {

@@ -66,7 +66,8 @@ impl Course {
             return Err(Fault::BadEvent);
         }
         self.echo.clear();
-        self.coordinator.take(message, &mut self.echo)
+        self.coordinator.take(message, &mut self.echo)?;
+        Ok(())
     }
 
     /// The coordinator takes a work.
@@ -75,7 +76,8 @@ impl Course {
             return Err(Fault::BadEvent);
         }
         self.echo.clear();
-        self.coordinator.step_into(work, &mut self.echo)
+        self.coordinator.step_into(work, &mut self.echo)?;
+        Ok(())
     }
 
     /// The server that runs on a host, if one does.

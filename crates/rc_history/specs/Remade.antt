@@ -5,6 +5,7 @@ use Rattle.rc_types.specs.declared.messages.Body.TheVariants.{Fetch}
 use Rattle.rc_model.specs.Coordinator.{Coordinator}
 use Rattle.rc_model.specs.Nodes.{Work, Take, Tick, Stop, Start, HostNode, runs, is_for_backup}
 use Rattle.rc_model.specs.Works.{host_after, coordinator_after}
+use Rattle.rc_model.specs.World.{NodeName, TheOutside, TheCoordinator, TheHost}
 
 -- a message that its backup takes; a Fetch changes nothing there
 abbrev pub changes_backup : Body → Bool
@@ -22,6 +23,12 @@ host_keeps _ = false
 abbrev pub coordinator_keeps : Work → Bool
 coordinator_keeps (Tick addr) = false
 coordinator_keeps _ = true
+
+-- of a node
+abbrev pub keeps : NodeName → Work → Bool
+keeps TheOutside work = false
+keeps TheCoordinator work = coordinator_keeps work
+keeps (TheHost index) work = host_keeps work
 
 -- the host without its master, as a stop leaves it
 abbrev pub stopped : HostNode → HostNode

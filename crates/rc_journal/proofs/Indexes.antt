@@ -5,10 +5,10 @@ use Rattle.std.proofs.lemmas.List.{length-set, map-set}
 use Rattle.std.proofs.lemmas.Option.{slice_get-map}
 use Rattle.rc_model.specs.Model.{Message, node_of}
 use Rattle.rc_journal.specs.Views.{name_at}
-use Rattle.rc_journal.specs.Names.{number_at}
+use Rattle.rc_types.specs.Names.{number_of}
 use Rattle.rc_journal.specs.Numbers.{numbers_to}
 use Rattle.rc_journal.specs.Index.{IsIndex}
-use Rattle.rc_journal.specs.declared.index.TheConstants.{NAMES}
+use Rattle.rc_types.specs.declared.ids.TheConstants.{NODE_NUMBERS}
 use Rattle.rc_journal.proofs.Named.{same_node-number, same_node-other}
 use Rattle.rc_journal.proofs.Numbers.{numbers-own, numbers-other}
 
@@ -35,10 +35,10 @@ some-is a b e = cc
 
 -- a message more, noted in the list of its node
 pub index-push : (lists : List (List ℕ)) (sent : List Message) (message : Message) (list : List ℕ) →
-    IsIndex lists sent → slice_get lists (number_at (node_of message.to)) ≡ Some list → number_at (node_of message.to) < NAMES →
-    IsIndex (slice_set lists (number_at (node_of message.to)) (list ++ length sent ∷ [])) (sent ++ message ∷ [])
+    IsIndex lists sent → slice_get lists (number_of (node_of message.to)) ≡ Some list → number_of (node_of message.to) < NODE_NUMBERS →
+    IsIndex (slice_set lists (number_of (node_of message.to)) (list ++ length sent ∷ [])) (sent ++ message ∷ [])
 index-push lists sent message list index there within =
-    let k : ℕ = number_at (node_of message.to) in
+    let k : ℕ = number_of (node_of message.to) in
     let first : length sent ≡ 0 + length sent = omega arith in
     record {
       all = length-set lists k (list ++ length sent ∷ []) ∙ index.all;
@@ -81,24 +81,24 @@ take-length (y ∷ xs) (suc n) x found = ap suc (take-length xs n x found)
 pub note-step : {W : Type 0} (items : W → List ℕ) (lists : List W) (k : ℕ) (old new : W) (sent messages : List Message)
     (place first : ℕ) (message : Message) →
     IsIndex (map items lists) (sent ++ take place messages) → slice_get lists k ≡ Some old →
-    k ≡ number_at (node_of message.to) → k < NAMES →
+    k ≡ number_of (node_of message.to) → k < NODE_NUMBERS →
     slice_get messages place ≡ Some message → length sent ≡ first → items new ≡ items old ++ (first + place) ∷ [] →
     IsIndex (map items (slice_set lists k new)) (sent ++ take (place + 1) messages)
 note-step {W} items lists k old new sent messages place first message index there is within at count pushed =
     let so_far : List Message = sent ++ take place messages in
     let many : first + place ≡ length so_far =
     omega (arith, length-append sent (take place messages), take-length messages place message at, count) in
-    let here : slice_get (map items lists) (number_at (node_of message.to)) ≡ Some (items old) =
+    let here : slice_get (map items lists) (number_of (node_of message.to)) ≡ Some (items old) =
     ap (slice_get (map items lists)) (sym is) ∙ (slice_get-map items lists k ∙ ap (option_map items) there) in
-    let noted : IsIndex (slice_set (map items lists) (number_at (node_of message.to)) (items old ++ length so_far ∷ []))
+    let noted : IsIndex (slice_set (map items lists) (number_of (node_of message.to)) (items old ++ length so_far ∷ []))
     (so_far ++ message ∷ []) =
-    index-push (map items lists) so_far message (items old) index here (subst (λ n. n < NAMES) is within) in
+    index-push (map items lists) so_far message (items old) index here (subst (λ n. n < NODE_NUMBERS) is within) in
     let longer : so_far ++ message ∷ [] ≡ sent ++ take (place + 1) messages =
     append_assoc sent (take place messages) (message ∷ []) ∙ ap (λ l. sent ++ l) (sym (take-more messages place message at)) in
-    let lists_are : slice_set (map items lists) (number_at (node_of message.to)) (items old ++ length so_far ∷ [])
+    let lists_are : slice_set (map items lists) (number_of (node_of message.to)) (items old ++ length so_far ∷ [])
     ≡ map items (slice_set lists k new) =
     ap (λ n. slice_set (map items lists) n (items old ++ length so_far ∷ [])) (sym is)
     ∙ (ap (λ n. slice_set (map items lists) k (items old ++ n ∷ [])) (sym many)
     ∙ (ap (slice_set (map items lists) k) (sym pushed) ∙ sym (map-set items lists k new))) in
     subst (λ l. IsIndex l (sent ++ take (place + 1) messages)) lists_are
-    (subst (IsIndex (slice_set (map items lists) (number_at (node_of message.to)) (items old ++ length so_far ∷ []))) longer noted)
+    (subst (IsIndex (slice_set (map items lists) (number_of (node_of message.to)) (items old ++ length so_far ∷ []))) longer noted)

@@ -5,18 +5,17 @@ ghost use Rattle.std.specs.Prelude.{IfOk, OnOk};
 ghost use Rattle.std.specs.List.{find};
 ghost use Rattle.rc_types.specs.declared.messages.Message.{Message as MessageModel};
 ghost use Rattle.rc_model.specs.World.{NodeName};
-ghost use Rattle.rc_journal.specs.Names.{number_of};
+ghost use Rattle.rc_types.specs.Names.{number_of};
 ghost use Rattle.rc_journal.specs.Numbers.{numbers_to, least_to};
 ghost use Rattle.rc_journal.specs.Rising.{Rises};
 ghost use Rattle.rc_journal.specs.Index.{lists_of, IsIndex, HasRoomFor};
-ghost use Rattle.rc_journal.specs.declared.index.TheConstants.{NAMES};
+ghost use Rattle.rc_types.specs.declared.ids.TheConstants.{NODE_NUMBERS};
 
-use crate::names::SeatName;
-use rc_types::Message;
+use rc_types::{Message, NodeName};
 use std::alloc::{AllocError, Global};
 
 /// How many names of seats there can be: the outside, the coordinator, and 256 hosts.
-pub(crate) const NAMES: usize = 258;
+pub(crate) const NODE_NUMBERS: usize = 258;
 
 /// The numbers of the messages to each node, ascending, by the number of its seat.
 #[derive(Drop)]
@@ -30,15 +29,15 @@ impl Index {
         ensures { IfOk result (λ made. IsIndex (lists_of made) []) }
     {
         let mut lists = Vec::new(alloc);
-        for _ in 0..NAMES {
+        for _ in 0..NODE_NUMBERS {
             lists.push(Vec::new(alloc))?;
         }
         Ok(Index { lists })
     }
 
     /// The numbers to the node of this seat.
-    pub(crate) fn numbers(&self, name: SeatName) -> &[usize]
-        requires { length (lists_of self.now) ≡ NAMES }
+    pub(crate) fn numbers(&self, name: NodeName) -> &[usize]
+        requires { length (lists_of self.now) ≡ NODE_NUMBERS }
         ensures { slice_get (lists_of self.now) (number_of name) ≡ Some result.now }
     {
         self.lists[name.number()].as_slice()
@@ -50,26 +49,26 @@ impl Index {
     ///
     /// Memory was refused.
     pub(crate) fn reserve(&mut self, messages: &[Message]) -> Result<(), AllocError>
-        requires { length (lists_of self.old) ≡ NAMES }
+        requires { length (lists_of self.old) ≡ NODE_NUMBERS }
         ensures same { lists_of self.new ≡ lists_of self.old }
         ensures room { OnOk result (HasRoomFor self.new messages.now (length messages.now)) }
     {
         for message in messages {
-            self.lists[SeatName::at(message.to).number()].reserve(messages.len())?;
+            self.lists[NodeName::at(message.to).number()].reserve(messages.len())?;
         }
         Ok(())
     }
 
     /// Notes these messages, of which the first has this number.
     pub(crate) fn note(&mut self, first: usize, messages: &[Message])
-        requires all { length (lists_of self.old) ≡ NAMES }
+        requires all { length (lists_of self.old) ≡ NODE_NUMBERS }
         requires room { HasRoomFor self.old messages.now (length messages.now) }
         requires few { first + length messages.now < 2 ^ 64 }
         ensures { (sent : List MessageModel) → IsIndex (lists_of self.old) sent → length sent ≡ first →
             IsIndex (lists_of self.new) (sent ++ messages.now) }
     {
         for (place, message) in messages.iter().enumerate() {
-            self.lists[SeatName::at(message.to).number()]
+            self.lists[NodeName::at(message.to).number()]
                 .push(first + place)
                 .unwrap();
         }

@@ -7,7 +7,6 @@ ghost use Rattle.rc_types.specs.declared.limits.TheConstants.{MAX_EVENTS};
 ghost use Rattle.rc_model.specs.World.{replay};
 ghost use Rattle.rc_journal.specs.Views.{at_desk, new_desk};
 ghost use Rattle.rc_journal.specs.Passes.{view, IsPassOf};
-ghost use Rattle.rc_journal.specs.Names.{name_of};
 ghost use Rattle.rc_journal.specs.Numbers.{numbers_to, least_to};
 ghost use Rattle.rc_journal.specs.Sound.{IsHistory};
 ghost use Rattle.rc_journal.specs.Calls.{new_places, seated, Tells, having_seen, IsStep, Adds};
@@ -15,12 +14,12 @@ ghost use Rattle.rc_journal.specs.Calls.{new_places, seated, Tells, having_seen,
 use crate::index::first_from;
 use crate::law::Pass;
 use crate::ledger::Ledger;
-use crate::names::{Naming, SeatName};
+use crate::names::Naming;
 use crate::opening::Opening;
 use crate::pages::Pages;
 use crate::token::Token;
 use rc_types::limits::MAX_EVENTS;
-use rc_types::{Event, Fault, Message, Setup};
+use rc_types::{Event, Fault, Message, NodeName, Setup};
 use std::alloc::{AllocError, Global};
 use std::marker::{Model, PhantomData};
 
@@ -67,11 +66,10 @@ impl<N: Naming> Journal<N> {
     /// # Errors
     ///
     /// `OutOfMemory` (F1): memory was refused.
-    pub fn open(alloc: Global, opening: Opening) -> Result<(Journal<N>, Vec<Token<N>>), Fault>
+    pub fn open(alloc: Global, opening: Opening) -> Result<(Journal<N>, Vec<Token<N>>), AllocError>
         requires { opening ≡ N.wire }
         ensures journal { IfOk result (λ made. made.0 ≡ []) }
         ensures tokens { IfOk result (λ made. made.1.items ≡ new_places N.wire.nodes) }
-        ensures no_memory { IfErr result (λ fault. fault ≡ OutOfMemory) }
     {
         let Opening {
             ledger,
@@ -123,16 +121,16 @@ impl<N: Naming> Journal<N> {
 
     /// The numbers of the messages to this node, ascending; to a host, those to any generation. It takes
     /// no memory.
-    pub fn numbers(&self, name: SeatName) -> &[usize]
-        ensures { result.now ≡ numbers_to (name_of name) (replay N.wire.setup self.now).sent }
+    pub fn numbers(&self, name: NodeName) -> &[usize]
+        ensures { result.now ≡ numbers_to name (replay N.wire.setup self.now).sent }
     {
         self.pages.index.numbers(name)
     }
 
     /// The least number, from `from` on, of a message to this node; none where there is none. It scans
     /// nothing and takes no memory.
-    pub fn next_to(&self, name: SeatName, from: usize) -> Option<usize>
-        ensures { result ≡ least_to (name_of name) from (replay N.wire.setup self.now).sent }
+    pub fn next_to(&self, name: NodeName, from: usize) -> Option<usize>
+        ensures { result ≡ least_to name from (replay N.wire.setup self.now).sent }
     {
         first_from(self.numbers(name), from)
     }

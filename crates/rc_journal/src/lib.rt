@@ -35,7 +35,7 @@ mod view;
 pub use journal::Journal;
 pub use law::{Law, Pass};
 pub use ledger::Ledger;
-pub use names::{Naming, SeatName};
+pub use names::Naming;
 pub use opening::Opening;
 pub use token::Token;
 pub use view::{Desk, Place, View};

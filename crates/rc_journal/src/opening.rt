@@ -1,12 +1,11 @@
 //! How a wire begins.
 
-ghost use Rattle.std.specs.Prelude.{◌≡◌, ◌+◌, IfOk, IfErr};
-ghost use Rattle.rc_types.specs.declared.faults.Fault.TheVariants.{OutOfMemory};
+ghost use Rattle.std.specs.Prelude.{◌≡◌, ◌+◌, IfOk};
 
 use crate::law::Pass;
 use crate::ledger::Ledger;
-use rc_types::{Fault, Setup, TryClone};
-use std::alloc::Global;
+use rc_types::{Setup, TryClone};
+use std::alloc::{AllocError, Global};
 use std::marker::Model;
 
 /// A ledger in which nothing has happened, with the token of its keeper, and for how many nodes there
@@ -37,10 +36,9 @@ impl Opening {
     /// # Errors
     ///
     /// `OutOfMemory` (F1): memory was refused.
-    pub fn new(alloc: Global, setup: &Setup, hosts: u8) -> Result<Opening, Fault>
+    pub fn new(alloc: Global, setup: &Setup, hosts: u8) -> Result<Opening, AllocError>
         ensures setup { IfOk result (λ made. made.setup ≡ setup.now) }
         ensures nodes { IfOk result (λ made. made.nodes ≡ hosts + 2) }
-        ensures no_memory { IfErr result (λ fault. fault ≡ OutOfMemory) }
     {
         let (ledger, keeper) = Ledger::new(alloc, setup)?;
         let setup = setup.try_clone(alloc)?;

@@ -3,7 +3,7 @@
 ghost use Rattle.std.specs.Prelude.{◌≡◌, ◌+◌, ◌<◌, ◌≤◌, ◌^◌, ◌++◌, ◌∷◌, [], length, vec_len, vec_capacity, IfOk, OnOk};
 ghost use Rattle.rc_journal.specs.Index.{lists_of, IsIndex};
 ghost use Rattle.rc_journal.specs.Pages.{HasRoom};
-ghost use Rattle.rc_journal.specs.declared.index.TheConstants.{NAMES};
+ghost use Rattle.rc_types.specs.declared.ids.TheConstants.{NODE_NUMBERS};
 
 use crate::index::Index;
 use rc_types::{Event, Message};
@@ -38,7 +38,7 @@ impl Pages {
     ///
     /// Memory was refused.
     pub(crate) fn reserve(&mut self, messages: &[Message]) -> Result<(), AllocError>
-        requires { length (lists_of self.old.index) ≡ NAMES }
+        requires { length (lists_of self.old.index) ≡ NODE_NUMBERS }
         ensures events { self.new.events.items ≡ self.old.events.items }
         ensures messages { self.new.messages.items ≡ self.old.messages.items }
         ensures index { lists_of self.new.index ≡ lists_of self.old.index }

@@ -8,13 +8,12 @@ use Rattle.rc_model.specs.Coordinator.{Coordinator}
 use Rattle.rc_model.specs.Works.{host_after as after_all}
 use Rattle.rc_model.proofs.Tests.{either, true_false}
 use Rattle.rc_history.specs.Nodes.{TheHost, TheCoordinator}
-use Rattle.rc_history.specs.Remade.{host_keeps, stopped, SameButMaster}
+use Rattle.rc_history.specs.Remade.{host_keeps, coordinator_keeps, stopped, SameButMaster}
 use Rattle.rc_history.proofs.Remade.{hosts-remade}
 use Rattle.rc_world.specs.NodeView.{work_at, host_may, host_after_work}
 use Rattle.rc_types.specs.declared.events.NodeWork.{NodeWork}
 use Rattle.rc_types.specs.declared.events.NodeWork.TheVariants as work
-use Rattle.rc_keeping.specs.declared.keeping.Role.TheVariants.{Host, Coordinator as AsCoordinator}
-use Rattle.rc_keeping.specs.Keeping.{kept_as, host_next, host_given, coordinator_given}
+use Rattle.rc_keeping.specs.Keeping.{host_next, host_given, coordinator_given}
 use Rattle.rc_keeping.specs.Keeping.{HostsComeBack, SavedHostsComeBack, CoordinatorsComeBack, RefusalsComeBack}
 
 same-same : (host : HostNode) → SameButMaster host host
@@ -116,7 +115,7 @@ next-unkept host given unkept =
     either (λ after. SameButMaster after host) (host_may host given) (host_after_work host given).0 host
     (λ _. step-unkept host given unkept) (λ _. same-same host)
 
-next-kept : (one other : HostNode) (given : NodeWork) → SameButMaster one other → kept_as Host (work_at (TheHost one) given) ≡ true →
+next-kept : (one other : HostNode) (given : NodeWork) → SameButMaster one other → host_keeps (work_at (TheHost one) given) ≡ true →
     SameButMaster (host_next one given) (host_next other given)
 next-kept one other given same kept = by (host_may one given) (host_may other given) (refusals-come-back one other given same kept)
   where
@@ -129,7 +128,7 @@ next-kept one other given same kept = by (host_may one given) (host_may other gi
 
 -- whoever is asked, the same is kept
 kept-anywhere : (one other : HostNode) (given : NodeWork) →
-    kept_as Host (work_at (TheHost one) given) ≡ kept_as Host (work_at (TheHost other) given)
+    host_keeps (work_at (TheHost one) given) ≡ host_keeps (work_at (TheHost other) given)
 kept-anywhere one other (work.Deliver message) = refl
 kept-anywhere one other work.Tick = refl
 kept-anywhere one other work.Stop = refl
@@ -143,7 +142,7 @@ kept-anywhere one other (work.Split table at) = refl
 -- ---- one after another
 
 abbrev kept_of : HostNode → NodeWork → Bool
-kept_of host given = kept_as Host (work_at (TheHost host) given)
+kept_of host given = host_keeps (work_at (TheHost host) given)
 
 -- one work more, kept or not
 one-more : (host one other : HostNode) (given : NodeWork) (works : List NodeWork) → SameButMaster one other →
@@ -174,7 +173,7 @@ saved-hosts-come-back loaded host works same = given-same host loaded host works
 -- ---- the coordinator
 
 coordinator-same : (c now : Coordinator) (works : List NodeWork) →
-    coordinator_given now (filter (λ given. kept_as AsCoordinator (work_at (TheCoordinator c) given)) works) ≡ coordinator_given now works
+    coordinator_given now (filter (λ given. coordinator_keeps (work_at (TheCoordinator c) given)) works) ≡ coordinator_given now works
 coordinator-same c now [] = refl
 coordinator-same c now (work.Deliver message ∷ works) =
     coordinator-same c (coordinator_step now (work_at (TheCoordinator now) (work.Deliver message))).0 works

@@ -1,26 +1,18 @@
 -- Which works a node keeps, and what it is that was made anew from them.
 use Rattle.std.specs.Prelude.{Bool, true, false, ◌≡◌, if◌then◌else◌, List, [], ◌∷◌, filter}
 use Rattle.rc_model.specs.Coordinator.{Coordinator}
-use Rattle.rc_model.specs.Nodes.{Work, HostNode}
+use Rattle.rc_model.specs.Nodes.{HostNode}
 use Rattle.rc_history.specs.Nodes.{TheCoordinator, TheHost}
 use Rattle.rc_history.specs.Remade.{host_keeps, coordinator_keeps, SameButMaster}
 use Rattle.rc_world.specs.NodeView.{work_at, host_may, host_after_work, coordinator_may, coordinator_after_work}
 use Rattle.rc_types.specs.declared.events.NodeWork.{NodeWork}
-use Rattle.rc_keeping.specs.declared.keeping.Role.{Role}
-use Rattle.rc_keeping.specs.declared.keeping.Role.TheVariants.{Outside, Coordinator as AsCoordinator, Host}
-
--- what a node that is this keeps of its works
-abbrev pub kept_as : Role → Work → Bool
-kept_as Outside work = false
-kept_as AsCoordinator work = coordinator_keeps work
-kept_as Host work = host_keeps work
 
 -- those of the works that a host keeps, and the coordinator
 abbrev pub kept_by_host : HostNode → List NodeWork → List NodeWork
-kept_by_host host works = filter (λ given. kept_as Host (work_at (TheHost host) given)) works
+kept_by_host host works = filter (λ given. host_keeps (work_at (TheHost host) given)) works
 
 abbrev pub kept_by_coordinator : Coordinator → List NodeWork → List NodeWork
-kept_by_coordinator c works = filter (λ given. kept_as AsCoordinator (work_at (TheCoordinator c) given)) works
+kept_by_coordinator c works = filter (λ given. coordinator_keeps (work_at (TheCoordinator c) given)) works
 
 -- a host after it was given these, one after another, as `NodeState::step` is: what it can't be given changes nothing
 abbrev pub host_next : HostNode → NodeWork → HostNode
@@ -57,4 +49,4 @@ CoordinatorsComeBack = (c : Coordinator) (works : List NodeWork) →
 -- a host that is the same but for its master refuses, of what is kept, the same
 abbrev pub RefusalsComeBack : Type 0
 RefusalsComeBack = (one other : HostNode) (given : NodeWork) → SameButMaster one other →
-    kept_as Host (work_at (TheHost one) given) ≡ true → host_may one given ≡ host_may other given
+    host_keeps (work_at (TheHost one) given) ≡ true → host_may one given ≡ host_may other given

@@ -2,32 +2,22 @@
 
 ghost use Rattle.std.specs.Prelude.{◌≡◌};
 ghost use Rattle.rc_history.specs.Nodes.{Node};
-ghost use Rattle.rc_history.specs.Remade.{changes_backup, host_keeps, coordinator_keeps};
+ghost use Rattle.rc_history.specs.Remade.{changes_backup, host_keeps, coordinator_keeps, keeps};
 ghost use Rattle.rc_world.specs.NodeView.{work_at};
-ghost use Rattle.rc_keeping.specs.Keeping.{kept_as};
 
-use rc_types::{Body, NodeWork};
+use rc_types::{Body, NodeName, NodeWork};
+use rc_world::is_for_backup;
 
-/// What a node is.
-#[derive(Clone, Copy, Debug, PartialEq, Eq)]
-pub enum Role {
-    /// The outside, which keeps nothing.
-    Outside,
-    /// The coordinator, which keeps all but timers.
-    Coordinator,
-    /// A host, which keeps its starts and stops, and what its backup took.
-    Host,
-}
-
-/// Whether a node that is this keeps a work, so that it can be made anew (`laws::nodes_come_back`). It does not matter
-/// where the node is.
-pub fn keeps(role: Role, work: &NodeWork) -> bool
-    ensures { (node : Node) → result ≡ kept_as role (work_at node work.now) }
+/// Whether a node keeps a work, so that it can be made anew (`laws::nodes_come_back`): the outside nothing, the
+/// coordinator all but timers, a host its starts and stops, and what its backup took. It does not matter where the node
+/// is.
+pub fn keeps(name: NodeName, work: &NodeWork) -> bool
+    ensures { (node : Node) → result ≡ keeps name (work_at node work.now) }
 {
-    match role {
-        Role::Outside => false,
-        Role::Coordinator => coordinator_keeps(work),
-        Role::Host => host_keeps(work),
+    match name {
+        NodeName::Outside => false,
+        NodeName::Coordinator => coordinator_keeps(work),
+        NodeName::Host(_) => host_keeps(work),
     }
 }
 
@@ -56,12 +46,5 @@ fn host_keeps(work: &NodeWork) -> bool
 fn changes_backup(body: &Body) -> bool
     ensures { result ≡ changes_backup body.now }
 {
-    matches!(
-        body,
-        Body::Place { .. }
-            | Body::Append { .. }
-            | Body::Close { .. }
-            | Body::Gather { .. }
-            | Body::Free { .. }
-    )
+    is_for_backup(body) && !matches!(body, Body::Fetch { .. })
 }

@@ -23,6 +23,6 @@ mod seals;
 mod works;
 
 pub use journals::{read_back, write_down};
-pub use keeping::{Role, keeps};
+pub use keeping::keeps;
 pub use seals::{seal, unseal};
 pub use works::{decode_work, encode_work};

@@ -6,13 +6,9 @@ use Rattle.rc_model.specs.Nodes.{Work, Take, Tick, Stop, Start, runs, is_running
 use Rattle.rc_model.specs.World.{NodeName, TheOutside, TheCoordinator, TheHost}
 use Rattle.rc_history.specs.Nodes.{Node, node_step, new_node}
 use Rattle.rc_history.specs.Nodes as node
-use Rattle.rc_history.specs.Remade.{host_keeps, coordinator_keeps, SameButMaster}
-
+use Rattle.rc_history.specs.Remade.{SameButMaster}
 -- what a node writes down: as much of its works as it can be made anew from
-abbrev pub keeps : NodeName → Work → Bool
-keeps TheOutside work = false
-keeps TheCoordinator work = coordinator_keeps work
-keeps (TheHost index) work = host_keeps work
+pub use Rattle.rc_history.specs.Remade.{keeps}
 
 -- the work is one for the master that runs on the node, and for nothing else of it
 abbrev pub is_masters : Node → Work → Bool

@@ -1,7 +1,6 @@
 //! The end of a recovered part is told.
 
-ghost use Rattle.std.specs.Prelude.{◌≡◌, ◌++◌, is_some, IfOk, OnOk, IfErr};
-ghost use Rattle.rc_types.specs.declared.faults.Fault.TheVariants.{OutOfMemory};
+ghost use Rattle.std.specs.Prelude.{◌≡◌, ◌++◌, is_some, IfOk, OnOk};
 ghost use Rattle.rc_model.specs.Ownership.{to_answer, after_answer};
 ghost use Rattle.rc_ownership.specs.Owner.{replayed_of};
 ghost use Rattle.rc_notices.specs.Tasks.{AreTasksOf};
@@ -9,7 +8,8 @@ ghost use Rattle.rc_lognotes.specs.Telling.{told_of};
 
 use rc_notices::{Task, recovered};
 use rc_ownership::Ownership;
-use rc_types::{Fault, Message, ServerId};
+use rc_types::{Message, ServerId};
+use std::alloc::AllocError;
 
 /// The end of the first part that is complete is told, once. The answer says whether there was one.
 pub fn tell_part(
@@ -17,7 +17,7 @@ pub fn tell_part(
     ownership: &mut Ownership,
     tasks: &[Task],
     sent: &mut Vec<Message>,
-) -> Result<bool, Fault>
+) -> Result<bool, AllocError>
     requires { AreTasksOf ownership.old.own.parts tasks.now }
     ensures told { IfOk result (λ told. told ≡ is_some (to_answer (replayed_of ownership.old) ownership.old.own)) }
     ensures owner { OnOk result (ownership.new ≡
@@ -25,7 +25,6 @@ pub fn tell_part(
     ensures sends { OnOk result (sent.new.items ≡ sent.old.items ++
         told_of own tasks.now (to_answer (replayed_of ownership.old) ownership.old.own)) }
     ensures before { ownership.new.before ≡ ownership.old.before }
-    ensures no_memory { IfErr result (λ fault. fault ≡ OutOfMemory) }
 {
     let Some(term) = ownership.complete() else {
         return Ok(false);

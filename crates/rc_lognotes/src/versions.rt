@@ -1,12 +1,11 @@
 //! The version of a client's write.
 
-ghost use Rattle.std.specs.Prelude.{◌≡◌, ◌<◌, ◌^◌, IfOk, IfErr};
-ghost use Rattle.rc_types.specs.declared.faults.Fault.TheVariants.{OutOfMemory};
+ghost use Rattle.std.specs.Prelude.{◌≡◌, ◌<◌, ◌^◌, IfOk};
 ghost use Rattle.rc_model.specs.Versions.{next_version};
 
 use rc_ownership::Ownership;
-use rc_types::{Entry, Fault, Shared, TryClone};
-use std::alloc::Global;
+use rc_types::{Entry, Shared, TryClone};
+use std::alloc::{AllocError, Global};
 
 /// The entry of a client's write: its version is one above the greatest of its key under its term that was noted.
 pub fn new_entry(
@@ -16,7 +15,7 @@ pub fn new_entry(
     table: u32,
     key: u64,
     value: &Option<Shared<u8>>,
-) -> Result<Entry, Fault>
+) -> Result<Entry, AllocError>
     requires { next_version term table key ownership.now.noted < 2 ^ 64 }
     ensures ok { IfOk result (λ entry. entry ≡ record {
       term = term;
@@ -25,7 +24,6 @@ pub fn new_entry(
       version = next_version term table key ownership.now.noted;
       value = value.now;
     }) }
-    ensures no_memory { IfErr result (λ fault. fault ≡ OutOfMemory) }
 {
     let version = ownership.next_version(term, table, key);
     let value = value.try_clone(alloc)?;

@@ -1,7 +1,6 @@
 //! The rules that a master follows up each input with, but for the replay's.
 
-ghost use Rattle.std.specs.Prelude.{◌≡◌, ◌++◌, true, false, IfOk, OnOk, IfErr};
-ghost use Rattle.rc_types.specs.declared.faults.Fault.TheVariants.{OutOfMemory};
+ghost use Rattle.std.specs.Prelude.{◌≡◌, ◌++◌, true, false, IfOk, OnOk};
 ghost use Rattle.rc_model.specs.Log.{has_segment};
 ghost use Rattle.rc_model.specs.Heads.{left_out};
 ghost use Rattle.rc_model.specs.FollowUps.{follows_closing, wants_commit, follows_change, follows_stored, follow_up};
@@ -15,7 +14,7 @@ ghost use Rattle.rc_master.specs.View.{state_view, before_step, IsNoted};
 use crate::state::State;
 use rc_lognotes::acknowledge;
 use rc_notices::{add_closes, add_frees, commit, ready};
-use rc_types::{Fault, Message, Phase};
+use rc_types::{Message, Phase};
 use std::alloc::AllocError;
 
 /// A rule that a master follows up with, of those that come after the rules of the phase.
@@ -35,7 +34,7 @@ impl State {
     /// on all its members: the master is ready. The old head is to be closed, once the new one is placed on
     /// all its members. The new head writes, once the old one is shut and the new one is placed under a
     /// committed epoch: segments that its digest leaves out are freed.
-    fn follow_phase(&mut self, sent: &mut Vec<Message>) -> Result<bool, Fault>
+    fn follow_phase(&mut self, sent: &mut Vec<Message>) -> Result<bool, AllocError>
         requires noted { IsNoted self.old }
         ensures applied { IfOk result (λ applied. applied ≡ did (follows_phase (marks_shut (state_view self.old)))) }
         ensures state { OnOk result
@@ -45,7 +44,6 @@ impl State {
             (or_still (marks_shut (state_view self.old)) (follows_phase (marks_shut (state_view self.old)))).1) }
         ensures noted { OnOk result (IsNoted self.new) }
         ensures before { before_step self.new ≡ before_step self.old }
-        ensures no_memory { IfErr result (λ fault. fault ≡ OutOfMemory) }
     {
         let was = self.log.phase();
         if !self.log.advance() {
@@ -86,7 +84,7 @@ impl State {
     }
 
     /// Close goes to each old member, once under each committed epoch.
-    fn follow_closing(&mut self, sent: &mut Vec<Message>) -> Result<bool, Fault>
+    fn follow_closing(&mut self, sent: &mut Vec<Message>) -> Result<bool, AllocError>
         requires noted { IsNoted self.old }
         ensures applied { IfOk result (λ applied. applied ≡ did (follows_closing (state_view self.old))) }
         ensures state { OnOk result
@@ -95,7 +93,6 @@ impl State {
             (or_still (state_view self.old) (follows_closing (state_view self.old))).1) }
         ensures noted { OnOk result (IsNoted self.new) }
         ensures before { before_step self.new ≡ before_step self.old }
-        ensures no_memory { IfErr result (λ fault. fault ≡ OutOfMemory) }
     {
         if !self.log.close_is_due() {
             return Ok(false);
@@ -106,7 +103,7 @@ impl State {
     }
 
     /// Commit of the first segment that isn't shut, where its members have changed and all have it.
-    fn follow_change(&mut self, sent: &mut Vec<Message>) -> Result<bool, Fault>
+    fn follow_change(&mut self, sent: &mut Vec<Message>) -> Result<bool, AllocError>
         requires noted { IsNoted self.old }
         ensures applied { IfOk result (λ applied. applied ≡ did (follows_change (state_view self.old))) }
         ensures state { OnOk result
@@ -115,7 +112,6 @@ impl State {
             (or_still (state_view self.old) (follows_change (state_view self.old))).1) }
         ensures noted { OnOk result (IsNoted self.new) }
         ensures before { before_step self.new ≡ before_step self.old }
-        ensures no_memory { IfErr result (λ fault. fault ≡ OutOfMemory) }
     {
         let Some(seg) = self.log.first_open() else {
             return Ok(false);
@@ -140,7 +136,7 @@ impl State {
     }
 
     /// What all members have is durable for good, and each client's write there is acknowledged.
-    fn follow_stored(&mut self, sent: &mut Vec<Message>) -> Result<bool, Fault>
+    fn follow_stored(&mut self, sent: &mut Vec<Message>) -> Result<bool, AllocError>
         requires noted { IsNoted self.old }
         ensures applied { IfOk result (λ applied. applied ≡ did (follows_stored (state_view self.old))) }
         ensures state { OnOk result
@@ -149,7 +145,6 @@ impl State {
             (or_still (state_view self.old) (follows_stored (state_view self.old))).1) }
         ensures noted { OnOk result (IsNoted self.new) }
         ensures before { before_step self.new ≡ before_step self.old }
-        ensures no_memory { IfErr result (λ fault. fault ≡ OutOfMemory) }
     {
         if self.log.durable() >= self.log.durable_now() {
             return Ok(false);
@@ -161,7 +156,7 @@ impl State {
     /// The first rule that applies is made, after what has become shut was marked. The answer says
     /// whether one did. Where a Close is due, no rule before that one applies, and it comes before the
     /// last of the phase's rules.
-    fn follow_up(&mut self, sent: &mut Vec<Message>) -> Result<bool, Fault>
+    fn follow_up(&mut self, sent: &mut Vec<Message>) -> Result<bool, AllocError>
         requires noted { IsNoted self.old }
         ensures applied { IfOk result (λ applied. applied ≡ did (follow_up (marks_shut (state_view self.old)))) }
         ensures state { OnOk result
@@ -171,7 +166,6 @@ impl State {
             (or_still (marks_shut (state_view self.old)) (follow_up (marks_shut (state_view self.old)))).1) }
         ensures noted { OnOk result (IsNoted self.new) }
         ensures before { before_step self.new ≡ before_step self.old }
-        ensures no_memory { IfErr result (λ fault. fault ≡ OutOfMemory) }
     {
         if self.log.close_is_due() {
             self.follow_due(sent)
@@ -181,7 +175,7 @@ impl State {
     }
 
     /// The first rule that applies where a Close is due: after the mark that one.
-    fn follow_due(&mut self, sent: &mut Vec<Message>) -> Result<bool, Fault>
+    fn follow_due(&mut self, sent: &mut Vec<Message>) -> Result<bool, AllocError>
         requires noted { IsNoted self.old }
         requires due { close_is_due (log_of self.old.log) ≡ true }
         ensures applied { IfOk result (λ applied. applied ≡ did (follow_up (marks_shut (state_view self.old)))) }
@@ -192,14 +186,13 @@ impl State {
             (or_still (marks_shut (state_view self.old)) (follow_up (marks_shut (state_view self.old)))).1) }
         ensures noted { OnOk result (IsNoted self.new) }
         ensures before { before_step self.new ≡ before_step self.old }
-        ensures no_memory { IfErr result (λ fault. fault ≡ OutOfMemory) }
     {
         self.log.mark_shut();
         self.follow_closing(sent)
     }
 
     /// The first rule that applies where no Close is due: after the mark one of the phase, or else another.
-    fn follow_undue(&mut self, sent: &mut Vec<Message>) -> Result<bool, Fault>
+    fn follow_undue(&mut self, sent: &mut Vec<Message>) -> Result<bool, AllocError>
         requires noted { IsNoted self.old }
         requires undue { close_is_due (log_of self.old.log) ≡ false }
         ensures applied { IfOk result (λ applied. applied ≡ did (follow_up (marks_shut (state_view self.old)))) }
@@ -210,7 +203,6 @@ impl State {
             (or_still (marks_shut (state_view self.old)) (follow_up (marks_shut (state_view self.old)))).1) }
         ensures noted { OnOk result (IsNoted self.new) }
         ensures before { before_step self.new ≡ before_step self.old }
-        ensures no_memory { IfErr result (λ fault. fault ≡ OutOfMemory) }
     {
         if self.follow_phase(sent)? {
             return Ok(true);
@@ -219,7 +211,7 @@ impl State {
     }
 
     /// The first that applies of the rules after those of the phase.
-    fn follow_first(&mut self, sent: &mut Vec<Message>) -> Result<bool, Fault>
+    fn follow_first(&mut self, sent: &mut Vec<Message>) -> Result<bool, AllocError>
         requires noted { IsNoted self.old }
         ensures applied { IfOk result (λ applied. applied ≡ did (follows_rest (state_view self.old))) }
         ensures state { OnOk result
@@ -228,7 +220,6 @@ impl State {
             (or_still (state_view self.old) (follows_rest (state_view self.old))).1) }
         ensures noted { OnOk result (IsNoted self.new) }
         ensures before { before_step self.new ≡ before_step self.old }
-        ensures no_memory { IfErr result (λ fault. fault ≡ OutOfMemory) }
     {
         for rule in &RULES {
             if self.follow(*rule, sent)? {
@@ -239,7 +230,7 @@ impl State {
     }
 
     /// One rule, if it applies.
-    fn follow(&mut self, rule: Rule, sent: &mut Vec<Message>) -> Result<bool, Fault>
+    fn follow(&mut self, rule: Rule, sent: &mut Vec<Message>) -> Result<bool, AllocError>
         requires noted { IsNoted self.old }
         ensures applied { IfOk result (λ applied. applied ≡ did (does rule (state_view self.old))) }
         ensures state { OnOk result
@@ -248,7 +239,6 @@ impl State {
             (or_still (state_view self.old) (does rule (state_view self.old))).1) }
         ensures noted { OnOk result (IsNoted self.new) }
         ensures before { before_step self.new ≡ before_step self.old }
-        ensures no_memory { IfErr result (λ fault. fault ≡ OutOfMemory) }
     {
         match rule {
             Rule::Change => self.follow_change(sent),
@@ -259,14 +249,13 @@ impl State {
     }
 
     /// The rules, until none applies. A deposed master follows none.
-    pub(crate) fn go_on(&mut self, sent: &mut Vec<Message>) -> Result<(), Fault>
+    pub(crate) fn go_on(&mut self, sent: &mut Vec<Message>) -> Result<(), AllocError>
         requires noted { IsNoted self.old }
         ensures state { OnOk result (state_view self.new ≡ (goes_on (state_view self.old)).0) }
         ensures sends { OnOk result (sent.new.items ≡ sent.old.items ++ (goes_on (state_view self.old)).1) }
         ensures noted { OnOk result (IsNoted self.new) }
         ensures quiet { OnOk result (IsQuiet (state_view self.new)) }
         ensures before { before_step self.new ≡ before_step self.old }
-        ensures no_memory { IfErr result (λ fault. fault ≡ OutOfMemory) }
     {
         if self.deposed {
             return Ok(());
@@ -275,13 +264,12 @@ impl State {
     }
 
     /// The rules, until none applies.
-    fn settle(&mut self, sent: &mut Vec<Message>) -> Result<(), Fault>
+    fn settle(&mut self, sent: &mut Vec<Message>) -> Result<(), AllocError>
         requires noted { IsNoted self.old }
         ensures state { OnOk result (state_view self.new ≡ (settled (state_view self.old)).0) }
         ensures sends { OnOk result (sent.new.items ≡ sent.old.items ++ (settled (state_view self.old)).1) }
         ensures noted { OnOk result (IsNoted self.new) }
         ensures before { before_step self.new ≡ before_step self.old }
-        ensures no_memory { IfErr result (λ fault. fault ≡ OutOfMemory) }
     {
         'rules: while self.follow_up(sent)? {}
         Ok(())

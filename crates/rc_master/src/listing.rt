@@ -1,7 +1,7 @@
 //! What a master does about the servers that it knows: it replaces members that have crashed, and
 //! opens its first head.
 
-ghost use Rattle.std.specs.Prelude.{◌≡◌, ◌≢◌, ◌++◌, true, OnOk, IfErr};
+ghost use Rattle.std.specs.Prelude.{◌≡◌, ◌≢◌, ◌++◌, true, OnOk};
 ghost use Rattle.rc_types.specs.declared.faults.Fault.TheVariants.{OutOfMemory};
 ghost use Rattle.rc_model.specs.ServerList.{from_rows};
 ghost use Rattle.rc_model.specs.Log.{has_segment, numbers_to};
@@ -15,15 +15,15 @@ use crate::state::State;
 use rc_notices::{add_head_places, add_places};
 use rc_serverlist::ServerList;
 use rc_types::{Fault, Message, ServerId};
+use std::alloc::AllocError;
 use std::mem;
 
 /// A refusal, if it is for want of memory. Another one only says that a rule can do nothing.
-fn unless_memory(fault: Fault) -> Result<(), Fault>
-    ensures other { OnOk result (fault ≢ OutOfMemory) }
-    ensures no_memory { IfErr result (λ error. error ≡ OutOfMemory) }
+fn unless_memory(fault: Fault) -> Result<(), AllocError>
+    ensures { OnOk result (fault ≢ OutOfMemory) }
 {
     match fault {
-        Fault::OutOfMemory => Err(Fault::OutOfMemory),
+        Fault::OutOfMemory => Err(AllocError),
         _ => Ok(()),
     }
 }
@@ -36,7 +36,7 @@ impl State {
         version: u32,
         rows: &[(ServerId, bool)],
         sent: &mut Vec<Message>,
-    ) -> Result<(), Fault>
+    ) -> Result<(), AllocError>
         requires noted { IsNoted self.old }
         requires start { IsAtStart self.old }
         ensures state { OnOk result
@@ -45,7 +45,6 @@ impl State {
             (takes_list (state_view self.old) (from_rows version rows.now)).1) }
         ensures noted { OnOk result (IsNoted self.new) }
         ensures before { before_step self.new ≡ before_step self.old }
-        ensures no_memory { IfErr result (λ fault. fault ≡ OutOfMemory) }
     {
         if version <= self.known.version() {
             return Ok(());
@@ -58,13 +57,12 @@ impl State {
     }
 
     /// The list rules: over the segments, ascending, and then the first head.
-    pub(crate) fn obey_list(&mut self, sent: &mut Vec<Message>) -> Result<(), Fault>
+    pub(crate) fn obey_list(&mut self, sent: &mut Vec<Message>) -> Result<(), AllocError>
         requires noted { IsNoted self.old }
         ensures state { OnOk result (state_view self.new ≡ (obeys_list (state_view self.old)).0) }
         ensures sends { OnOk result (sent.new.items ≡ sent.old.items ++ (obeys_list (state_view self.old)).1) }
         ensures noted { OnOk result (IsNoted self.new) }
         ensures before { before_step self.new ≡ before_step self.old }
-        ensures no_memory { IfErr result (λ fault. fault ≡ OutOfMemory) }
     {
         self.replace_all_lost(sent)?;
         self.try_first(sent)
@@ -72,7 +70,7 @@ impl State {
 
     /// Lost members of each segment are replaced, one segment after another. Of the segments those are gone over
     /// that may want something, and those of which a member has crashed.
-    fn replace_all_lost(&mut self, sent: &mut Vec<Message>) -> Result<(), Fault>
+    fn replace_all_lost(&mut self, sent: &mut Vec<Message>) -> Result<(), AllocError>
         requires noted { IsNoted self.old }
         ensures state { OnOk result
             (state_view self.new ≡ (replaces_lost_of (numbers_to (log_of self.old.log).head) (state_view self.old)).0) }
@@ -80,7 +78,6 @@ impl State {
             (replaces_lost_of (numbers_to (log_of self.old.log).head) (state_view self.old)).1) }
         ensures noted { OnOk result (IsNoted self.new) }
         ensures before { before_step self.new ≡ before_step self.old }
-        ensures no_memory { IfErr result (λ fault. fault ≡ OutOfMemory) }
     {
         self.log.rouse(&self.known)?;
         let mut done = 0;
@@ -93,7 +90,7 @@ impl State {
 
     /// Lost members of a segment are replaced, if it wasn't freed. A segment with no member that is lost, or that the
     /// list shows crashed, is left alone: it costs a look at its members.
-    fn replace_lost(&mut self, seg: u16, sent: &mut Vec<Message>) -> Result<(), Fault>
+    fn replace_lost(&mut self, seg: u16, sent: &mut Vec<Message>) -> Result<(), AllocError>
         requires noted { IsNoted self.old }
         requires known { has_segment (log_of self.old.log) seg ≡ true }
         ensures state { OnOk result (state_view self.new ≡ (replaces_lost (state_view self.old) seg).0) }
@@ -102,7 +99,6 @@ impl State {
         ensures roused { OnOk result (IsRoused self.old.known self.old.log → IsRoused self.new.known self.new.log) }
         ensures noted { OnOk result (IsNoted self.new) }
         ensures before { before_step self.new ≡ before_step self.old }
-        ensures no_memory { IfErr result (λ fault. fault ≡ OutOfMemory) }
     {
         if self.is_freed(seg) {
             return Ok(());
@@ -145,13 +141,12 @@ impl State {
     }
 
     /// The first head is opened, where none ever was, this id is up and there are enough others.
-    fn try_first(&mut self, sent: &mut Vec<Message>) -> Result<(), Fault>
+    fn try_first(&mut self, sent: &mut Vec<Message>) -> Result<(), AllocError>
         requires noted { IsNoted self.old }
         ensures state { OnOk result (state_view self.new ≡ (tries_first (state_view self.old)).0) }
         ensures sends { OnOk result (sent.new.items ≡ sent.old.items ++ (tries_first (state_view self.old)).1) }
         ensures noted { OnOk result (IsNoted self.new) }
         ensures before { before_step self.new ≡ before_step self.old }
-        ensures no_memory { IfErr result (λ fault. fault ≡ OutOfMemory) }
     {
         if self.log.head() != 0 || !self.known.is_up(self.log.own()) {
             return Ok(());

@@ -1,7 +1,6 @@
 //! A master, as its callers see it.
 
-ghost use Rattle.std.specs.Prelude.{◌≡◌, ◌↔◌, ◌++◌, ◌<◌, ◌≤◌, true, IfOk, OnOk, OnErr, IfErr};
-ghost use Rattle.rc_types.specs.declared.faults.Fault.TheVariants.{OutOfMemory};
+ghost use Rattle.std.specs.Prelude.{◌≡◌, ◌↔◌, ◌++◌, ◌<◌, ◌≤◌, true, IfOk, OnOk, OnErr};
 ghost use Rattle.rc_types.specs.declared.limits.TheConstants.{MAX_FACTOR as FACTOR, MAX_SEGMENT as SEGMENT};
 ghost use Rattle.rc_model.specs.Master.{new_master};
 ghost use Rattle.rc_model.specs.MasterStep.{master_takes, master_ticks};
@@ -11,8 +10,8 @@ ghost use Rattle.rc_master.specs.Steps.{steps};
 
 use crate::state::State;
 use rc_headroll::LogHead;
-use rc_types::{Addr, Body, Fault, Message, NodeWork, ServerId};
-use std::alloc::Global;
+use rc_types::{Addr, Body, Message, NodeWork, ServerId};
+use std::alloc::{AllocError, Global};
 use std::fmt;
 use std::marker::Model;
 
@@ -114,14 +113,18 @@ impl Master {
     /// # Errors
     ///
     /// `OutOfMemory` (F1): memory was refused. Then the master and what was sent are as before.
-    pub fn take(&mut self, from: Addr, body: &Body, sent: &mut Vec<Message>) -> Result<(), Fault>
+    pub fn take(
+        &mut self,
+        from: Addr,
+        body: &Body,
+        sent: &mut Vec<Message>,
+    ) -> Result<(), AllocError>
         requires { HasVersions (master_of self.old) }
         ensures state { OnOk result (master_of self.new ≡ (master_takes (master_of self.old) from body.now).0) }
         ensures sends { OnOk result (sent.new.items ≡ sent.old.items ++
             (master_takes (master_of self.old) from body.now).1) }
         ensures err { OnErr result (master_of self.new ≡ master_of self.old) }
         ensures unsent { OnErr result (sent.new.items ≡ sent.old.items) }
-        ensures no_memory { IfErr result (λ fault. fault ≡ OutOfMemory) }
     {
         self.state.take(from, body, sent)
     }
@@ -132,12 +135,11 @@ impl Master {
     /// # Errors
     ///
     /// `OutOfMemory` (F1): memory was refused. Then the master and what was sent are as before.
-    pub fn tick(&mut self, sent: &mut Vec<Message>) -> Result<(), Fault>
+    pub fn tick(&mut self, sent: &mut Vec<Message>) -> Result<(), AllocError>
         ensures state { OnOk result (master_of self.new ≡ (master_ticks (master_of self.old)).0) }
         ensures sends { OnOk result (sent.new.items ≡ sent.old.items ++ (master_ticks (master_of self.old)).1) }
         ensures err { OnErr result (master_of self.new ≡ master_of self.old) }
         ensures unsent { OnErr result (sent.new.items ≡ sent.old.items) }
-        ensures no_memory { IfErr result (λ fault. fault ≡ OutOfMemory) }
     {
         self.state.tick(sent)
     }
@@ -147,13 +149,12 @@ impl Master {
     /// # Errors
     ///
     /// `OutOfMemory` (F1): memory was refused. Then the master and what was sent are as before.
-    pub fn step_into(&mut self, work: &NodeWork, sent: &mut Vec<Message>) -> Result<(), Fault>
+    pub fn step_into(&mut self, work: &NodeWork, sent: &mut Vec<Message>) -> Result<(), AllocError>
         requires { HasVersions (master_of self.old) }
         ensures state { OnOk result (master_of self.new ≡ (steps (master_of self.old) work.now).0) }
         ensures sends { OnOk result (sent.new.items ≡ sent.old.items ++ (steps (master_of self.old) work.now).1) }
         ensures err { OnErr result (master_of self.new ≡ master_of self.old) }
         ensures unsent { OnErr result (sent.new.items ≡ sent.old.items) }
-        ensures no_memory { IfErr result (λ fault. fault ≡ OutOfMemory) }
     {
         match work {
             NodeWork::Deliver(message) => self.take(message.from, &message.body, sent),
@@ -167,12 +168,11 @@ impl Master {
     /// # Errors
     ///
     /// `OutOfMemory` (F1): memory was refused. Then the master is as before.
-    pub fn step(&mut self, work: &NodeWork) -> Result<Vec<Message>, Fault>
+    pub fn step(&mut self, work: &NodeWork) -> Result<Vec<Message>, AllocError>
         requires { HasVersions (master_of self.old) }
         ensures state { OnOk result (master_of self.new ≡ (steps (master_of self.old) work.now).0) }
         ensures sends { IfOk result (λ sent. sent.items ≡ (steps (master_of self.old) work.now).1) }
         ensures err { OnErr result (master_of self.new ≡ master_of self.old) }
-        ensures no_memory { IfErr result (λ fault. fault ≡ OutOfMemory) }
     {
         let mut sent = Vec::new(self.state.alloc);
         self.step_into(work, &mut sent)?;

@@ -1,13 +1,13 @@
 //! Parts of crashed masters' logs that a master is to recover.
 
-ghost use Rattle.std.specs.Prelude.{◌≡◌, ◌++◌, ◌≤◌, length, OnOk, IfErr};
-ghost use Rattle.rc_types.specs.declared.faults.Fault.TheVariants.{OutOfMemory};
+ghost use Rattle.std.specs.Prelude.{◌≡◌, ◌++◌, ◌≤◌, length, OnOk};
 ghost use Rattle.rc_model.specs.MasterStep.{task_of, begins_task, takes_plan};
 ghost use Rattle.rc_master.specs.View.{state_view, before_step, IsNoted};
 
 use crate::state::State;
 use rc_notices::{Task, add_fetches};
-use rc_types::{Fault, Message, Part, PlanRow, Seq, ServerId, TryClone};
+use rc_types::{Message, Part, PlanRow, Seq, ServerId, TryClone};
+use std::alloc::AllocError;
 
 impl State {
     /// A plan: each of its parts, in their order.
@@ -18,7 +18,7 @@ impl State {
         rows: &Seq<PlanRow>,
         parts: &[Part],
         sent: &mut Vec<Message>,
-    ) -> Result<(), Fault>
+    ) -> Result<(), AllocError>
         requires noted { IsNoted self.old }
         requires kept { self.old.kept ≤ length self.old.tasks.items }
         ensures state { OnOk result
@@ -27,7 +27,6 @@ impl State {
             (takes_plan attempt crashed rows.now parts.now (state_view self.old)).1) }
         ensures noted { OnOk result (IsNoted self.new) }
         ensures before { before_step self.new ≡ before_step self.old }
-        ensures no_memory { IfErr result (λ fault. fault ≡ OutOfMemory) }
     {
         for part in parts {
             self.begin_part(attempt, crashed, rows, *part, sent)?;
@@ -43,7 +42,7 @@ impl State {
         rows: &Seq<PlanRow>,
         part: Part,
         sent: &mut Vec<Message>,
-    ) -> Result<(), Fault>
+    ) -> Result<(), AllocError>
         requires noted { IsNoted self.old }
         requires kept { self.old.kept ≤ length self.old.tasks.items }
         ensures state { OnOk result
@@ -53,7 +52,6 @@ impl State {
         ensures noted { OnOk result (IsNoted self.new) }
         ensures kept { OnOk result (self.new.kept ≤ length self.new.tasks.items) }
         ensures before { before_step self.new ≡ before_step self.old }
-        ensures no_memory { IfErr result (λ fault. fault ≡ OutOfMemory) }
     {
         if self.ownership.knows_term(part.term) {
             return Ok(());

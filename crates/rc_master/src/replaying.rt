@@ -1,7 +1,6 @@
 //! Entries of crashed masters' logs are appended anew, and the end of a part is told.
 
-ghost use Rattle.std.specs.Prelude.{◌≡◌, ◌++◌, true, IfOk, OnOk, IfErr};
-ghost use Rattle.rc_types.specs.declared.faults.Fault.TheVariants.{OutOfMemory};
+ghost use Rattle.std.specs.Prelude.{◌≡◌, ◌++◌, true, IfOk, OnOk};
 ghost use Rattle.rc_model.specs.Log.{is_writing};
 ghost use Rattle.rc_model.specs.FollowUps.{follows_data, follows_replay};
 ghost use Rattle.rc_master.specs.Rules.{did, or_still, full_replays};
@@ -10,11 +9,12 @@ ghost use Rattle.rc_master.specs.View.{state_view, before_step, IsNoted};
 use crate::state::State;
 use rc_lognotes::tell_part;
 use rc_types::{Fault, Message};
+use std::alloc::AllocError;
 
 impl State {
     /// The first entry that waits is appended, where the head writes; a full head is rolled, where that
     /// can be.
-    pub(crate) fn follow_data(&mut self, sent: &mut Vec<Message>) -> Result<bool, Fault>
+    pub(crate) fn follow_data(&mut self, sent: &mut Vec<Message>) -> Result<bool, AllocError>
         requires noted { IsNoted self.old }
         ensures applied { IfOk result (λ applied. applied ≡ did (follows_data (state_view self.old))) }
         ensures state { OnOk result
@@ -23,7 +23,6 @@ impl State {
             (or_still (state_view self.old) (follows_data (state_view self.old))).1) }
         ensures noted { OnOk result (IsNoted self.new) }
         ensures before { before_step self.new ≡ before_step self.old }
-        ensures no_memory { IfErr result (λ fault. fault ≡ OutOfMemory) }
     {
         if !self.log.is_writing() || !self.ownership.has_replay() {
             return Ok(false);
@@ -39,7 +38,7 @@ impl State {
     }
 
     /// The head is full: a roll begins, if it can.
-    fn roll_for_replay(&mut self, sent: &mut Vec<Message>) -> Result<bool, Fault>
+    fn roll_for_replay(&mut self, sent: &mut Vec<Message>) -> Result<bool, AllocError>
         requires noted { IsNoted self.old }
         requires writing { is_writing self.old.log.phase ≡ true }
         ensures applied { IfOk result (λ applied. applied ≡ did (full_replays (state_view self.old))) }
@@ -49,17 +48,16 @@ impl State {
             (or_still (state_view self.old) (full_replays (state_view self.old))).1) }
         ensures noted { OnOk result (IsNoted self.new) }
         ensures before { before_step self.new ≡ before_step self.old }
-        ensures no_memory { IfErr result (λ fault. fault ≡ OutOfMemory) }
     {
         match self.roll(sent) {
             Ok(()) => Ok(true),
-            Err(Fault::OutOfMemory) => Err(Fault::OutOfMemory),
+            Err(Fault::OutOfMemory) => Err(AllocError),
             Err(_) => Ok(false),
         }
     }
 
     /// The end of the first part that is complete is told, once.
-    pub(crate) fn follow_replay(&mut self, sent: &mut Vec<Message>) -> Result<bool, Fault>
+    pub(crate) fn follow_replay(&mut self, sent: &mut Vec<Message>) -> Result<bool, AllocError>
         requires noted { IsNoted self.old }
         ensures applied { IfOk result (λ applied. applied ≡ did (follows_replay (state_view self.old))) }
         ensures state { OnOk result
@@ -68,7 +66,6 @@ impl State {
             (or_still (state_view self.old) (follows_replay (state_view self.old))).1) }
         ensures noted { OnOk result (IsNoted self.new) }
         ensures before { before_step self.new ≡ before_step self.old }
-        ensures no_memory { IfErr result (λ fault. fault ≡ OutOfMemory) }
     {
         let own = self.log.own();
         tell_part(own, &mut self.ownership, self.tasks.as_slice(), sent)

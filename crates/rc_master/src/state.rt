@@ -18,7 +18,7 @@ use rc_notices::{Task, add_append, refusal};
 use rc_ownership::Ownership;
 use rc_serverlist::ServerList;
 use rc_types::{Entry, Fault, Message, ServerId};
-use std::alloc::Global;
+use std::alloc::{AllocError, Global};
 
 /// What a master knows.
 #[derive(Drop)]
@@ -65,9 +65,8 @@ impl State {
     }
 
     /// Says no to a client.
-    pub(crate) fn refuse(&self, fault: Fault, sent: &mut Vec<Message>) -> Result<(), Fault>
-        ensures sends { OnOk result (sent.new.items ≡ sent.old.items ++ refuses self.now.log.own fault ∷ []) }
-        ensures no_memory { IfErr result (λ error. error ≡ OutOfMemory) }
+    pub(crate) fn refuse(&self, fault: Fault, sent: &mut Vec<Message>) -> Result<(), AllocError>
+        ensures { OnOk result (sent.new.items ≡ sent.old.items ++ refuses self.now.log.own fault ∷ []) }
     {
         sent.push(refusal(self.log.own(), fault))?;
         Ok(())
@@ -80,7 +79,7 @@ impl State {
         entry: Entry,
         client: bool,
         sent: &mut Vec<Message>,
-    ) -> Result<(), Fault>
+    ) -> Result<(), AllocError>
         requires possible { append_fault (log_of self.old.log) ≡ None }
         requires noted { WereNoted self.old }
         requires handed { was_handed self.old.ownership.handed entry.term ≡ not client }
@@ -89,16 +88,20 @@ impl State {
             (appends_entry (state_view self.old) entry client).1) }
         ensures noted { OnOk result (IsNoted self.new) }
         ensures before { before_step self.new ≡ before_step self.old }
-        ensures no_memory { IfErr result (λ fault. fault ≡ OutOfMemory) }
     {
         add_append(self.alloc, &self.log, &entry, sent)?;
         self.ownership.note(self.alloc, &entry)?;
         if client {
-            self.log.append_write(entry)?;
+            match self.log.append_write(entry) {
+                Ok(_) => Ok(()),
+                Err(fault) => Err(only_memory(fault)),
+            }
         } else {
-            self.log.append(entry)?;
+            match self.log.append(entry) {
+                Ok(_) => Ok(()),
+                Err(fault) => Err(only_memory(fault)),
+            }
         }
-        Ok(())
     }
 
     /// A roll begins, and the Places of the new head are sent.
@@ -125,5 +128,15 @@ impl State {
             &self.ownership,
             sent,
         )
+    }
+}
+
+/// What was refused where the head takes entries and has room: that can be memory alone.
+fn only_memory(fault: Fault) -> AllocError
+    requires { fault ≡ OutOfMemory }
+{
+    match fault {
+        Fault::OutOfMemory => AllocError,
+        _ => unreachable!(),
     }
 }

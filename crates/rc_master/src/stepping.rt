@@ -1,8 +1,7 @@
 //! A step: an input, and then the rules until none applies. Where memory is refused, the master goes
 //! back to where the step began.
 
-ghost use Rattle.std.specs.Prelude.{◌≡◌, ◌++◌, [], true, false, OnOk, OnErr, IfErr};
-ghost use Rattle.rc_types.specs.declared.faults.Fault.TheVariants.{OutOfMemory};
+ghost use Rattle.std.specs.Prelude.{◌≡◌, ◌++◌, [], true, false, OnOk, OnErr};
 ghost use Rattle.rc_model.specs.ListRules.{then_does};
 ghost use Rattle.rc_model.specs.FollowUps.{goes_on};
 ghost use Rattle.rc_model.specs.MasterStep.{master_takes_first, deposed_takes, master_takes, master_ticks};
@@ -15,6 +14,7 @@ ghost use Rattle.rc_master.specs.View.{state_view, now_of, before_step, IsNoted,
 use crate::state::State;
 use rc_notices::{add_reminders, enlist, refusal};
 use rc_types::{Addr, Body, Code, Fault, KeyRange, Message};
+use std::alloc::AllocError;
 
 impl State {
     /// A step begins.
@@ -44,7 +44,12 @@ impl State {
     }
 
     /// Takes a message, before the rules that follow up.
-    fn take_first(&mut self, from: Addr, body: &Body, sent: &mut Vec<Message>) -> Result<(), Fault>
+    fn take_first(
+        &mut self,
+        from: Addr,
+        body: &Body,
+        sent: &mut Vec<Message>,
+    ) -> Result<(), AllocError>
         requires noted { IsNoted self.old }
         requires versions { HasVersions (state_view self.old) }
         requires start { IsAtStart self.old }
@@ -54,7 +59,6 @@ impl State {
             (master_takes_first (state_view self.old) from body.now).1) }
         ensures noted { OnOk result (IsNoted self.new) }
         ensures before { before_step self.new ≡ before_step self.old }
-        ensures no_memory { IfErr result (λ fault. fault ≡ OutOfMemory) }
     {
         match (from, body) {
             (_, Body::Write { table, key, value }) => self.write(*table, *key, value, sent),
@@ -100,7 +104,12 @@ impl State {
     }
 
     /// Takes a message and follows up. Where memory is refused, the state is any.
-    fn try_take(&mut self, from: Addr, body: &Body, sent: &mut Vec<Message>) -> Result<(), Fault>
+    fn try_take(
+        &mut self,
+        from: Addr,
+        body: &Body,
+        sent: &mut Vec<Message>,
+    ) -> Result<(), AllocError>
         requires noted { IsNoted self.old }
         requires versions { HasVersions (state_view self.old) }
         requires start { IsAtStart self.old }
@@ -113,7 +122,6 @@ impl State {
         ensures noted { OnOk result (IsNoted self.new) }
         ensures quiet { OnOk result (IsQuiet (state_view self.new)) }
         ensures before { before_step self.new ≡ before_step self.old }
-        ensures no_memory { IfErr result (λ fault. fault ≡ OutOfMemory) }
     {
         let mut messages = Vec::new(self.alloc);
         self.log.rest_newest()?;
@@ -129,7 +137,7 @@ impl State {
         from: Addr,
         body: &Body,
         sent: &mut Vec<Message>,
-    ) -> Result<(), Fault>
+    ) -> Result<(), AllocError>
         requires noted { IsNoted self.old }
         requires quiet { IsQuiet (state_view self.old) }
         requires versions { HasVersions (state_view self.old) }
@@ -142,7 +150,6 @@ impl State {
         ensures unsent { OnErr result (sent.new.items ≡ sent.old.items) }
         ensures noted { IsNoted self.new }
         ensures quiet { IsQuiet (state_view self.new) }
-        ensures no_memory { IfErr result (λ fault. fault ≡ OutOfMemory) }
     {
         self.begin();
         if let Err(fault) = self.try_take(from, body, sent) {
@@ -154,7 +161,7 @@ impl State {
 
     /// Takes a message that no rule follows: a refusal by the coordinator, or a grant. Where memory is
     /// refused, nothing has changed.
-    fn take_quiet(&mut self, from: Addr, body: &Body) -> Result<(), Fault>
+    fn take_quiet(&mut self, from: Addr, body: &Body) -> Result<(), AllocError>
         requires noted { IsNoted self.old }
         requires quiet { IsQuiet (state_view self.old) }
         requires of_these { is_quiet_message from body.now ≡ true }
@@ -163,7 +170,6 @@ impl State {
         ensures err { OnErr result (state_view self.new ≡ state_view self.old) }
         ensures noted { IsNoted self.new }
         ensures quiet { IsQuiet (state_view self.new) }
-        ensures no_memory { IfErr result (λ fault. fault ≡ OutOfMemory) }
     {
         match (from, body) {
             (
@@ -195,12 +201,11 @@ impl State {
     }
 
     /// Takes a message where the master is deposed: clients are refused (F5), and nothing else happens.
-    fn take_deposed(&self, body: &Body, sent: &mut Vec<Message>) -> Result<(), Fault>
+    fn take_deposed(&self, body: &Body, sent: &mut Vec<Message>) -> Result<(), AllocError>
         ensures sends { OnOk result (sent.new.items ≡ sent.old.items ++
             (deposed_takes (state_view self.now) body.now).1) }
         ensures state { (deposed_takes (state_view self.now) body.now).0 ≡ state_view self.now }
         ensures unsent { OnErr result (sent.new.items ≡ sent.old.items) }
-        ensures no_memory { IfErr result (λ fault. fault ≡ OutOfMemory) }
     {
         match body {
             Body::Write { .. } | Body::Read { .. } => {
@@ -217,7 +222,7 @@ impl State {
         from: Addr,
         body: &Body,
         sent: &mut Vec<Message>,
-    ) -> Result<(), Fault>
+    ) -> Result<(), AllocError>
         requires noted { IsNoted self.old }
         requires quiet { IsQuiet (state_view self.old) }
         requires versions { HasVersions (state_view self.old) }
@@ -228,7 +233,6 @@ impl State {
         ensures unsent { OnErr result (sent.new.items ≡ sent.old.items) }
         ensures noted { IsNoted self.new }
         ensures quiet { IsQuiet (state_view self.new) }
-        ensures no_memory { IfErr result (λ fault. fault ≡ OutOfMemory) }
     {
         if self.deposed {
             return self.take_deposed(body, sent);
@@ -241,14 +245,13 @@ impl State {
 
     /// Takes the timer, before the rules that follow up: a master that isn't up by its list enlists;
     /// another obeys its list anew, and says again what was not answered.
-    fn tick_first(&mut self, sent: &mut Vec<Message>) -> Result<(), Fault>
+    fn tick_first(&mut self, sent: &mut Vec<Message>) -> Result<(), AllocError>
         requires noted { IsNoted self.old }
         requires start { IsAtStart self.old }
         ensures state { OnOk result (state_view self.new ≡ (ticks (state_view self.old)).0) }
         ensures sends { OnOk result (sent.new.items ≡ sent.old.items ++ (ticks (state_view self.old)).1) }
         ensures noted { OnOk result (IsNoted self.new) }
         ensures before { before_step self.new ≡ before_step self.old }
-        ensures no_memory { IfErr result (λ fault. fault ≡ OutOfMemory) }
     {
         if !self.known.is_up(self.log.own()) {
             sent.push(enlist(self.log.own()))?;
@@ -260,11 +263,10 @@ impl State {
     }
 
     /// Says again what was not answered, but for what the list rules have just sent.
-    fn remind(&self, sent: &mut Vec<Message>) -> Result<(), Fault>
+    fn remind(&self, sent: &mut Vec<Message>) -> Result<(), AllocError>
         requires noted { IsNoted self.now }
-        ensures sends { OnOk result (sent.new.items ≡ sent.old.items ++
+        ensures { OnOk result (sent.new.items ≡ sent.old.items ++
             (reminds (before_of self.now.log) (state_view self.now)).1) }
-        ensures no_memory { IfErr result (λ fault. fault ≡ OutOfMemory) }
     {
         add_reminders(
             self.alloc,
@@ -277,7 +279,7 @@ impl State {
     }
 
     /// Takes the timer and follows up. Where memory is refused, the state is any.
-    fn try_tick(&mut self, sent: &mut Vec<Message>) -> Result<(), Fault>
+    fn try_tick(&mut self, sent: &mut Vec<Message>) -> Result<(), AllocError>
         requires noted { IsNoted self.old }
         requires start { IsAtStart self.old }
         ensures state { OnOk result (state_view self.new ≡ (then_does (ticks (state_view self.old)) goes_on).0) }
@@ -287,7 +289,6 @@ impl State {
         ensures noted { OnOk result (IsNoted self.new) }
         ensures quiet { OnOk result (IsQuiet (state_view self.new)) }
         ensures before { before_step self.new ≡ before_step self.old }
-        ensures no_memory { IfErr result (λ fault. fault ≡ OutOfMemory) }
     {
         let mut messages = Vec::new(self.alloc);
         self.tick_first(&mut messages)?;
@@ -297,7 +298,7 @@ impl State {
     }
 
     /// Takes the timer. Where memory is refused, nothing has changed.
-    pub(crate) fn tick(&mut self, sent: &mut Vec<Message>) -> Result<(), Fault>
+    pub(crate) fn tick(&mut self, sent: &mut Vec<Message>) -> Result<(), AllocError>
         requires noted { IsNoted self.old }
         requires quiet { IsQuiet (state_view self.old) }
         ensures state { OnOk result (state_view self.new ≡ (master_ticks (state_view self.old)).0) }
@@ -306,7 +307,6 @@ impl State {
         ensures unsent { OnErr result (sent.new.items ≡ sent.old.items) }
         ensures noted { IsNoted self.new }
         ensures quiet { IsQuiet (state_view self.new) }
-        ensures no_memory { IfErr result (λ fault. fault ≡ OutOfMemory) }
     {
         if self.deposed {
             return Ok(());

@@ -1,7 +1,6 @@
 //! What members, the coordinator and other backups tell a master.
 
-ghost use Rattle.std.specs.Prelude.{◌≡◌, OnOk, IfErr};
-ghost use Rattle.rc_types.specs.declared.faults.Fault.TheVariants.{OutOfMemory};
+ghost use Rattle.std.specs.Prelude.{◌≡◌, OnOk};
 ghost use Rattle.rc_model.specs.Heads.{stored, commit_noted};
 ghost use Rattle.rc_model.specs.Ownership.{put_data};
 ghost use Rattle.rc_model.specs.Master.{with_log};
@@ -9,7 +8,8 @@ ghost use Rattle.rc_headroll.specs.LogData.{log_of};
 ghost use Rattle.rc_master.specs.View.{state_view, before_step, IsNoted};
 
 use crate::state::State;
-use rc_types::{Entry, Fault, ServerId};
+use rc_types::{Entry, ServerId};
+use std::alloc::AllocError;
 
 impl State {
     /// What a member stores of a segment. It takes no memory.
@@ -48,13 +48,12 @@ impl State {
         seg: u16,
         term: u32,
         entries: &[Entry],
-    ) -> Result<(), Fault>
+    ) -> Result<(), AllocError>
         requires noted { IsNoted self.old }
         ensures state { OnOk result (state_view self.new ≡
             record (state_view self.old) { ownership = put_data term seg from entries.now self.old.ownership.own }) }
         ensures noted { OnOk result (IsNoted self.new) }
         ensures before { before_step self.new ≡ before_step self.old }
-        ensures no_memory { IfErr result (λ fault. fault ≡ OutOfMemory) }
     {
         self.ownership
             .put_data(self.alloc, term, seg, from, entries)?;

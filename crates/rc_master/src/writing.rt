@@ -1,7 +1,6 @@
 //! A client's write and read.
 
-ghost use Rattle.std.specs.Prelude.{◌≡◌, ◌++◌, true, false, OnOk, IfErr};
-ghost use Rattle.rc_types.specs.declared.faults.Fault.TheVariants.{OutOfMemory};
+ghost use Rattle.std.specs.Prelude.{◌≡◌, ◌++◌, true, false, OnOk};
 ghost use Rattle.rc_model.specs.Log.{is_writing};
 ghost use Rattle.rc_model.specs.Heads.{is_full, begin_roll};
 ghost use Rattle.rc_model.specs.Master.{dead_segments};
@@ -15,6 +14,7 @@ use rc_lognotes::new_entry;
 use rc_notices::{read_ok, refusal};
 use rc_types::limits::MAX_VALUE;
 use rc_types::{Fault, Message, Shared};
+use std::alloc::AllocError;
 
 /// Whether the value is longer than a value may be.
 fn is_too_long(value: &Option<Shared<u8>>) -> bool
@@ -36,7 +36,7 @@ impl State {
         key: u64,
         value: &Option<Shared<u8>>,
         sent: &mut Vec<Message>,
-    ) -> Result<(), Fault>
+    ) -> Result<(), AllocError>
         requires noted { IsNoted self.old }
         requires versions { HasVersions (state_view self.old) }
         ensures state { OnOk result (state_view self.new ≡ (writes (state_view self.old) table key value.now).0) }
@@ -44,7 +44,6 @@ impl State {
             (writes (state_view self.old) table key value.now).1) }
         ensures noted { OnOk result (IsNoted self.new) }
         ensures before { before_step self.new ≡ before_step self.old }
-        ensures no_memory { IfErr result (λ fault. fault ≡ OutOfMemory) }
     {
         if is_too_long(value) {
             return self.refuse(Fault::ValueTooLong, sent);
@@ -63,7 +62,7 @@ impl State {
         key: u64,
         value: &Option<Shared<u8>>,
         sent: &mut Vec<Message>,
-    ) -> Result<(), Fault>
+    ) -> Result<(), AllocError>
         requires noted { IsNoted self.old }
         requires versions { HasVersions (state_view self.old) }
         ensures state { OnOk result
@@ -72,7 +71,6 @@ impl State {
             (writes_under (state_view self.old) term table key value.now).1) }
         ensures noted { OnOk result (IsNoted self.new) }
         ensures before { before_step self.new ≡ before_step self.old }
-        ensures no_memory { IfErr result (λ fault. fault ≡ OutOfMemory) }
     {
         if !self.log.is_writing() {
             return self.refuse(Fault::Rolling, sent);
@@ -85,7 +83,7 @@ impl State {
     }
 
     /// The head is full: a roll begins, and the client is to ask again; or it is told why none can.
-    fn roll_for_write(&mut self, sent: &mut Vec<Message>) -> Result<(), Fault>
+    fn roll_for_write(&mut self, sent: &mut Vec<Message>) -> Result<(), AllocError>
         requires noted { IsNoted self.old }
         requires writing { is_writing self.old.log.phase ≡ true }
         ensures state { OnOk result (state_view self.new ≡ (rolls_for_write (state_view self.old)
@@ -94,24 +92,27 @@ impl State {
             (begin_roll self.old.known (dead_segments (state_view self.old)) (log_of self.old.log))).1) }
         ensures noted { OnOk result (IsNoted self.new) }
         ensures before { before_step self.new ≡ before_step self.old }
-        ensures no_memory { IfErr result (λ fault. fault ≡ OutOfMemory) }
     {
         match self.roll(sent) {
             Ok(()) => {
                 sent.push(refusal(self.log.own(), Fault::Rolling))?;
                 Ok(())
             }
-            Err(Fault::OutOfMemory) => Err(Fault::OutOfMemory),
+            Err(Fault::OutOfMemory) => Err(AllocError),
             Err(fault) => self.refuse(fault, sent),
         }
     }
 
     /// A client's read: the greatest durable version under the term of its range.
-    pub(crate) fn read(&self, table: u32, key: u64, sent: &mut Vec<Message>) -> Result<(), Fault>
+    pub(crate) fn read(
+        &self,
+        table: u32,
+        key: u64,
+        sent: &mut Vec<Message>,
+    ) -> Result<(), AllocError>
         requires noted { IsNoted self.now }
         ensures state { OnOk result (state_view self.now ≡ (reads (state_view self.now) table key).0) }
         ensures sends { OnOk result (sent.new.items ≡ sent.old.items ++ (reads (state_view self.now) table key).1) }
-        ensures no_memory { IfErr result (λ fault. fault ≡ OutOfMemory) }
     {
         let Some(term) = self.ownership.term_of(table, key) else {
             return self.refuse(Fault::NotOwner, sent);

@@ -2,8 +2,10 @@
 use Rattle.std.specs.Prelude.{ℕ, Bool, true, false, nat_eq, if◌then◌else◌, List, [], ◌∷◌, ◌++◌, Option, Some, None}
 use Rattle.std.specs.Prelude.{slice_get}
 use Rattle.rc_types.specs.declared.ids.ServerId.{ServerId}
-use Rattle.rc_types.specs.declared.ids.Addr.{Addr}
-use Rattle.rc_types.specs.declared.ids.Addr.TheVariants.{Server, Coordinator as AtCoordinator, Outside}
+pub use Rattle.rc_types.specs.declared.ids.NodeName.{NodeName}
+pub use Rattle.rc_types.specs.declared.ids.NodeName.TheVariants.{Outside as TheOutside, Coordinator as TheCoordinator}
+pub use Rattle.rc_types.specs.declared.ids.NodeName.TheVariants.{Host as TheHost}
+pub use Rattle.rc_types.specs.Names.{node_of}
 use Rattle.rc_types.specs.declared.events.Setup.{Setup}
 use Rattle.rc_types.specs.declared.events.Event.{Event}
 use Rattle.rc_types.specs.declared.events.Event.TheVariants as event
@@ -37,11 +39,6 @@ opening setup = record {
 
 -- Which node an event is for, and what it is given
 
-pub data NodeName : Type 0 where
-  TheOutside : NodeName
-  TheCoordinator : NodeName
-  TheHost : (index : ℕ) → NodeName
-
 abbrev pub same_node : NodeName → NodeName → Bool
 same_node TheOutside TheOutside = true
 same_node TheCoordinator TheCoordinator = true
@@ -51,11 +48,6 @@ same_node _ _ = false
 pub record Job : Type 0 where
   pub node : NodeName
   pub work : Work
-
-abbrev pub node_of : Addr → NodeName
-node_of Outside = TheOutside
-node_of AtCoordinator = TheCoordinator
-node_of (Server id) = TheHost id.index
 
 -- the delivery of a message, where it was sent
 abbrev pub delivery : Option Message → Option Job

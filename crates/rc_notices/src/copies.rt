@@ -34,11 +34,3 @@ pub(crate) fn copies_of(alloc: Global, entries: &[(Entry, bool)]) -> Result<Seq<
     }
     Ok(Seq::from_vec(copies))
 }
-
-/// A copy of the numbers.
-pub(crate) fn numbers_of(alloc: Global, numbers: &[u16]) -> Result<Seq<u16>, AllocError>
-    ensures { IfOk result (λ copies. copies ≡ numbers.now) }
-{
-    let copies = numbers.iter().copied().collect(alloc)?;
-    Ok(Seq::from_vec(copies))
-}

@@ -24,7 +24,7 @@ pub(crate) fn place_of(
 ) -> Result<Body, AllocError>
     ensures { IfOk result (λ body. body ≡ place_in seg segment.now closed) }
 {
-    let digest = copies::numbers_of(alloc, segment.digest())?;
+    let digest = segment.share_digest()?;
     let entries = copies::copies_of(alloc, segment.entries())?;
     Ok(Body::Place {
         seg,

@@ -2,15 +2,14 @@
 //! tables by which versions are numbered and read without a walk over them.
 
 ghost use Rattle.std.specs.Prelude.{◌≡◌, ℕ, ◌+◌, ◌-◌, ◌^◌, ◌<◌, ◌≤◌, ◌++◌, ◌∷◌, [], length, take, slice_get, OnOk};
-ghost use Rattle.std.specs.Prelude.{OnErr, IfOk, IfErr, true, ◌↔◌};
+ghost use Rattle.std.specs.Prelude.{OnErr, IfOk, true, ◌↔◌};
 ghost use Rattle.std.specs.Option.{option_copied};
-ghost use Rattle.rc_types.specs.declared.faults.Fault.TheVariants.{OutOfMemory};
 
 use crate::highs::{self, Slot};
 use crate::{counts, tops};
 use indexmap::IndexMap;
-use rc_types::{Entry, Fault, Shared, TryClone};
-use std::alloc::Global;
+use rc_types::{Entry, Shared, TryClone};
+use std::alloc::{AllocError, Global};
 use std::marker::Model;
 
 /// The noted entries, of each whether the replay had handed it out, how many of them are durable, how many there were
@@ -122,13 +121,17 @@ impl Notes {
     }
 
     /// Notes an entry after the others, and whether the replay had handed it out. Only memory can be refused (F1).
-    pub(crate) fn note(&mut self, alloc: Global, entry: &Entry, replayed: bool) -> Result<(), Fault>
+    pub(crate) fn note(
+        &mut self,
+        alloc: Global,
+        entry: &Entry,
+        replayed: bool,
+    ) -> Result<(), AllocError>
         ensures ok { OnOk result (self.new ≡ record self.old {
           noted = self.old.noted ++ entry.now ∷ [];
           replayed = self.old.replayed ++ replayed ∷ [];
         }) }
         ensures err { OnErr result (self.new ≡ self.old) }
-        ensures no_memory { IfErr result (λ fault. fault ≡ OutOfMemory) }
     {
         let top = tops::higher(self.greatest(), entry.version);
         let copy = entry.try_clone(alloc)?;
@@ -241,10 +244,9 @@ impl Notes {
         term: u32,
         table: u32,
         key: u64,
-    ) -> Result<(u64, Option<Shared<u8>>), Fault>
-        ensures ok { IfOk result (λ found. read_of term table key (take self.now.durable self.now.noted) ≡ record
+    ) -> Result<(u64, Option<Shared<u8>>), AllocError>
+        ensures { IfOk result (λ found. read_of term table key (take self.now.durable self.now.noted) ≡ record
             { version = found.0; value = found.1 }) }
-        ensures no_memory { IfErr result (λ fault. fault ≡ OutOfMemory) }
     {
         let Some((place, _)) = self.durable_highs(term, table, key).last() else {
             return Ok((0, None));

@@ -1,8 +1,7 @@
 //! What a master owns, in one value.
 
 ghost use Rattle.std.specs.Prelude.{◌≡◌, ◌<◌, ◌≤◌, ◌+◌, ◌^◌, [], length, not, nat_eq, nat_lt, slice_get};
-ghost use Rattle.std.specs.Prelude.{OnOk, OnErr, IfOk, IfErr, None, true, ◌↔◌, option_map};
-ghost use Rattle.rc_types.specs.declared.faults.Fault.TheVariants.{OutOfMemory};
+ghost use Rattle.std.specs.Prelude.{OnOk, OnErr, IfOk, None, true, ◌↔◌, option_map};
 ghost use Rattle.std.specs.List.{position};
 ghost use Rattle.rc_model.specs.Ownership.{owns_nothing};
 ghost use Rattle.rc_model.specs.Ownership as owning;
@@ -21,8 +20,8 @@ use crate::looks::PartProgress;
 use crate::notes::Notes;
 use crate::parts::Parts;
 use indexmap::IndexMap;
-use rc_types::{Entry, Fault, KeyRange, Part, ServerId, Shared};
-use std::alloc::Global;
+use rc_types::{Entry, KeyRange, Part, ServerId, Shared};
+use std::alloc::{AllocError, Global};
 use std::marker::Model;
 
 /// The ranges that a master was granted, the notes of its log, and the parts of crashed masters'
@@ -121,14 +120,13 @@ impl Ownership {
     /// # Errors
     ///
     /// - `OutOfMemory` (F1): memory was refused; nothing has changed.
-    pub fn grant(&mut self, range: KeyRange, term: u32) -> Result<(), Fault>
+    pub fn grant(&mut self, range: KeyRange, term: u32) -> Result<(), AllocError>
         ensures ok { OnOk result (self.new ≡ record self.old {
           own = owning.grant (record { range = range; term = term }) self.old.own;
           before = record self.old.before
               { own = owning.grant (record { range = range; term = term }) self.old.before.own };
         }) }
         ensures err { OnErr result (self.new ≡ self.old) }
-        ensures no_memory { IfErr result (λ fault. fault ≡ OutOfMemory) }
     {
         self.parts.grant(range, term)?;
         Ok(())
@@ -178,10 +176,9 @@ impl Ownership {
     /// # Errors
     ///
     /// - `OutOfMemory` (F1): memory was refused; nothing has changed.
-    pub fn note(&mut self, alloc: Global, entry: &Entry) -> Result<(), Fault>
+    pub fn note(&mut self, alloc: Global, entry: &Entry) -> Result<(), AllocError>
         ensures ok { OnOk result (self.new ≡ after_note entry.now self.old) }
         ensures err { OnErr result (self.new ≡ self.old) }
-        ensures no_memory { IfErr result (λ fault. fault ≡ OutOfMemory) }
     {
         let replayed = self.was_handed(entry.term);
         self.notes.note(alloc, entry, replayed)?;
@@ -249,10 +246,9 @@ impl Ownership {
         term: u32,
         table: u32,
         key: u64,
-    ) -> Result<(u64, Option<Shared<u8>>), Fault>
-        ensures ok { IfOk result (λ found. versions.read_of term table key
+    ) -> Result<(u64, Option<Shared<u8>>), AllocError>
+        ensures { IfOk result (λ found. versions.read_of term table key
             (durable_of self.now) ≡ record { version = found.0; value = found.1 }) }
-        ensures no_memory { IfErr result (λ fault. fault ≡ OutOfMemory) }
     {
         self.notes.read(alloc, term, table, key)
     }
@@ -283,11 +279,10 @@ impl Ownership {
         alloc: Global,
         part: Part,
         rows: &[(u16, ServerId)],
-    ) -> Result<bool, Fault>
+    ) -> Result<bool, AllocError>
         ensures begun { IfOk result (λ begun. begun ≡ not (owning.knows_term self.old.own part.term)) }
         ensures ok { OnOk result (self.new ≡ record self.old { own = owning.begin_part part rows.now self.old.own }) }
         ensures err { OnErr result (self.new ≡ self.old) }
-        ensures no_memory { IfErr result (λ fault. fault ≡ OutOfMemory) }
     {
         if self.knows_term(part.term) {
             return Ok(false);
@@ -317,12 +312,11 @@ impl Ownership {
         seg: u16,
         from: ServerId,
         entries: &[Entry],
-    ) -> Result<bool, Fault>
+    ) -> Result<bool, AllocError>
         ensures put { IfOk result (λ put. put ≡ owning.awaits_data term seg from self.old.own) }
         ensures ok { OnOk result (self.new ≡ record self.old
             { own = owning.put_data term seg from entries.now self.old.own }) }
         ensures err { OnErr result (self.new ≡ self.old) }
-        ensures no_memory { IfErr result (λ fault. fault ≡ OutOfMemory) }
     {
         if !self.awaits_data(term, seg, from) {
             return Ok(false);
@@ -384,11 +378,10 @@ impl Ownership {
     /// # Errors
     ///
     /// - `OutOfMemory` (F1): memory was refused; nothing has changed.
-    pub fn next_replay(&mut self, alloc: Global) -> Result<Option<Entry>, Fault>
+    pub fn next_replay(&mut self, alloc: Global) -> Result<Option<Entry>, AllocError>
         ensures first { IfOk result (λ entry. entry ≡ slice_get self.old.own.replay 0) }
         ensures rest { OnOk result (self.new ≡ after_handing self.old) }
         ensures err { OnErr result (self.new ≡ self.old) }
-        ensures no_memory { IfErr result (λ fault. fault ≡ OutOfMemory) }
     {
         let entry = self.parts.next_replay(alloc)?;
         if let Some(first) = &entry {
@@ -415,10 +408,9 @@ impl Ownership {
     /// # Errors
     ///
     /// - `OutOfMemory` (F1): the memory for the list was refused.
-    pub fn awaiting_grant(&self, alloc: Global) -> Result<Vec<u32>, Fault>
-        ensures ok { IfOk result (λ terms. terms.items ≡ awaiting_grant (replayed_of self.now) self.now.own
+    pub fn awaiting_grant(&self, alloc: Global) -> Result<Vec<u32>, AllocError>
+        ensures { IfOk result (λ terms. terms.items ≡ awaiting_grant (replayed_of self.now) self.now.own
             self.now.own.parts) }
-        ensures no_memory { IfErr result (λ fault. fault ≡ OutOfMemory) }
     {
         let terms = self.parts.awaiting_grant(alloc, &self.notes)?;
         Ok(terms)

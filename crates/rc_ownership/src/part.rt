@@ -1,8 +1,7 @@
 //! One part of a crashed master's log, from its begin to its end, and how a change of it is undone.
 
-ghost use Rattle.std.specs.Prelude.{◌≡◌, ◌<◌, true, nat_eq, length, [], IfOk, IfErr, OnOk, OnErr};
+ghost use Rattle.std.specs.Prelude.{◌≡◌, ◌<◌, true, nat_eq, length, [], IfOk, OnOk, OnErr};
 ghost use Rattle.std.specs.List.{list_any};
-ghost use Rattle.rc_types.specs.declared.faults.Fault.TheVariants.{OutOfMemory};
 ghost use Rattle.rc_model.specs.Ownership.{new_part, is_awaited, part_with_row, all_came};
 ghost use Rattle.rc_model.specs.Ownership.{entries_that_came, is_complete, is_to_answer};
 ghost use Rattle.rc_ownership.specs.Notes.{replayed_in};
@@ -12,7 +11,7 @@ ghost use Rattle.rc_ownership.specs.declared.part.Before.TheVariants.{Awaited};
 use crate::notes::Notes;
 use crate::pieces::Pieces;
 use crate::rows::{self, FetchedRow};
-use rc_types::{Entry, Fault, Part, ServerId};
+use rc_types::{Entry, Part, ServerId};
 use std::alloc::{AllocError, Global};
 use std::collections::VecDeque;
 use std::marker::Model;
@@ -97,19 +96,18 @@ impl FetchedPart {
         seg: u16,
         from: ServerId,
         entries: &[Entry],
-    ) -> Result<usize, Fault>
+    ) -> Result<usize, AllocError>
         requires { list_any (is_awaited seg from) self.old.rows ≡ true }
         ensures ok { OnOk result (self.new ≡ part_with_row seg from entries.now self.old) }
         ensures before { IfOk result (λ place. part_before (Awaited place) self.new ≡ self.old) }
         ensures err { OnErr result (self.new ≡ self.old) }
-        ensures no_memory { IfErr result (λ fault. fault ≡ OutOfMemory) }
     {
         let Some(place) = rows::awaited_place(&self.rows, seg, from) else {
             unreachable!();
         };
         let came = Pieces::from_entries(alloc, entries)?;
         let Some(count) = self.count.checked_add(entries.len()) else {
-            return Err(Fault::OutOfMemory);
+            return Err(AllocError);
         };
         self.rows[place].fill(came);
         self.missing -= 1;

@@ -1,8 +1,7 @@
 //! The parts that were begun, the grants by which they are finished, and the replay.
 
 ghost use Rattle.std.specs.Prelude.{◌≡◌, ◌++◌, ◌∷◌, [], true, false, nat_eq, nat_lt, length, slice_get};
-ghost use Rattle.std.specs.Prelude.{OnOk, OnErr, IfOk, IfErr};
-ghost use Rattle.rc_types.specs.declared.faults.Fault.TheVariants.{OutOfMemory};
+ghost use Rattle.std.specs.Prelude.{OnOk, OnErr, IfOk};
 ghost use Rattle.std.specs.List.{position};
 ghost use Rattle.rc_model.specs.Ownership as owning;
 ghost use Rattle.rc_ownership.specs.Notes.{replayed_in};
@@ -16,7 +15,7 @@ use crate::part::{Before, FetchedPart};
 use crate::replay::{self, Replay};
 use crate::{touched, unfinished};
 use indexmap::IndexMap;
-use rc_types::{Entry, Fault, KeyRange, Part, ServerId};
+use rc_types::{Entry, KeyRange, Part, ServerId};
 use std::alloc::{AllocError, Global};
 use std::marker::Model;
 
@@ -179,7 +178,7 @@ impl Parts {
         seg: u16,
         from: ServerId,
         entries: &[Entry],
-    ) -> Result<(), Fault>
+    ) -> Result<(), AllocError>
         requires { owning.awaits_data term seg from (who_fetched self.old) ≡ true }
         ensures ok { OnOk result (self.new ≡ record self.old {
           parts = owning.data_in term seg from entries.now self.old.parts;
@@ -187,7 +186,6 @@ impl Parts {
               owning.replay_in term seg from entries.now self.old.parts;
         }) }
         ensures err { OnErr result (self.new ≡ self.old) }
-        ensures no_memory { IfErr result (λ fault. fault ≡ OutOfMemory) }
     {
         self.touched.reserve(self.unfinished.len() + 1)?;
         let Some(part) = self.begun.get_mut(&term) else {
@@ -206,11 +204,10 @@ impl Parts {
     }
 
     /// A copy of the first entry that waits: it waits no more. Only memory can be refused (F1).
-    pub(crate) fn next_replay(&mut self, alloc: Global) -> Result<Option<Entry>, Fault>
+    pub(crate) fn next_replay(&mut self, alloc: Global) -> Result<Option<Entry>, AllocError>
         ensures first { IfOk result (λ entry. entry ≡ slice_get self.old.replay 0) }
         ensures rest { OnOk result (self.new ≡ record self.old { replay = owning.without_first self.old.replay }) }
         ensures err { OnErr result (self.new ≡ self.old) }
-        ensures no_memory { IfErr result (λ fault. fault ≡ OutOfMemory) }
     {
         self.replay.next(alloc)
     }

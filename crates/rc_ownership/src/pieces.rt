@@ -1,14 +1,13 @@
 //! The entries that came for a row of a part, in pieces that the row and the replay both own: so a part joins the
 //! replay, and goes back to an earlier moment, without a further copy; and the replay lets go of them piece by piece.
 
-ghost use Rattle.std.specs.Prelude.{◌≡◌, ◌++◌, length, IfOk, IfErr, MatchOption};
-ghost use Rattle.rc_types.specs.declared.faults.Fault.TheVariants.{OutOfMemory};
+ghost use Rattle.std.specs.Prelude.{◌≡◌, ◌++◌, length, IfOk, MatchOption};
 ghost use Rattle.rc_ownership.specs.Pieces.{IsSplit, IsCut};
 ghost use Rattle.rc_ownership.specs.Replay.{all_waiting};
 
 use crate::shared::shared_copies;
-use rc_types::{Entry, Fault, Shared};
-use std::alloc::Global;
+use rc_types::{Entry, Shared};
+use std::alloc::{AllocError, Global};
 use std::marker::Model;
 
 /// How many entries a piece has at most.
@@ -38,9 +37,8 @@ impl Model for Pieces {
 
 impl Pieces {
     /// Copies of these entries. Only memory can be refused (F1).
-    pub(crate) fn from_entries(alloc: Global, entries: &[Entry]) -> Result<Pieces, Fault>
-        ensures ok { IfOk result (λ pieces. pieces ≡ entries.now) }
-        ensures no_memory { IfErr result (λ fault. fault ≡ OutOfMemory) }
+    pub(crate) fn from_entries(alloc: Global, entries: &[Entry]) -> Result<Pieces, AllocError>
+        ensures { IfOk result (λ pieces. pieces ≡ entries.now) }
     {
         let (front, after) = split_piece(entries);
         let first = shared_copies(alloc, front)?;

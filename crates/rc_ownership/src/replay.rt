@@ -1,8 +1,7 @@
 //! The entries that wait to be appended: those of the parts whose rows have all come.
 
-ghost use Rattle.std.specs.Prelude.{◌≡◌, ◌++◌, [], true, length, map, nat_lt, slice_get, OnOk, OnErr, IfOk, IfErr};
+ghost use Rattle.std.specs.Prelude.{◌≡◌, ◌++◌, [], true, length, map, nat_lt, slice_get, OnOk, OnErr, IfOk};
 ghost use Rattle.std.specs.List.{list_any};
-ghost use Rattle.rc_types.specs.declared.faults.Fault.TheVariants.{OutOfMemory};
 ghost use Rattle.rc_model.specs.Ownership.{under_term, came_entries, entries_that_came, joined, joining, without_first};
 ghost use Rattle.rc_model.specs.Ownership.{is_awaited, part_with_row};
 ghost use Rattle.rc_ownership.specs.Parts.{part_before};
@@ -10,7 +9,7 @@ ghost use Rattle.rc_ownership.specs.Replay.{Waiting, all_waiting, NoneIsEmpty};
 
 use crate::part::{Before, FetchedPart};
 use crate::rows::FetchedRow;
-use rc_types::{Entry, Fault, ServerId, Shared, TryClone};
+use rc_types::{Entry, ServerId, Shared, TryClone};
 use std::alloc::{AllocError, Global};
 use std::collections::VecDeque;
 use std::marker::Model;
@@ -41,9 +40,8 @@ impl JoinedRow {
     }
 
     /// A copy of the entry at a place, under its term. Only memory can be refused (F1).
-    fn copy_at(&self, alloc: Global, place: usize) -> Result<Option<Entry>, Fault>
-        ensures ok { IfOk result (λ entry. entry ≡ slice_get self.now place) }
-        ensures no_memory { IfErr result (λ fault. fault ≡ OutOfMemory) }
+    fn copy_at(&self, alloc: Global, place: usize) -> Result<Option<Entry>, AllocError>
+        ensures { IfOk result (λ entry. entry ≡ slice_get self.now place) }
     {
         let Some(entry) = self.entries.get(place) else {
             return Ok(None);
@@ -124,11 +122,10 @@ impl Replay {
     }
 
     /// A copy of the first entry that waits: it waits no more. Only memory can be refused (F1).
-    pub(crate) fn next(&mut self, alloc: Global) -> Result<Option<Entry>, Fault>
+    pub(crate) fn next(&mut self, alloc: Global) -> Result<Option<Entry>, AllocError>
         ensures first { IfOk result (λ entry. entry ≡ slice_get self.old.entries 0) }
         ensures rest { OnOk result (self.new ≡ record self.old { entries = without_first self.old.entries }) }
         ensures err { OnErr result (self.new ≡ self.old) }
-        ensures no_memory { IfErr result (λ fault. fault ≡ OutOfMemory) }
     {
         let Some(row) = self.rows.get(self.row) else {
             return Ok(None);
@@ -172,7 +169,7 @@ pub(crate) fn take_row(
     seg: u16,
     from: ServerId,
     entries: &[Entry],
-) -> Result<Before, Fault>
+) -> Result<Before, AllocError>
     requires { list_any (is_awaited seg from) part.old.rows ≡ true }
     ensures part { OnOk result (part.new ≡ joined (part_with_row seg from entries.now part.old)) }
     ensures replay { OnOk result (replay.new ≡ record replay.old {
@@ -182,7 +179,6 @@ pub(crate) fn take_row(
     ensures before { IfOk result (λ before. part_before before part.new ≡ part.old) }
     ensures same_part { OnErr result (part.new ≡ part.old) }
     ensures same_replay { OnErr result (replay.new ≡ replay.old) }
-    ensures no_memory { IfErr result (λ fault. fault ≡ OutOfMemory) }
 {
     let place = part.put_row(alloc, seg, from, entries)?;
     if !part.has_all() {
@@ -190,7 +186,7 @@ pub(crate) fn take_row(
     }
     if replay.join(alloc, part.term(), part.rows()).is_err() {
         part.await_again(place);
-        return Err(Fault::OutOfMemory);
+        return Err(AllocError);
     }
     Ok(Before::Whole(part.join(alloc, place)))
 }

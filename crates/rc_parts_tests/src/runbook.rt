@@ -2,7 +2,7 @@
 
 use rc_coordinator::Coordinator;
 use rc_runbook::{Due, Seen, dues};
-use rc_types::{Addr, Body, Fault, Message, NodeWork, Row, Seq, ServerId};
+use rc_types::{Addr, Body, Fault, Message, NodeWork, Row, Seq, ServerId, Shared};
 use std::alloc::Global;
 use std::test::Fail;
 
@@ -69,7 +69,7 @@ fn answer(alloc: Global, coordinator: &mut Coordinator<Global>) -> Result<(), Fa
         epoch: 0,
         closed: false,
         len: 0,
-        digest: Seq::from_vec(digest),
+        digest: Shared::from_vec(alloc, digest)?,
     })?;
     let held = Body::Replicas {
         attempt: 1,

@@ -3,7 +3,7 @@
 use rc_backup::Backup;
 use rc_codec::DecodeFault;
 use rc_saves::{SaveFault, load, save_into};
-use rc_types::{Addr, Body, Entry, Fault, Message, NodeWork, Seq, ServerId, Setup};
+use rc_types::{Addr, Body, Entry, Fault, Message, NodeWork, Seq, ServerId, Setup, Shared};
 use rc_world::{HostHead, NodeState};
 use std::alloc::{AllocError, Global};
 use std::process::Abort;
@@ -61,7 +61,7 @@ fn place(alloc: Global, seg: u16, closed: bool) -> Result<NodeWork, Fault> {
     let body = Body::Place {
         seg,
         epoch: 0,
-        digest: Seq::new(alloc),
+        digest: Shared::empty(),
         entries: Seq::from_vec(entries),
         closed,
     };

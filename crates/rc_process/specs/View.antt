@@ -10,8 +10,6 @@ use Rattle.rc_model.specs.Backup.{open_names}
 use Rattle.rc_model.specs.Headline.{In}
 use Rattle.rc_history.specs.Nodes.{Node, TheOutside, TheCoordinator, TheHost, name_of}
 use Rattle.rc_world.specs.NodeView.{NodeData, node_seen, node_runs, work_at, after_work}
-use Rattle.rc_keeping.specs.declared.keeping.Role.{Role}
-use Rattle.rc_keeping.specs.declared.keeping.Role.TheVariants.{Outside, Coordinator, Host}
 use Rattle.rc_keeping.specs.Spelling.{record_of}
 use Rattle.rc_keeping.specs.Claims.{AreReadFrom}
 use Rattle.rc_saves.specs.Claims.{IsLoaded}
@@ -56,12 +54,6 @@ process_seen p = record {
 abbrev pub begun : NodeData → ℕ → ProcessData
 begun node written =
     record { node = node; written = written; started = 0; safe = 0; held = []; saving = None }
-
--- what a node is, for what it keeps
-abbrev pub role_at : Node → Role
-role_at TheOutside = Outside
-role_at (TheCoordinator c) = Coordinator
-role_at (TheHost host) = Host
 
 -- A work
 

@@ -6,21 +6,19 @@ ghost use Rattle.rc_types.specs.declared.faults.Fault.TheVariants.{OutOfMemory, 
 ghost use Rattle.rc_world.specs.declared.work.StepFault.TheVariants.{NoRoom, Refused};
 ghost use Rattle.rc_history.specs.Nodes.{name_of};
 ghost use Rattle.rc_world.specs.NodeView.{work_at, node_seen, may_take, NodeHasRoom};
-ghost use Rattle.rc_keeping.specs.Keeping.{kept_as};
 ghost use Rattle.rc_lives.specs.Lives.{keeps, is_masters};
-ghost use Rattle.rc_model.specs.Nodes.{is_for_backup};
 ghost use Rattle.rc_saves.specs.Claims.{IsSaved};
 ghost use Rattle.rc_saves.specs.Saved.{saved_of};
 ghost use Rattle.rc_saves.specs.declared.faults.SaveFault.TheVariants.{OutOfMemory as NoMemory, Outside};
 ghost use Rattle.rc_process.specs.View.{process_seen, written_down, started_next, given};
-ghost use Rattle.rc_process.specs.View.{first_ready, Leaves, AllWait, begun, role_at, save_begun, moved};
+ghost use Rattle.rc_process.specs.View.{first_ready, Leaves, AllWait, begun, save_begun, moved};
 
 use crate::held::{Held, move_queue, moved, take_in_turn};
 use crate::saving::Saving;
-use rc_keeping::{Role, keeps, write_down};
+use rc_keeping::{keeps, write_down};
 use rc_saves::{SaveFault, save_into};
-use rc_types::{Addr, Body, Fault, Message, NodeWork};
-use rc_world::{NodeState, StepFault};
+use rc_types::{Addr, Fault, Message, NodeWork};
+use rc_world::{NodeState, StepFault, is_for_backup};
 use std::alloc::{AllocError, Allocator, Global};
 use std::collections::VecDeque;
 use std::marker::Model;
@@ -173,7 +171,7 @@ impl<A: Allocator + Clone> Process<A> {
     pub(crate) fn keeps(&self, work: &NodeWork) -> bool
         ensures { result ≡ keeps (name_of (node_seen self.now.node)) (work_at (node_seen self.now.node) work.now) }
     {
-        keeps(role_of(&self.node), work)
+        keeps(self.node.name(), work)
     }
 
     /// The step itself, whose record has so many bytes.
@@ -324,32 +322,4 @@ impl<A: Allocator + Clone> Process<A> {
         move_queue(&mut self.masters, saving);
         move_queue(&mut self.others, saving);
     }
-}
-
-/// What a node is.
-fn role_of<A: Allocator + Clone>(node: &NodeState<A>) -> Role
-    ensures { result ≡ role_at (node_seen node.now) }
-{
-    if node.as_coordinator().is_some() {
-        Role::Coordinator
-    } else if node.backup().is_some() {
-        Role::Host
-    } else {
-        Role::Outside
-    }
-}
-
-/// Whether a message is for a backup.
-fn is_for_backup(body: &Body) -> bool
-    ensures { result ≡ is_for_backup body.now }
-{
-    matches!(
-        body,
-        Body::Place { .. }
-            | Body::Append { .. }
-            | Body::Close { .. }
-            | Body::Gather { .. }
-            | Body::Fetch { .. }
-            | Body::Free { .. }
-    )
 }

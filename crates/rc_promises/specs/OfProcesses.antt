@@ -1,14 +1,13 @@
 -- The headline, and what a client may rely on, of processes that end at any moment. What has left them is a part of
 -- what a history sent: each sentence is said of what the steps of such a history sent, and of the acknowledgements,
 -- the plans and the answers that have left.
-use Rattle.std.specs.Prelude.{◌≡◌, ◌≢◌, ◌<◌, ℕ, false, List, ◌++◌, Option, None}
+use Rattle.std.specs.Prelude.{◌≡◌, ℕ, false, List, ◌++◌, Option, None}
 use Rattle.rc_types.specs.declared.ids.ServerId.{ServerId}
 use Rattle.rc_types.specs.declared.ids.Addr.TheVariants.{Server, Outside}
-use Rattle.rc_types.specs.declared.entries.Entry.{Entry}
 use Rattle.rc_types.specs.declared.events.Setup.{Setup}
 use Rattle.rc_types.specs.declared.messages.Message.{Message}
 use Rattle.rc_types.specs.declared.messages.Body.TheVariants.{Write, ReadOk}
-use Rattle.rc_model.specs.Nodes.{Work, factor_of}
+use Rattle.rc_model.specs.Nodes.{Work}
 use Rattle.rc_model.specs.World.{NodeName}
 use Rattle.rc_model.specs.Breach.{breach}
 use Rattle.rc_model.specs.Recovered.{Ack, Accepted}
@@ -16,7 +15,7 @@ use Rattle.rc_model.specs.Headline.{In, HasAcknowledged, WasAccepted, IsThere, I
 use Rattle.rc_history.specs.Apart.{Step, events_by, sent_by, TakenApart}
 use Rattle.rc_lives.specs.Processes.{Processes, Happening, new_processes, MayTake, MayAll, after_all, deed_of}
 use Rattle.rc_lives.specs.Claims.{HasHistory, WasDone, GoesOn}
-use Rattle.rc_promises.specs.Service.{IsOfKey, IsWritten, IsOneWrite, Answer, HasRead, MissesOnlyLater}
+use Rattle.rc_promises.specs.Service.{EachIsOneWrite, EachWasSent, FollowsTime, Answer, HasRead, MissesOnlyLater}
 
 -- The headline
 
@@ -40,31 +39,24 @@ StrongOfProcesses = (setup : Setup) (all : Processes) (history : HasHistory setu
 
 -- What a client may rely on
 
--- a version of a key of which an acknowledgement has left is one write
+-- seen: an acknowledgement has left
 abbrev pub OneWriteOfProcesses : Type 0
-OneWriteOfProcesses = (setup : Setup) (all : Processes) (history : HasHistory setup all) (m : ServerId) (ack : Ack) →
-    HasAcknowledged all.left m ack → IsOneWrite (sent_by history.steps) m ack
+OneWriteOfProcesses = (setup : Setup) (all : Processes) (history : HasHistory setup all) →
+    EachIsOneWrite all.left (sent_by history.steps)
 
--- where segments have replicas at all, it was sent
 abbrev pub WrittenOfProcesses : Type 0
-WrittenOfProcesses = (setup : Setup) (all : Processes) (history : HasHistory setup all) (m : ServerId) (ack : Ack) →
-    factor_of setup m.index ≢ 0 → HasAcknowledged all.left m ack →
-    (entry : Entry) × IsWritten (sent_by history.steps) m ack entry
+WrittenOfProcesses = (setup : Setup) (all : Processes) (history : HasHistory setup all) →
+    EachWasSent setup all.left (sent_by history.steps)
 
 -- a client had asked the master for the write: something that was done by then has sent it
 abbrev pub HadAsked : Processes → ServerId → ℕ → ℕ → Option (List ℕ) → Type 0
 HadAsked all m table key value =
     WasDone all.done (record { from = Outside; to = Server m; body = Write table key value })
 
--- Where an acknowledgement of one write of a key had left by some moment, each write of it that was asked for only
--- afterwards has a greater version, whoever acknowledges it. Asked for only afterwards: by then no Write with its value
--- had been sent to its master.
+-- early: an acknowledgement had left by some moment
 abbrev pub TimeOfProcesses : Type 0
-TimeOfProcesses = (setup : Setup) (early now : Processes) (history : GoesOn setup early now)
-    (m x : ServerId) (first later : Ack) (entry : Entry) →
-    HasAcknowledged early.left m first → IsWritten (sent_by (history.steps ++ history.more)) x later entry →
-    IsOfKey first.table first.key later → (HadAsked early x later.table later.key entry.value → ⊥) →
-    first.version < later.version
+TimeOfProcesses = (setup : Setup) (early now : Processes) (history : GoesOn setup early now) →
+    FollowsTime early.left (HadAsked early) (sent_by (history.steps ++ history.more))
 
 -- a master's answer to a read is among the messages
 pub record HasAnswered (messages : List Message) (m : ServerId) (answer : Answer) : Type 0 where

@@ -1,5 +1,7 @@
--- What a client may rely on, after every list of events of every setup, said of the messages that were sent. So it
--- holds also after the list that ends with the acknowledgement or the answer of which it is said.
+-- What a client may rely on: four sentences, each said once, of the messages that were sent, or of a setup and of what
+-- has happened. Then they are said of every world, after every list of events of every setup: so also after the list
+-- that ends with the acknowledgement or the answer of which it is said. `ServiceApart` says them of nodes that run
+-- apart, `OfProcesses` of processes.
 use Rattle.std.specs.Prelude.{◌≡◌, ◌≢◌, ℕ, ◌<◌, ◌≤◌, true, List, ◌∷◌, ◌++◌, Option}
 use Rattle.rc_types.specs.declared.ids.ServerId.{ServerId}
 use Rattle.rc_types.specs.declared.ids.Addr.TheVariants.{Server, Outside}
@@ -51,26 +53,23 @@ pub record IsOneWrite (sent : List Message) (m : ServerId) (ack : Ack) : Type 0 
   pub asked : HasAsked sent m ack.table ack.key value
   pub one_value : (entry : Entry) → IsWritten sent m ack entry → entry.value ≡ value
 
-abbrev pub OneVersionIsOneWrite : Type 0
-OneVersionIsOneWrite = (setup : Setup) (events : List Event) (m : ServerId) (ack : Ack) →
-    HasAcknowledged (sent_after setup events) m ack → IsOneWrite (sent_after setup events) m ack
+-- so is each of which an acknowledgement is among those that are seen
+abbrev pub EachIsOneWrite : List Message → List Message → Type 0
+EachIsOneWrite seen sent = (m : ServerId) (ack : Ack) → HasAcknowledged seen m ack → IsOneWrite sent m ack
 
--- where segments have replicas at all, each acknowledged write was sent
-abbrev pub AcknowledgedIsWritten : Type 0
-AcknowledgedIsWritten = (setup : Setup) (events : List Event) (m : ServerId) (ack : Ack) →
-    factor_of setup m.index ≢ 0 → HasAcknowledged (sent_after setup events) m ack →
-    (entry : Entry) × IsWritten (sent_after setup events) m ack entry
+-- and where segments have replicas at all, each was sent
+abbrev pub EachWasSent : Setup → List Message → List Message → Type 0
+EachWasSent setup seen sent = (m : ServerId) (ack : Ack) → factor_of setup m.index ≢ 0 → HasAcknowledged seen m ack →
+    (entry : Entry) × IsWritten sent m ack entry
 
 -- Writes follow time
 
--- Where one write of a key was acknowledged within the first events, each write of it that was asked only afterwards
--- has a greater version, whoever acknowledges it. Asked only afterwards: no Write with its value had been sent to its
--- master within those events.
-abbrev pub WritesFollowTime : Type 0
-WritesFollowTime = (setup : Setup) (events more : List Event) (m x : ServerId) (first later : Ack) (entry : Entry) →
-    HasAcknowledged (sent_after setup events) m first → IsWritten (sent_after setup (events ++ more)) x later entry →
-    IsOfKey first.table first.key later → (HasAsked (sent_after setup events) x later.table later.key entry.value → ⊥) →
-    first.version < later.version
+-- Where one write of a key was acknowledged early, each write of it that was asked only afterwards has a greater
+-- version, whoever acknowledges it. Asked only afterwards: no Write with its value had been sent to its master early.
+abbrev pub FollowsTime : List Message → (ServerId → ℕ → ℕ → Option (List ℕ) → Type 0) → List Message → Type 0
+FollowsTime early Asked sent = (m x : ServerId) (first later : Ack) (entry : Entry) →
+    HasAcknowledged early m first → IsWritten sent x later entry → IsOfKey first.table first.key later →
+    (Asked x later.table later.key entry.value → ⊥) → first.version < later.version
 
 -- A read misses only what was acknowledged under a later term
 
@@ -122,7 +121,25 @@ pub record MissesOnlyLater (setup : Setup) (events : List Event) (m : ServerId) 
   pub written : (x : ServerId) (ack : Ack) (entry : Entry) → IsWritten (sent_after setup events) x ack entry →
       IsOfKey answer.table answer.key ack → ack.version ≡ answer.version → entry.value ≡ answer.value
 
+abbrev pub ReadsMissOnlyLater : Setup → List Event → List Message → Type 0
+ReadsMissOnlyLater setup events sent = (m : ServerId) (before : List Message) (answer : Answer) →
+    HasRead sent m before answer → MissesOnlyLater setup events m before answer
+
+-- Of every world
+
+abbrev pub OneVersionIsOneWrite : Type 0
+OneVersionIsOneWrite = (setup : Setup) (events : List Event) →
+    EachIsOneWrite (sent_after setup events) (sent_after setup events)
+
+abbrev pub AcknowledgedIsWritten : Type 0
+AcknowledgedIsWritten = (setup : Setup) (events : List Event) →
+    EachWasSent setup (sent_after setup events) (sent_after setup events)
+
+-- early: within the first events
+abbrev pub WritesFollowTime : Type 0
+WritesFollowTime = (setup : Setup) (events more : List Event) →
+    FollowsTime (sent_after setup events) (HasAsked (sent_after setup events)) (sent_after setup (events ++ more))
+
 abbrev pub ReadsSeeAcknowledgedWrites : Type 0
-ReadsSeeAcknowledgedWrites =
-    (setup : Setup) (events : List Event) (m : ServerId) (before : List Message) (answer : Answer) →
-    HasRead (sent_after setup events) m before answer → MissesOnlyLater setup events m before answer
+ReadsSeeAcknowledgedWrites = (setup : Setup) (events : List Event) →
+    ReadsMissOnlyLater setup events (sent_after setup events)

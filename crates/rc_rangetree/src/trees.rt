@@ -1,8 +1,8 @@
 //! The tree of all tablets.
 
-ghost use Rattle.std.specs.Prelude.{◌≡◌, ◌≤◌, ◌↔◌, false, [], is_some, OnOk, OnErr, IfOk, IfErr, Ok, Err, Some};
+ghost use Rattle.std.specs.Prelude.{◌≡◌, ◌≤◌, ◌↔◌, false, [], is_some, OnOk, OnErr, IfOk, Ok, Err, Some};
 ghost use Rattle.std.specs.Prelude.{if◌then◌else◌, length};
-ghost use Rattle.rc_types.specs.declared.faults.Fault.TheVariants.{OutOfMemory, NoTable};
+ghost use Rattle.rc_types.specs.declared.faults.Fault.TheVariants.{NoTable};
 ghost use Rattle.rc_model.specs.Tablets.{tablet_of, has_table, tablets_of, with_table, marked_crashed, count_to_mark};
 ghost use Rattle.rc_model.specs.Tablets.{split_at, has_range, assigned};
 ghost use Rattle.rc_rangetree.specs.Ranges.{AreTablets};
@@ -14,7 +14,7 @@ use crate::nodes::{Node, balanced};
 use crate::points::Point;
 use rc_types::limits::{LAST_KEY, MAX_TABLETS};
 use rc_types::{Fault, KeyRange, ServerId, Tablet};
-use std::alloc::{Allocator, Global};
+use std::alloc::{AllocError, Allocator, Global};
 use std::marker::Model;
 
 /// The tablets of all tables. Contracts see the list of them, in order of table and first key: the
@@ -71,10 +71,9 @@ impl<A: Allocator + Clone> RangeTree<A> {
     /// # Errors
     ///
     /// F1 where memory is refused.
-    pub fn from_tablets(alloc: A, tablets: &[Tablet]) -> Result<Self, Fault>
+    pub fn from_tablets(alloc: A, tablets: &[Tablet]) -> Result<Self, AllocError>
         requires { AreTablets tablets.now }
-        ensures list { IfOk result (λ tree. tree.tablets ≡ tablets.now) }
-        ensures err { IfErr result (λ e. e ≡ OutOfMemory) }
+        ensures { IfOk result (λ tree. tree.tablets ≡ tablets.now) }
     {
         let root = balanced(&alloc, tablets)?;
         Ok(RangeTree {
@@ -130,10 +129,9 @@ impl<A: Allocator + Clone> RangeTree<A> {
     /// # Errors
     ///
     /// F1 where memory is refused.
-    pub fn tablets(&self, alloc: Global) -> Result<Vec<Tablet>, Fault>
+    pub fn tablets(&self, alloc: Global) -> Result<Vec<Tablet>, AllocError>
         ensures list { IfOk result (λ tablets. tablets.items ≡ self.now.tablets) }
         ensures are_tablets { AreTablets self.now.tablets }
-        ensures err { IfErr result (λ e. e ≡ OutOfMemory) }
     {
         let mut tablets = Vec::with_capacity(alloc, self.count)?;
         self.root.list_into(&mut tablets)?;
@@ -145,9 +143,8 @@ impl<A: Allocator + Clone> RangeTree<A> {
     /// # Errors
     ///
     /// F1 where memory is refused.
-    pub fn tablets_of(&self, alloc: Global, owner: ServerId) -> Result<Vec<Tablet>, Fault>
-        ensures list { IfOk result (λ tablets. tablets.items ≡ tablets_of owner self.now.tablets) }
-        ensures err { IfErr result (λ e. e ≡ OutOfMemory) }
+    pub fn tablets_of(&self, alloc: Global, owner: ServerId) -> Result<Vec<Tablet>, AllocError>
+        ensures { IfOk result (λ tablets. tablets.items ≡ tablets_of owner self.now.tablets) }
     {
         let mut tablets = Vec::new(alloc);
         self.root.list_owned_into(owner, &mut tablets)?;
@@ -246,9 +243,8 @@ impl<A: Allocator + Clone> RangeTree<A> {
     /// # Errors
     ///
     /// F1 where memory is refused.
-    pub fn try_clone_in<B: Allocator + Clone>(&self, alloc: B) -> Result<RangeTree<B>, Fault>
-        ensures list { IfOk result (λ copy. copy ≡ self.now) }
-        ensures err { IfErr result (λ e. e ≡ OutOfMemory) }
+    pub fn try_clone_in<B: Allocator + Clone>(&self, alloc: B) -> Result<RangeTree<B>, AllocError>
+        ensures { IfOk result (λ copy. copy ≡ self.now) }
     {
         let root = self.root.try_clone_in(&alloc)?;
         Ok(RangeTree {

@@ -4,8 +4,9 @@ unfoldable pub use Rattle.rc_reading.specs.Ahead.{data_at, items_at, members_at}
 pub use Rattle.rc_reading.specs.Bits.{has_bit, with_bit}
 pub use Rattle.rc_reading.specs.Fields.{event_from, event_in, fields_of, member_named, noted, server_in}
 pub use Rattle.rc_reading.specs.Hosts.{has_host, no_hosts, with_host}
-pub use Rattle.rc_reading.specs.Kinds.{all_kinds, kind_of, kind_place, no_kinds, with_kind}
-unfoldable pub use Rattle.rc_reading.specs.Kinds.{kind_named}
+pub use Rattle.rc_reading.specs.Kinds.{no_kinds, with_kind}
+pub use Rattle.rc_types.specs.Kinds.{all_kinds, kind_of, kind_number}
+unfoldable pub use Rattle.rc_types.specs.Kinds.{kind_named}
 pub use Rattle.rc_reading.specs.Lists.{added, at_end, factor_added}
 pub use Rattle.rc_reading.specs.Names.{create_members, deliver_members, first_members, id_members, read_members}
 pub use Rattle.rc_reading.specs.Names.{second_members, settle_members, split_members, start_members, write_members}

@@ -1,108 +1,15 @@
--- The kinds of bodies, their names, and sets of kinds.
-use Rattle.std.specs.Prelude.{ℕ, Bool, List, [], ◌∷◌, Option, find, codes}
-use Rattle.std.specs.Str.{bytes_eq}
-use Rattle.rc_types.specs.declared.messages.Body.{Body}
-use Rattle.rc_types.specs.declared.messages.Body.TheVariants as body
-use Rattle.rc_reading.specs.declared.kinds.Kind.{Kind}
-use Rattle.rc_reading.specs.declared.kinds.Kind.TheVariants as kind
+-- Sets of kinds: a bit for each kind.
+use Rattle.std.specs.Prelude.{Bool}
+use Rattle.rc_types.specs.declared.kinds.Kind.{Kind}
+use Rattle.rc_types.specs.Kinds.{kind_number}
 use Rattle.rc_reading.specs.declared.kinds.Kinds.{Kinds}
 use Rattle.rc_reading.specs.Bits.{with_bit, has_bit}
-
-abbrev pub kind_of : Body → Kind
-kind_of (body.Write table key value) = kind.Write
-kind_of (body.Read table key) = kind.Read
-kind_of (body.WriteOk seg offset term table key version) = kind.WriteOk
-kind_of (body.ReadOk table key version value) = kind.ReadOk
-kind_of (body.Refused code) = kind.Refused
-kind_of (body.Place seg epoch digest entries closed) = kind.Place
-kind_of (body.Append seg offset entries) = kind.Append
-kind_of (body.Close seg len) = kind.Close
-kind_of (body.Stored seg epoch len closed) = kind.Stored
-kind_of (body.Commit seg epoch) = kind.Commit
-kind_of (body.CommitOk seg epoch) = kind.CommitOk
-kind_of body.Enlist = kind.Enlist
-kind_of body.Ready = kind.Ready
-kind_of (body.List version rows) = kind.List
-kind_of (body.Gather attempt master) = kind.Gather
-kind_of (body.Replicas attempt rows) = kind.Replicas
-kind_of (body.Plan head attempt master rows parts) = kind.Plan
-kind_of (body.Fetch attempt master seg len part) = kind.Fetch
-kind_of (body.Data attempt seg term entries) = kind.Data
-kind_of (body.Recovered attempt term) = kind.Recovered
-kind_of (body.Own table lo hi term previous attempt) = kind.Own
-kind_of (body.SplitOk table at) = kind.SplitOk
-kind_of (body.Free seg) = kind.Free
-
-abbrev pub kind_name : Kind → List ℕ
-kind_name kind.Write = codes "Write"
-kind_name kind.Read = codes "Read"
-kind_name kind.WriteOk = codes "WriteOk"
-kind_name kind.ReadOk = codes "ReadOk"
-kind_name kind.Refused = codes "Refused"
-kind_name kind.Place = codes "Place"
-kind_name kind.Append = codes "Append"
-kind_name kind.Close = codes "Close"
-kind_name kind.Stored = codes "Stored"
-kind_name kind.Commit = codes "Commit"
-kind_name kind.CommitOk = codes "CommitOk"
-kind_name kind.Enlist = codes "Enlist"
-kind_name kind.Ready = codes "Ready"
-kind_name kind.List = codes "List"
-kind_name kind.Gather = codes "Gather"
-kind_name kind.Replicas = codes "Replicas"
-kind_name kind.Plan = codes "Plan"
-kind_name kind.Fetch = codes "Fetch"
-kind_name kind.Data = codes "Data"
-kind_name kind.Recovered = codes "Recovered"
-kind_name kind.Own = codes "Own"
-kind_name kind.SplitOk = codes "SplitOk"
-kind_name kind.Free = codes "Free"
-
--- every kind
-abbrev pub all_kinds : List Kind
-all_kinds =
-    kind.Write ∷ kind.Read ∷ kind.WriteOk ∷ kind.ReadOk ∷ kind.Refused ∷ kind.Place ∷ kind.Append ∷ kind.Close ∷
-    kind.Stored ∷ kind.Commit ∷ kind.CommitOk ∷ kind.Enlist
-    ∷ kind.Ready ∷ kind.List ∷ kind.Gather ∷ kind.Replicas ∷ kind.Plan ∷ kind.Fetch ∷ kind.Data ∷ kind.Recovered ∷
-    kind.Own ∷ kind.SplitOk ∷ kind.Free ∷ []
-
--- the kind of this name
-unfoldable pub kind_named : List ℕ → Option Kind
-kind_named name = find (λ kind. bytes_eq (kind_name kind) name) all_kinds
-
--- its place among all kinds, from 0
-abbrev pub kind_place : Kind → ℕ
-kind_place kind.Write = 0
-kind_place kind.Read = 1
-kind_place kind.WriteOk = 2
-kind_place kind.ReadOk = 3
-kind_place kind.Refused = 4
-kind_place kind.Place = 5
-kind_place kind.Append = 6
-kind_place kind.Close = 7
-kind_place kind.Stored = 8
-kind_place kind.Commit = 9
-kind_place kind.CommitOk = 10
-kind_place kind.Enlist = 11
-kind_place kind.Ready = 12
-kind_place kind.List = 13
-kind_place kind.Gather = 14
-kind_place kind.Replicas = 15
-kind_place kind.Plan = 16
-kind_place kind.Fetch = 17
-kind_place kind.Data = 18
-kind_place kind.Recovered = 19
-kind_place kind.Own = 20
-kind_place kind.SplitOk = 21
-kind_place kind.Free = 22
-
--- Sets of kinds: a bit for each kind.
 
 abbrev pub no_kinds : Kinds
 no_kinds = record { bits = 0 }
 
 abbrev pub with_kind : Kinds → Kind → Kinds
-with_kind kinds kind = record { bits = with_bit kinds.bits (kind_place kind) }
+with_kind kinds kind = record { bits = with_bit kinds.bits (kind_number kind) }
 
 abbrev pub has_kind : Kinds → Kind → Bool
-has_kind kinds kind = has_bit kinds.bits (kind_place kind)
+has_kind kinds kind = has_bit kinds.bits (kind_number kind)

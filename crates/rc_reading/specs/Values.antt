@@ -12,7 +12,8 @@ use Rattle.rc_reading.specs.declared.limits.TheConstants.{LAST_TABLE, LAST_GENER
 use Rattle.rc_reading.specs.declared.hosts.Hosts.{Hosts}
 use Rattle.rc_reading.specs.declared.kinds.Kinds.{Kinds}
 use Rattle.rc_reading.specs.declared.names.EventName.{EventName}
-use Rattle.rc_reading.specs.Kinds.{kind_named, with_kind, no_kinds}
+use Rattle.rc_types.specs.Kinds.{kind_named}
+use Rattle.rc_reading.specs.Kinds.{with_kind, no_kinds}
 use Rattle.rc_reading.specs.Hosts.{with_host, no_hosts}
 use Rattle.rc_reading.specs.Names.{event_named}
 

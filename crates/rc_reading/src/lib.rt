@@ -18,6 +18,6 @@ pub mod wanted;
 mod whole;
 
 pub use hosts::Hosts;
-pub use kinds::{Kind, Kinds};
+pub use kinds::Kinds;
 pub use reading::read_scenario;
 pub use scenarios::{ReadFault, Scenario, ScenarioEvent};

@@ -14,13 +14,13 @@ ghost use Rattle.rc_reading.specs.Lists.{added, at_end, factor_added};
 ghost use Rattle.rc_reading.specs.Ahead.{data_at, items_at, says, folds};
 
 use crate::hosts::Hosts;
-use crate::kinds::{Kind, Kinds};
+use crate::kinds::Kinds;
 use crate::scenarios::ReadFault;
 use crate::tokens::begin;
 use crate::wanted::{factor, host, kind, name};
 use json::{Invalid, Reader};
 use rc_types::limits::MAX_HOSTS;
-use rc_types::{Seq, ServerId};
+use rc_types::{Kind, Seq, ServerId};
 use std::alloc::{AllocError, Global};
 
 fn with_kind(kinds: Option<Kinds>, kind: Option<Kind>) -> Option<Kinds>

@@ -9,21 +9,22 @@ ghost use Rattle.rc_reading.specs.declared.limits.TheConstants.{LAST_GENERATION}
 ghost use Rattle.rc_reading.specs.Values.{whole, host_of, id_in, id_of, addr_of, name_in, list_of, listed, kept_of};
 ghost use Rattle.rc_reading.specs.Values.{take_name, kinds_of, take_kind, hosts_of, take_host, factors_of};
 ghost use Rattle.rc_reading.specs.Values.{take_factor, factor_of, event_name};
-ghost use Rattle.rc_reading.specs.Kinds.{kind_named, no_kinds};
+ghost use Rattle.rc_types.specs.Kinds.{kind_named};
+ghost use Rattle.rc_reading.specs.Kinds.{no_kinds};
 ghost use Rattle.rc_reading.specs.Hosts.{no_hosts};
 ghost use Rattle.rc_reading.specs.Pairs.{replica_name, both_in, server_id, id_item, name_item, generation_of};
 ghost use Rattle.rc_reading.specs.Pairs.{kept_segment_of};
 ghost use Rattle.rc_reading.specs.Ahead.{data_at, items_at, says, told, folds};
 
 use crate::hosts::Hosts;
-use crate::kinds::{Kind, Kinds};
+use crate::kinds::Kinds;
 use crate::limits::LAST_GENERATION;
 use crate::names::EventName;
 use crate::pairs::Pair;
 use crate::tokens::{begin, pass, simple};
 use json::{Invalid, Reader};
 use rc_types::limits::{LAST_SEGMENT, MAX_FACTOR, MAX_HOSTS};
-use rc_types::{Addr, ServerId};
+use rc_types::{Addr, Kind, ServerId};
 
 /// A whole number from `low` to `high`.
 pub fn number(

@@ -1,13 +1,12 @@
 //! What a backup keeps of one master: whether it is fenced, its replicas, and its freed segments.
 
-ghost use Rattle.std.specs.Prelude.{◌≡◌, ◌++◌, true, Some, None, OnOk, OnErr, IfOk, IfErr};
-ghost use Rattle.rc_types.specs.declared.faults.Fault.TheVariants.{OutOfMemory};
+ghost use Rattle.std.specs.Prelude.{◌≡◌, ◌++◌, true, Some, None, OnOk, OnErr, IfOk};
 ghost use Rattle.rc_model.specs.Backup.{nothing_held, is_refused, is_kept, restarted, rows_of_replicas, open_names_of};
 ghost use Rattle.rc_replica.specs.HeldAfter.{next_replica, with_replica, stored_after, held_without, fetched};
 
 use crate::kept::Replica;
 use crate::taking::{self, Request};
-use rc_types::{Body, Fault, Row, Seq, ServerId};
+use rc_types::{Body, Row, Seq, ServerId};
 use std::alloc::{AllocError, Global};
 use std::collections::{BTreeMap, BTreeSet};
 use std::marker::Model;
@@ -99,11 +98,15 @@ impl Held {
 
     /// Takes a Place, an Append or a Close of this segment, and gives the answer, if there is one.
     /// Only memory can be refused (F1), and then nothing has changed.
-    pub fn store(&mut self, alloc: Global, seg: u16, body: &Body) -> Result<Option<Body>, Fault>
+    pub fn store(
+        &mut self,
+        alloc: Global,
+        seg: u16,
+        body: &Body,
+    ) -> Result<Option<Body>, AllocError>
         ensures state { OnOk result (self.new ≡ with_replica self.old seg (next_replica self.old seg body.now)) }
         ensures answer { IfOk result (λ answer. answer ≡ stored_after seg (next_replica self.old seg body.now)) }
         ensures err { OnErr result (self.new ≡ self.old) }
-        ensures no_memory { IfErr result (λ fault. fault ≡ OutOfMemory) }
     {
         if self.is_refused(seg) {
             return Ok(None);
@@ -129,23 +132,21 @@ impl Held {
     }
 
     /// A row for each replica, in order of segment. Only memory can be refused (F1).
-    pub fn rows(&self, alloc: Global) -> Result<Seq<Row>, Fault>
-        ensures ok { IfOk result (λ rows. rows ≡ rows_of_replicas self.now.replicas) }
-        ensures no_memory { IfErr result (λ fault. fault ≡ OutOfMemory) }
+    pub fn rows(&self, alloc: Global) -> Result<Seq<Row>, AllocError>
+        ensures { IfOk result (λ rows. rows ≡ rows_of_replicas self.now.replicas) }
     {
         let mut rows = Vec::with_capacity(alloc, self.replicas.len())?;
         for (seg, replica) in &self.replicas {
-            rows.push(taking::row(alloc, *seg, replica)?)?;
+            rows.push(taking::row(*seg, replica)?)?;
         }
         Ok(Seq::from_vec(rows))
     }
 
     /// The answer to a Fetch, where the master is fenced and the replica has as many entries as are
     /// asked for. Only memory can be refused (F1).
-    pub fn data(&self, alloc: Global, request: &Request) -> Result<Option<Body>, Fault>
-        ensures ok { IfOk result (λ answer. answer ≡
+    pub fn data(&self, alloc: Global, request: &Request) -> Result<Option<Body>, AllocError>
+        ensures { IfOk result (λ answer. answer ≡
             fetched self.now request.now.attempt request.now.seg request.now.len request.now.part) }
-        ensures no_memory { IfErr result (λ fault. fault ≡ OutOfMemory) }
     {
         if !self.fenced {
             return Ok(None);

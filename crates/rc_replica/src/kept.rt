@@ -1,11 +1,10 @@
 //! The replica.
 
-ghost use Rattle.std.specs.Prelude.{◌≡◌, length, nat_eq, OnOk, OnErr, IfErr};
-ghost use Rattle.rc_types.specs.declared.faults.Fault.TheVariants.{OutOfMemory};
+ghost use Rattle.std.specs.Prelude.{◌≡◌, length, nat_eq, OnOk, OnErr, IfOk};
 
 use crate::copies::append_copies;
-use rc_types::{Entry, Fault};
-use std::alloc::Global;
+use rc_types::{Entry, Shared};
+use std::alloc::{AllocError, Global};
 use std::marker::Model;
 
 /// What one backup keeps of one segment: the epoch under which it was placed last, whether it is
@@ -13,7 +12,7 @@ use std::marker::Model;
 pub struct Replica {
     epoch: u16,
     closed: bool,
-    digest: Vec<u16>,
+    digest: Shared<u16>,
     entries: Vec<Entry>,
 }
 
@@ -36,7 +35,7 @@ impl Model for Replica {
     ghost view = { λ r. record {
       epoch = r.epoch;
       closed = r.closed;
-      digest = r.digest.items;
+      digest = r.digest;
       entries = r.entries.items;
     } };
 }
@@ -45,8 +44,8 @@ impl Replica {
     ghost use Rattle.rc_model.specs.Replica.{placed, appended, closes, closed_at};
 
     /// A replica of these parts. It takes no memory.
-    pub fn new(epoch: u16, closed: bool, digest: Vec<u16>, entries: Vec<Entry>) -> Replica
-        ensures { result ≡ record { epoch = epoch; closed = closed; digest = digest.items; entries = entries.items } }
+    pub fn new(epoch: u16, closed: bool, digest: Shared<u16>, entries: Vec<Entry>) -> Replica
+        ensures { result ≡ record { epoch = epoch; closed = closed; digest = digest; entries = entries.items } }
     {
         Replica {
             epoch,
@@ -66,9 +65,8 @@ impl Replica {
         epoch: u16,
         entries: &[Entry],
         closed: bool,
-    ) -> Result<(), Fault>
+    ) -> Result<(), AllocError>
         ensures ok { OnOk result (self.new ≡ placed self.old epoch entries.now closed) }
-        ensures no_memory { IfErr result (λ fault. fault ≡ OutOfMemory) }
         ensures err { OnErr result (self.new ≡ self.old) }
     {
         if epoch < self.epoch {
@@ -87,9 +85,13 @@ impl Replica {
     /// Takes an Append of these entries, of which the first stands at `offset`: those past the
     /// replica's length are added. A closed replica, or one that has not all entries before
     /// `offset`, stays as it is. Only memory can be refused (F1), and then the replica is as it was.
-    pub fn append(&mut self, alloc: Global, offset: usize, entries: &[Entry]) -> Result<(), Fault>
+    pub fn append(
+        &mut self,
+        alloc: Global,
+        offset: usize,
+        entries: &[Entry],
+    ) -> Result<(), AllocError>
         ensures ok { OnOk result (self.new ≡ appended self.old offset entries.now) }
-        ensures no_memory { IfErr result (λ fault. fault ≡ OutOfMemory) }
         ensures err { OnErr result (self.new ≡ self.old) }
     {
         if self.closed || offset > self.entries.len() {
@@ -144,6 +146,13 @@ impl Replica {
         ensures { result.now ≡ self.now.digest }
     {
         self.digest.as_slice()
+    }
+
+    /// One more owner of the digest. It fails only where more owners can't be counted.
+    pub fn share_digest(&self) -> Result<Shared<u16>, AllocError>
+        ensures { IfOk result (λ digest. digest ≡ self.now.digest) }
+    {
+        self.digest.share()
     }
 
     /// The entries, in the order of the log.

@@ -1,13 +1,12 @@
 //! What becomes of one replica by a message, and what is told of it.
 
-ghost use Rattle.std.specs.Prelude.{◌≡◌, filter, unwrap_or, Some, None, OnOk, OnErr, IfOk, IfErr};
-ghost use Rattle.rc_types.specs.declared.faults.Fault.TheVariants.{OutOfMemory};
+ghost use Rattle.std.specs.Prelude.{◌≡◌, filter, unwrap_or, Some, None, OnOk, OnErr, IfOk};
 ghost use Rattle.rc_model.specs.Backup.{replica_after, stored_of, row_of_replica, is_in_part};
 ghost use Rattle.rc_replica.specs.HeldAfter.{put_after, stored_after, data_from};
 
 use crate::kept::Replica;
-use rc_types::{Body, Entry, Fault, Part, Row, Seq, TryClone};
-use std::alloc::Global;
+use rc_types::{Body, Entry, Part, Row, Seq, TryClone};
+use std::alloc::{AllocError, Global};
 use std::collections::BTreeMap;
 
 /// What a Fetch asks for: of this segment, the entries of this part among the first so many.
@@ -24,17 +23,16 @@ pub struct Request {
 }
 
 /// The row of a replica. Only memory can be refused (F1).
-pub(crate) fn row(alloc: Global, seg: u16, replica: &Replica) -> Result<Row, Fault>
-    ensures ok { IfOk result (λ row. row ≡ row_of_replica (seg, replica.now)) }
-    ensures no_memory { IfErr result (λ fault. fault ≡ OutOfMemory) }
+pub(crate) fn row(seg: u16, replica: &Replica) -> Result<Row, AllocError>
+    ensures { IfOk result (λ row. row ≡ row_of_replica (seg, replica.now)) }
 {
-    let digest = Vec::from_slice(alloc, replica.digest())?;
+    let digest = replica.share_digest()?;
     Ok(Row {
         seg,
         epoch: replica.epoch(),
         closed: replica.is_closed(),
         len: replica.len(),
-        digest: Seq::from_vec(digest),
+        digest,
     })
 }
 
@@ -57,11 +55,10 @@ pub(crate) fn change(
     alloc: Global,
     seg: u16,
     body: &Body,
-) -> Result<Option<Body>, Fault>
+) -> Result<Option<Body>, AllocError>
     ensures state { OnOk result (replica.new ≡ unwrap_or (replica_after (Some replica.old) body.now) replica.old) }
     ensures answer { IfOk result (λ answer. answer ≡ stored_after seg (replica_after (Some replica.old) body.now)) }
     ensures err { OnErr result (replica.new ≡ replica.old) }
-    ensures no_memory { IfErr result (λ fault. fault ≡ OutOfMemory) }
 {
     match body {
         Body::Place {
@@ -91,12 +88,11 @@ pub(crate) fn place_first(
     alloc: Global,
     seg: u16,
     body: &Body,
-) -> Result<Option<Body>, Fault>
+) -> Result<Option<Body>, AllocError>
     ensures state { OnOk result (replicas.new.entries ≡
         put_after replicas.old.entries seg (replica_after None body.now)) }
     ensures answer { IfOk result (λ answer. answer ≡ stored_after seg (replica_after None body.now)) }
     ensures err { OnErr result (replicas.new.entries ≡ replicas.old.entries) }
-    ensures no_memory { IfErr result (λ fault. fault ≡ OutOfMemory) }
 {
     match body {
         Body::Place {
@@ -106,7 +102,7 @@ pub(crate) fn place_first(
             closed,
             ..
         } => {
-            let digest = digest.try_clone(alloc)?.into_vec();
+            let digest = digest.share()?;
             let entries = entries.try_clone(alloc)?.into_vec();
             let replica = Replica::new(*epoch, *closed, digest, entries);
             let answer = stored(seg, &replica);
@@ -128,9 +124,8 @@ fn is_in_part(part: &Part, entry: &Entry) -> bool
 }
 
 /// Copies of those entries that belong to the part, in their order. Only memory can be refused (F1).
-fn entries_in_part(alloc: Global, part: &Part, entries: &[Entry]) -> Result<Seq<Entry>, Fault>
-    ensures ok { IfOk result (λ chosen. chosen ≡ filter (is_in_part part.now) entries.now) }
-    ensures no_memory { IfErr result (λ fault. fault ≡ OutOfMemory) }
+fn entries_in_part(alloc: Global, part: &Part, entries: &[Entry]) -> Result<Seq<Entry>, AllocError>
+    ensures { IfOk result (λ chosen. chosen ≡ filter (is_in_part part.now) entries.now) }
 {
     let mut chosen = Vec::new(alloc);
     for entry in entries {
@@ -147,10 +142,9 @@ pub(crate) fn data(
     alloc: Global,
     request: &Request,
     replica: &Replica,
-) -> Result<Option<Body>, Fault>
-    ensures ok { IfOk result (λ answer. answer ≡
+) -> Result<Option<Body>, AllocError>
+    ensures { IfOk result (λ answer. answer ≡
         data_from request.now.attempt request.now.seg request.now.len request.now.part (Some replica.now)) }
-    ensures no_memory { IfErr result (λ fault. fault ≡ OutOfMemory) }
 {
     let Some(first) = replica.entries().get(..request.len) else {
         return Ok(None);

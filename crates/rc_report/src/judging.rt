@@ -1,7 +1,6 @@
 //! From a trace's bytes to what is printed of it.
 
-ghost use Rattle.std.specs.Prelude.{◌≡◌, Err, string_bytes, IfOk, IfErr};
-ghost use Rattle.rc_types.specs.declared.faults.Fault.TheVariants.{OutOfMemory};
+ghost use Rattle.std.specs.Prelude.{◌≡◌, Err, string_bytes, IfOk};
 ghost use Rattle.rc_model.specs.Breach.{breach};
 ghost use Rattle.rc_traces.specs.Trace.{reading};
 ghost use Rattle.rc_report.specs.Ends.{judgement, error_line};
@@ -11,8 +10,8 @@ use crate::ends::error_text;
 use crate::reports::judgement_of;
 use rc_audit::audit;
 use rc_traces::{TraceFault, read_trace};
-use rc_types::{Breach, Fault, Message};
-use std::alloc::Global;
+use rc_types::{Breach, Message};
+use std::alloc::{AllocError, Global};
 
 /// What comes of a trace.
 #[derive(Clone, Copy)]
@@ -40,23 +39,21 @@ pub struct Judgement {
 /// # Errors
 ///
 /// `OutOfMemory` (F1): memory was refused.
-pub fn judge(alloc: Global, bytes: &[u8]) -> Result<Judgement, Fault>
+pub fn judge(alloc: Global, bytes: &[u8]) -> Result<Judgement, AllocError>
     ensures finding { IfOk result (λ judged. judged.finding ≡ finding_of (reading bytes.now)) }
     ensures text { IfOk result (λ judged. string_bytes judged.text ≡ text_of (reading bytes.now)) }
-    ensures err { IfErr result (λ e. e ≡ OutOfMemory) }
 {
     match read_trace(alloc, bytes) {
         Ok(messages) => judge_messages(alloc, messages.as_slice()),
         Err(TraceFault::BadTrace(place)) => bad(alloc, place),
-        Err(TraceFault::OutOfMemory) => Err(Fault::OutOfMemory),
+        Err(TraceFault::OutOfMemory) => Err(AllocError),
     }
 }
 
 /// Judges the messages of a trace.
-fn judge_messages(alloc: Global, messages: &[Message]) -> Result<Judgement, Fault>
+fn judge_messages(alloc: Global, messages: &[Message]) -> Result<Judgement, AllocError>
     ensures finding { IfOk result (λ judged. judged.finding ≡ finding_in (breach messages.now)) }
     ensures text { IfOk result (λ judged. string_bytes judged.text ≡ judgement messages.now) }
-    ensures err { IfErr result (λ e. e ≡ OutOfMemory) }
 {
     let found = audit(alloc, messages)?;
     let text = judgement_of(alloc, messages, found)?;
@@ -75,10 +72,9 @@ fn finding_in(found: Option<Breach>) -> Finding
 }
 
 /// The judgement of a trace that is wrong at this place.
-fn bad(alloc: Global, place: usize) -> Result<Judgement, Fault>
+fn bad(alloc: Global, place: usize) -> Result<Judgement, AllocError>
     ensures finding { IfOk result (λ judged. judged.finding ≡ finding_of (Err place)) }
     ensures text { IfOk result (λ judged. string_bytes judged.text ≡ error_line place) }
-    ensures err { IfErr result (λ e. e ≡ OutOfMemory) }
 {
     let text = error_text(alloc, place)?;
     let finding = Finding::Bad(place);

@@ -1,7 +1,6 @@
 //! The report as a whole.
 
-ghost use Rattle.std.specs.Prelude.{◌≡◌, ◌++◌, IfOk, IfErr, codes, length, string_bytes};
-ghost use Rattle.rc_types.specs.declared.faults.Fault.TheVariants.{OutOfMemory};
+ghost use Rattle.std.specs.Prelude.{◌≡◌, ◌++◌, IfOk, codes, length, string_bytes};
 ghost use Rattle.rc_model.specs.Report.{message_lines, count_line, counts_text, audit_line, report};
 ghost use Rattle.rc_report.specs.Ends.{judgement};
 ghost use Rattle.rc_model.specs.Breach.{breach};
@@ -10,17 +9,16 @@ use crate::audited::add_audit;
 use crate::counts::{add_count, add_counts};
 use crate::lines::add_messages;
 use rc_audit::audit;
-use rc_types::{Breach, Fault, Message};
-use std::alloc::Global;
+use rc_types::{Breach, Message};
+use std::alloc::{AllocError, Global};
 
 /// The report of these messages. They are judged by `audit`, whose cost this adds to that of the text.
 ///
 /// # Errors
 ///
 /// `OutOfMemory` (F1): memory was refused.
-pub fn report(alloc: Global, messages: &[Message]) -> Result<String, Fault>
-    ensures ok { IfOk result (λ text. string_bytes text ≡ report messages.now) }
-    ensures err { IfErr result (λ e. e ≡ OutOfMemory) }
+pub fn report(alloc: Global, messages: &[Message]) -> Result<String, AllocError>
+    ensures { IfOk result (λ text. string_bytes text ≡ report messages.now) }
 {
     let found = audit(alloc, messages)?;
     report_of(alloc, messages, found)
@@ -36,12 +34,11 @@ pub fn report_of(
     alloc: Global,
     messages: &[Message],
     found: Option<Breach>,
-) -> Result<String, Fault>
+) -> Result<String, AllocError>
     ensures ok { IfOk result
         (λ text. string_bytes text ≡ message_lines messages.now ++ counts_text messages.now ++ audit_line found) }
     // told of the messages' own first breach, it is the report of the definitions
     ensures judged { found ≡ breach messages.now → IfOk result (λ text. string_bytes text ≡ report messages.now) }
-    ensures err { IfErr result (λ e. e ≡ OutOfMemory) }
 {
     let mut text = String::new(alloc);
     add_messages(&mut text, messages)?;
@@ -59,12 +56,11 @@ pub fn judgement_of(
     alloc: Global,
     messages: &[Message],
     found: Option<Breach>,
-) -> Result<String, Fault>
+) -> Result<String, AllocError>
     ensures ok { IfOk result (λ text. string_bytes text ≡ count_line (codes "messages ") (length messages.now) ++
         audit_line found) }
     // told of the messages' own first breach, it is the judgement of the definitions
     ensures judged { found ≡ breach messages.now → IfOk result (λ text. string_bytes text ≡ judgement messages.now) }
-    ensures err { IfErr result (λ e. e ≡ OutOfMemory) }
 {
     let mut text = String::new(alloc);
     add_count(&mut text, "messages ", messages.len())?;

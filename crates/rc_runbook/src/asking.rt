@@ -1,7 +1,6 @@
 //! What is due.
 
-ghost use Rattle.std.specs.Prelude.{◌≡◌, ◌++◌, filter, map, IfOk, IfErr};
-ghost use Rattle.rc_types.specs.declared.faults.Fault.TheVariants.{OutOfMemory};
+ghost use Rattle.std.specs.Prelude.{◌≡◌, ◌++◌, filter, map, IfOk};
 ghost use Rattle.rc_model.specs.ServerList.{is_up, has_crashed, up};
 ghost use Rattle.rc_runbook.specs.Runbook as spec;
 ghost use Rattle.rc_runbook.specs.Runbook.{is_stuck_owner, dues};
@@ -10,7 +9,7 @@ use crate::attempts::{crashed_owners, is_ripe, waits_in_vain};
 use crate::seen::Seen;
 use rc_coordinator::Coordinator;
 use rc_serverlist::ServerList;
-use rc_types::{Fault, ServerId, Tablet};
+use rc_types::{ServerId, Tablet};
 use std::alloc::{AllocError, Allocator, Global};
 
 /// What is due.
@@ -46,10 +45,9 @@ pub fn dues<A: Allocator + Clone>(
     alloc: Global,
     coordinator: &Coordinator<A>,
     seen: &Seen<'_>,
-) -> Result<Vec<Due>, Fault>
-    ensures dues { IfOk result (λ list. list.items ≡
+) -> Result<Vec<Due>, AllocError>
+    ensures { IfOk result (λ list. list.items ≡
         dues coordinator.now seen.now.heard.now seen.now.silent.now seen.now.stuck.now) }
-    ensures no_memory { IfErr result (λ fault. fault ≡ OutOfMemory) }
 {
     let tablets = coordinator.tablets(alloc)?;
     let servers = coordinator.servers();
@@ -85,10 +83,9 @@ fn decisions<A: Allocator + Clone>(
     alloc: Global,
     coordinator: &Coordinator<A>,
     owners: &[ServerId],
-) -> Result<Vec<Due>, Fault>
-    ensures list { IfOk result (λ list. list.items ≡
+) -> Result<Vec<Due>, AllocError>
+    ensures { IfOk result (λ list. list.items ≡
         map Due.Decide (filter (spec.is_ripe coordinator.now (up coordinator.now.servers)) owners.now)) }
-    ensures no_memory { IfErr result (λ fault. fault ≡ OutOfMemory) }
 {
     let up = coordinator.servers().up(alloc)?;
     ripe(alloc, coordinator, up.as_slice(), owners)
@@ -100,10 +97,9 @@ fn ripe<A: Allocator + Clone>(
     coordinator: &Coordinator<A>,
     up: &[ServerId],
     owners: &[ServerId],
-) -> Result<Vec<Due>, Fault>
-    ensures list { IfOk result (λ list. list.items ≡
+) -> Result<Vec<Due>, AllocError>
+    ensures { IfOk result (λ list. list.items ≡
         map Due.Decide (filter (spec.is_ripe coordinator.now up.now) owners.now)) }
-    ensures no_memory { IfErr result (λ fault. fault ≡ OutOfMemory) }
 {
     let list = owners
         .iter()

@@ -7,7 +7,7 @@ ghost use Rattle.rc_saves.specs.Readers.{alone_at, coded_at};
 use crate::book_reading::WrittenBook;
 use rc_codec::{DecodeFault, Take};
 use rc_replica::Replica;
-use rc_types::{Entry, Seq, ServerId};
+use rc_types::{Entry, Seq, ServerId, Shared};
 use rc_world::HostHead;
 use std::alloc::Global;
 use std::marker::Model;
@@ -53,10 +53,10 @@ impl Take for Piece {
             u16,
             u16,
             bool,
-            Seq<u16>,
+            Shared<u16>,
             Seq<Entry>,
         )>::take(alloc, bytes)?;
-        let replica = Replica::new(epoch, closed, digest.into_vec(), entries.into_vec());
+        let replica = Replica::new(epoch, closed, digest, entries.into_vec());
         Ok((Piece { seg, replica }, rest))
     }
 }

@@ -11,8 +11,8 @@ use Rattle.rc_model.specs.Model.{Outside, Message, Event}
 use Rattle.rc_scenes.specs.declared.passing.Passing.{Passing}
 use Rattle.rc_scenes.specs.Delivered.{is_delivered}
 use Rattle.rc_scenes.specs.Settling.{next_due, due_from}
-use Rattle.rc_reading.specs.declared.kinds.Kind.{Kind}
-use Rattle.rc_reading.specs.Kinds.{kind_of}
+use Rattle.rc_types.specs.declared.kinds.Kind.{Kind}
+use Rattle.rc_types.specs.Kinds.{kind_of}
 use Rattle.rc_scenes.specs.Passing.{is_left_alone}
 use Rattle.rc_scenes.specs.Lanes.{In, Ascends, marked, Lane, is_lane_left, InLanes, IsLeast, Joins, AreTidied}
 use Rattle.rc_scenes.specs.Waiting.{is_due_marked, is_due_by, first_due, Fits}

@@ -5,7 +5,8 @@ use Rattle.rc_types.specs.declared.ids.Addr.TheVariants.{Server, Coordinator, Ou
 use Rattle.rc_types.specs.declared.messages.Message.{Message}
 use Rattle.rc_reading.specs.declared.hosts.Hosts.{Hosts}
 use Rattle.rc_reading.specs.Hosts.{has_host}
-use Rattle.rc_reading.specs.Kinds.{kind_of, has_kind}
+use Rattle.rc_types.specs.Kinds.{kind_of}
+use Rattle.rc_reading.specs.Kinds.{has_kind}
 use Rattle.rc_scenes.specs.declared.passing.Passing.{Passing}
 
 -- what is for the outside, and what is for one of these hosts

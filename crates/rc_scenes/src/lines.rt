@@ -2,15 +2,13 @@
 
 ghost use Rattle.std.specs.Prelude.{◌≡◌, ◌++◌, ◌∷◌, [], ◌<◌, ◌⊎◌, not, filter, IsTrue, OnOk, OnErr};
 ghost use Rattle.rc_scenes.specs.Lanes.{marked};
-ghost use Rattle.rc_reading.specs.Kinds.{kind_place};
 ghost use Rattle.rc_scenes.specs.Passing.{is_for_one_of};
 ghost use Rattle.rc_scenes.specs.declared.passing.Passing.{Passing};
 ghost use Rattle.rc_scenes.specs.Lanes.{Lane, is_lane_left};
 ghost use Rattle.rc_reading.specs.declared.hosts.Hosts.{Hosts};
 
 use crate::passing::Passing;
-use rc_reading::Kind;
-use rc_types::Addr;
+use rc_types::{Addr, Kind};
 use std::alloc::{AllocError, Global};
 use std::marker::Model;
 
@@ -71,7 +69,7 @@ impl Line {
         ensures { IsTrue result → (passing : Passing) → is_lane_left passing self.now.kind self.now.to ≡
             is_lane_left passing kind to }
     {
-        number_of(self.kind) == number_of(kind) && has_same_host(self.to, to)
+        self.kind.number() == kind.number() && has_same_host(self.to, to)
     }
 
     /// One number more.
@@ -110,14 +108,6 @@ pub(crate) fn is_marked(marks: &[bool], number: usize) -> bool
     ensures { result ≡ marked marks.now number }
 {
     marks.get(number).copied().unwrap_or(false)
-}
-
-/// The place of the kind among all kinds.
-pub(crate) fn number_of(kind: Kind) -> u8
-    ensures is { result ≡ kind_place kind }
-    ensures few { result < 32 }
-{
-    kind as u8
 }
 
 /// Whether both are the coordinator, or servers on one host.

@@ -9,10 +9,9 @@ ghost use Rattle.rc_scenes.specs.Settling.{due_from};
 ghost use Rattle.rc_scenes.specs.Lanes.{Lane, In, Ascends, AllAscend, InLanes, IsLeast, Joins, AreTidied, earlier_of};
 ghost use Rattle.rc_scenes.specs.Waiting.{is_due_by, first_due, Fits};
 
-use crate::lines::{Line, is_marked, number_of};
+use crate::lines::{Line, is_marked};
 use crate::passing::Passing;
-use rc_reading::Kind;
-use rc_types::{Addr, Message};
+use rc_types::{Addr, Kind, Message};
 use std::alloc::{AllocError, Global};
 
 /// Which messages are still to be delivered, of those noted so far.
@@ -271,7 +270,7 @@ const COORDINATOR: u8 = 64;
 fn class_of(kind: Kind, host: u8) -> usize
     ensures { result < 10000 }
 {
-    usize::from(number_of(kind)) * 65 + usize::from(host.min(COORDINATOR))
+    usize::from(kind.number()) * 65 + usize::from(host.min(COORDINATOR))
 }
 
 /// Makes the list longer than this.

@@ -1,11 +1,11 @@
 //! Which messages a pass leaves alone.
 
 ghost use Rattle.std.specs.Prelude.{◌≡◌};
-ghost use Rattle.rc_reading.specs.Kinds.{kind_of};
+ghost use Rattle.rc_types.specs.Kinds.{kind_of};
 ghost use Rattle.rc_scenes.specs.Passing.{is_for_one_of, is_left_alone};
 
-use rc_reading::{Hosts, Kind, Kinds};
-use rc_types::{Addr, Message};
+use rc_reading::{Hosts, Kinds};
+use rc_types::{Addr, Kind, Message};
 
 /// Which messages a pass leaves alone, beside those to the outside.
 #[derive(Clone, Copy)]

@@ -13,8 +13,8 @@ use Rattle.rc_history.proofs.Steps.{node_takes}
 use Rattle.rc_journal.specs.declared.view.Place.{Place}
 use Rattle.rc_journal.specs.Views.{name_at}
 use Rattle.rc_journal.specs.Law.{Knows}
-use Rattle.rc_journal.specs.declared.names.SeatName.{SeatName}
-use Rattle.rc_journal.specs.Names.{WireName, name_of, number_of}
+use Rattle.rc_types.specs.Names.{number_of}
+use Rattle.rc_journal.specs.Names.{WireName}
 use Rattle.rc_journal.specs.Calls as journal
 use Rattle.rc_journal.proofs.Named.{named}
 use Rattle.rc_seats.specs.declared.offer.Offer.{Offer}
@@ -29,10 +29,10 @@ use Rattle.rc_seats.proofs.Offering.{seen_of, step-offered}
 -- A look
 
 -- the number of a seat is that of its node
-own-name : (name : SeatName) (place : Place) → place.node ≡ number_of name → name_at place.node ≡ name_of name
-own-name name place sits = ap name_at sits ∙ named (name_of name)
+own-name : (name : NodeName) (place : Place) → place.node ≡ number_of name → name_at place.node ≡ name
+own-name name place sits = ap name_at sits ∙ named name
 
-pub covers-told : (setup : Setup) (name : SeatName) (place : Place) (held : Option (ℕ × Message)) (pending : Option Offer)
+pub covers-told : (setup : Setup) (name : NodeName) (place : Place) (held : Option (ℕ × Message)) (pending : Option Offer)
     (history : List Event) → place.node ≡ number_of name → Knows setup history place →
     Covers setup history (seat_data name place held pending)
 covers-told setup name place held pending history sits knows = record {
@@ -40,7 +40,7 @@ covers-told setup name place held pending history sits knows = record {
   mine = ap (λ (n : NodeName). events_of setup n history) (sym (own-name name place sits)) ∙ knows.mine;
 }
 
-pub sound-told : (setup : Setup) (name : SeatName) (place after : Place) (held : Option (ℕ × Message)) (pending : Option Offer)
+pub sound-told : (setup : Setup) (name : NodeName) (place after : Place) (held : Option (ℕ × Message)) (pending : Option Offer)
     (node : Node) (numbers : List ℕ) (history : List Event) → SeatSound setup (seat_data name place held pending) place.node node numbers →
     Knows setup history place → length history ≤ MAX_EVENTS → after ≡ journal.having_seen place history →
     SeatSound setup (seat_data name after held pending) after.node node numbers
@@ -65,14 +65,14 @@ pub pending-offer : (setup : Setup) (seat : SeatData) (number : ℕ) (node : Nod
 pending-offer setup seat number node numbers offered s is =
     step-offered (world_at setup seat) (node_name seat) offered node (pending-step setup seat number node numbers offered s is)
 
-pub can-push : (wire : WireName) (name : SeatName) (place : Place) (held : Option (ℕ × Message)) (pending : Option Offer) (node : Node)
+pub can-push : (wire : WireName) (name : NodeName) (place : Place) (held : Option (ℕ × Message)) (pending : Option Offer) (node : Node)
     (numbers : List ℕ) (offered : Offered) → SeatSound wire.setup (seat_data name place held pending) place.node node numbers →
     offered_by pending ≡ Some offered → journal.IsStep wire place.seen place offered.event offered.messages
 can-push wire name place held pending node numbers offered s is =
-    let o : IsOffer (replay wire.setup place.seen) (name_of name) offered =
+    let o : IsOffer (replay wire.setup place.seen) name offered =
     pending-offer wire.setup (seat_data name place held pending) place.node node numbers offered s is in
     let parts = and_parts (is_possible (replay wire.setup place.seen) offered.event)
-    (is_for (name_of name) (work_of (replay wire.setup place.seen).sent offered.event)) o.takes in
+    (is_for name (work_of (replay wire.setup place.seen).sent offered.event)) o.takes in
     record {
       possible = parts.0;
       own = ap (λ (n : NodeName). is_for n (work_of (replay wire.setup place.seen).sent offered.event)) (own-name name place s.sits) ∙
@@ -108,7 +108,7 @@ sound-committed setup seat number node numbers offered s is few =
           ∙ ap (λ (l : List Event). was_delivered l n) (sym (append-nil (seat.mine ++ offered.event ∷ []))));
     }
 
-pub sound-added : (setup : Setup) (name : SeatName) (place after : Place) (held : Option (ℕ × Message)) (was now : Option Offer)
+pub sound-added : (setup : Setup) (name : NodeName) (place after : Place) (held : Option (ℕ × Message)) (was now : Option Offer)
     (node : Node)
     (numbers : List ℕ) (offer : Offer) (history : List Event) → SeatSound setup (seat_data name place held was) place.node node numbers →
     was ≡ Some offer → now ≡ None → place.seen ≡ history → length (history ++ offer.event ∷ []) ≤ MAX_EVENTS →

@@ -10,7 +10,6 @@ use Rattle.rc_history.specs.Nodes.{Node, TheOutside, TheCoordinator, TheHost, na
 use Rattle.rc_history.specs.Events.{takes}
 use Rattle.rc_history.proofs.Names.{names-kept}
 use Rattle.rc_journal.specs.declared.view.Place.{Place}
-use Rattle.rc_journal.specs.declared.names.SeatName.{SeatName}
 use Rattle.rc_world.specs.NodeView.{may_take, NodeHasRoom}
 use Rattle.rc_world.specs.NodeCalls.{event_of, WasSent}
 use Rattle.rc_world.proofs.Rooms.{histories-leave-room}
@@ -168,7 +167,7 @@ sound-reordered setup seat number node after numbers others s stays same = recor
 -- What the clauses say
 
 -- an offer that was put where there was none
-pub offers-put : (setup : Setup) (name : SeatName) (place : Place) (held kept : Option (ℕ × Message)) (was is : Option Offer)
+pub offers-put : (setup : Setup) (name : NodeName) (place : Place) (held kept : Option (ℕ × Message)) (was is : Option Offer)
     (old : SeatData) (offer : Offer) (said : Option Event) (after : Node) → seat_data name place held was ≡ old → is ≡ Some offer →
     said ≡ Some offer.event → IsStep (world_at setup old).sent (node_name old) (node_at setup old) (seen_of offer) after →
     Offers setup old said kept (seat_data name place kept is)

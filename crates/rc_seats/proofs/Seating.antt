@@ -3,7 +3,7 @@ use Rattle.std.proofs.Common.{◌≡◌, ℕ, zero, suc, ◌+◌, ◌-◌, ◌<�
 use Rattle.std.specs.List.{range_with_len}
 use Rattle.rc_journal.specs.declared.view.Place.{Place}
 use Rattle.rc_journal.specs.Views.{new_place}
-use Rattle.rc_journal.specs.Names.{number_of}
+use Rattle.rc_types.specs.Names.{number_of}
 use Rattle.rc_journal.proofs.Steps.{numbered-push}
 use Rattle.rc_seats.specs.SeatView.{new_seat}
 use Rattle.rc_seats.specs.Seats.{seat_named, new_seats}

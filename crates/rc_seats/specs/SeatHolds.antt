@@ -7,15 +7,15 @@ use Rattle.rc_types.specs.declared.messages.Message.{Message}
 use Rattle.rc_history.specs.Nodes.{Node}
 use Rattle.rc_history.specs.Events.{events_of}
 use Rattle.rc_journal.specs.declared.view.Place.{Place}
-use Rattle.rc_journal.specs.declared.names.SeatName.{SeatName}
-use Rattle.rc_journal.specs.Names.{number_of}
+use Rattle.rc_types.specs.declared.ids.NodeName.{NodeName}
+use Rattle.rc_types.specs.Names.{number_of}
 use Rattle.rc_seats.specs.declared.offer.Offer.{Offer}
 use Rattle.rc_seats.specs.SeatView.{SeatData, offered_by, offered_events, node_name, world_at, node_at}
 use Rattle.rc_seats.specs.Steps.{HasTaken, HoldsItsMessage}
 use Rattle.rc_seats.specs.Works.{was_delivered}
 
 -- a seat's fields as its value: what it has seen and done, its token knows
-abbrev pub seat_data : SeatName → Place → Option (ℕ × Message) → Option Offer → SeatData
+abbrev pub seat_data : NodeName → Place → Option (ℕ × Message) → Option Offer → SeatData
 seat_data name place held offer =
     record { name = name; seen = place.seen; mine = place.mine; held = held; pending = offered_by offer }
 

@@ -5,8 +5,6 @@ use Rattle.rc_types.specs.declared.events.Event.{Event}
 use Rattle.rc_types.specs.declared.messages.Message.{Message}
 use Rattle.rc_model.specs.World.{World, NodeName, replay}
 use Rattle.rc_history.specs.Nodes.{Node, node_in}
-use Rattle.rc_journal.specs.declared.names.SeatName.{SeatName}
-use Rattle.rc_journal.specs.Names.{name_of}
 use Rattle.rc_seats.specs.declared.offer.Offer.{Offer}
 
 -- a step that the journal doesn't have yet: the node's event, and what the node has sent in it
@@ -15,7 +13,7 @@ pub record Offered : Type 0 where
   pub messages : List Message
 
 pub record SeatData : Type 0 where
-  pub name : SeatName
+  pub name : NodeName
   -- the history as far as the seat has seen it, and its node's own events in it
   pub seen : List Event
   pub mine : List Event
@@ -29,7 +27,7 @@ offered_by (Some offer) = Some (record { event = offer.event; messages = offer.m
 
 -- the node of a seat
 abbrev pub node_name : SeatData → NodeName
-node_name seat = name_of seat.name
+node_name seat = seat.name
 
 -- the world that a seat has seen, and its own node there
 abbrev pub world_at : Setup → SeatData → World
@@ -44,5 +42,5 @@ offered_events None = []
 offered_events (Some offered) = offered.event ∷ []
 
 -- a seat that has seen and done nothing
-abbrev pub new_seat : SeatName → SeatData
+abbrev pub new_seat : NodeName → SeatData
 new_seat name = record { name = name; seen = []; mine = []; held = None; pending = None }

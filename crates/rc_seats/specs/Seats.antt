@@ -1,12 +1,12 @@
 -- The seats of a new wire.
 use Rattle.std.specs.Prelude.{ℕ, zero, suc, List, map}
 use Rattle.std.specs.List.{range_with_len}
-use Rattle.rc_journal.specs.declared.names.SeatName.{SeatName}
-use Rattle.rc_journal.specs.declared.names.SeatName.TheVariants.{Outside, Coordinator, Host}
+use Rattle.rc_types.specs.declared.ids.NodeName.{NodeName}
+use Rattle.rc_types.specs.declared.ids.NodeName.TheVariants.{Outside, Coordinator, Host}
 use Rattle.rc_seats.specs.SeatView.{SeatData, new_seat}
 
 -- whose seat has this number
-abbrev pub seat_named : ℕ → SeatName
+abbrev pub seat_named : ℕ → NodeName
 seat_named zero = Outside
 seat_named (suc zero) = Coordinator
 seat_named (suc (suc index)) = Host index

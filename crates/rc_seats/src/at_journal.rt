@@ -10,6 +10,7 @@ use crate::seat::Seat;
 use crate::steps::copy_of;
 use rc_journal::{Journal, Naming};
 use rc_types::Fault;
+use std::alloc::AllocError;
 
 impl<N: Naming> Seat<N> {
     /// The seat sees the whole history of the journal. Nothing else of it changes.
@@ -27,12 +28,11 @@ impl<N: Naming> Seat<N> {
     /// # Errors
     ///
     /// `OutOfMemory` (F1): the memory for a copy of the message was refused. The seat is as before.
-    pub fn hold(&mut self, journal: &mut Journal<N>, number: usize) -> Result<bool, Fault>
+    pub fn hold(&mut self, journal: &mut Journal<N>, number: usize) -> Result<bool, AllocError>
         ensures ok { IfOk result (λ found. Fetches N.wire.setup self.old number found self.new) }
         ensures seen { OnOk result (self.new.seen ≡ journal.old) }
         ensures journal { journal.new ≡ journal.old }
         ensures err { OnErr result (self.new ≡ self.old) }
-        ensures no_memory { IfErr result (λ fault. fault ≡ OutOfMemory) }
     {
         let copy = copy_of(self.alloc, journal.message(number))?;
         self.see(journal);

@@ -1,28 +1,26 @@
 //! The seats of a new wire.
 
-ghost use Rattle.std.specs.Prelude.{◌≡◌, ◌<◌, ◌≤◌, IfOk, IfErr};
-ghost use Rattle.rc_types.specs.declared.faults.Fault.TheVariants.{OutOfMemory};
+ghost use Rattle.std.specs.Prelude.{◌≡◌, ◌<◌, ◌≤◌, IfOk};
 ghost use Rattle.rc_world.specs.HostView.{IsWithinLimits};
 ghost use Rattle.rc_journal.specs.Calls.{new_places};
 ghost use Rattle.rc_seats.specs.Seats.{seat_named, new_seats};
 
 use crate::seat::Seat;
-use rc_journal::{Naming, SeatName, Token};
-use rc_types::{Fault, Setup};
-use std::alloc::Global;
+use rc_journal::{Naming, Token};
+use rc_types::{NodeName, Setup};
+use std::alloc::{AllocError, Global};
 
 /// The seats that these tokens are for, in order.
 pub(crate) fn seats_of<N: Naming>(
     alloc: Global,
     setup: &Setup,
     tokens: Vec<Token<N>>,
-) -> Result<Vec<Seat<N>>, Fault>
+) -> Result<Vec<Seat<N>>, AllocError>
     requires setup { setup.now ≡ N.wire.setup }
     requires limits { IsWithinLimits setup.now }
     requires tokens { tokens.items ≡ new_places N.wire.nodes }
     requires few { N.wire.nodes ≤ 258 }
-    ensures seats { IfOk result (λ seats. seats.items ≡ new_seats N.wire.nodes) }
-    ensures no_memory { IfErr result (λ fault. fault ≡ OutOfMemory) }
+    ensures { IfOk result (λ seats. seats.items ≡ new_seats N.wire.nodes) }
 {
     let mut tokens = tokens;
     let nodes = tokens.len();
@@ -35,13 +33,13 @@ pub(crate) fn seats_of<N: Naming>(
 }
 
 /// Whose seat has this number.
-fn seat_named(number: usize) -> SeatName
+fn seat_named(number: usize) -> NodeName
     requires { number < 258 }
     ensures { result ≡ seat_named number }
 {
     match number {
-        0 => SeatName::Outside,
-        1 => SeatName::Coordinator,
-        _ => SeatName::Host((number - 2) as u8),
+        0 => NodeName::Outside,
+        1 => NodeName::Coordinator,
+        _ => NodeName::Host((number - 2) as u8),
     }
 }

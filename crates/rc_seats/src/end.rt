@@ -1,7 +1,7 @@
 //! The end of a wire.
 
-ghost use Rattle.std.specs.Prelude.{◌≡◌, All, IfOk, IfErr};
 ghost use Rattle.rc_types.specs.declared.faults.Fault.TheVariants.{OutOfMemory};
+ghost use Rattle.std.specs.Prelude.{◌≡◌, All, IfOk};
 ghost use Rattle.rc_world.specs.HostView.{IsWithinLimits};
 ghost use Rattle.rc_journal.specs.Sound.{IsHistory};
 ghost use Rattle.rc_seats.specs.Calls.{Covers};
@@ -10,23 +10,32 @@ use crate::seat::Seat;
 use rc_journal::{Journal, Naming};
 use rc_types::{Fault, TryClone};
 use rc_world::{World, run};
-use std::alloc::Global;
+use std::alloc::{AllocError, Global};
 
 /// The world of the journal's events.
 pub(crate) fn replayed<N: Naming>(
     alloc: Global,
     journal: &Journal<N>,
-) -> Result<World<Global>, Fault>
+) -> Result<World<Global>, AllocError>
     requires { IsWithinLimits N.wire.setup }
     ensures setup { IfOk result (λ world. world.setup ≡ N.wire.setup) }
     ensures events { IfOk result (λ world. world.events ≡ journal.now) }
     ensures history { IfOk result (λ world. IsHistory N.wire world.events) }
-    ensures no_memory { IfErr result (λ fault. fault ≡ OutOfMemory) }
 {
     let setup = journal.setup().try_clone(alloc)?;
     match run(alloc, World::new(alloc, setup, alloc), journal.events()) {
         Ok(world) => Ok(world),
-        Err((_, _, fault)) => Err(fault),
+        Err((_, _, fault)) => Err(only_memory(fault)),
+    }
+}
+
+/// What was refused where each event was possible when it was noted: that can be memory alone.
+fn only_memory(fault: Fault) -> AllocError
+    requires { fault ≡ OutOfMemory }
+{
+    match fault {
+        Fault::OutOfMemory => AllocError,
+        _ => unreachable!(),
     }
 }
 

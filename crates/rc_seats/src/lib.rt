@@ -32,7 +32,7 @@ mod steps;
 mod wire;
 mod work;
 
-pub use rc_journal::{Journal, Naming, Opening, SeatName};
+pub use rc_journal::{Journal, Naming, Opening};
 pub use seat::Seat;
 pub use wire::Wire;
 pub use work::Work;

@@ -9,7 +9,7 @@ ghost use Rattle.rc_journal.specs.Views.{new_place};
 ghost use Rattle.rc_world.specs.HostView.{IsWithinLimits};
 ghost use Rattle.rc_world.specs.NodeCalls.{event_of};
 ghost use Rattle.rc_world.specs.NodeView.{node_seen};
-ghost use Rattle.rc_journal.specs.Names.{number_of};
+ghost use Rattle.rc_types.specs.Names.{number_of};
 ghost use Rattle.rc_seats.specs.SeatView.{new_seat, offered_events, node_at, node_name, world_at};
 ghost use Rattle.rc_seats.specs.Steps.{HasTaken};
 ghost use Rattle.rc_seats.specs.Works.{event_for, can_do, held_after, Offers, is_offered, Prepares, was_delivered};
@@ -20,8 +20,8 @@ ghost use Rattle.rc_seats.specs.declared.work.Work.TheVariants.{Fetched};
 use crate::offer::{Offer, let_go, put};
 use crate::steps::{give, given_by, new_state, own_number, take};
 use crate::work::Work;
-use rc_journal::{Naming, SeatName, Token};
-use rc_types::{Fault, Message, NodeWork, Setup};
+use rc_journal::{Naming, Token};
+use rc_types::{Fault, Message, NodeName, NodeWork, Setup};
 use rc_world::NodeState;
 use std::alloc::Global;
 use std::collections::HashSet;
@@ -33,7 +33,7 @@ use std::marker::Model;
 /// one of its number there, and the pending step is one of the node after its events.
 pub struct Seat<N: Naming> {
     pub(crate) alloc: Global,
-    name: SeatName,
+    name: NodeName,
     pub(crate) token: Token<N>,
     state: NodeState<Global>,
     pub(crate) held: Option<(usize, Message)>,
@@ -70,7 +70,7 @@ impl<N: Naming> Model for Seat<N> {
 
 impl<N: Naming> Seat<N> {
     /// The seat of a node that has seen and done nothing. It takes no memory.
-    pub fn new(alloc: Global, name: SeatName, setup: &Setup, token: Token<N>) -> Seat<N>
+    pub fn new(alloc: Global, name: NodeName, setup: &Setup, token: Token<N>) -> Seat<N>
         requires setup { setup.now ≡ N.wire.setup }
         requires limits { IsWithinLimits setup.now }
         requires token { token ≡ new_place (number_of name) }
@@ -88,7 +88,7 @@ impl<N: Naming> Seat<N> {
     }
 
     /// Whose seat it is. It takes no memory. Here it is said what is true of each seat.
-    pub fn name(&self) -> SeatName
+    pub fn name(&self) -> NodeName
         ensures name { result ≡ self.now.name }
         ensures seat { IsSeat N.wire.setup self.now }
     {

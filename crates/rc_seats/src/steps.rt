@@ -3,30 +3,28 @@
 ghost use Rattle.std.specs.Prelude.{◌≡◌, ◌⊎◌, ◌↔◌, true, false, is_some, option_map, OnErr, IfOk, IfErr};
 ghost use Rattle.std.specs.Option.{IfSome};
 ghost use Rattle.rc_types.specs.declared.faults.Fault.TheVariants.{OutOfMemory, BadEvent};
-ghost use Rattle.rc_history.specs.Nodes.{Node, new_node, name_of as node_name_of};
+ghost use Rattle.rc_history.specs.Nodes.{Node, new_node, name_of};
 ghost use Rattle.rc_world.specs.HostView.{IsWithinLimits};
 ghost use Rattle.rc_world.specs.NodeView.{node_seen, own_server, own_addr, may_take, NodeHasRoom};
 ghost use Rattle.rc_world.specs.NodeCalls.{event_of};
 ghost use Rattle.rc_types.specs.declared.events.NodeWork.TheVariants.{Deliver};
-ghost use Rattle.rc_journal.specs.Names.{name_of};
 ghost use Rattle.rc_seats.specs.Given.{given_of, is_delivery, own_number, Does};
 
 use crate::offer::Offer;
 use crate::work::Work;
-use rc_journal::SeatName;
-use rc_types::{Addr, Event, Fault, Message, NodeWork, ServerId, Setup, TryClone};
+use rc_types::{Addr, Event, Fault, Message, NodeName, NodeWork, ServerId, Setup, TryClone};
 use rc_world::NodeState;
-use std::alloc::Global;
+use std::alloc::{AllocError, Global};
 
 /// The node of this name before anything has happened.
-pub(crate) fn new_state(alloc: Global, name: SeatName, setup: &Setup) -> NodeState<Global>
+pub(crate) fn new_state(alloc: Global, name: NodeName, setup: &Setup) -> NodeState<Global>
     requires { IsWithinLimits setup.now }
-    ensures { node_seen result ≡ new_node setup.now (name_of name) }
+    ensures { node_seen result ≡ new_node setup.now name }
 {
     match name {
-        SeatName::Outside => NodeState::outside(alloc),
-        SeatName::Coordinator => NodeState::coordinator(alloc, alloc),
-        SeatName::Host(index) => NodeState::host(alloc, index, setup),
+        NodeName::Outside => NodeState::outside(alloc),
+        NodeName::Coordinator => NodeState::coordinator(alloc, alloc),
+        NodeName::Host(index) => NodeState::host(alloc, index, setup),
     }
 }
 
@@ -50,11 +48,11 @@ pub(crate) fn given_by(work: Work) -> Option<NodeWork>
 /// Gives a node a work that is no delivery.
 pub(crate) fn give(
     state: &mut NodeState<Global>,
-    name: SeatName,
+    name: NodeName,
     given: NodeWork,
 ) -> Result<Offer, Fault>
     requires room { NodeHasRoom (node_seen state.old) }
-    requires name { node_name_of (node_seen state.old) ≡ name_of name }
+    requires name { name_of (node_seen state.old) ≡ name }
     requires given { is_delivery given ≡ false }
     ensures does { IfOk result (λ offer. Does (node_seen state.old) 0 given offer (node_seen state.new)) }
     ensures bad { (result ≡ Err BadEvent) ↔ (may_take (node_seen state.old) given ≡ false) }
@@ -68,9 +66,9 @@ pub(crate) fn give(
 }
 
 /// A work that is no delivery as an event of its node. It moves what the work has.
-fn event_of(name: SeatName, own: ServerId, given: NodeWork) -> Event
+fn event_of(name: NodeName, own: ServerId, given: NodeWork) -> Event
     requires { is_delivery given ≡ false }
-    ensures { (node : Node) → node_name_of node ≡ name_of name → own_server node ≡ own →
+    ensures { (node : Node) → name_of node ≡ name → own_server node ≡ own →
         result ≡ event_of node 0 given }
 {
     match given {
@@ -90,22 +88,22 @@ fn event_of(name: SeatName, own: ServerId, given: NodeWork) -> Event
 }
 
 /// The address of a node: that of its own server, if it is a host.
-fn own_addr(name: SeatName, own: ServerId) -> Addr
-    ensures { (node : Node) → node_name_of node ≡ name_of name → own_server node ≡ own → result ≡ own_addr node }
+fn own_addr(name: NodeName, own: ServerId) -> Addr
+    ensures { (node : Node) → name_of node ≡ name → own_server node ≡ own → result ≡ own_addr node }
 {
     match name {
-        SeatName::Outside => Addr::Outside,
-        SeatName::Coordinator => Addr::Coordinator,
-        SeatName::Host(_) => Addr::Server(own),
+        NodeName::Outside => Addr::Outside,
+        NodeName::Coordinator => Addr::Coordinator,
+        NodeName::Host(_) => Addr::Server(own),
     }
 }
 
 /// The number of the message that is held, where it is one to the node of this name.
-pub(crate) fn own_number(name: SeatName, held: &Option<(usize, Message)>) -> Option<usize>
-    ensures { result ≡ own_number (name_of name) held.now }
+pub(crate) fn own_number(name: NodeName, held: &Option<(usize, Message)>) -> Option<usize>
+    ensures { result ≡ own_number name held.now }
 {
     match held {
-        Some((number, message)) if SeatName::at(message.to) == name => Some(*number),
+        Some((number, message)) if NodeName::at(message.to) == name => Some(*number),
         _ => None,
     }
 }
@@ -115,13 +113,12 @@ pub(crate) fn take(
     alloc: Global,
     state: &mut NodeState<Global>,
     held: &Option<(usize, Message)>,
-) -> Result<Offer, Fault>
+) -> Result<Offer, AllocError>
     requires room { NodeHasRoom (node_seen state.old) }
     requires held { is_some held.now ≡ true }
     ensures does { IfOk result (λ offer. IfSome held.now (λ h.
         Does (node_seen state.old) h.0 (Deliver h.1) offer (node_seen state.new))) }
     ensures err { OnErr result (node_seen state.new ≡ node_seen state.old) }
-    ensures no_memory { IfErr result (λ fault. fault ≡ OutOfMemory) }
 {
     match held {
         Some((number, message)) => deliver(alloc, state, *number, message),
@@ -135,12 +132,11 @@ fn deliver(
     state: &mut NodeState<Global>,
     number: usize,
     message: &Message,
-) -> Result<Offer, Fault>
+) -> Result<Offer, AllocError>
     requires { NodeHasRoom (node_seen state.old) }
     ensures does { IfOk result (λ offer.
         Does (node_seen state.old) number (Deliver message.now) offer (node_seen state.new)) }
     ensures err { OnErr result (node_seen state.new ≡ node_seen state.old) }
-    ensures no_memory { IfErr result (λ fault. fault ≡ OutOfMemory) }
 {
     let mut messages = Vec::new(alloc);
     state.take(message, &mut messages)?;
@@ -151,9 +147,8 @@ fn deliver(
 }
 
 /// A copy of a message, if there is one.
-pub(crate) fn copy_of(alloc: Global, found: Option<&Message>) -> Result<Option<Message>, Fault>
-    ensures copy { IfOk result (λ copy. copy ≡ option_map (λ message. message.now) found.entry) }
-    ensures no_memory { IfErr result (λ fault. fault ≡ OutOfMemory) }
+pub(crate) fn copy_of(alloc: Global, found: Option<&Message>) -> Result<Option<Message>, AllocError>
+    ensures { IfOk result (λ copy. copy ≡ option_map (λ message. message.now) found.entry) }
 {
     match found {
         Some(message) => Ok(Some(message.try_clone(alloc)?)),

@@ -19,7 +19,7 @@ use crate::seat::Seat;
 use rc_journal::{Journal, Naming, Opening};
 use rc_types::Fault;
 use rc_world::World;
-use std::alloc::Global;
+use std::alloc::{AllocError, Global};
 use std::sync::{Mutex, Wait};
 
 /// What joins the nodes: the journal, behind one lock. Threads share it; each has a seat of its own.
@@ -36,12 +36,11 @@ impl<N: Naming> Wire<N> {
     /// # Errors
     ///
     /// `OutOfMemory` (F1): memory was refused.
-    pub fn open(alloc: Global, opening: Opening) -> Result<(Wire<N>, Vec<Seat<N>>), Fault>
+    pub fn open(alloc: Global, opening: Opening) -> Result<(Wire<N>, Vec<Seat<N>>), AllocError>
         requires name { opening ≡ N.wire }
         requires limits { IsWithinLimits opening.setup }
         requires hosts { opening.nodes ≤ MAX_HOSTS + 2 }
-        ensures seats { IfOk result (λ made. made.1.items ≡ new_seats N.wire.nodes) }
-        ensures no_memory { IfErr result (λ fault. fault ≡ OutOfMemory) }
+        ensures { IfOk result (λ made. made.1.items ≡ new_seats N.wire.nodes) }
     {
         let (journal, tokens) = Journal::open(alloc, opening)?;
         let seats = seats_of(alloc, journal.setup(), tokens)?;
@@ -66,10 +65,14 @@ impl<N: Naming> Wire<N> {
     /// # Errors
     ///
     /// `OutOfMemory` (F1): memory was refused. The seat is as before.
-    pub fn fetch(&self, rt: &impl Wait, seat: &mut Seat<N>, number: usize) -> Result<bool, Fault>
+    pub fn fetch(
+        &self,
+        rt: &impl Wait,
+        seat: &mut Seat<N>,
+        number: usize,
+    ) -> Result<bool, AllocError>
         ensures ok { IfOk result (λ found. Fetches N.wire.setup seat.old number found seat.new) }
         ensures err { OnErr result (seat.new ≡ seat.old) }
-        ensures no_memory { IfErr result (λ fault. fault ≡ OutOfMemory) }
     {
         seat.hold(&mut self.journal.lock(rt), number)
     }
@@ -101,13 +104,12 @@ impl<N: Naming> Wire<N> {
         self,
         alloc: Global,
         seats: Vec<Seat<N>>,
-    ) -> Result<World<Global>, (Wire<N>, Vec<Seat<N>>, Fault)>
+    ) -> Result<World<Global>, (Wire<N>, Vec<Seat<N>>, AllocError)>
         ensures world { IfOk result (λ world. world.setup ≡ N.wire.setup) }
         ensures seats { IfOk result (λ world. All (Covers N.wire.setup world.events) seats.items) }
         ensures others { IfOk result (λ world. (number : ℕ) → N.wire.nodes ≤ number →
             events_of N.wire.setup (name_at number) world.events ≡ []) }
         ensures back { IfErr result (λ refused. refused.1.items ≡ seats.items) }
-        ensures no_memory { IfErr result (λ refused. refused.2 ≡ OutOfMemory) }
     {
         let mut journal = self.journal.into_inner();
         match replayed(alloc, &journal) {

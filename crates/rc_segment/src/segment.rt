@@ -7,14 +7,14 @@ ghost use Rattle.rc_model.specs.Config.{notes, noted, committed_at};
 use crate::state::SegmentState;
 use rc_config::{Config, MAX_MEMBERS, MemberIds};
 use rc_serverlist::ServerList;
-use rc_types::{Entry, Fault, Member, ServerId};
+use rc_types::{Entry, Fault, Member, ServerId, Shared};
 use std::alloc::{AllocError, Global};
 use std::marker::Model;
 
 /// One segment of a log: its digest, its entries, its members, and how far it has come. "The master" in
 /// `docs/PROTOCOL.md` has the rules.
 pub struct Segment {
-    digest: Vec<u16>,
+    digest: Shared<u16>,
     entries: Vec<(Entry, bool)>,
     config: Config,
     commit_sent: bool,
@@ -43,7 +43,7 @@ impl Model for Segment {
     ghost Value = { SegmentModel };
 
     ghost view = { λ s. record {
-      digest = s.digest.items;
+      digest = s.digest;
       entries = s.entries.items;
       config = s.config;
       commit_sent = s.commit_sent;
@@ -64,9 +64,9 @@ impl Segment {
     ghost use Rattle.rc_segment.specs.Concerned.{is_concerned};
 
     /// A segment as it is opened with this digest on these members. It takes no memory.
-    pub fn new(alloc: Global, seg: u16, digest: Vec<u16>, ids: &[ServerId]) -> Segment
+    pub fn new(alloc: Global, seg: u16, digest: Shared<u16>, ids: &[ServerId]) -> Segment
         requires { length ids.now ≤ MAX_MEMBERS }
-        ensures { result ≡ new_segment seg digest.items ids.now }
+        ensures { result ≡ new_segment seg digest ids.now }
     {
         Segment {
             digest,
@@ -84,6 +84,13 @@ impl Segment {
         ensures { result.now ≡ self.now.digest }
     {
         self.digest.as_slice()
+    }
+
+    /// One more owner of the digest. It fails only where more owners can't be counted.
+    pub fn share_digest(&self) -> Result<Shared<u16>, AllocError>
+        ensures { IfOk result (λ digest. digest ≡ self.now.digest) }
+    {
+        self.digest.share()
     }
 
     /// The entries in order, each with a mark whether a client wrote it.

@@ -9,7 +9,7 @@ ghost use Rattle.rc_model.specs.Ids.{same_id};
 use crate::marks;
 use indexmap::IndexMap;
 use rc_types::{Fault, ServerId, Shared};
-use std::alloc::Global;
+use std::alloc::{AllocError, Global};
 use std::fmt;
 use std::marker::Model;
 
@@ -71,9 +71,8 @@ impl ServerList {
         alloc: Global,
         version: u32,
         rows: &[(ServerId, bool)],
-    ) -> Result<ServerList, Fault>
-        ensures ok { IfOk result (λ list. list ≡ from_rows version rows.now) }
-        ensures no_memory { IfErr result (λ fault. fault ≡ OutOfMemory) }
+    ) -> Result<ServerList, AllocError>
+        ensures { IfOk result (λ list. list ≡ from_rows version rows.now) }
     {
         let mut first = IndexMap::with_capacity(alloc, rows.len())?;
         for (id, up) in rows {
@@ -87,9 +86,8 @@ impl ServerList {
     }
 
     /// A copy, which equals the list. Only memory can be refused (F1).
-    pub fn try_clone(&self, alloc: Global) -> Result<ServerList, Fault>
-        ensures ok { IfOk result (λ copy. copy ≡ self.now) }
-        ensures no_memory { IfErr result (λ fault. fault ≡ OutOfMemory) }
+    pub fn try_clone(&self, alloc: Global) -> Result<ServerList, AllocError>
+        ensures { IfOk result (λ copy. copy ≡ self.now) }
     {
         let copy = self.rows.iter().map(|(id, up)| (*id, *up)).collect(alloc)?;
         Ok(ServerList {
@@ -156,9 +154,8 @@ impl ServerList {
     }
 
     /// The ids that are up, by index and then by generation. Only memory can be refused (F1).
-    pub fn up(&self, alloc: Global) -> Result<Vec<ServerId>, Fault>
-        ensures ok { IfOk result (λ ids. ids.items ≡ up self.now) }
-        ensures no_memory { IfErr result (λ fault. fault ≡ OutOfMemory) }
+    pub fn up(&self, alloc: Global) -> Result<Vec<ServerId>, AllocError>
+        ensures { IfOk result (λ ids. ids.items ≡ up self.now) }
     {
         let mut ids = Vec::new(alloc);
         for (id, up) in self.rows.iter().rev() {
@@ -171,10 +168,9 @@ impl ServerList {
 
     /// All ids with their marks, in the order of enlisting, as a List message tells them. No id is
     /// there twice. Only memory can be refused (F1).
-    pub fn rows(&self, alloc: Global) -> Result<Vec<(ServerId, bool)>, Fault>
+    pub fn rows(&self, alloc: Global) -> Result<Vec<(ServerId, bool)>, AllocError>
         ensures ok { IfOk result (λ rows. rows.items ≡ self.now.rows) }
         ensures distinct { IsDistinct same_id (keys_of self.now.rows) }
-        ensures no_memory { IfErr result (λ fault. fault ≡ OutOfMemory) }
     {
         let rows = self.rows.iter().map(|(id, up)| (*id, *up)).collect(alloc)?;
         Ok(rows)
@@ -182,10 +178,9 @@ impl ServerList {
 
     /// The same rows, for any number of messages. They are made once after each change of the list: who asks again
     /// gets one more owner of them. Only memory can be refused (F1).
-    pub fn shared_rows(&mut self, alloc: Global) -> Result<Shared<(ServerId, bool)>, Fault>
+    pub fn shared_rows(&mut self, alloc: Global) -> Result<Shared<(ServerId, bool)>, AllocError>
         ensures same { self.new ≡ self.old }
         ensures ok { IfOk result (λ rows. rows ≡ self.old.rows) }
-        ensures no_memory { IfErr result (λ fault. fault ≡ OutOfMemory) }
     {
         if let Some(rows) = &self.told {
             return Ok(rows.share()?);

@@ -1,16 +1,16 @@
 //! Rows of ids and marks, as an `IndexMap` in the order of enlisting.
 
 ghost use Rattle.std.specs.Prelude.{◌≡◌, ◌≤◌, ◌++◌, ◌∷◌, [], take, drop, length, position, not, if◌then◌else◌};
-ghost use Rattle.std.specs.Prelude.{nat_eq, nat_lt, ◌||◌, ◌&&◌, true, false, OnOk, IfErr};
+ghost use Rattle.std.specs.Prelude.{nat_eq, nat_lt, ◌||◌, ◌&&◌, true, false, OnOk};
 ghost use Rattle.std.specs.Bool.{OnFalse};
 ghost use Rattle.std.specs.List.{list_all};
 ghost use Rattle.indexmap.specs.IndexMap.{keys};
-ghost use Rattle.rc_types.specs.declared.faults.Fault.TheVariants.{OutOfMemory};
 ghost use Rattle.rc_model.specs.Ids.{id_before, insert_id};
 ghost use Rattle.rc_model.specs.ServerList.{knows, is_newest, marked_up, index_crashed, id_crashed};
 
 use indexmap::IndexMap;
-use rc_types::{Fault, ServerId};
+use rc_types::ServerId;
+use std::alloc::AllocError;
 use std::mem;
 
 /// Adds a row for the id, unless it has one.
@@ -18,10 +18,9 @@ pub(crate) fn insert_if_unknown(
     rows: &mut IndexMap<ServerId, bool>,
     id: ServerId,
     up: bool,
-) -> Result<(), Fault>
-    ensures ok { OnOk result (rows.new.entries ≡ (if knows rows.old.entries id then rows.old.entries
+) -> Result<(), AllocError>
+    ensures { OnOk result (rows.new.entries ≡ (if knows rows.old.entries id then rows.old.entries
         else rows.old.entries ++ (id, up) ∷ [])) }
-    ensures no_memory { IfErr result (λ fault. fault ≡ OutOfMemory) }
 {
     if !rows.contains_key(&id) {
         rows.insert(id, up)?;
@@ -97,9 +96,8 @@ fn place_before(ids: &[ServerId], id: ServerId) -> Option<usize>
 }
 
 /// Puts the id before the first of the ids that it comes before.
-pub(crate) fn insert_in_order(ids: &mut Vec<ServerId>, id: ServerId) -> Result<(), Fault>
-    ensures ok { OnOk result (ids.new.items ≡ insert_id id ids.old.items) }
-    ensures no_memory { IfErr result (λ fault. fault ≡ OutOfMemory) }
+pub(crate) fn insert_in_order(ids: &mut Vec<ServerId>, id: ServerId) -> Result<(), AllocError>
+    ensures { OnOk result (ids.new.items ≡ insert_id id ids.old.items) }
 {
     let place = place_before(ids, id).unwrap_or(ids.len());
     ids.insert(place, id)?;

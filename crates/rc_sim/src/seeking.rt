@@ -16,8 +16,8 @@ use crate::simulating::write_answer;
 use crate::surveying::tell_seed;
 use crate::verdicts::{SimFault, Verdict};
 use rc_study::{Exploration, Options, saved_events};
-use rc_survey::{Goal, event_name, message_name};
-use rc_types::{Event, Message, Seq};
+use rc_survey::Goal;
+use rc_types::{Event, EventKind, Kind, Message, Seq};
 use rc_words::nearest;
 use std::alloc::{AllocError, Global};
 use std::io::Write;
@@ -193,13 +193,13 @@ fn told(
 
 /// The kind of an event; of a delivery also the message.
 fn tell_event(text: &mut String, event: &Event, sent: &[Message]) -> Result<(), AllocError> {
-    write!(text, " kind {}", event_name(event))?;
+    write!(text, " kind {}", EventKind::of(event).name())?;
     if let Event::Deliver(number) = event {
         if let Some(message) = sent.get(*number) {
             write!(
                 text,
                 " message {number} body {} from {} to {}",
-                message_name(message),
+                Kind::of(&message.body).name(),
                 message.from,
                 message.to
             )?;

@@ -1,13 +1,13 @@
 //! What is counted of a run, or of several.
 
 use crate::rules::{RULES, Rule};
-use rc_types::{Body, Event, Message};
+use rc_types::{Body, Event, EventKind, Kind, Message};
 
 /// How many kinds of events there are.
-pub(crate) const EVENTS: usize = 9;
+pub(crate) const EVENTS: usize = EventKind::ALL.len();
 
 /// How many kinds of messages there are.
-pub(crate) const BODIES: usize = 23;
+pub(crate) const BODIES: usize = Kind::ALL.len();
 
 /// How many codes there are, and one more, for their numbers begin at 1. One beyond it would not be counted: a new
 /// code raises it.
@@ -93,12 +93,12 @@ impl Counts {
 
     /// One more event.
     pub(crate) fn event(&mut self, event: &Event) {
-        more_at(&mut self.events, event_number(event));
+        more_at(&mut self.events, EventKind::of(event).number().into());
     }
 
     /// One more message.
     pub(crate) fn message(&mut self, message: &Message) {
-        more_at(&mut self.bodies, body_number(&message.body));
+        more_at(&mut self.bodies, Kind::of(&message.body).number().into());
         if let Body::Refused { code } = &message.body {
             more_at(&mut self.refused, code.number() as usize);
         }
@@ -141,7 +141,7 @@ impl Counts {
     /// What came of the events, by name.
     pub(crate) fn outcomes(&self) -> [(&'static str, u64); OUTCOMES] {
         [
-            ("acknowledged", self.bodies[2]),
+            ("acknowledged", self.bodies[Kind::WriteOk as usize]),
             ("rolls", self.reached(Rule::Roll)),
             ("epochs-committed", self.epochs),
             ("members-replaced", self.reached(Rule::MemberReplaced)),
@@ -149,7 +149,7 @@ impl Counts {
             ("zombie-acknowledgements", self.zombies),
             ("parts-recovered", self.recovered),
             ("most-owners", self.owners),
-            ("segments-freed", self.bodies[22]),
+            ("segments-freed", self.bodies[Kind::Free as usize]),
         ]
     }
 }
@@ -161,48 +161,4 @@ fn sum(counts: &[u64]) -> u64 {
         all = all.saturating_add(*count);
     }
     all
-}
-
-/// The place of the event's kind among all.
-pub(crate) fn event_number(event: &Event) -> usize {
-    match event {
-        Event::Ask { .. } => 0,
-        Event::Deliver(_) => 1,
-        Event::Tick(_) => 2,
-        Event::Stop(_) => 3,
-        Event::Start { .. } => 4,
-        Event::Suspect(_) => 5,
-        Event::Decide(_) => 6,
-        Event::Create { .. } => 7,
-        Event::Split { .. } => 8,
-    }
-}
-
-/// The place of the message's kind among all.
-pub(crate) fn body_number(body: &Body) -> usize {
-    match body {
-        Body::Write { .. } => 0,
-        Body::Read { .. } => 1,
-        Body::WriteOk { .. } => 2,
-        Body::ReadOk { .. } => 3,
-        Body::Refused { .. } => 4,
-        Body::Place { .. } => 5,
-        Body::Append { .. } => 6,
-        Body::Close { .. } => 7,
-        Body::Stored { .. } => 8,
-        Body::Commit { .. } => 9,
-        Body::CommitOk { .. } => 10,
-        Body::Enlist => 11,
-        Body::Ready => 12,
-        Body::List { .. } => 13,
-        Body::Gather { .. } => 14,
-        Body::Replicas { .. } => 15,
-        Body::Plan { .. } => 16,
-        Body::Fetch { .. } => 17,
-        Body::Data { .. } => 18,
-        Body::Recovered { .. } => 19,
-        Body::Own { .. } => 20,
-        Body::SplitOk { .. } => 21,
-        Body::Free { .. } => 22,
-    }
 }

@@ -27,6 +27,6 @@ mod surveying;
 mod telling;
 
 pub use counts::Counts;
-pub use goals::{Goal, event_name, message_name};
+pub use goals::Goal;
 pub use sums::Sum;
 pub use surveying::Survey;

@@ -1,7 +1,7 @@
 //! What a master has sent of its segments, and which of their replicas are open.
 
 use crate::replicas::Replica;
-use rc_types::{Seq, ServerId};
+use rc_types::{ServerId, Shared};
 use std::alloc::{AllocError, Global};
 use std::collections::HashMap;
 
@@ -261,7 +261,7 @@ impl Log {
     }
 
     /// Whether one of these segments has an entry of a recovered log.
-    pub(crate) fn has_replayed(&self, digest: &Seq<u16>) -> bool {
+    pub(crate) fn has_replayed(&self, digest: &Shared<u16>) -> bool {
         for seg in digest.as_slice() {
             if let Some(segment) = self.segment(*seg) {
                 if segment.replayed {

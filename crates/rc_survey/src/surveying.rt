@@ -8,7 +8,7 @@ use crate::recoveries::Recoveries;
 use crate::replicas::{Freed, Replica};
 use crate::rules::Rule;
 use crate::servers::Servers;
-use rc_types::{Addr, Body, Code, Entry, Event, Message, Pair, Part, Seq, ServerId};
+use rc_types::{Addr, Body, Code, Entry, Event, Message, Pair, Part, Seq, ServerId, Shared};
 use std::alloc::{AllocError, Global};
 
 /// What a run has reached so far, and what has to be known of it to see more.
@@ -237,7 +237,7 @@ impl Survey {
         master: ServerId,
         seg: u16,
         epoch: u16,
-        digest: &Seq<u16>,
+        digest: &Shared<u16>,
     ) {
         let Some(server) = self.servers.get(master) else {
             return;

@@ -3,44 +3,31 @@
 use crate::counts::{BODIES, Counts, EVENTS};
 use crate::rules::RULE_NAMES;
 use rc_pen::{Pen, Piece};
+use rc_types::{EventKind, Kind};
 
-/// The kinds of events, in the order in which they are counted.
-pub(crate) const EVENT_NAMES: [&str; EVENTS] = [
-    "Ask", "Deliver", "Tick", "Stop", "Start", "Suspect", "Decide", "Create", "Split",
-];
+/// The names of the kinds of events, in the order in which they are counted.
+fn event_names() -> [&'static str; EVENTS] {
+    let mut names = [""; EVENTS];
+    for (at, kind) in EventKind::ALL.iter().enumerate() {
+        names[at] = kind.name();
+    }
+    names
+}
 
-/// The kinds of messages, in the order in which they are counted.
-pub(crate) const BODY_NAMES: [&str; BODIES] = [
-    "Write",
-    "Read",
-    "WriteOk",
-    "ReadOk",
-    "Refused",
-    "Place",
-    "Append",
-    "Close",
-    "Stored",
-    "Commit",
-    "CommitOk",
-    "Enlist",
-    "Ready",
-    "List",
-    "Gather",
-    "Replicas",
-    "Plan",
-    "Fetch",
-    "Data",
-    "Recovered",
-    "Own",
-    "SplitOk",
-    "Free",
-];
+/// The names of the kinds of messages, in the order in which they are counted.
+fn message_names() -> [&'static str; BODIES] {
+    let mut names = [""; BODIES];
+    for (at, kind) in Kind::ALL.iter().enumerate() {
+        names[at] = kind.name();
+    }
+    names
+}
 
 /// The lines of what was counted: the events, the messages and the refusals by kind, what came of them, and what was
 /// not reached.
 pub(crate) fn tell_counts(pen: &mut Pen, counts: &Counts) {
-    tell_named(pen, "events", &EVENT_NAMES, &counts.events);
-    tell_named(pen, "messages", &BODY_NAMES, &counts.bodies);
+    tell_named(pen, "events", &event_names(), &counts.events);
+    tell_named(pen, "messages", &message_names(), &counts.bodies);
     tell_refusals(pen, &counts.refused);
     tell_reached(pen, counts);
     tell_unreached(pen, counts);
@@ -88,7 +75,7 @@ fn tell_refusals(pen: &mut Pen, counts: &[u64]) {
 /// A line of all that has not been reached: kinds of messages that were never sent, and what never came of the events.
 fn tell_unreached(pen: &mut Pen, counts: &Counts) {
     pen.put("unreached");
-    tell_missing(pen, &BODY_NAMES, &counts.bodies);
+    tell_missing(pen, &message_names(), &counts.bodies);
     for (name, count) in &counts.outcomes() {
         if *count == 0 {
             pen.put(" ");
@@ -99,7 +86,7 @@ fn tell_unreached(pen: &mut Pen, counts: &Counts) {
 }
 
 /// The names whose count is 0.
-fn tell_missing(pen: &mut Pen, names: &[&str], counts: &[u64]) {
+fn tell_missing(pen: &mut Pen, names: &[&'static str], counts: &[u64]) {
     for (name, count) in names.iter().zip(counts) {
         if *count == 0 {
             pen.put(" ");

@@ -1,12 +1,11 @@
 //! The story as a sequence diagram for Mermaid.
 
 use crate::fields::{tell_event, tell_fields_if_any};
-use crate::kinds::body_name;
 use crate::silences::tell_silence;
 use crate::story::{Step, Story, Turn};
 use crate::tables::Table;
 use rc_pen::{Pen, Piece, Spelling};
-use rc_types::{Addr, Event, Message, ServerId};
+use rc_types::{Addr, Event, Kind, Message, ServerId};
 use std::alloc::{AllocError, Global};
 
 /// The story as a sequence diagram: an arrow for each message where it is delivered, or, where it goes to the outside
@@ -143,7 +142,10 @@ fn put_arrow(pen: &mut Pen, arrow: &str, number: usize, message: &Message) {
     put_name(pen, arrow, message.to);
     pen.put_all(
         ": % %",
-        &[Piece::Size(number), Piece::Words(body_name(&message.body))],
+        &[
+            Piece::Size(number),
+            Piece::Words(Kind::of(&message.body).name()),
+        ],
     );
     tell_fields_if_any(pen, &message.body);
 }

@@ -1,11 +1,10 @@
 //! How things stand at the end of a story: what was never delivered, what the outside was told, who owns which range,
 //! and what was last acknowledged of each key.
 
-use crate::kinds::{body_name, body_place};
 use crate::passages::Passages;
 use crate::story::Story;
 use crate::tables::Table;
-use rc_types::{Addr, Body, Message};
+use rc_types::{Addr, Body, Kind, Message};
 use std::alloc::{AllocError, Global};
 
 /// How many messages of a group are told by number.
@@ -30,7 +29,7 @@ impl Group {
     /// Of no message yet, of those that are like this one.
     fn of(message: &Message) -> Group {
         Group {
-            kind: body_name(&message.body),
+            kind: Kind::of(&message.body).name(),
             to: message.to,
             count: 0,
             numbers: [0; MOST_NUMBERS],
@@ -87,9 +86,9 @@ pub(crate) struct Newest {
 /// How things stand at the end.
 pub(crate) struct Ending {
     /// What was never delivered to a server or to the coordinator, by kind and addressee.
-    lost: Table<(usize, Addr), Group>,
+    lost: Table<(u8, Addr), Group>,
     /// What was sent to the outside, by kind.
-    told: Table<(usize, Addr), Group>,
+    told: Table<(u8, Addr), Group>,
     ranges: Table<(u32, u64, u64), Range>,
     newest: Table<(u32, u64), Newest>,
 }
@@ -166,12 +165,12 @@ impl Ending {
     }
 
     /// What was never delivered to a server or to the coordinator, by kind and addressee.
-    pub(crate) fn lost(&self) -> &Table<(usize, Addr), Group> {
+    pub(crate) fn lost(&self) -> &Table<(u8, Addr), Group> {
         &self.lost
     }
 
     /// What was sent to the outside, by kind.
-    pub(crate) fn told(&self) -> &Table<(usize, Addr), Group> {
+    pub(crate) fn told(&self) -> &Table<(u8, Addr), Group> {
         &self.told
     }
 
@@ -233,11 +232,11 @@ pub(crate) fn acknowledge(
 
 /// One more message, of this number, in its group.
 pub(crate) fn count(
-    groups: &mut Table<(usize, Addr), Group>,
+    groups: &mut Table<(u8, Addr), Group>,
     number: usize,
     message: &Message,
 ) -> Result<(), AllocError> {
-    let place = (body_place(&message.body), message.to);
+    let place = (Kind::of(&message.body).number(), message.to);
     let mut group = match groups.find(place) {
         Some(group) => group,
         None => Group::of(message),
@@ -247,7 +246,7 @@ pub(crate) fn count(
 }
 
 /// How many messages all groups have.
-pub(crate) fn total_of(groups: &Table<(usize, Addr), Group>) -> u64 {
+pub(crate) fn total_of(groups: &Table<(u8, Addr), Group>) -> u64 {
     let mut total = 0u64;
     for group in groups.entries.values() {
         total = total.saturating_add(group.count);

@@ -1,8 +1,10 @@
 //! Events and messages as text: what they say, in a line.
 
-use crate::kinds::{body_name, code_name, event_name};
+use crate::kinds::event_name;
 use rc_pen::{Pen, Piece};
-use rc_types::{Body, Code, Entry, Event, Message, Part, PlanRow, Row, Seq, ServerId, Shared};
+use rc_types::{
+    Body, Code, Entry, Event, Kind, Message, Part, PlanRow, Row, Seq, ServerId, Shared,
+};
 
 /// How many entries of a message are told one by one.
 const MOST_ENTRIES: usize = 4;
@@ -23,7 +25,7 @@ pub(crate) fn tell_message(pen: &mut Pen, number: usize, message: &Message) {
         "% % % -> %",
         &[
             Piece::Size(number),
-            Piece::Words(body_name(&message.body)),
+            Piece::Words(Kind::of(&message.body).name()),
             Piece::Node(message.from),
             Piece::Node(message.to),
         ],
@@ -289,7 +291,7 @@ fn tell_other(pen: &mut Pen, body: &Body) {
 
 /// A code, and its name.
 pub(crate) fn tell_code(pen: &mut Pen, code: Code) {
-    pen.say_all("% %", &[Piece::Code(code), Piece::Words(code_name(code))]);
+    pen.say_all("% %", &[Piece::Code(code), Piece::Words(code.name())]);
 }
 
 /// Who is on the server list, and who of them is up.
@@ -302,7 +304,7 @@ fn tell_list(pen: &mut Pen, version: u32, rows: &Shared<(ServerId, bool)>) {
 }
 
 /// The segments of a digest.
-fn tell_digest(pen: &mut Pen, digest: &Seq<u16>) {
+fn tell_digest(pen: &mut Pen, digest: &Shared<u16>) {
     pen.say(" digest");
     for seg in digest.as_slice().iter().take(MOST_SEGMENTS) {
         pen.number(" ", u64::from(*seg));

@@ -115,7 +115,7 @@ fn tell_waiting(course: &Course, alloc: Global, pen: &mut Pen, messages: &[Messa
 /// Counts the messages that wait, by kind and addressee.
 fn count_waiting(
     course: &Course,
-    groups: &mut Table<(usize, Addr), Group>,
+    groups: &mut Table<(u8, Addr), Group>,
     messages: &[Message],
 ) -> Result<(), AllocError> {
     for (number, message) in messages.iter().enumerate() {
@@ -205,7 +205,7 @@ fn tell_fewer(pen: &mut Pen, up: usize, running: usize, host: u8, factor: u8) {
 }
 
 /// How many messages wait, and the first kinds of them.
-fn tell_groups(pen: &mut Pen, waiting: u64, groups: &Table<(usize, Addr), Group>) {
+fn tell_groups(pen: &mut Pen, waiting: u64, groups: &Table<(u8, Addr), Group>) {
     if waiting == 0 {
         return;
     }

@@ -3,7 +3,7 @@
 use crate::ending::{Ending, Group};
 use crate::fields::{tell_event, tell_fields};
 use crate::json_standing::{put_changes, put_standing};
-use crate::kinds::{body_name, event_name};
+use crate::kinds::event_name;
 use crate::servers::Server;
 use crate::silences::{Silence, tell_silence};
 use crate::story::{Step, Story, Turn};
@@ -11,7 +11,7 @@ use crate::tables::Table;
 use crate::verdict::tell_verdict;
 use crate::writes::{Writes, tell_fate};
 use rc_pen::{Pen, Piece, Spelling};
-use rc_types::{Addr, Event, Message};
+use rc_types::{Addr, Event, Kind, Message};
 use std::alloc::{AllocError, Global};
 
 /// The story as one JSON value. Keys and versions are texts, since many readers of JSON round great numbers. No `<`
@@ -56,7 +56,7 @@ fn put_messages(pen: &mut Pen, story: &Story<'_>) {
             &[
                 Piece::Flag(number == 0),
                 Piece::Size(number),
-                Piece::Words(body_name(&message.body)),
+                Piece::Words(Kind::of(&message.body).name()),
                 Piece::Node(message.from),
                 Piece::Node(message.to),
             ],
@@ -170,7 +170,7 @@ fn put_audit(alloc: Global, pen: &mut Pen, story: &Story<'_>) {
 }
 
 /// Messages by kind and addressee.
-fn put_groups(pen: &mut Pen, groups: &Table<(usize, Addr), Group>) {
+fn put_groups(pen: &mut Pen, groups: &Table<(u8, Addr), Group>) {
     pen.put("],\"lost\":[");
     for (place, group) in groups.entries.values().enumerate() {
         pen.put_all(

@@ -140,7 +140,7 @@ fn tell_audit(alloc: Global, pen: &mut Pen, story: &Story<'_>) {
 }
 
 /// Messages by kind and addressee.
-fn tell_groups(pen: &mut Pen, title: &str, groups: &Table<(usize, Addr), Group>) {
+fn tell_groups(pen: &mut Pen, title: &str, groups: &Table<(u8, Addr), Group>) {
     pen.number(title, total_of(groups));
     pen.say("\n");
     for group in groups.entries.values() {

@@ -56,12 +56,14 @@ const PATTERNS = '<defs><pattern id="hatched" width="4" height="4" patternUnits=
   '<pattern id="replaced" width="9" height="9" patternUnits="userSpaceOnUse" ' +
   'patternTransform="rotate(45)"><rect width="6" height="9" fill="var(--replaced)"/></pattern></defs>';
 
-// The picture. Only the rows that can be seen are drawn.
-const view = byId("view"), picture = byId("picture"), space = byId("space");
+// The picture. Only the rows that can be seen are drawn, and some above and below, so that one can scroll a while.
+const view = byId("view"), headings = byId("heads"), picture = byId("picture"), space = byId("space");
 const ROW = 28, TOP = 44, RIGHT = 36, LONG = 400, NARROWEST = 76, FOLD = 22, FOLDS = 220;
-let left = 84, width = 0, thin = FOLD, full = 0, scrolled = 0, aside = 0, places = new Map();
+let left = 84, width = 0, thin = FOLD, full = 0, aside = 0, places = new Map();
+// where what is drawn begins, how tall it is, and how tall all would be; what the heads are
+let begin = 0, tall = 0, all = 0, heading = "", folded = () => false;
 const x = (name) => places.get(name);
-const yOf = (row) => TOP + ROW * (row + 0.5) - scrolled;
+const yOf = (row) => TOP + ROW * (row + 0.5) - begin;
 const y = (event) => yOf(rowOf[event]);
 
 // Where each column stands: one of a server that does not run while these events happen is folded, and all that are
@@ -211,26 +213,26 @@ function numbers(first, last, parts) {
 }
 
 // A span of events at a node, as far as it is seen; nothing where it is not.
-function spanned(id, from, until, height) {
-  const top = Math.max(y(from), 0), bottom = Math.min(y(until), height);
-  return bottom > top && places.has(id) ? { top, tall: bottom - top } : null;
+function spanned(id, from, until) {
+  const upper = Math.max(y(from), 0), lower = Math.min(y(until), tall);
+  return lower > upper && places.has(id) ? { upper, tall: lower - upper } : null;
 }
 
-function lifelines(height, parts) {
+function lifelines(parts) {
   for (const doubt of doubts) {
-    const span = spanned(doubt.id, doubt.from, doubt.until, height);
+    const span = spanned(doubt.id, doubt.from, doubt.until);
     if (span) {
-      parts.push(`<rect class="doubt ${doubt.name}" x="${x(doubt.id) - width * 0.42}" y="${span.top}" ` +
+      parts.push(`<rect class="doubt ${doubt.name}" x="${x(doubt.id) - width * 0.42}" y="${span.upper}" ` +
         `width="${width * 0.84}" height="${span.tall}"><title>${doubt.id} ${doubt.text}</title></rect>`);
     }
   }
   for (const name of columns) {
-    parts.push(`<line class="life" x1="${x(name)}" x2="${x(name)}" y1="${TOP}" y2="${height}"/>`);
+    parts.push(`<line class="life" x1="${x(name)}" x2="${x(name)}" y1="${Math.max(0, TOP - begin)}" y2="${tall}"/>`);
   }
   for (const band of bands) {
-    const span = spanned(band.id, band.from, band.until, height);
+    const span = spanned(band.id, band.from, band.until);
     if (span) {
-      parts.push(`<rect class="band ${band.phase}" x="${x(band.id) - 5}" y="${span.top}" width="10" ` +
+      parts.push(`<rect class="band ${band.phase}" x="${x(band.id) - 5}" y="${span.upper}" width="10" ` +
         `height="${span.tall}"><title>${band.id} ${band.phase}</title></rect>`);
     }
   }
@@ -240,13 +242,13 @@ const keysText = (range) => range.lo === 0n && range.hi === 18446744073709551615
   `keys ${range.lo} to ${range.hi}`;
 
 // The ranges that a server owns, on the left of its line; a former owner's bar goes on, hollow.
-function ownings(height, parts) {
+function ownings(parts) {
   for (const owner of owners) {
     const beside = 12 + owner.lane * 6;
     for (const [from, until, former] of [[owner.from, owner.until, ""], [owner.until, owner.former, " former"]]) {
-      const span = beside < width * 0.42 && spanned(owner.id, from, until, height);
+      const span = beside < width * 0.42 && spanned(owner.id, from, until);
       if (span) {
-        parts.push(`<rect class="owner${former}" x="${x(owner.id) - beside}" y="${span.top}" width="4" ` +
+        parts.push(`<rect class="owner${former}" x="${x(owner.id) - beside}" y="${span.upper}" width="4" ` +
           `height="${span.tall}"><title>${owner.id}${former ? " owned" : " owns"} ${keysText(owner)} of ` +
           `table ${owner.table}, term ${owner.term}</title></rect>`);
       }
@@ -274,12 +276,12 @@ function becomings(first, last, parts) {
 }
 
 // The replicas of a host beside its line, as far as there is room.
-function copies(height, parts) {
+function copies(parts) {
   for (const bar of bars) {
-    const beside = 8 + bar.lane * 6, span = beside < width * 0.42 && spanned(bar.at, bar.from, bar.until, height);
+    const beside = 8 + bar.lane * 6, span = beside < width * 0.42 && spanned(bar.at, bar.from, bar.until);
     if (span) {
       const state = (bar.closed ? " closed" : "") + (bar.fenced ? " fenced" : "");
-      parts.push(`<rect class="copy${state}" x="${x(bar.at) + beside}" y="${span.top}" width="4" ` +
+      parts.push(`<rect class="copy${state}" x="${x(bar.at) + beside}" y="${span.upper}" width="4" ` +
         `height="${span.tall}"><title>${copyText(bar)}</title></rect>`);
     }
   }
@@ -290,55 +292,81 @@ function copyText(bar) {
     (bar.closed ? "closed" : "open") + (bar.fenced ? ", fenced" : "");
 }
 
-// The heads have what the servers are in the first row that is seen.
-function heads(isAway, event, parts) {
-  parts.push(`<rect class="ground" width="${full}" height="${TOP}"/>`);
+// The heads stay at the top, and have what the servers are in the first row that is seen.
+function heads() {
+  const row = Math.min(Math.ceil(view.scrollTop / ROW), shown.length - 1), event = row >= 0 ? shown[row].event : 0;
+  const parts = [`<rect class="ground" width="${full}" height="${TOP}"/>`];
   for (const name of columns) {
-    const text = !isAway(name) ? title(name) : thin < FOLD ? "" : "·";
+    const text = !folded(name) ? title(name) : thin < FOLD ? "" : "·";
     parts.push(`<text class="name" x="${x(name)}" y="17">${text}<title>${title(name)}</title></text>`);
     const stage = doubts.find((doubt) => doubt.id === name && doubt.from <= event && event < doubt.until);
-    if (stage && !isAway(name)) {
+    if (stage && !folded(name)) {
       parts.push(`<text class="state" x="${x(name)}" y="33">${stage.name}</text>`);
     }
   }
   parts.push(`<rect class="ground" x="${aside}" width="${left - 4}" height="${TOP}"/>` +
     `<text class="place" x="${aside + 6}" y="${left < 84 ? 33 : 17}">at</text>` +
     `<text class="number" x="${aside + left - 8}" y="17">event</text>`);
+  if (parts.join("") !== heading) {
+    heading = parts.join("");
+    headings.setAttribute("width", full);
+    headings.setAttribute("height", TOP);
+    headings.innerHTML = heading;
+  }
+}
+
+// From which row to which one it is drawn: so many times what is seen above it, and below it.
+const AROUND = 2;
+function reach() {
+  const height = view.clientHeight;
+  all = Math.max(TOP + ROW * (shown.length + 1), height);
+  begin = Math.max(0, Math.min(view.scrollTop - AROUND * height, all - (2 * AROUND + 1) * height));
+  tall = Math.min((2 * AROUND + 1) * height, all - begin);
+  aside = view.scrollLeft;
+  return [Math.max(0, Math.floor((begin - TOP) / ROW) - 1),
+    Math.min(shown.length - 1, Math.ceil((begin + tall - TOP) / ROW) + 1)];
 }
 
 function draw() {
-  const height = view.clientHeight;
-  scrolled = view.scrollTop;
-  aside = view.scrollLeft;
-  const first = Math.max(0, Math.floor((scrolled - TOP) / ROW) - 1);
-  const last = Math.min(shown.length - 1, Math.ceil((scrolled + height) / ROW) + 1);
-  const isAway = spread(shown.length ? shown[Math.min(first, last)].event : 0, shown.length ? shown[last].event : 0);
+  const [first, last] = reach();
+  folded = spread(shown.length ? shown[Math.min(first, last)].event : 0, shown.length ? shown[last].event : 0);
   const focused = document.activeElement && document.activeElement.dataset.message;
   const parts = [], layers = { arrows: [], words: [] };
   parts.push(PATTERNS);
-  lifelines(height, parts);
+  lifelines(parts);
   const row = rowOf[chosen.event];
   if (chosen.event >= 0 && row >= first && row <= last) {
     parts.push(`<rect class="row" width="${full}" height="${ROW}" y="${yOf(row) - ROW / 2}"/>`);
   }
-  copies(height, parts);
-  ownings(height, parts);
+  copies(parts);
+  ownings(parts);
   arrows(first, last, layers);
   parts.push(...layers.arrows);
   rows(first, last, parts);
   parts.push(...layers.words);
   becomings(first, last, parts);
-  parts.push(`<rect class="ground" x="${aside}" width="${left - 4}" height="${height}"/>`);
+  parts.push(`<rect class="ground" x="${aside}" width="${left - 4}" height="${tall}"/>`);
   numbers(first, last, parts);
-  heads(isAway, shown.length ? shown[Math.min(Math.ceil(scrolled / ROW), last)].event : 0, parts);
-  space.style.height = `${Math.max(TOP + ROW * (shown.length + 1), height)}px`;
+  space.style.height = `${all}px`;
   space.style.width = `${full}px`;
+  picture.style.top = `${begin}px`;
   picture.setAttribute("width", full);
-  picture.setAttribute("height", height);
+  picture.setAttribute("height", tall);
   picture.innerHTML = parts.join("");
+  heads();
   const again = focused && picture.querySelector(`[data-message="${focused}"]`);
   if (again) {
     again.focus({ preventScroll: true });
+  }
+}
+
+// Scrolling alone moves what is drawn; it is drawn anew where little more of it is left.
+function scrolled() {
+  const height = view.clientHeight, above = view.scrollTop - begin, below = begin + tall - view.scrollTop - height;
+  if (view.scrollLeft !== aside || (above < height / 2 && begin > 0) || (below < height / 2 && begin + tall < all)) {
+    redraw();
+  } else {
+    heads();
   }
 }
 
@@ -486,7 +514,7 @@ function chooseMessage(number) {
   }
 }
 
-view.addEventListener("scroll", redraw);
+view.addEventListener("scroll", scrolled, { passive: true });
 addEventListener("resize", redraw);
 view.addEventListener("pointerover", (happening) => tell(happening.target));
 view.addEventListener("focusin", (happening) => tell(happening.target));

@@ -17,8 +17,8 @@ pub(crate) const HEAD: &str = r##"<!DOCTYPE html>
 @media (prefers-color-scheme: dark) {
   :root { --ground: #13161c; --ink: #e6e9f0; --soft: #9aa3b5; --line: #3a4150; --band: #2f4a76; --opening: #2a303b;
     --closing: #6b5220; --deposed: #6b2b27; --copy: #8d97ab; --message: #8fb0f0;
-    --good: #5fcf92; --bad: #ff8a80; --grant: #cf9cf2; --chosen: #4a3f12; --stale: #ffb454; --doubt: #4a3517;
-    --replaced: #5e2723; --panel: #1c2129; }
+    --good: #5fcf92; --bad: #ff8a80; --grant: #cf9cf2; --chosen: #4a3f12; --stale: #ffb454; --doubt: #7d5c22;
+    --replaced: #93423a; --panel: #1c2129; }
 }
 * { box-sizing: border-box; }
 body { margin: 0; padding: 12px; background: var(--ground); color: var(--ink);
@@ -41,7 +41,9 @@ button, select, input { font: inherit; color: var(--ink); background: var(--pane
 #marks summary { cursor: pointer; }
 #view { position: relative; overflow: auto; overflow-y: scroll; height: 62vh; min-height: 260px;
   border: 1px solid var(--line); border-radius: 8px; }
-#view svg { position: sticky; top: 0; display: block; }
+#space { position: relative; }
+#heads { position: sticky; top: 0; z-index: 1; display: block; }
+#picture { position: absolute; left: 0; display: block; }
 #view:focus-visible, summary:focus-visible, a:focus-visible, button:focus-visible, select:focus-visible,
 input:focus-visible {
   outline: 2px solid var(--message); outline-offset: 1px; }
@@ -119,7 +121,8 @@ svg .message:focus-visible path.touch { stroke: var(--chosen); }
 <label><input id="folds" type="checkbox" checked> set-up folded</label>
 </div>
 <div id="view" tabindex="0" role="group" aria-label="Events downwards, nodes side by side">
-<div id="space"><svg id="picture" xmlns="http://www.w3.org/2000/svg"></svg></div>
+<div id="space"><svg id="heads" xmlns="http://www.w3.org/2000/svg"></svg>
+<svg id="picture" xmlns="http://www.w3.org/2000/svg"></svg></div>
 </div>
 <output id="details" tabindex="0" aria-live="polite">Point at an arrow, or step with j and k, or with the arrow keys.
 Enter opens an arrow. Home and End go to the ends. Search takes a message's number, an event as e12, or words.</output>

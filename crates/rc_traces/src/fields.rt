@@ -18,7 +18,7 @@ use crate::values::{key, number, seg, table};
 use json::{Invalid, Reader};
 use rc_reading::tokens::{opens_object, pass, simple};
 use rc_reading::wanted::id;
-use rc_types::{Addr, Body, Entry, Message, PlanRow, Seq, ServerId};
+use rc_types::{Addr, Body, Entry, Message, PlanRow, Seq, ServerId, Shared};
 use std::alloc::Global;
 
 /// A member that some message has.
@@ -259,7 +259,7 @@ impl Fields {
         ensures { result ≡ needed name self }
     {
         match name {
-            MessageName::Place => place(alloc, self.from, self.seg, self.entries),
+            MessageName::Place => place(self.from, self.seg, self.entries),
             MessageName::Append => append(self.from, self.seg, self.offset, self.entries),
             MessageName::Ok => ok(
                 self.from,
@@ -304,12 +304,7 @@ fn nobody() -> Addr
     })
 }
 
-fn place(
-    alloc: Global,
-    from: Option<ServerId>,
-    seg: Option<u16>,
-    entries: Option<Seq<Entry>>,
-) -> Option<Message>
+fn place(from: Option<ServerId>, seg: Option<u16>, entries: Option<Seq<Entry>>) -> Option<Message>
     ensures { result ≡ given3 place_with from seg entries }
 {
     Some(Message {
@@ -318,7 +313,7 @@ fn place(
         body: Body::Place {
             seg: seg?,
             epoch: 0,
-            digest: Seq::new(alloc),
+            digest: Shared::empty(),
             entries: entries?,
             closed: false,
         },

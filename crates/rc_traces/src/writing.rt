@@ -2,7 +2,7 @@
 
 ghost use Rattle.std.specs.Prelude.{◌≡◌, string_bytes, map, option_map, IfOk};
 ghost use Rattle.rc_traces.specs.Written.{id_data, value_data, entry_data, row_data, place_data, append_data};
-ghost use Rattle.rc_traces.specs.Written.{plan_data, sent_data, ok_in, own_in, grant_in, message_data, messages_data};
+ghost use Rattle.rc_traces.specs.Written.{plan_data, sent_data, ok_data, ok_in, own_in, grant_in, message_data, messages_data};
 ghost use Rattle.rc_traces.specs.Written.{trace_data, trace_text};
 ghost use Rattle.serde_json.specs.Data.{array};
 ghost use Rattle.serde_json.specs.View.{view, items_of};
@@ -112,11 +112,26 @@ fn ok_value(alloc: Global, from: ServerId, body: &Body) -> Result<Option<Value>,
     else {
         return Ok(None);
     };
-    let from = id(alloc, from)?;
-    let value =
-        json!(in alloc; {"from": from, "key": *key, "m": "ok", "offset": *offset, "seg": *seg,
-        "table": *table, "term": *term, "version": *version})?;
+    let value = ok(alloc, from, *seg, *offset, *term, *table, *key, *version)?;
     Ok(Some(value))
+}
+
+/// What stands for an acknowledgement.
+fn ok(
+    alloc: Global,
+    from: ServerId,
+    seg: u16,
+    offset: usize,
+    term: u32,
+    table: u32,
+    key: u64,
+    version: u64,
+) -> Result<Value, AllocError>
+    ensures { IfOk result (λ value. view value ≡ ok_data from seg offset term table key version) }
+{
+    let from = id(alloc, from)?;
+    json!(in alloc; {"from": from, "key": key, "m": "ok", "offset": offset, "seg": seg, "table": table, "term": term,
+        "version": version})
 }
 
 /// What stands in a trace for a grant to this address.

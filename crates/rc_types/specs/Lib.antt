@@ -1,4 +1,6 @@
 pub mod Carried
 pub mod Codes
 pub mod Counts
+pub mod Kinds
+pub mod Names
 pub mod Texts

@@ -1,9 +1,8 @@
 //! What a log is made of.
 
-use crate::faults::Fault;
 use crate::sequence::TryClone;
 use crate::shared::Shared;
-use std::alloc::Global;
+use std::alloc::{AllocError, Global};
 
 /// One entry of a master's log: one write of one key.
 #[derive(Drop, PartialEq)]
@@ -21,7 +20,7 @@ pub struct Entry {
 }
 
 impl TryClone for Entry {
-    fn try_clone(&self, alloc: Global) -> Result<Entry, Fault> {
+    fn try_clone(&self, alloc: Global) -> Result<Entry, AllocError> {
         let value = self.value.try_clone(alloc)?;
         Ok(Entry {
             term: self.term,

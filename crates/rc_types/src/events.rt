@@ -1,10 +1,9 @@
 //! What can happen in a world, and what a node can be given.
 
-use crate::faults::Fault;
 use crate::ids::{Addr, ServerId};
 use crate::messages::{Body, Message};
 use crate::sequence::{Seq, TryClone};
-use std::alloc::Global;
+use std::alloc::{AllocError, Global};
 
 /// What a world is opened with.
 #[derive(Drop)]
@@ -20,7 +19,7 @@ pub struct Setup {
 }
 
 impl TryClone for Setup {
-    fn try_clone(&self, alloc: Global) -> Result<Setup, Fault> {
+    fn try_clone(&self, alloc: Global) -> Result<Setup, AllocError> {
         let factors = self.factors.try_clone(alloc)?;
         Ok(Setup {
             factor: self.factor,
@@ -75,7 +74,7 @@ pub enum Event {
 }
 
 impl TryClone for Event {
-    fn try_clone(&self, alloc: Global) -> Result<Event, Fault> {
+    fn try_clone(&self, alloc: Global) -> Result<Event, AllocError> {
         match self {
             Event::Ask { to, body } => Ok(Event::Ask {
                 to: *to,

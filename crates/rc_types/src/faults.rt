@@ -63,6 +63,33 @@ impl Code {
     {
         self as u8
     }
+
+    /// Its name, as "Refusals" in `docs/PROTOCOL.md` spells it.
+    pub fn name(self) -> &'static str {
+        match self {
+            Code::OutOfMemory => "OutOfMemory",
+            Code::NotOwner => "NotOwner",
+            Code::Rolling => "Rolling",
+            Code::NoBackups => "NoBackups",
+            Code::Deposed => "Deposed",
+            Code::LogFull => "LogFull",
+            Code::ValueTooLong => "ValueTooLong",
+            Code::HeadMissing => "HeadMissing",
+            Code::SegmentMissing => "SegmentMissing",
+            Code::StaleAttempt => "StaleAttempt",
+            Code::NotReady => "NotReady",
+            Code::TableExists => "TableExists",
+            Code::NoTable => "NoTable",
+            Code::BadSplit => "BadSplit",
+            Code::TooManyTablets => "TooManyTablets",
+            Code::Recovering => "Recovering",
+            Code::BadScenario => "BadScenario",
+            Code::BadEvent => "BadEvent",
+            Code::EpochsExhausted => "EpochsExhausted",
+            Code::Pending => "Pending",
+            Code::StaleGeneration => "StaleGeneration",
+        }
+    }
 }
 
 impl fmt::Display for Code {

@@ -1,9 +1,10 @@
 //! Who takes part: servers, and the addresses of messages; and pairs of a segment and an epoch.
 
-ghost use Rattle.std.specs.Prelude.{◌≡◌, Some};
+ghost use Rattle.std.specs.Prelude.{◌≡◌, ◌<◌, Some};
 ghost use Rattle.std.proofs.Common.{rules};
 ghost use Rattle.std.specs.Cmp.{partial_order_from_own_ties};
 ghost use Rattle.std.specs.Cmp.Rules.{comparing};
+ghost use Rattle.rc_types.specs.declared.ids.TheConstants.{NODE_NUMBERS};
 ghost use Rattle.std.specs.Ordering.{nat_cmp, on, then_cmp, as_partial_cmp};
 
 use std::cmp::Ordering;
@@ -65,6 +66,47 @@ pub enum Addr {
     Server(ServerId),
     /// The clients and the operators, taken together.
     Outside,
+}
+
+/// How many numbers of nodes there can be: of the outside, of the coordinator, and of 256 hosts.
+pub const NODE_NUMBERS: usize = 258;
+
+/// Which node: one that has a state of its own. All servers of a host, one after the other, are one node.
+#[derive(Clone, Copy, Debug, PartialEq, Eq, Hash)]
+pub enum NodeName {
+    /// The clients and the operators, taken together.
+    Outside,
+    /// The one coordinator.
+    Coordinator,
+    /// The host of this index, 0 to 63.
+    Host(u8),
+}
+
+impl NodeName {
+    ghost use Rattle.rc_types.specs.Names.{node_of, number_of};
+
+    /// The node at this address.
+    pub fn at(addr: Addr) -> NodeName
+        ensures { result ≡ node_of addr }
+    {
+        match addr {
+            Addr::Outside => NodeName::Outside,
+            Addr::Coordinator => NodeName::Coordinator,
+            Addr::Server(id) => NodeName::Host(id.index),
+        }
+    }
+
+    /// The number of the node: 0 is the outside's, 1 the coordinator's, index + 2 that of a host.
+    pub fn number(self) -> usize
+        ensures is { result ≡ number_of self }
+        ensures few { result < NODE_NUMBERS }
+    {
+        match self {
+            NodeName::Outside => 0,
+            NodeName::Coordinator => 1,
+            NodeName::Host(index) => usize::from(index) + 2,
+        }
+    }
 }
 
 /// The coordinator is printed as `c`, the outside as `out`, and a server as its id.

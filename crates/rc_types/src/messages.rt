@@ -1,12 +1,12 @@
 //! The messages between the nodes. "Messages" in `docs/PROTOCOL.md` says what each one means.
 
 use crate::entries::Entry;
-use crate::faults::{Code, Fault};
+use crate::faults::Code;
 use crate::ids::{Addr, ServerId};
 use crate::rows::{Part, PlanRow, Row};
 use crate::sequence::{Seq, TryClone};
 use crate::shared::Shared;
-use std::alloc::Global;
+use std::alloc::{AllocError, Global};
 
 /// A message, from one address to another.
 #[derive(Drop)]
@@ -20,7 +20,7 @@ pub struct Message {
 }
 
 impl TryClone for Message {
-    fn try_clone(&self, alloc: Global) -> Result<Message, Fault> {
+    fn try_clone(&self, alloc: Global) -> Result<Message, AllocError> {
         let body = self.body.try_clone(alloc)?;
         Ok(Message {
             from: self.from,
@@ -88,7 +88,7 @@ pub enum Body {
         /// The epoch under which it is kept from now on.
         epoch: u16,
         /// The segments that made up the log when this one was opened.
-        digest: Seq<u16>,
+        digest: Shared<u16>,
         /// All its entries.
         entries: Seq<Entry>,
         /// Whether the segment is shut, so that these are all that it will ever have.
@@ -234,7 +234,7 @@ pub enum Body {
 }
 
 impl TryClone for Body {
-    fn try_clone(&self, alloc: Global) -> Result<Body, Fault> {
+    fn try_clone(&self, alloc: Global) -> Result<Body, AllocError> {
         Ok(match self {
             Body::Write { table, key, value } => Body::Write {
                 table: *table,

@@ -1,9 +1,9 @@
 //! Rows of answers and plans, ranges of keys, parts of a recovery, and tablets.
 
-use crate::faults::Fault;
 use crate::ids::ServerId;
 use crate::sequence::{Seq, TryClone};
-use std::alloc::Global;
+use crate::shared::Shared;
+use std::alloc::{AllocError, Global};
 
 /// What a backup tells of one replica of a master that it was asked about.
 #[derive(Drop)]
@@ -17,11 +17,11 @@ pub struct Row {
     /// How many entries it has.
     pub len: usize,
     /// The digest that it was opened with: the segments that make up the log.
-    pub digest: Seq<u16>,
+    pub digest: Shared<u16>,
 }
 
 impl TryClone for Row {
-    fn try_clone(&self, alloc: Global) -> Result<Row, Fault> {
+    fn try_clone(&self, alloc: Global) -> Result<Row, AllocError> {
         let digest = self.digest.try_clone(alloc)?;
         Ok(Row {
             seg: self.seg,
@@ -45,7 +45,7 @@ pub struct PlanRow {
 }
 
 impl TryClone for PlanRow {
-    fn try_clone(&self, _alloc: Global) -> Result<PlanRow, Fault> {
+    fn try_clone(&self, _alloc: Global) -> Result<PlanRow, AllocError> {
         Ok(*self)
     }
 }
@@ -60,7 +60,7 @@ pub struct Plan {
 }
 
 impl TryClone for Plan {
-    fn try_clone(&self, alloc: Global) -> Result<Plan, Fault> {
+    fn try_clone(&self, alloc: Global) -> Result<Plan, AllocError> {
         let rows = self.rows.try_clone(alloc)?;
         Ok(Plan {
             head: self.head,
@@ -97,7 +97,7 @@ pub struct Part {
 }
 
 impl TryClone for Part {
-    fn try_clone(&self, _alloc: Global) -> Result<Part, Fault> {
+    fn try_clone(&self, _alloc: Global) -> Result<Part, AllocError> {
         Ok(*self)
     }
 }

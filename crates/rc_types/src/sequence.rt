@@ -1,14 +1,12 @@
 //! A list inside plain data, and copies of plain data.
 
-ghost use Rattle.std.specs.Prelude.{◌≡◌, [], ◌∷◌, ◌++◌, List, length, IfOk, IfErr, OnOk, OnErr, Some, slice_get};
+ghost use Rattle.std.specs.Prelude.{◌≡◌, [], ◌∷◌, ◌++◌, List, length, IfOk, OnOk, Some, slice_get};
 ghost use Rattle.std.specs.Prelude.{is_some, IsTrue, ◌↔◌, ◌<◌, nat_eq};
 ghost use Rattle.std.specs.Option.{option_copied};
 ghost use Rattle.std.specs.Cmp.Lexicographic.{pointwise, lists_per};
-ghost use Rattle.rc_types.specs.declared.faults.Fault.TheVariants.{OutOfMemory};
 
-use crate::faults::Fault;
 use crate::ids::ServerId;
-use std::alloc::Global;
+use std::alloc::{AllocError, Global};
 use std::marker::Model;
 
 /// A list of plain data, which contracts see as a list and as nothing else: two of them with the
@@ -100,31 +98,30 @@ impl<T: PartialEq> PartialEq for Seq<T> {
 /// shared can have no more owners (F1).
 pub trait TryClone {
     /// The copy, made with this allocator.
-    fn try_clone(&self, alloc: Global) -> Result<Self, Fault>
-        ensures copy { IfOk result (λ c. c ≡ self.now) }
-        ensures err { IfErr result (λ e. e ≡ OutOfMemory) };
+    fn try_clone(&self, alloc: Global) -> Result<Self, AllocError>
+        ensures { IfOk result (λ c. c ≡ self.now) };
 }
 
 impl TryClone for u8 {
-    fn try_clone(&self, _alloc: Global) -> Result<u8, Fault> {
+    fn try_clone(&self, _alloc: Global) -> Result<u8, AllocError> {
         Ok(*self)
     }
 }
 
 impl TryClone for u16 {
-    fn try_clone(&self, _alloc: Global) -> Result<u16, Fault> {
+    fn try_clone(&self, _alloc: Global) -> Result<u16, AllocError> {
         Ok(*self)
     }
 }
 
 impl TryClone for (ServerId, u16) {
-    fn try_clone(&self, _alloc: Global) -> Result<(ServerId, u16), Fault> {
+    fn try_clone(&self, _alloc: Global) -> Result<(ServerId, u16), AllocError> {
         Ok(*self)
     }
 }
 
 impl<T: TryClone + Drop> TryClone for Seq<T> {
-    fn try_clone(&self, alloc: Global) -> Result<Seq<T>, Fault> {
+    fn try_clone(&self, alloc: Global) -> Result<Seq<T>, AllocError> {
         let items = self.inner.as_slice();
         let mut copy = Vec::with_capacity(alloc, items.len())?;
         for item in items {
@@ -135,7 +132,7 @@ impl<T: TryClone + Drop> TryClone for Seq<T> {
 }
 
 impl<T: TryClone + Drop> TryClone for Option<T> {
-    fn try_clone(&self, alloc: Global) -> Result<Option<T>, Fault> {
+    fn try_clone(&self, alloc: Global) -> Result<Option<T>, AllocError> {
         match self {
             None => Ok(None),
             Some(value) => Ok(Some(value.try_clone(alloc)?)),

@@ -2,7 +2,7 @@
 use Rattle.std.proofs.Common.{◌≡◌, ℕ, zero, suc, Bool, true, false, ◌&&◌, List, [], ◌∷◌, map, All}
 use Rattle.std.proofs.Common.{refl, sym, ap, ◌∙◌, subst, arith}
 use Rattle.std.specs.List.{range_with_len}
-use Rattle.rc_journal.specs.declared.names.SeatName.TheVariants.{Outside, Coordinator, Host}
+use Rattle.rc_types.specs.declared.ids.NodeName.TheVariants.{Outside, Coordinator, Host}
 use Rattle.rc_seats.specs.declared.work.Work.TheVariants as work
 use Rattle.rc_seats.specs.SeatView.{SeatData, new_seat}
 use Rattle.rc_wire.specs.declared.steps.Step.{Step}

@@ -1,7 +1,7 @@
 -- The steps of the workload, as they are added one by one.
 use Rattle.std.proofs.Common.{◌≡◌, ℕ, suc, ◌+◌, List, [], ap, ◌∙◌, arith}
 use Rattle.rc_types.specs.declared.ids.ServerId.{ServerId}
-use Rattle.rc_journal.specs.declared.names.SeatName.TheVariants.{Outside, Coordinator, Host}
+use Rattle.rc_types.specs.declared.ids.NodeName.TheVariants.{Outside, Coordinator, Host}
 use Rattle.rc_seats.specs.declared.work.Work.{Work}
 use Rattle.rc_seats.specs.declared.work.Work.TheVariants as work
 use Rattle.rc_wire.specs.declared.steps.Step.{Step}

@@ -8,8 +8,6 @@ use Rattle.rc_model.specs.Model.{Setup, Message, Fault, World, Take, NodeName, T
 use Rattle.rc_model.specs.World.{node_can, is_possible_job, delivery}
 use Rattle.rc_history.specs.Events.{is_for}
 use Rattle.rc_history.proofs.Longer.{longer-sent}
-use Rattle.rc_journal.specs.declared.names.SeatName.{SeatName}
-use Rattle.rc_journal.specs.Names.{name_of}
 use Rattle.rc_journal.specs.Numbers.{least_to}
 use Rattle.rc_seats.specs.declared.work.Work.{Work}
 use Rattle.rc_seats.specs.declared.work.Work.TheVariants as work
@@ -45,7 +43,7 @@ can-deliver setup old found from number least f =
     let own : same_node (node_of f.message.to) (node_name old) ≡ true =
     found-own from 0 number (node_name old) sent number f.message least before (omega arith) in
     let mine : same_node (node_of f.message.to) (node_name found) ≡ true =
-    ap (λ (n : SeatName). same_node (node_of f.message.to) (name_of n)) named ∙ own in
+    ap (λ (n : NodeName). same_node (node_of f.message.to) n) named ∙ own in
     let world = world_at setup found in
     let name = node_name found in
     ap (λ (h : Option (ℕ × Message)). takes_if name world (event_for (node_at setup found) h work.Fetched))
@@ -93,7 +91,7 @@ refused-is-stuck setup start steps at from old new step given p found own (inl r
   step = step;
   given = given;
   found = found;
-  own = ap (λ (n : SeatName). own_work n step) (sym p.does.name) ∙ own;
+  own = ap (λ (n : NodeName). own_work n step) (sym p.does.name) ∙ own;
   done = subst (λ (s : SeatData). Does start (works_for start.name (take at steps)) s) (sym refused.1) p.does;
   cannot = ap (λ (s : SeatData). can_do setup s given) refused.1 ∙ refused.0;
 })

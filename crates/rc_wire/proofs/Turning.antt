@@ -13,8 +13,8 @@ use Rattle.rc_history.specs.Nodes.{Node}
 use Rattle.rc_history.specs.Events.{StartsWith}
 use Rattle.rc_history.proofs.Lists.{starts-same, starts-through}
 use Rattle.rc_history.proofs.Longer.{longer-sent}
-use Rattle.rc_journal.specs.declared.names.SeatName.{SeatName}
-use Rattle.rc_journal.specs.Names.{name_of, number_of}
+use Rattle.rc_types.specs.declared.ids.NodeName.{NodeName}
+use Rattle.rc_types.specs.Names.{number_of}
 use Rattle.rc_journal.specs.Numbers.{least_to}
 use Rattle.rc_seats.specs.declared.work.Work.{Work}
 use Rattle.rc_seats.specs.declared.work.Work.TheVariants as work
@@ -73,7 +73,7 @@ starts-longer : {A : Type 0} (longer shorter : List A) → StartsWith longer sho
 starts-longer longer shorter starts =
     subst (λ l. length shorter ≤ length l) (sym starts.same) (append-longer shorter starts.rest)
 
-works_for-suc : (name : SeatName) (steps : List Step) (at : ℕ) (step : Step) → slice_get steps at ≡ Some step →
+works_for-suc : (name : NodeName) (steps : List Step) (at : ℕ) (step : Step) → slice_get steps at ≡ Some step →
     works_for name (take (suc at) steps) ≡ works_for name (take at steps) ++ listed (own_work name step)
 works_for-suc name [] at step found = cc
 works_for-suc name (s ∷ steps) zero step found =
@@ -82,7 +82,7 @@ works_for-suc name (s ∷ steps) (suc at) step found =
     ap (λ l. listed (own_work name s) ++ l) (works_for-suc name steps at step found)
     ∙ sym (append_assoc (listed (own_work name s)) (works_for name (take at steps)) (listed (own_work name step)))
 
-works_for-push : (name : SeatName) (steps : List Step) (at : ℕ) (step : Step) → slice_get steps at ≡ Some step →
+works_for-push : (name : NodeName) (steps : List Step) (at : ℕ) (step : Step) → slice_get steps at ≡ Some step →
     works_for name (take (at + 1) steps) ≡ works_for name (take at steps) ++ listed (own_work name step)
 works_for-push name steps at step found =
     let one : at + 1 ≡ suc at = omega arith in
@@ -173,7 +173,7 @@ grows-does old new works d = record {
 own-still : (old new : SeatData) (message : Message) → new.name ≡ old.name →
     same_node (node_of message.to) (node_name new) ≡ true → same_node (node_of message.to) (node_name old) ≡ true
 own-still old new message named own =
-    ap (λ (n : SeatName). same_node (node_of message.to) (name_of n)) (sym named) ∙ own
+    ap (λ (n : NodeName). same_node (node_of message.to) n) (sym named) ∙ own
 
 below-stays : (setup : Setup) (old new : SeatData) (from : ℕ) → from ≤ length (world_at setup old).sent → Grows old new →
     DeliveredBelow setup from old → DeliveredBelow setup from new
@@ -255,7 +255,7 @@ own-given true false w given is h e = let same : w ≡ given = cc in ap is_fetch
 own-given true true w given is h e = cc
 own-given false f w given is h e = cc
 
-own-not-fetched : (steps : List Step) (at : ℕ) (name : SeatName) (step : Step) (given : Work) → none_fetched steps ≡ true →
+own-not-fetched : (steps : List Step) (at : ℕ) (name : NodeName) (step : Step) (given : Work) → none_fetched steps ≡ true →
     slice_get steps at ≡ Some step → own_work name step ≡ Some given → is_fetched given ≡ false
 own-not-fetched [] at name step given none found own = cc
 own-not-fetched (Settle ∷ steps) zero name step given none found own =
@@ -275,7 +275,7 @@ pub progress-done : (setup : Setup) (start : SeatData) (steps : List Step) (at f
 progress-done setup start steps at from old new step given p none found own t =
     let not-held : is_fetched given ≡ false = own-not-fetched steps at old.name step given none found own in
     let e = given-work (node_at setup old) old.held given t.event not-held t.is in
-    let own' : own_work start.name step ≡ Some given = ap (λ (n : SeatName). own_work n step) (sym p.does.name) ∙ own in
+    let own' : own_work start.name step ≡ Some given = ap (λ (n : NodeName). own_work n step) (sym p.does.name) ∙ own in
     let g : Grows old new = grows-takes setup old given new t in
     let works : works_for start.name (take at steps) ++ listed (Some given) ≡ works_for start.name (take (at + 1) steps) =
     sym (works_for-push start.name steps at step found ∙ ap (λ (o : Option Work). works_for start.name (take at steps) ++ listed o) own') in
@@ -293,7 +293,7 @@ pub progress-skipped : (setup : Setup) (start : SeatData) (steps : List Step) (a
     Progress setup start steps at from old → slice_get steps at ≡ Some step → own_work old.name step ≡ None →
     Progress setup start steps (at + 1) from old
 progress-skipped setup start steps at from old step p found other =
-    let other' : own_work start.name step ≡ None = ap (λ (n : SeatName). own_work n step) (sym p.does.name) ∙ other in
+    let other' : own_work start.name step ≡ None = ap (λ (n : NodeName). own_work n step) (sym p.does.name) ∙ other in
     let works : works_for start.name (take at steps) ≡ works_for start.name (take (at + 1) steps) =
     sym (works_for-push start.name steps at step found
     ∙ (ap (λ (o : Option Work). works_for start.name (take at steps) ++ listed o) other'

@@ -3,8 +3,7 @@ use Rattle.std.proofs.Common.{◌≡◌, ℕ, zero, suc, List, [], ◌∷◌, �
 use Rattle.std.specs.List.{range_with_len}
 use Rattle.rc_model.specs.Model.{Setup, Event}
 use Rattle.rc_history.specs.Events.{events_of}
-use Rattle.rc_journal.specs.declared.names.SeatName.{SeatName}
-use Rattle.rc_journal.specs.Names.{name_of}
+use Rattle.rc_types.specs.declared.ids.NodeName.{NodeName}
 use Rattle.rc_seats.specs.SeatView.{SeatData, new_seat}
 use Rattle.rc_seats.specs.Calls.{Covers}
 use Rattle.rc_seats.specs.Seats.{seat_named, new_seats}
@@ -20,7 +19,7 @@ IsFresh seat = seat.mine ≡ []
 worked-one : (setup : Setup) (events : List Event) (steps : List Step) (old new : SeatData) → IsFresh old →
     Runs setup old (works_for old.name steps) new → Covers setup events new → HasWorked setup events steps old
 worked-one setup events steps old new fresh ran covers =
-    ap (λ (n : SeatName). works_in (events_of setup (name_of n) events)) (sym ran.does.name)
+    ap (λ (n : NodeName). works_in (events_of setup n events)) (sym ran.does.name)
     ∙ (ap works_in covers.mine
     ∙ (ap works_in (ran.does.mine ∙ ap (λ (l : List Event). l ++ ran.does.added) fresh) ∙ ran.does.did))
 

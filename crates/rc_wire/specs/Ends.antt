@@ -7,7 +7,7 @@ use Rattle.rc_types.specs.declared.events.Setup.{Setup}
 use Rattle.rc_types.specs.declared.faults.Fault.{Fault}
 use Rattle.rc_types.specs.declared.faults.Fault.TheVariants.{OutOfMemory, BadEvent}
 use Rattle.rc_types.specs.declared.limits.TheConstants.{MAX_EVENTS}
-use Rattle.rc_journal.specs.Names.{number_of}
+use Rattle.rc_types.specs.Names.{number_of}
 use Rattle.rc_seats.specs.declared.work.Work.{Work}
 use Rattle.rc_seats.specs.SeatView.{SeatData}
 use Rattle.rc_seats.specs.Works.{can_do}

@@ -7,8 +7,8 @@ use Rattle.rc_types.specs.declared.events.Event.TheVariants as event
 use Rattle.rc_types.specs.declared.messages.Message.{Message}
 use Rattle.rc_model.specs.World.{same_node, node_of}
 use Rattle.rc_history.specs.Events.{StartsWith}
-use Rattle.rc_journal.specs.declared.names.SeatName.{SeatName}
-use Rattle.rc_journal.specs.Names.{number_of}
+use Rattle.rc_types.specs.declared.ids.NodeName.{NodeName}
+use Rattle.rc_types.specs.Names.{number_of}
 use Rattle.rc_seats.specs.declared.work.Work.{Work}
 use Rattle.rc_seats.specs.declared.work.Work.TheVariants as work
 use Rattle.rc_seats.specs.SeatView.{SeatData, node_name, world_at, node_at}
@@ -17,7 +17,7 @@ use Rattle.rc_wire.specs.declared.steps.Step.{Step}
 use Rattle.rc_wire.specs.declared.steps.Step.TheVariants.{Do, Settle}
 
 -- the work of a step that is this seat's
-abbrev pub own_work : SeatName → Step → Option Work
+abbrev pub own_work : NodeName → Step → Option Work
 own_work name (Do who given) = if nat_eq (number_of who) (number_of name) then Some given else None
 own_work name Settle = None
 
@@ -26,7 +26,7 @@ listed None = []
 listed (Some x) = x ∷ []
 
 -- the works of the steps that are this seat's, in order
-abbrev pub works_for : SeatName → List Step → List Work
+abbrev pub works_for : NodeName → List Step → List Work
 works_for name [] = []
 works_for name (step ∷ steps) = listed (own_work name step) ++ works_for name steps
 

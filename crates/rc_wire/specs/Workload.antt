@@ -3,7 +3,7 @@ use Rattle.std.specs.Prelude.{ℕ, zero, suc, List, [], ◌∷◌, ◌++◌, Som
 use Rattle.rc_types.specs.declared.ids.ServerId.{ServerId}
 use Rattle.rc_types.specs.declared.events.Setup.{Setup}
 use Rattle.rc_types.specs.declared.messages.Body.TheVariants as body
-use Rattle.rc_journal.specs.declared.names.SeatName.TheVariants.{Outside, Coordinator, Host}
+use Rattle.rc_types.specs.declared.ids.NodeName.TheVariants.{Outside, Coordinator, Host}
 use Rattle.rc_seats.specs.declared.work.Work.{Work}
 use Rattle.rc_seats.specs.declared.work.Work.TheVariants as work
 use Rattle.rc_wire.specs.declared.steps.Step.{Step}

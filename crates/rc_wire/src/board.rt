@@ -5,8 +5,7 @@ ghost use Rattle.std.specs.Prelude.{◌≡◌, ◌⊎◌};
 ghost use Rattle.rc_types.specs.declared.faults.Fault.TheVariants.{OutOfMemory, BadEvent};
 
 use crossbeam_channel::{Receiver, SendError, Sender, unbounded};
-use rc_journal::SeatName;
-use rc_types::Fault;
+use rc_types::{Fault, NodeName};
 use std::alloc::{AllocError, Global};
 use std::sync::{Condvar, Mutex, Wait};
 
@@ -73,7 +72,7 @@ pub(crate) struct Board {
 
 impl Board {
     /// With a line for each of these seats.
-    pub(crate) fn new(alloc: Global, names: &[SeatName]) -> Result<Board, AllocError> {
+    pub(crate) fn new(alloc: Global, names: &[NodeName]) -> Result<Board, AllocError> {
         let mut lines = Vec::with_capacity(alloc, names.len())?;
         for name in names {
             let (sender, receiver) = unbounded(alloc)?;

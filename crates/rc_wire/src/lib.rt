@@ -33,7 +33,7 @@ mod world;
 pub use around::Around;
 pub use gate::Gate;
 pub use nodes::run_nodes;
-pub use rc_seats::{Journal, Naming, Opening, Seat, SeatName, Wire, Work};
+pub use rc_seats::{Journal, Naming, Opening, Seat, Wire, Work};
 pub use steps::Step;
 pub use turns::{deliver_next, deliver_rest, do_next, do_until};
 pub use world::world_of_threads;

@@ -1,7 +1,7 @@
 //! The call that runs nodes on threads.
 
 ghost use Rattle.std.specs.Prelude.{◌≡◌, ◌⊎◌, nat_eq, true, false, All, None, IfOk, IfErr, OnOk, vec_capacity, vec_len};
-ghost use Rattle.rc_journal.specs.Names.{number_of};
+ghost use Rattle.rc_types.specs.Names.{number_of};
 ghost use Rattle.rc_types.specs.declared.faults.Fault.TheVariants.{OutOfMemory, BadEvent};
 ghost use Rattle.rc_wire.specs.Runs.{none_fetched};
 ghost use Rattle.rc_wire.specs.Ends.{IsIdle, RunAll, GrowAll, Ends, SomeCannotGoOn, is_seated, all_seated, joined};
@@ -10,9 +10,9 @@ use crate::board::{Board, Hint, Stop};
 use crate::gate::Gate;
 use crate::seats::run_seat;
 use crate::steps::Step;
-use rc_journal::{Naming, SeatName};
+use rc_journal::Naming;
 use rc_seats::{Seat, Wire};
-use rc_types::Fault;
+use rc_types::{Fault, NodeName};
 use std::alloc::{AllocError, Global};
 use std::snapshot::Snapshot;
 use std::sync::Wait;
@@ -85,7 +85,7 @@ fn is_seated<N: Naming>(seats: &[Seat<N>], step: &Step) -> bool
 }
 
 /// Whether it is the seat of this name.
-fn is_seat_of<N: Naming>(seat: &Seat<N>, who: SeatName) -> bool
+fn is_seat_of<N: Naming>(seat: &Seat<N>, who: NodeName) -> bool
     ensures { result ≡ nat_eq (number_of seat.now.name) (number_of who) }
 {
     seat.name().number() == who.number()
@@ -198,7 +198,7 @@ fn run_in<'s, E, N: Naming + Send + Sync, R: Threads + Wait + Sync, G: Gate>(
         SomeCannotGoOn N.wire.setup seats.old.items steps.now seats.new.items) }
 {
     let Some(seat) = seats.pop() else {
-        return lead(rt, board, steps);
+        return Ok(lead(rt, board, steps)?);
     };
     let started = start(scope, rt, alloc, wire, board, seat, steps, gate);
     let others = run_in(scope, rt, alloc, wire, board, seats, steps, gate);
@@ -223,9 +223,7 @@ fn joined(others: Result<(), Fault>, outcome: Result<(), Fault>) -> Result<(), F
 
 /// Gives the works to the threads, step by step, waits where the steps say so, and then ends all. Where a fault has
 /// ended it, the seat that had it tells which it was; here want of memory is told.
-fn lead<R: Wait>(rt: &R, board: &Board, steps: &[Step]) -> Result<(), Fault>
-    ensures { IfErr result (λ fault. fault ≡ OutOfMemory) }
-{
+fn lead<R: Wait>(rt: &R, board: &Board, steps: &[Step]) -> Result<(), AllocError> {
     for (at, step) in steps.iter().enumerate() {
         if board.going(rt).is_err() {
             break;
@@ -240,6 +238,6 @@ fn lead<R: Wait>(rt: &R, board: &Board, steps: &[Step]) -> Result<(), Fault>
     board.end(rt);
     match board.going(rt) {
         Ok(()) => Ok(()),
-        Err(_) => Err(Fault::OutOfMemory),
+        Err(_) => Err(AllocError),
     }
 }

@@ -11,10 +11,10 @@ use crate::board::{Board, Hint, Stop};
 use crate::gate::Gate;
 use crate::steps::Step;
 use crate::turns::{deliver_rest, do_until};
-use rc_journal::{Naming, SeatName};
+use rc_journal::Naming;
 use rc_seats::{Seat, Wire};
-use rc_types::{Fault, Message};
-use std::alloc::Global;
+use rc_types::{Fault, Message, NodeName};
+use std::alloc::{AllocError, Global};
 use std::sync::Wait;
 
 /// The gate, and the hints to whom a step sends something.
@@ -27,18 +27,18 @@ struct Told<'a, G: Gate> {
 }
 
 impl<'a, G: Gate> Around for Told<'a, G> {
-    fn before_commit<R: Wait>(&mut self, rt: &R, seat: SeatName, sent: &[Message]) {
+    fn before_commit<R: Wait>(&mut self, rt: &R, seat: NodeName, sent: &[Message]) {
         self.refused = note(&mut self.addressees, sent).is_err();
         self.gate.before_commit(rt, seat);
     }
 
-    fn after_commit<R: Wait>(&mut self, rt: &R, seat: SeatName) -> Result<(), Fault> {
+    fn after_commit<R: Wait>(&mut self, rt: &R, seat: NodeName) -> Result<(), AllocError> {
         self.gate.after_commit(rt, seat);
         for number in &self.addressees {
             self.board.give(rt, *number, Hint::Look);
         }
         if self.refused {
-            return Err(Fault::OutOfMemory);
+            return Err(AllocError);
         }
         Ok(())
     }
@@ -48,7 +48,7 @@ impl<'a, G: Gate> Around for Told<'a, G> {
 fn note(addressees: &mut Vec<usize>, sent: &[Message]) -> Result<(), Fault> {
     addressees.clear();
     for message in sent {
-        let number = SeatName::at(message.to).number();
+        let number = NodeName::at(message.to).number();
         if !addressees.contains(&number) {
             addressees.push(number)?;
         }

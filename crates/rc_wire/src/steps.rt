@@ -1,27 +1,28 @@
 //! What nodes are given to do.
 
-ghost use Rattle.std.specs.Prelude.{◌≡◌, IfOk, IfErr};
-ghost use Rattle.rc_types.specs.declared.faults.Fault.TheVariants.{OutOfMemory};
+ghost use Rattle.std.specs.Prelude.{◌≡◌, IfOk};
 ghost use Rattle.rc_wire.specs.Runs.{own_work};
 
-use rc_journal::SeatName;
 use rc_seats::Work;
-use rc_types::{Fault, TryClone};
-use std::alloc::Global;
+use rc_types::{NodeName, TryClone};
+use std::alloc::{AllocError, Global};
 
 /// One line of what nodes are given to do.
 #[derive(Drop)]
 pub enum Step {
     /// The node of this seat does this work.
-    Do(SeatName, Work),
+    Do(NodeName, Work),
     /// Whoever gives the works waits until all that was begun is done.
     Settle,
 }
 
 /// A copy of the step's work, where the step is one of this seat.
-pub(crate) fn own_work(alloc: Global, step: &Step, name: SeatName) -> Result<Option<Work>, Fault>
-    ensures copy { IfOk result (λ own. own ≡ own_work name step.now) }
-    ensures no_memory { IfErr result (λ fault. fault ≡ OutOfMemory) }
+pub(crate) fn own_work(
+    alloc: Global,
+    step: &Step,
+    name: NodeName,
+) -> Result<Option<Work>, AllocError>
+    ensures { IfOk result (λ own. own ≡ own_work name step.now) }
 {
     match step {
         Step::Do(who, work) if who.number() == name.number() => Ok(Some(copy_of(alloc, work)?)),
@@ -30,9 +31,8 @@ pub(crate) fn own_work(alloc: Global, step: &Step, name: SeatName) -> Result<Opt
 }
 
 /// A copy of a work.
-fn copy_of(alloc: Global, work: &Work) -> Result<Work, Fault>
-    ensures copy { IfOk result (λ copy. copy ≡ work.now) }
-    ensures no_memory { IfErr result (λ fault. fault ≡ OutOfMemory) }
+fn copy_of(alloc: Global, work: &Work) -> Result<Work, AllocError>
+    ensures { IfOk result (λ copy. copy ≡ work.now) }
 {
     Ok(match work {
         Work::Fetched => Work::Fetched,

@@ -40,7 +40,8 @@ fn take_step<N: Naming, R: Wait, A: Around>(
         around.before_commit(rt, name, sent);
     }
     wire.commit(rt, seat)?;
-    around.after_commit(rt, name)
+    around.after_commit(rt, name)?;
+    Ok(())
 }
 
 /// The seat does what the step of this number gives to its node, if it is one of its own.

@@ -5,9 +5,8 @@ ghost use Rattle.rc_wire.specs.declared.steps.Step.TheVariants.{Do, Settle};
 ghost use Rattle.rc_wire.specs.Workload.{push, write_of, workload};
 
 use crate::steps::Step;
-use rc_journal::SeatName;
 use rc_seats::Work;
-use rc_types::{Body, Seq, ServerId, Shared};
+use rc_types::{Body, NodeName, Seq, ServerId, Shared};
 use std::alloc::{AllocError, Global};
 
 /// The server that owns the table: the first of host 0.
@@ -26,13 +25,13 @@ pub(crate) fn steps(alloc: Global, hosts: u8, writes: u32) -> Result<Vec<Step>, 
     let mut steps = Vec::new(alloc);
     for host in 0..hosts {
         let kept = Seq::new(alloc);
-        add(&mut steps, SeatName::Host(host), Work::Start { kept })?;
+        add(&mut steps, NodeName::Host(host), Work::Start { kept })?;
     }
     settle(&mut steps)?;
     let owner = OWNER;
     add(
         &mut steps,
-        SeatName::Coordinator,
+        NodeName::Coordinator,
         Work::Create {
             table: TABLE,
             owner,
@@ -41,12 +40,12 @@ pub(crate) fn steps(alloc: Global, hosts: u8, writes: u32) -> Result<Vec<Step>, 
     settle(&mut steps)?;
     for key in 0..writes {
         let write = write_of(alloc, u64::from(key))?;
-        add(&mut steps, SeatName::Outside, write)?;
+        add(&mut steps, NodeName::Outside, write)?;
     }
     settle(&mut steps)?;
-    add(&mut steps, SeatName::Coordinator, Work::Suspect(OWNER))?;
+    add(&mut steps, NodeName::Coordinator, Work::Suspect(OWNER))?;
     settle(&mut steps)?;
-    add(&mut steps, SeatName::Coordinator, Work::Decide(OWNER))?;
+    add(&mut steps, NodeName::Coordinator, Work::Decide(OWNER))?;
     settle(&mut steps)?;
     Ok(steps)
 }
@@ -67,7 +66,7 @@ fn write_of(alloc: Global, key: u64) -> Result<Work, AllocError>
 }
 
 /// Adds a work.
-fn add(steps: &mut Vec<Step>, name: SeatName, work: Work) -> Result<(), AllocError>
+fn add(steps: &mut Vec<Step>, name: NodeName, work: Work) -> Result<(), AllocError>
     ensures { OnOk result (steps.new.items ≡ push steps.old.items (Do name work)) }
 {
     steps.push(Step::Do(name, work))?;

@@ -1,7 +1,6 @@
 //! The world that the steps of the command `threads` lead to.
 
-ghost use Rattle.std.specs.Prelude.{◌≡◌, ◌≤◌, ◌+◌, true, All, IfOk, IfErr};
-ghost use Rattle.rc_types.specs.declared.faults.Fault.TheVariants.{OutOfMemory};
+ghost use Rattle.std.specs.Prelude.{◌≡◌, ◌≤◌, ◌+◌, true, All, IfOk};
 ghost use Rattle.rc_types.specs.declared.limits.TheConstants.{MAX_HOSTS};
 ghost use Rattle.rc_world.specs.HostView.{IsWithinLimits};
 ghost use Rattle.rc_wire.specs.Runs.{none_fetched};
@@ -13,11 +12,11 @@ use crate::gate::Gate;
 use crate::nodes::run_nodes;
 use crate::steps::Step;
 use crate::workload::steps;
-use rc_journal::{Naming, Opening, SeatName};
+use rc_journal::{Naming, Opening};
 use rc_seats::{Seat, Wire};
-use rc_types::{Fault, Seq, Setup};
+use rc_types::{Fault, NodeName, Seq, Setup};
 use rc_world::World;
-use std::alloc::Global;
+use std::alloc::{AllocError, Global};
 use std::marker::Brand;
 use std::sync::Wait;
 use std::thread::Threads;
@@ -26,9 +25,9 @@ use std::thread::Threads;
 struct Free;
 
 impl Gate for Free {
-    fn before_commit<R: Wait>(&self, _rt: &R, _seat: SeatName) {}
+    fn before_commit<R: Wait>(&self, _rt: &R, _seat: NodeName) {}
 
-    fn after_commit<R: Wait>(&self, _rt: &R, _seat: SeatName) {}
+    fn after_commit<R: Wait>(&self, _rt: &R, _seat: NodeName) {}
 }
 
 /// Runs the nodes of so many hosts, each on a thread of its own, with so many writes; and gives the world in which
@@ -43,12 +42,11 @@ pub fn world_of_threads<R: Threads + Wait + Sync>(
     alloc: Global,
     hosts: u8,
     writes: u32,
-) -> Result<(World<Global>, bool), Fault>
+) -> Result<(World<Global>, bool), AllocError>
     requires { hosts ≤ MAX_HOSTS }
     ensures setup { IfOk result (λ made. made.0.setup ≡ threads_setup) }
     ensures works { IfOk result (λ made. made.1 ≡ true →
         AllHaveWorked threads_setup made.0.events (workload hosts writes) (hosts + 2)) }
-    ensures no_memory { IfErr result (λ fault. fault ≡ OutOfMemory) }
 {
     let steps = steps(alloc, hosts, writes)?;
     let opening = opened(alloc, hosts)?;
@@ -56,11 +54,10 @@ pub fn world_of_threads<R: Threads + Wait + Sync>(
 }
 
 /// The beginning of a wire with so many hosts.
-fn opened(alloc: Global, hosts: u8) -> Result<Opening, Fault>
+fn opened(alloc: Global, hosts: u8) -> Result<Opening, AllocError>
     ensures limits { IfOk result (λ opening. IsWithinLimits opening.setup) }
     ensures setup { IfOk result (λ opening. opening.setup ≡ threads_setup) }
     ensures nodes { IfOk result (λ opening. opening.nodes ≡ hosts + 2) }
-    ensures no_memory { IfErr result (λ fault. fault ≡ OutOfMemory) }
 {
     let setup = Setup {
         factor: 2,
@@ -77,7 +74,7 @@ fn run<N: Naming + Send + Sync, R: Threads + Wait + Sync>(
     alloc: Global,
     opening: Opening,
     steps: &[Step],
-) -> Result<(World<Global>, bool), Fault>
+) -> Result<(World<Global>, bool), AllocError>
     requires name { opening ≡ N.wire }
     requires limits { IsWithinLimits opening.setup }
     requires few { opening.nodes ≤ MAX_HOSTS + 2 }
@@ -85,13 +82,12 @@ fn run<N: Naming + Send + Sync, R: Threads + Wait + Sync>(
     ensures setup { IfOk result (λ made. made.0.setup ≡ opening.setup) }
     ensures works { IfOk result (λ made. made.1 ≡ true →
         AllHaveWorked opening.setup made.0.events steps.now opening.nodes) }
-    ensures no_memory { IfErr result (λ fault. fault ≡ OutOfMemory) }
 {
     let (wire, seats) = Wire::<N>::open(alloc, opening)?;
     match run_nodes(rt, alloc, &wire, seats, steps, &Free) {
         Ok(seats) => Ok((closed(alloc, wire, seats)?, true)),
         Err((seats, Fault::BadEvent)) => Ok((closed(alloc, wire, seats)?, false)),
-        Err(_) => Err(Fault::OutOfMemory),
+        Err(_) => Err(AllocError),
     }
 }
 
@@ -100,10 +96,9 @@ fn closed<N: Naming>(
     alloc: Global,
     wire: Wire<N>,
     seats: Vec<Seat<N>>,
-) -> Result<World<Global>, Fault>
+) -> Result<World<Global>, AllocError>
     ensures setup { IfOk result (λ world. world.setup ≡ N.wire.setup) }
     ensures seats { IfOk result (λ world. All (Covers N.wire.setup world.events) seats.items) }
-    ensures no_memory { IfErr result (λ fault. fault ≡ OutOfMemory) }
 {
     match wire.close(alloc, seats) {
         Ok(world) => Ok(world),

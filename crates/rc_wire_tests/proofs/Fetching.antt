@@ -1,6 +1,6 @@
 -- A work that is no delivery of a message, at the end of a list of steps.
 use Rattle.std.proofs.Common.{◌≡◌, ◌∙◌, true, false, not, ◌&&◌, List, [], ◌∷◌, ◌++◌, All, ap, refl, ℕ}
-use Rattle.rc_journal.specs.declared.names.SeatName.{SeatName}
+use Rattle.rc_types.specs.declared.ids.NodeName.{NodeName}
 use Rattle.rc_seats.specs.declared.work.Work.{Work}
 use Rattle.rc_seats.specs.SeatView.{SeatData}
 use Rattle.rc_wire.specs.declared.steps.Step.{Step}
@@ -16,7 +16,7 @@ same_last [] step is = is
 same_last (Settle ∷ steps) step is = same_last steps step is
 same_last (Do who given ∷ steps) step is = ap (λ b. not (is_fetched given) && b) (same_last steps step is)
 
-pub added : (old new : List Step) (name : SeatName) (work : Work) → new ≡ old ++ Do name work ∷ [] → is_fetched work ≡ false →
+pub added : (old new : List Step) (name : NodeName) (work : Work) → new ≡ old ++ Do name work ∷ [] → is_fetched work ≡ false →
     none_fetched new ≡ none_fetched old
 added old new name work are is = ap none_fetched are ∙ same_last old (Do name work) (ap (λ b. not b && true) is)
 

@@ -7,9 +7,9 @@ ghost use Rattle.rc_world.specs.HostView.{IsWithinLimits};
 ghost use Rattle.rc_wire.specs.Runs.{is_fetched, none_fetched};
 
 use rc_audit::audit;
-use rc_journal::{Naming, Opening, SeatName};
+use rc_journal::{Naming, Opening};
 use rc_seats::{Seat, Wire, Work};
-use rc_types::{Addr, Body, Code, Fault, Message, Seq, ServerId, Setup, Shared};
+use rc_types::{Addr, Body, Code, Fault, Message, NodeName, Seq, ServerId, Setup, Shared};
 use rc_wire::{Gate, Step, run_nodes};
 use rc_world::World;
 use std::alloc::{AllocError, Global};
@@ -42,7 +42,7 @@ fn opened(alloc: Global, hosts: u8) -> Result<Opening, Fault>
 
 /// Adds a work that is no delivery.
 #[tactic(auto, using(crate::proofs::Fetching::added))]
-fn add(steps: &mut Vec<Step>, name: SeatName, work: Work) -> Result<(), AllocError>
+fn add(steps: &mut Vec<Step>, name: NodeName, work: Work) -> Result<(), AllocError>
     requires { is_fetched work ≡ false }
     ensures { OnOk result (none_fetched steps.new.items ≡ none_fetched steps.old.items) }
 {
@@ -64,7 +64,7 @@ fn add_start(alloc: Global, steps: &mut Vec<Step>, host: u8) -> Result<(), Alloc
     ensures { OnOk result (none_fetched steps.new.items ≡ none_fetched steps.old.items) }
 {
     let kept = Seq::new(alloc);
-    add(steps, SeatName::Host(host), Work::Start { kept })
+    add(steps, NodeName::Host(host), Work::Start { kept })
 }
 
 /// Three hosts are started.
@@ -98,7 +98,7 @@ fn add_writes(alloc: Global, steps: &mut Vec<Step>, writes: usize) -> Result<(),
     let owner = OWNER;
     add(
         steps,
-        SeatName::Coordinator,
+        NodeName::Coordinator,
         Work::Create { table: 7, owner },
     )?;
     settle(steps)?;
@@ -118,7 +118,7 @@ fn add_write(alloc: Global, steps: &mut Vec<Step>) -> Result<(), AllocError>
         key: 5,
         value: Some(value),
     };
-    add(steps, SeatName::Outside, Work::Ask { to: OWNER, body })?;
+    add(steps, NodeName::Outside, Work::Ask { to: OWNER, body })?;
     settle(steps)
 }
 
@@ -127,9 +127,9 @@ fn add_write(alloc: Global, steps: &mut Vec<Step>) -> Result<(), AllocError>
 struct Free;
 
 impl Gate for Free {
-    fn before_commit<R: Wait>(&self, _rt: &R, _seat: SeatName) {}
+    fn before_commit<R: Wait>(&self, _rt: &R, _seat: NodeName) {}
 
-    fn after_commit<R: Wait>(&self, _rt: &R, _seat: SeatName) {}
+    fn after_commit<R: Wait>(&self, _rt: &R, _seat: NodeName) {}
 }
 
 /// More than the messages of a run.
@@ -166,16 +166,16 @@ impl Flags {
 }
 
 impl Gate for Flags {
-    fn before_commit<R: Wait>(&self, _rt: &R, seat: SeatName) {
+    fn before_commit<R: Wait>(&self, _rt: &R, seat: NodeName) {
         let [first, second] = &self.set;
         match seat {
-            SeatName::Host(1) => self.meet(first, second),
-            SeatName::Host(2) => self.meet(second, first),
+            NodeName::Host(1) => self.meet(first, second),
+            NodeName::Host(2) => self.meet(second, first),
             _ => {}
         }
     }
 
-    fn after_commit<R: Wait>(&self, _rt: &R, _seat: SeatName) {}
+    fn after_commit<R: Wait>(&self, _rt: &R, _seat: NodeName) {}
 }
 
 /// A gate that counts, seat by seat, how often it is passed before a commit and after one, and notes where these do not
@@ -208,7 +208,7 @@ impl Turns {
     }
 
     /// The numbers of one seat.
-    fn of(&self, seat: SeatName) -> (u32, u32) {
+    fn of(&self, seat: NodeName) -> (u32, u32) {
         let at = seat.number();
         match (self.before.get(at), self.after.get(at)) {
             (Some(before), Some(after)) => {
@@ -227,7 +227,7 @@ impl Turns {
 }
 
 /// One more.
-fn add_one(counts: &[AtomicU32; 5], seat: SeatName) {
+fn add_one(counts: &[AtomicU32; 5], seat: NodeName) {
     if let Some(count) = counts.get(seat.number()) {
         let _ = count.fetch_add(1, Ordering::SeqCst);
     }
@@ -243,13 +243,13 @@ fn sum(counts: &[AtomicU32; 5]) -> u32 {
 }
 
 impl Gate for Turns {
-    fn before_commit<R: Wait>(&self, _rt: &R, seat: SeatName) {
+    fn before_commit<R: Wait>(&self, _rt: &R, seat: NodeName) {
         let numbers = self.of(seat);
         self.expect(numbers, numbers.1);
         add_one(&self.before, seat);
     }
 
-    fn after_commit<R: Wait>(&self, _rt: &R, seat: SeatName) {
+    fn after_commit<R: Wait>(&self, _rt: &R, seat: NodeName) {
         let numbers = self.of(seat);
         self.expect(numbers, numbers.1.saturating_add(1));
         add_one(&self.after, seat);
@@ -291,7 +291,7 @@ fn finds_all_of_its_own<N: Naming, R: Abort + Wait>(
 /// Whether the message that is held is one to the seat's node.
 fn is_held_for<N: Naming>(seat: &Seat<N>) -> bool {
     match seat.fetched() {
-        Some((_, message)) => SeatName::at(message.to) == seat.name(),
+        Some((_, message)) => NodeName::at(message.to) == seat.name(),
         None => false,
     }
 }
@@ -444,7 +444,7 @@ fn second_start(rt: HostRuntime) -> Result<(), Fail> {
 fn unknown_seat(rt: HostRuntime) -> Result<(), Fail> {
     let alloc = rt.alloc();
     let mut steps = starts(alloc)?;
-    add(&mut steps, SeatName::Host(3), Work::Tick)?;
+    add(&mut steps, NodeName::Host(3), Work::Tick)?;
     let opening = opened(alloc, 3)?;
     let left = run::<Brand, HostRuntime, Free>(&rt, alloc, opening, steps.as_slice(), &Free)?;
     assert!(rt; matches!(left.fault, Some(Fault::BadEvent)));

@@ -5,9 +5,9 @@ ghost use Rattle.rc_types.specs.declared.limits.TheConstants.{MAX_HOSTS};
 ghost use Rattle.rc_world.specs.HostView.{IsWithinLimits};
 
 use crate::at_the_wire::{Given, close, commit, fetch, is_write, prepare};
-use rc_journal::{Naming, Opening, SeatName};
+use rc_journal::{Naming, Opening};
 use rc_seats::{Seat, Wire, Work};
-use rc_types::{Body, Fault, Message, Seq, ServerId, Setup};
+use rc_types::{Body, Fault, Message, NodeName, Seq, ServerId, Setup};
 use rc_world::World;
 use std::alloc::Global;
 use std::marker::Brand;
@@ -147,7 +147,7 @@ fn numbers_to<N: Naming, R: Abort + Print + Wait>(
 /// Whether the message that is held is one to the seat's node.
 fn is_held_for<N: Naming>(seat: &Seat<N>) -> bool {
     match seat.fetched() {
-        Some((_, message)) => SeatName::at(message.to) == seat.name(),
+        Some((_, message)) => NodeName::at(message.to) == seat.name(),
         None => false,
     }
 }

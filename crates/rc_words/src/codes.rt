@@ -19,15 +19,15 @@ pub fn names_of_codes(alloc: Global, messages: &[Message]) -> Result<String, All
     let mut pen = Pen::new(alloc, Spelling::Plain);
     for topic in all_topics() {
         if seen
-            .get(usize::from(topic.number))
+            .get(usize::from(topic.code.number()))
             .copied()
             .unwrap_or(false)
         {
             pen.put_all(
                 "refused %: %, %\n",
                 &[
-                    Piece::U8(topic.number),
-                    Piece::Words(topic.name),
+                    Piece::U8(topic.code.number()),
+                    Piece::Words(topic.code.name()),
                     Piece::Words(topic.short),
                 ],
             );

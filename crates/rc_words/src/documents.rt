@@ -2,11 +2,12 @@
 
 use crate::events::{Happening, all_events};
 use crate::explaining::{Explained, explain};
-use crate::kinds::{Kind, all_kinds};
+use crate::kinds::Words;
 use crate::looking::Found;
 use crate::rules::{Rule, first_rules, last_rules};
 use crate::topics::{Topic, all_topics};
 use rc_pen::{Pen, Piece, Spelling};
+use rc_types::Kind;
 use std::alloc::{AllocError, Global};
 
 /// What there is to say of this word, as a JSON document; without one, what words there are. Of a word that names
@@ -77,18 +78,18 @@ fn put_topic(pen: &mut Pen, topic: &Topic) {
 
 /// The beginning of a code: its number, its name, and what it is in a few words.
 fn put_short(pen: &mut Pen, topic: &Topic) {
-    pen.put_all("{\"number\":%", &[Piece::U8(topic.number)]);
-    put_text(pen, "name", topic.name);
+    pen.put_all("{\"number\":%", &[Piece::U8(topic.code.number())]);
+    put_text(pen, "name", topic.code.name());
     put_text(pen, "short", topic.short);
 }
 
 /// A kind of message.
-fn put_kind(pen: &mut Pen, kind: &Kind) {
-    pen.put_all("{\"name\":\"%\"", &[Piece::Words(kind.name)]);
-    put_text(pen, "way", kind.way);
-    put_text(pen, "has", kind.has);
-    put_text(pen, "says", kind.says);
-    put_text(pen, "then", kind.then);
+fn put_kind(pen: &mut Pen, words: &Words) {
+    pen.put_all("{\"name\":\"%\"", &[Piece::Words(words.kind.name())]);
+    put_text(pen, "way", words.way);
+    put_text(pen, "has", words.has);
+    put_text(pen, "says", words.says);
+    put_text(pen, "then", words.then);
     pen.put("}");
 }
 
@@ -118,8 +119,8 @@ fn put_list(pen: &mut Pen) {
         pen.put("}");
     }
     pen.put("],\"messages\":[");
-    for (at, kind) in all_kinds().iter().enumerate() {
-        put_name(pen, at, kind.name);
+    for (at, kind) in Kind::ALL.iter().enumerate() {
+        put_name(pen, at, kind.name());
     }
     pen.put("],\"events\":[");
     for (at, event) in all_events().iter().enumerate() {

@@ -1,12 +1,13 @@
 //! The text that is told of a word, or of all.
 
 use crate::events::{Happening, all_events};
-use crate::kinds::{Kind, all_kinds};
+use crate::kinds::Words;
 use crate::looking::Found;
 use crate::names::nearest;
 use crate::rules::{Rule, first_rules, last_rules};
 use crate::topics::{Topic, all_topics};
 use rc_pen::{Pen, Piece, Spelling};
+use rc_types::Kind;
 use std::alloc::{AllocError, Global};
 
 /// How long a line gets, save where a word is longer.
@@ -87,10 +88,10 @@ fn tell_unknown(alloc: Global, pen: &mut Pen, word: &str) {
 fn nearest_of_all(alloc: Global, word: &str) -> Result<Option<&'static str>, AllocError> {
     let mut names = Vec::new(alloc);
     for topic in all_topics() {
-        names.push(topic.name)?;
+        names.push(topic.code.name())?;
     }
-    for kind in all_kinds() {
-        names.push(kind.name)?;
+    for kind in &Kind::ALL {
+        names.push(kind.name())?;
     }
     for event in all_events() {
         names.push(event.name)?;
@@ -111,8 +112,8 @@ fn tell_list(pen: &mut Pen) {
     }
     pen.put("\nMessages\n");
     let mut column = 0usize;
-    for kind in all_kinds() {
-        column = tell_word(pen, kind.name, column);
+    for kind in &Kind::ALL {
+        column = tell_word(pen, kind.name(), column);
     }
     pen.put("\n\nEvents\n");
     column = 0;
@@ -137,12 +138,12 @@ fn tell_line(pen: &mut Pen, topic: &Topic) {
     pen.put_all(
         "F%%   |  |%",
         &[
-            Piece::U8(topic.number),
-            Piece::Flag(topic.number < 10),
-            Piece::Words(topic.name),
+            Piece::U8(topic.code.number()),
+            Piece::Flag(topic.code.number() < 10),
+            Piece::Words(topic.code.name()),
         ],
     );
-    for _ in topic.name.len()..LONGEST {
+    for _ in topic.code.name().len()..LONGEST {
         pen.put(" ");
     }
     pen.put_all("  %\n", &[Piece::Words(topic.short)]);
@@ -153,8 +154,8 @@ fn tell_topic(pen: &mut Pen, topic: &Topic) {
     pen.put_all(
         "F% %: %\n\nWhen it comes\n",
         &[
-            Piece::U8(topic.number),
-            Piece::Words(topic.name),
+            Piece::U8(topic.code.number()),
+            Piece::Words(topic.code.name()),
             Piece::Words(topic.short),
         ],
     );
@@ -164,16 +165,16 @@ fn tell_topic(pen: &mut Pen, topic: &Topic) {
 }
 
 /// What there is to say of a kind of message.
-fn tell_kind(pen: &mut Pen, kind: &Kind) {
+fn tell_kind(pen: &mut Pen, words: &Words) {
     pen.put_all(
         "%, a message %\n\nWhat it has\n",
-        &[Piece::Words(kind.name), Piece::Words(kind.way)],
+        &[Piece::Words(words.kind.name()), Piece::Words(words.way)],
     );
-    tell_wrapped(pen, kind.has);
+    tell_wrapped(pen, words.has);
     pen.put("\nWhat it says\n");
-    tell_wrapped(pen, kind.says);
+    tell_wrapped(pen, words.says);
     pen.put("\nWhat comes of it\n");
-    tell_wrapped(pen, kind.then);
+    tell_wrapped(pen, words.then);
 }
 
 /// What there is to say of an event.

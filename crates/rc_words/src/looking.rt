@@ -1,7 +1,7 @@
 //! What a word may name.
 
 use crate::events::{Happening, all_events};
-use crate::kinds::{Kind, all_kinds};
+use crate::kinds::{Words, all_kinds};
 use crate::rules::{Rule, first_rules, last_rules};
 use crate::topics::{Topic, all_topics};
 
@@ -11,7 +11,7 @@ pub struct Found {
     /// A code, by its number, by that after an `F`, or by its name.
     pub code: Option<Topic>,
     /// A kind of message.
-    pub kind: Option<Kind>,
+    pub kind: Option<Words>,
     /// An event of a scenario.
     pub event: Option<Happening>,
     /// A rule that can be broken.
@@ -39,7 +39,7 @@ impl Found {
 pub fn topic_of(number: u64) -> Option<Topic> {
     all_topics()
         .iter()
-        .find(|topic| u64::from(topic.number) == number)
+        .find(|topic| u64::from(topic.code.number()) == number)
         .copied()
 }
 
@@ -49,7 +49,7 @@ fn code_of(word: &str) -> Option<Topic> {
         Some(number) => topic_of(number),
         None => all_topics()
             .iter()
-            .find(|topic| topic.name.eq_ignore_ascii_case(word))
+            .find(|topic| topic.code.name().eq_ignore_ascii_case(word))
             .copied(),
     }
 }
@@ -64,10 +64,10 @@ fn number_in(word: &str) -> Option<u64> {
 }
 
 /// The kind of message that this word names.
-fn kind_of(word: &str) -> Option<Kind> {
+fn kind_of(word: &str) -> Option<Words> {
     all_kinds()
         .iter()
-        .find(|kind| kind.name.eq_ignore_ascii_case(word))
+        .find(|words| words.kind.name().eq_ignore_ascii_case(word))
         .copied()
 }
 

@@ -1,12 +1,12 @@
 //! The codes, one place for each.
 
+use rc_types::Code;
+
 /// What there is to say of a code.
 #[derive(Clone, Copy)]
 pub struct Topic {
-    /// The number behind the `F`.
-    pub number: u8,
-    /// Its name in the library.
-    pub name: &'static str,
+    /// The code.
+    pub code: Code,
     /// What it says, in a few words.
     pub short: &'static str,
     /// Who answers it, and when.
@@ -22,8 +22,7 @@ pub fn all_topics() -> &'static [Topic] {
 
 static TOPICS: [Topic; 21] = [
     Topic {
-        number: 1,
-        name: "OutOfMemory",
+        code: Code::OutOfMemory,
         short: "memory was refused",
         when: "Any step or call that takes memory, where memory was really refused. It has changed nothing and \
             sent nothing. A report ends with `stopped F1 at event N` then, and shows the world before that \
@@ -31,8 +30,7 @@ static TOPICS: [Topic; 21] = [
         remedy: "Give the program more memory, `run --heap` a greater number, or the scenario fewer events.",
     },
     Topic {
-        number: 2,
-        name: "NotOwner",
+        code: Code::NotOwner,
         short: "no range granted to the master holds this key",
         when: "A master, to a write or a read: another server has the range, or the Own message that grants it \
             has not been delivered yet.",
@@ -41,8 +39,7 @@ static TOPICS: [Topic; 21] = [
             stop that server and start its host, and decide.",
     },
     Topic {
-        number: 3,
-        name: "Rolling",
+        code: Code::Rolling,
         short: "the master has no head to write to at the moment",
         when: "A master, to a write: its first head is not open yet, or its head is full and the next one is \
             being opened, or the old one is not closed yet at each of its backups. The write was not appended.",
@@ -51,8 +48,7 @@ static TOPICS: [Topic; 21] = [
             that has stopped and was not suspected, or, with too few hosts, see F4.",
     },
     Topic {
-        number: 4,
-        name: "NoBackups",
+        code: Code::NoBackups,
         short: "too few hosts are up for the factor",
         when: "Where the members of a segment are chosen. A master's own host is none of them, so factor 2 wants \
             two other hosts that the master's list shows as up. A write at a full head is refused with it; a \
@@ -61,8 +57,7 @@ static TOPICS: [Topic; 21] = [
             factor, and to lose one and write on, two more.",
     },
     Topic {
-        number: 5,
-        name: "Deposed",
+        code: Code::Deposed,
         short: "this server counts as crashed",
         when: "The coordinator, to a Ready, Commit or Recovered of a server that is not up; and from then on that \
             master itself, to writes and reads. So it is how a zombie learns what it is.",
@@ -71,23 +66,20 @@ static TOPICS: [Topic; 21] = [
             in anything: stop each that runs and is listed as crashed, and start its host.",
     },
     Topic {
-        number: 6,
-        name: "LogFull",
+        code: Code::LogFull,
         short: "the last segment is full",
         when: "A master, to a write, when its head is segment 65,535 and full: there is no next one.",
         remedy: "Have the master recovered (stop it, start its host, settle, decide): the new owners write to logs of \
             their own. Longer segments (`segment`) fill later.",
     },
     Topic {
-        number: 7,
-        name: "ValueTooLong",
+        code: Code::ValueTooLong,
         short: "the value has more than 1,024 bytes",
         when: "A master, to a write. It counts the bytes of the text in UTF-8.",
         remedy: "Write a shorter value, or spread it over several keys.",
     },
     Topic {
-        number: 8,
-        name: "HeadMissing",
+        code: Code::HeadMissing,
         short: "no answer so far shows the head of the crashed master's log",
         when: "The coordinator, to a decide: none of the answers to its Gather has an open replica of that master \
             that counts. The attempt goes on gathering.",
@@ -98,8 +90,7 @@ static TOPICS: [Topic; 21] = [
             names these starts. Whether something acknowledged was in it, nobody can know.",
     },
     Topic {
-        number: 9,
-        name: "SegmentMissing",
+        code: Code::SegmentMissing,
         short: "a segment of the crashed master's log has no replica so far",
         when: "The coordinator, to a decide: the head's digest names a segment of which no answer to its Gather \
             has a replica that counts. The attempt goes on gathering.",
@@ -108,8 +99,7 @@ static TOPICS: [Topic; 21] = [
             that a segment is gone, as F8 does.",
     },
     Topic {
-        number: 10,
-        name: "StaleAttempt",
+        code: Code::StaleAttempt,
         short: "there is no such recovery, or it is no longer the current one",
         when: "The coordinator, to a decide: no recovery of that server is gathering. It was never suspected, owns \
             no tablet, or its recovery is decided already. Also to a Recovered of an attempt that was \
@@ -118,8 +108,7 @@ static TOPICS: [Topic; 21] = [
             helps only where a server that the plan needs is gone.",
     },
     Topic {
-        number: 11,
-        name: "NotReady",
+        code: Code::NotReady,
         short: "the owner is not up and ready, or no server is",
         when: "The coordinator: to a create, whose owner is not up or has no head yet; to a decide, when no server \
             is up that has one.",
@@ -127,44 +116,38 @@ static TOPICS: [Topic; 21] = [
             says Ready; decide again after each Ready. An id is [host, generation], and the first generation is 1.",
     },
     Topic {
-        number: 12,
-        name: "TableExists",
+        code: Code::TableExists,
         short: "the table is there already",
         when: "The coordinator, to a create.",
         remedy: "Take another number, or leave the create out: a table keeps its number after a recovery. If its owner \
             refuses it with F2, see there.",
     },
     Topic {
-        number: 13,
-        name: "NoTable",
+        code: Code::NoTable,
         short: "there is no such table",
         when: "The coordinator, to a split.",
         remedy: "Create the table first.",
     },
     Topic {
-        number: 14,
-        name: "BadSplit",
+        code: Code::BadSplit,
         short: "the key is the first of its tablet",
         when: "The coordinator, to a split: nothing would be left below the key.",
         remedy: "Split at a greater key. Where a split at this key was made before, nothing is left to do.",
     },
     Topic {
-        number: 15,
-        name: "TooManyTablets",
+        code: Code::TooManyTablets,
         short: "1,024 tablets stand",
         when: "The coordinator, to a create or a split.",
         remedy: "There can be no more in one world. Make fewer tables or splits.",
     },
     Topic {
-        number: 16,
-        name: "Recovering",
+        code: Code::Recovering,
         short: "the tablet's owner has crashed",
         when: "The coordinator, to a split, from the suspicion on until the new owner has the tablet.",
         remedy: "Decide, settle, and split after the new owner's `own` line.",
     },
     Topic {
-        number: 17,
-        name: "BadScenario",
+        code: Code::BadScenario,
         short: "the scenario or the trace is wrong at a place",
         when: "The program prints `error F17 at P` and nothing else: P is 0 where the bytes are no JSON text or \
             too many, 1 where what stands round the list is wrong, and 2 + i where event i of a scenario, or \
@@ -174,8 +157,7 @@ static TOPICS: [Topic; 21] = [
             editor finds mistakes while one writes.",
     },
     Topic {
-        number: 18,
-        name: "BadEvent",
+        code: Code::BadEvent,
         short: "the event is not possible in this world",
         when: "The run stops before a stop or a tick of a server that does not run, a start of a host that runs, a \
             delivery of a message that was not sent, and each event after 200,000. The report shows the world \
@@ -185,23 +167,20 @@ static TOPICS: [Topic; 21] = [
             numbers.",
     },
     Topic {
-        number: 19,
-        name: "EpochsExhausted",
+        code: Code::EpochsExhausted,
         short: "the last epoch of a segment is in use",
         when: "A master that should replace lost backups of an open segment for the 65,536th time. It sends \
             nothing, and the segment stays as it is.",
         remedy: "Have the master recovered: stop it, start its host, settle, decide.",
     },
     Topic {
-        number: 20,
-        name: "Pending",
+        code: Code::Pending,
         short: "a step was prepared and is not committed yet",
         when: "A seat of the library, where nodes run on threads of one's own. The program never prints it.",
         remedy: "Commit the step before the next one: docs/EMBEDDING.md.",
     },
     Topic {
-        number: 21,
-        name: "StaleGeneration",
+        code: Code::StaleGeneration,
         short: "this server can not be enlisted any more",
         when: "The coordinator, to an Enlist: the server was taken for crashed, or a newer one of its host is \
             known.",

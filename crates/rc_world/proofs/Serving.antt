@@ -32,7 +32,7 @@ pub is-served : (setup : Setup) (events : List Event) → IsWithinLimits setup �
 is-served setup events limits = record {
   once = λ m ack acked. one-version-is-one-write setup events m ack acked;
   written = λ m ack acked. acknowledged-is-written setup events m ack (has-replicas setup limits m.index) acked;
-  ordered = λ earlier more m x first later entry whole acked written of_key unasked.
+  ordered = λ earlier more whole m x first later entry acked written of_key unasked.
       let Written : List Event → Type 0 = λ all. IsWritten (sent_after setup all) x later entry in
       writes-follow-time setup earlier more m x first later entry acked (subst Written whole written) of_key unasked;
   seen = λ m before answer read. reads-see-acknowledged-writes setup events m before answer read;

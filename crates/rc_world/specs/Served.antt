@@ -1,5 +1,5 @@
 -- What a client may rely on, said of one world: of its events, and of the messages that were sent in it.
-use Rattle.std.specs.Prelude.{◌≡◌, ◌<◌, List, ◌++◌}
+use Rattle.std.specs.Prelude.{◌≡◌, List, ◌++◌}
 use Rattle.rc_types.specs.declared.ids.ServerId.{ServerId}
 use Rattle.rc_types.specs.declared.entries.Entry.{Entry}
 use Rattle.rc_types.specs.declared.events.Event.{Event}
@@ -7,21 +7,17 @@ use Rattle.rc_types.specs.declared.messages.Message.{Message}
 use Rattle.rc_model.specs.Recovered.{Ack}
 use Rattle.rc_model.specs.Headline.{HasAcknowledged}
 use Rattle.rc_log_laws.specs.WordClaims.{sent_after}
-use Rattle.rc_promises.specs.Service.{IsOneWrite, IsWritten, IsOfKey, HasAsked, Answer, HasRead, MissesOnlyLater}
+use Rattle.rc_promises.specs.Service.{IsWritten, HasAsked, EachIsOneWrite, FollowsTime, ReadsMissOnlyLater}
 use Rattle.rc_world.specs.Happened.{Happened}
 
 pub record IsServed (world : Happened) (sent : List Message) : Type 0 where
   -- each acknowledged version of a key is one write
-  pub once : (m : ServerId) (ack : Ack) → HasAcknowledged sent m ack → IsOneWrite sent m ack
+  pub once : EachIsOneWrite sent sent
   -- its master has sent it for its place
   pub written : (m : ServerId) (ack : Ack) → HasAcknowledged sent m ack → (entry : Entry) × IsWritten sent m ack entry
   -- an acknowledged write that was first asked for after a write of its key was acknowledged, within the first events,
   -- has a greater version
-  pub ordered : (earlier more : List Event) (m x : ServerId) (first later : Ack) (entry : Entry) →
-      world.events ≡ earlier ++ more → HasAcknowledged (sent_after world.setup earlier) m first →
-      IsWritten sent x later entry → IsOfKey first.table first.key later →
-      (HasAsked (sent_after world.setup earlier) x later.table later.key entry.value → ⊥) →
-      first.version < later.version
+  pub ordered : (earlier more : List Event) → world.events ≡ earlier ++ more →
+      FollowsTime (sent_after world.setup earlier) (HasAsked (sent_after world.setup earlier)) sent
   -- a read misses only what was acknowledged under a later term
-  pub seen : (m : ServerId) (before : List Message) (answer : Answer) → HasRead sent m before answer →
-      MissesOnlyLater world.setup world.events m before answer
+  pub seen : ReadsMissOnlyLater world.setup world.events sent

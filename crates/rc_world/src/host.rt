@@ -1,8 +1,7 @@
 //! A host: its backup, and its master where it runs.
 
-ghost use Rattle.std.specs.Prelude.{◌≡◌, ◌↔◌, ◌++◌, [], true, None, option_map, OnOk, OnErr, IfOk, IfErr};
+ghost use Rattle.std.specs.Prelude.{◌≡◌, ◌↔◌, ◌++◌, [], true, None, option_map, OnOk, OnErr, IfOk};
 ghost use Rattle.std.specs.Option.{option_copied};
-ghost use Rattle.rc_types.specs.declared.faults.Fault.TheVariants.{OutOfMemory};
 ghost use Rattle.rc_types.specs.declared.messages.Body.TheVariants.{Enlist};
 ghost use Rattle.rc_model.specs.Messages.{to_coordinator};
 ghost use Rattle.rc_model.specs.Ids.{is_server};
@@ -18,8 +17,8 @@ use crate::head::HostHead;
 use rc_backup::Backup;
 use rc_master::Master;
 use rc_types::limits::MAX_HOSTS;
-use rc_types::{Addr, Body, Fault, Message, ServerId, Setup};
-use std::alloc::Global;
+use rc_types::{Addr, Body, Message, ServerId, Setup};
+use std::alloc::{AllocError, Global};
 use std::marker::Model;
 use std::{fmt, mem};
 
@@ -187,22 +186,24 @@ impl Host {
     }
 
     /// The names of the host's open replicas, in order of master and then of segment.
-    pub(crate) fn open_names(&self) -> Result<Vec<(ServerId, u16)>, Fault>
-        ensures ok { IfOk result (λ names. names.items ≡ open_names (host_of self.now).backup) }
-        ensures no_memory { IfErr result (λ fault. fault ≡ OutOfMemory) }
+    pub(crate) fn open_names(&self) -> Result<Vec<(ServerId, u16)>, AllocError>
+        ensures { IfOk result (λ names. names.items ≡ open_names (host_of self.now).backup) }
     {
         self.backup.open_names()
     }
 
     /// A message reaches the host. Where its addressee does not run, it does nothing.
-    pub(crate) fn take(&mut self, message: &Message, sent: &mut Vec<Message>) -> Result<(), Fault>
+    pub(crate) fn take(
+        &mut self,
+        message: &Message,
+        sent: &mut Vec<Message>,
+    ) -> Result<(), AllocError>
         requires { HostHasRoom (host_of self.old) }
         ensures state { OnOk result (host_of self.new ≡ (host_step (host_of self.old) (Take message.now)).0) }
         ensures sends { OnOk result (sent.new.items ≡
             sent.old.items ++ (host_step (host_of self.old) (Take message.now)).1) }
         ensures err { OnErr result (host_of self.new ≡ host_of self.old) }
         ensures unsent { OnErr result (sent.new.items ≡ sent.old.items) }
-        ensures no_memory { IfErr result (λ fault. fault ≡ OutOfMemory) }
     {
         let own = self.server();
         match &mut self.master {
@@ -218,12 +219,11 @@ impl Host {
     }
 
     /// The timer of the server that runs on the host goes off.
-    pub(crate) fn tick(&mut self, sent: &mut Vec<Message>) -> Result<(), Fault>
+    pub(crate) fn tick(&mut self, sent: &mut Vec<Message>) -> Result<(), AllocError>
         ensures state { OnOk result (host_of self.new ≡ (own_tick (host_of self.old)).0) }
         ensures sends { OnOk result (sent.new.items ≡ sent.old.items ++ (own_tick (host_of self.old)).1) }
         ensures err { OnErr result (host_of self.new ≡ host_of self.old) }
         ensures unsent { OnErr result (sent.new.items ≡ sent.old.items) }
-        ensures no_memory { IfErr result (λ fault. fault ≡ OutOfMemory) }
     {
         match &mut self.master {
             Some(master) => master.tick(sent),
@@ -243,14 +243,13 @@ impl Host {
         &mut self,
         kept: &[(ServerId, u16)],
         sent: &mut Vec<Message>,
-    ) -> Result<(), Fault>
+    ) -> Result<(), AllocError>
         requires { HostHasRoom (host_of self.old) }
         ensures state { OnOk result (host_of self.new ≡ (host_step (host_of self.old) (Start kept.now)).0) }
         ensures sends { OnOk result (sent.new.items ≡
             sent.old.items ++ (host_step (host_of self.old) (Start kept.now)).1) }
         ensures err { OnErr result (host_of self.new ≡ host_of self.old) }
         ensures unsent { OnErr result (sent.new.items ≡ sent.old.items) }
-        ensures no_memory { IfErr result (λ fault. fault ≡ OutOfMemory) }
     {
         sent.reserve(1)?;
         self.generation += 1;
@@ -302,7 +301,7 @@ fn is_server(id: ServerId, addr: Addr) -> bool
 }
 
 /// Whether a message is for the backup, and not for the master.
-fn is_for_backup(body: &Body) -> bool
+pub fn is_for_backup(body: &Body) -> bool
     ensures { result ≡ is_for_backup body.now }
 {
     matches!(

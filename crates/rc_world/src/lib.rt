@@ -14,6 +14,7 @@ mod work;
 mod world;
 
 pub use head::HostHead;
+pub use host::is_for_backup;
 pub use node::NodeState;
 pub use rc_audit::audit;
 pub use rc_types::Breach;

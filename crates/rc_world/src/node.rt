@@ -10,7 +10,7 @@ ghost use Rattle.rc_coordinator.specs.Book.{coordinator_of};
 ghost use Rattle.rc_coordinator.specs.Steps.{HasNumbers};
 ghost use Rattle.rc_world.specs.HostView.{host_of, HostHasRoom, IsMasterSetup, IsWithinLimits};
 ghost use Rattle.rc_world.specs.HostParts.{setup_of, host_parts_in, host_from};
-ghost use Rattle.rc_history.specs.Nodes.{TheOutside, TheCoordinator, TheHost};
+ghost use Rattle.rc_history.specs.Nodes.{TheOutside, TheCoordinator, TheHost, name_of};
 ghost use Rattle.rc_world.specs.NodeView.{CoordinatorData, node_seen, book_in, own_server, work_at, NodeHasRoom};
 ghost use Rattle.rc_world.specs.NodeView.{node_runs, master_in, backup_in};
 ghost use Rattle.rc_world.specs.NodeView.{may_take, after_work, coordinator_may, coordinator_after_work};
@@ -25,8 +25,8 @@ use crate::work::StepFault;
 use rc_backup::Backup;
 use rc_coordinator::Coordinator;
 use rc_master::Master;
-use rc_types::{Fault, Message, NodeWork, ServerId, Setup};
-use std::alloc::{Allocator, Global};
+use rc_types::{Fault, Message, NodeName, NodeWork, ServerId, Setup};
+use std::alloc::{AllocError, Allocator, Global};
 use std::fmt;
 use std::marker::Model;
 
@@ -150,6 +150,17 @@ impl<A: Allocator + Clone> NodeState<A> {
         }
     }
 
+    /// Which node it is. It takes no memory.
+    pub fn name(&self) -> NodeName
+        ensures { result ≡ name_of (node_seen self.now) }
+    {
+        match &self.node {
+            Node::Outside => NodeName::Outside,
+            Node::Coordinator(_) => NodeName::Coordinator,
+            Node::Host(host) => NodeName::Host(host.server().index),
+        }
+    }
+
     /// The server of the host's last start, which a timer and a stop of the node name. A host that was
     /// never started has generation 0; the outside and the coordinator have no server, and answer 0.0.
     /// It takes no memory.
@@ -234,14 +245,13 @@ impl<A: Allocator + Clone> NodeState<A> {
     /// # Errors
     ///
     /// `OutOfMemory` (F1): memory was refused. The node and what was sent are as before.
-    pub fn take(&mut self, message: &Message, sent: &mut Vec<Message>) -> Result<(), Fault>
+    pub fn take(&mut self, message: &Message, sent: &mut Vec<Message>) -> Result<(), AllocError>
         requires { NodeHasRoom (node_seen self.old) }
         ensures state { OnOk result (node_seen self.new ≡ (after_work (node_seen self.old) (Deliver message.now)).0) }
         ensures sends { OnOk result (sent.new.items ≡
             sent.old.items ++ (after_work (node_seen self.old) (Deliver message.now)).1) }
         ensures err { OnErr result (node_seen self.new ≡ node_seen self.old) }
         ensures unsent { OnErr result (sent.new.items ≡ sent.old.items) }
-        ensures no_memory { IfErr result (λ fault. fault ≡ OutOfMemory) }
     {
         match &mut self.node {
             Node::Outside => Ok(()),
@@ -318,7 +328,7 @@ fn outside_step(alloc: Global, work: &NodeWork, sent: &mut Vec<Message>) -> Resu
     ensures unsent { OnErr result (sent.new.items ≡ sent.old.items) }
 {
     match work {
-        NodeWork::Ask { to, body } if can_ask(*to, body) => ask(alloc, *to, body, sent),
+        NodeWork::Ask { to, body } if can_ask(*to, body) => Ok(ask(alloc, *to, body, sent)?),
         NodeWork::Deliver(_) => Ok(()),
         _ => Err(Fault::BadEvent),
     }
@@ -341,9 +351,9 @@ fn coordinator_step<A: Allocator + Clone>(
     ensures unsent { OnErr result (sent.new.items ≡ sent.old.items) }
 {
     match work {
-        NodeWork::Deliver(message) => coordinator.take(message, sent),
+        NodeWork::Deliver(message) => Ok(coordinator.take(message, sent)?),
         NodeWork::Ask { .. } | NodeWork::Stop | NodeWork::Start { .. } => Err(Fault::BadEvent),
-        _ => coordinator.step_into(work, sent),
+        _ => Ok(coordinator.step_into(work, sent)?),
     }
 }
 
@@ -361,13 +371,13 @@ fn host_step(host: &mut Host, work: &NodeWork, sent: &mut Vec<Message>) -> Resul
         return Err(Fault::BadEvent);
     }
     match work {
-        NodeWork::Deliver(message) => host.take(message, sent),
-        NodeWork::Tick => host.tick(sent),
+        NodeWork::Deliver(message) => Ok(host.take(message, sent)?),
+        NodeWork::Tick => Ok(host.tick(sent)?),
         NodeWork::Stop => {
             host.stop();
             Ok(())
         }
-        NodeWork::Start { kept } => host.start(kept.as_slice(), sent),
+        NodeWork::Start { kept } => Ok(host.start(kept.as_slice(), sent)?),
         _ => unreachable!(),
     }
 }

@@ -1,9 +1,8 @@
 //! All nodes of a world but the outside, which has no state.
 
 ghost use Rattle.std.specs.Prelude.{◌≡◌, ◌++◌, ◌<◌, [], true, is_some, nat_eq, length, option_map};
-ghost use Rattle.std.specs.Prelude.{OnOk, OnErr, IfOk, IfErr};
+ghost use Rattle.std.specs.Prelude.{OnOk, OnErr, IfOk};
 ghost use Rattle.indexmap.specs.IndexMap.{get};
-ghost use Rattle.rc_types.specs.declared.faults.Fault.TheVariants.{OutOfMemory};
 ghost use Rattle.rc_types.specs.declared.ids.Addr.TheVariants.{Server};
 ghost use Rattle.rc_types.specs.declared.events.Event.TheVariants.{Deliver};
 ghost use Rattle.rc_model.specs.Tables.{put};
@@ -26,7 +25,7 @@ use rc_backup::Backup;
 use rc_coordinator::Coordinator;
 use rc_master::Master;
 use rc_types::limits::MAX_HOSTS;
-use rc_types::{Addr, Event, Fault, Message, NodeWork, ServerId, Setup};
+use rc_types::{Addr, Event, Message, NodeWork, ServerId, Setup};
 use std::alloc::{AllocError, Allocator, Global};
 
 /// The nodes of a world. A host that was never started may have no entry.
@@ -93,9 +92,8 @@ impl<A: Allocator + Clone> Nodes<A> {
     }
 
     /// The names of the host's open replicas, in order of master and then of segment.
-    pub(crate) fn open_replicas(&self, host: u8) -> Result<Vec<(ServerId, u16)>, Fault>
-        ensures ok { IfOk result (λ names. names.items ≡ open_names (hosts_in self.now host).backup) }
-        ensures no_memory { IfErr result (λ fault. fault ≡ OutOfMemory) }
+    pub(crate) fn open_replicas(&self, host: u8) -> Result<Vec<(ServerId, u16)>, AllocError>
+        ensures { IfOk result (λ names. names.items ≡ open_names (hosts_in self.now host).backup) }
     {
         match self.hosts.get(&host) {
             Some(host) => host.open_names(),
@@ -130,7 +128,11 @@ impl<A: Allocator + Clone> Nodes<A> {
     }
 
     /// The coordinator takes a work.
-    fn tell_coordinator(&mut self, work: &NodeWork, sent: &mut Vec<Message>) -> Result<(), Fault>
+    fn tell_coordinator(
+        &mut self,
+        work: &NodeWork,
+        sent: &mut Vec<Message>,
+    ) -> Result<(), AllocError>
         requires { HasNumbers (coordinator_in self.old) }
         ensures coordinator { OnOk result (coordinator_in self.new ≡ (steps (coordinator_in self.old) work.now).0) }
         ensures sends { OnOk result (sent.new.items ≡ sent.old.items ++ (steps (coordinator_in self.old) work.now).1) }
@@ -138,13 +140,12 @@ impl<A: Allocator + Clone> Nodes<A> {
         ensures setup { self.new.setup ≡ self.old.setup }
         ensures err { OnErr result (coordinator_in self.new ≡ coordinator_in self.old) }
         ensures unsent { OnErr result (sent.new.items ≡ sent.old.items) }
-        ensures no_memory { IfErr result (λ fault. fault ≡ OutOfMemory) }
     {
         self.coordinator.step_into(work, sent)
     }
 
     /// The timer of a server that runs goes off.
-    fn tick(&mut self, id: ServerId, sent: &mut Vec<Message>) -> Result<(), Fault>
+    fn tick(&mut self, id: ServerId, sent: &mut Vec<Message>) -> Result<(), AllocError>
         ensures hosts { OnOk result (hosts_in self.new ≡
             put (hosts_in self.old) id.index (host_does self.old id.index (Tick (Server id))).0) }
         ensures sends { OnOk result (sent.new.items ≡
@@ -153,7 +154,6 @@ impl<A: Allocator + Clone> Nodes<A> {
         ensures setup { self.new.setup ≡ self.old.setup }
         ensures err { OnErr result (hosts_in self.new ≡ hosts_in self.old) }
         ensures unsent { OnErr result (sent.new.items ≡ sent.old.items) }
-        ensures no_memory { IfErr result (λ fault. fault ≡ OutOfMemory) }
     {
         match self.hosts.get_mut(&id.index) {
             Some(host) => host.tick(sent),
@@ -178,7 +178,7 @@ impl<A: Allocator + Clone> Nodes<A> {
         id: ServerId,
         message: &Message,
         sent: &mut Vec<Message>,
-    ) -> Result<(), Fault>
+    ) -> Result<(), AllocError>
         requires { HostHasRoom (hosts_in self.old id.index) }
         ensures hosts { OnOk result (hosts_in self.new ≡
             put (hosts_in self.old) id.index (host_does self.old id.index (Take message.now)).0) }
@@ -188,7 +188,6 @@ impl<A: Allocator + Clone> Nodes<A> {
         ensures setup { self.new.setup ≡ self.old.setup }
         ensures err { OnErr result (hosts_in self.new ≡ hosts_in self.old) }
         ensures unsent { OnErr result (sent.new.items ≡ sent.old.items) }
-        ensures no_memory { IfErr result (λ fault. fault ≡ OutOfMemory) }
     {
         match self.hosts.get_mut(&id.index) {
             Some(host) => host.take(message, sent),
@@ -217,7 +216,7 @@ impl<A: Allocator + Clone> Nodes<A> {
         index: u8,
         kept: &[(ServerId, u16)],
         sent: &mut Vec<Message>,
-    ) -> Result<(), Fault>
+    ) -> Result<(), AllocError>
         requires limits { IsWithinLimits self.old.setup }
         requires room { HostHasRoom (hosts_in self.old index) }
         ensures hosts { OnOk result (hosts_in self.new ≡
@@ -227,7 +226,6 @@ impl<A: Allocator + Clone> Nodes<A> {
         ensures setup { self.new.setup ≡ self.old.setup }
         ensures err { OnErr result (hosts_in self.new ≡ hosts_in self.old) }
         ensures unsent { OnErr result (sent.new.items ≡ sent.old.items) }
-        ensures no_memory { IfErr result (λ fault. fault ≡ OutOfMemory) }
     {
         self.enroll(index)?;
         match self.hosts.get_mut(&index) {
@@ -241,7 +239,7 @@ impl<A: Allocator + Clone> Nodes<A> {
         &mut self,
         number: usize,
         sent: &mut Vec<Message>,
-    ) -> Result<(), Fault>
+    ) -> Result<(), AllocError>
         requires number { number < length sent.old.items }
         requires room { HasNumbers (coordinator_in self.old) }
         ensures coordinator { OnOk result (coordinator_in self.new ≡
@@ -252,7 +250,6 @@ impl<A: Allocator + Clone> Nodes<A> {
         ensures setup { self.new.setup ≡ self.old.setup }
         ensures err { OnErr result (coordinator_in self.new ≡ coordinator_in self.old) }
         ensures unsent { OnErr result (sent.new.items ≡ sent.old.items) }
-        ensures no_memory { IfErr result (λ fault. fault ≡ OutOfMemory) }
     {
         let work = NodeWork::Deliver(lend(sent, number));
         let done = self.tell_coordinator(&work, sent);
@@ -266,7 +263,7 @@ impl<A: Allocator + Clone> Nodes<A> {
         id: ServerId,
         number: usize,
         sent: &mut Vec<Message>,
-    ) -> Result<(), Fault>
+    ) -> Result<(), AllocError>
         requires number { number < length sent.old.items }
         requires room { HostHasRoom (hosts_in self.old id.index) }
         ensures hosts { OnOk result (hosts_in self.new ≡
@@ -278,7 +275,6 @@ impl<A: Allocator + Clone> Nodes<A> {
         ensures setup { self.new.setup ≡ self.old.setup }
         ensures err { OnErr result (hosts_in self.new ≡ hosts_in self.old) }
         ensures unsent { OnErr result (sent.new.items ≡ sent.old.items) }
-        ensures no_memory { IfErr result (λ fault. fault ≡ OutOfMemory) }
     {
         let message = lend(sent, number);
         let done = self.reach(id, &message, sent);
@@ -287,7 +283,7 @@ impl<A: Allocator + Clone> Nodes<A> {
     }
 
     /// The message of this number reaches its addressee. The outside does nothing with it.
-    fn deliver(&mut self, number: usize, sent: &mut Vec<Message>) -> Result<(), Fault>
+    fn deliver(&mut self, number: usize, sent: &mut Vec<Message>) -> Result<(), AllocError>
         requires number { number < length sent.old.items }
         requires room { WorldHasRoom (world_of self.old sent.old.items) }
         ensures hosts { OnOk result (hosts_in self.new ≡ (after_event self.old sent.old.items (Deliver number)).hosts) }
@@ -298,7 +294,6 @@ impl<A: Allocator + Clone> Nodes<A> {
         ensures err_hosts { OnErr result (hosts_in self.new ≡ hosts_in self.old) }
         ensures err_coordinator { OnErr result (coordinator_in self.new ≡ coordinator_in self.old) }
         ensures unsent { OnErr result (sent.new.items ≡ sent.old.items) }
-        ensures no_memory { IfErr result (λ fault. fault ≡ OutOfMemory) }
     {
         match address(sent.as_slice(), number) {
             Addr::Outside => Ok(()),
@@ -309,7 +304,7 @@ impl<A: Allocator + Clone> Nodes<A> {
 
     /// An event that is possible. Only memory can be refused (F1), and then nothing has changed.
     #[tactic(auto, using(crate::proofs::Deliveries::deliverable))]
-    pub(crate) fn take(&mut self, event: &Event, sent: &mut Vec<Message>) -> Result<(), Fault>
+    pub(crate) fn take(&mut self, event: &Event, sent: &mut Vec<Message>) -> Result<(), AllocError>
         requires possible { is_possible (world_of self.old sent.old.items) event.now ≡ true }
         requires limits { IsWithinLimits self.old.setup }
         requires room { WorldHasRoom (world_of self.old sent.old.items) }
@@ -321,7 +316,6 @@ impl<A: Allocator + Clone> Nodes<A> {
         ensures err_hosts { OnErr result (hosts_in self.new ≡ hosts_in self.old) }
         ensures err_coordinator { OnErr result (coordinator_in self.new ≡ coordinator_in self.old) }
         ensures unsent { OnErr result (sent.new.items ≡ sent.old.items) }
-        ensures no_memory { IfErr result (λ fault. fault ≡ OutOfMemory) }
     {
         match event {
             Event::Ask { to, body } => ask(self.alloc, *to, body, sent),

@@ -1,12 +1,11 @@
 //! What the outside does: it asks servers to write and to read.
 
-ghost use Rattle.std.specs.Prelude.{◌≡◌, ◌++◌, ◌∷◌, OnOk, OnErr, IfErr};
-ghost use Rattle.rc_types.specs.declared.faults.Fault.TheVariants.{OutOfMemory};
+ghost use Rattle.std.specs.Prelude.{◌≡◌, ◌++◌, ◌∷◌, OnOk, OnErr};
 ghost use Rattle.rc_model.specs.Nodes.{Ask, outside_can, outside_sends};
 
 use rc_types::limits::MAX_HOSTS;
-use rc_types::{Addr, Body, Fault, Message, ServerId, TryClone};
-use std::alloc::Global;
+use rc_types::{Addr, Body, Message, ServerId, TryClone};
+use std::alloc::{AllocError, Global};
 
 /// Whether the outside can ask this: a Write or a Read, of a server of a host that there is.
 pub(crate) fn can_ask(to: ServerId, body: &Body) -> bool
@@ -21,10 +20,9 @@ pub(crate) fn ask(
     to: ServerId,
     body: &Body,
     sent: &mut Vec<Message>,
-) -> Result<(), Fault>
+) -> Result<(), AllocError>
     ensures sends { OnOk result (sent.new.items ≡ sent.old.items ++ outside_sends (Ask to body.now)) }
     ensures unsent { OnErr result (sent.new.items ≡ sent.old.items) }
-    ensures no_memory { IfErr result (λ fault. fault ≡ OutOfMemory) }
 {
     let body = body.try_clone(alloc)?;
     sent.push(Message {

@@ -22,7 +22,7 @@ use rc_backup::Backup;
 use rc_master::Master;
 use rc_types::limits::MAX_EVENTS;
 use rc_types::{Event, Fault, Message, ServerId, Setup, TryClone};
-use std::alloc::{Allocator, Global};
+use std::alloc::{AllocError, Allocator, Global};
 use std::fmt;
 use std::marker::Model;
 
@@ -167,9 +167,8 @@ impl<A: Allocator + Clone> World<A> {
     /// # Errors
     ///
     /// `OutOfMemory` (F1): the memory for the list was refused.
-    pub fn open_replicas(&self, host: u8) -> Result<Vec<(ServerId, u16)>, Fault>
-        ensures ok { IfOk result (λ names. names.items ≡ open_names ((replayed self.now).hosts host).backup) }
-        ensures no_memory { IfErr result (λ fault. fault ≡ OutOfMemory) }
+    pub fn open_replicas(&self, host: u8) -> Result<Vec<(ServerId, u16)>, AllocError>
+        ensures { IfOk result (λ names. names.items ≡ open_names ((replayed self.now).hosts host).backup) }
     {
         self.nodes.open_replicas(host)
     }

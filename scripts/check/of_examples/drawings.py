@@ -40,8 +40,8 @@ text { font: 11px system-ui, sans-serif; fill: #1b2130 }
   .closed.fenced { fill: url(#hatched) } .hollow { fill: #13161c }
   .arrow { stroke: #8fb0f0 } .good { stroke: #5fcf92 } .bad { stroke: #ff8a80 }
   .grant { stroke: #cf9cf2 } .note { fill: #1c2129 } .words { stroke: #13161c } .stale { stroke: #ffb454 }
-  .owner { fill: #cf9cf2 } .former { fill: #13161c; stroke: #cf9cf2 } .doubt { fill: #4a3517 }
-  .lost-keys { fill: #5e2723 } .clean { fill: #5fcf92 } .unclean { fill: #ff8a80 }
+  .owner { fill: #cf9cf2 } .former { fill: #13161c; stroke: #cf9cf2 } .doubt { fill: #7d5c22 }
+  .lost-keys { fill: #93423a } .clean { fill: #5fcf92 } .unclean { fill: #ff8a80 }
   .lock { fill: #13161c; stroke: #e6e9f0 } .tag { fill: #ffb454 }
 }
 """

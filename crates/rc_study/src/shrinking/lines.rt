@@ -1,8 +1,8 @@
 //! The lines of a scenario.
 
 use rc_pen::Pen;
-use rc_reading::{Hosts, Kind, Kinds};
-use rc_types::{Seq, ServerId, Setup, Shared};
+use rc_reading::{Hosts, Kinds};
+use rc_types::{Kind, Seq, ServerId, Setup, Shared};
 
 /// How many hosts there can be.
 const HOSTS: u8 = 64;

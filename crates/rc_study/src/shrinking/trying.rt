@@ -104,10 +104,7 @@ fn keeps_line(
 ) -> Result<bool, Fault>
     requires { IsWithinLimits task.setup.now }
 {
-    let setup = match task.setup.try_clone(alloc) {
-        Ok(setup) => setup,
-        Err(fault) => return Err(fault),
-    };
+    let setup = task.setup.try_clone(alloc)?;
     let mut run = Run::new(alloc, setup, alloc);
     match play_left(alloc, task, course, cut, &mut run, moved) {
         Ok(Reached::Told) => Ok(true),

@@ -6,9 +6,9 @@ use Rattle.rc_audit.proofs.missing.missing_among.Goals as goal
 pub first_missing-requires-clause-superseded : goal.first_missing-requires-clause-superseded
 first_missing-requires-clause-superseded c =
     superseded_told _ c.args.evidence.now.messages.now (messages_in c.args.sent.now) (accepted_of c.args.recovery.now)
-    c.requires.sent c.in_ok-highs.ensures.highs
+    c.requires.sent c.in_ok-highs.ensures
 
-pub returns-clause-found : goal.returns-clause-found
-returns-clause-found c =
+pub returns : goal.returns
+returns c =
     missing_told c.args.evidence.now.messages.now (messages_in c.args.sent.now) (accepted_of c.args.recovery.now)
     c.first_missing.result c.requires.sent c.first_missing.ensures

@@ -7,7 +7,7 @@ use Rattle.rc_audit.proofs.missing.missing_write.Goals as goal
 pub loop-message-preserved : goal.loop-message-preserved
 loop-message-preserved c =
     let sent = c.args.evidence.now.messages.now in
-    let none = sym c.in_ok-missing.ensures.found ∙ none_from c.in_ok-missing.missing (sym c.if-is_some.ensures) in
+    let none = sym c.in_ok-missing.ensures ∙ none_from c.in_ok-missing.missing (sym c.if-is_some.ensures) in
     record {
       clean = clean_more c.loop-message.clean c.insert.new.self sent c.key_of-key.result c.in-Some.recovery.master
           (record { rows = c.in-Some.recovery.rows }) c.in-Some.recovery.attempt c.key_of-key.ensures none

@@ -12,4 +12,4 @@ loop-host-preserved c =
     goes_on (decisions_of (replayed c.args.world.now)) c.loop-host.host c.args.scene.now.items c.loop-host.scene.items
     c.add_decisions_of.new.scene.items
     c.loop-host.invariant
-    (c.in_ok-add_decisions_of.ensures.ok ∙ ap (λ n. c.loop-host.scene.items ++ gathered (decision_of c.loop-host.host) n) c.newest.ensures)
+    (c.in_ok-add_decisions_of.ensures ∙ ap (λ n. c.loop-host.scene.items ++ gathered (decision_of c.loop-host.host) n) c.newest.ensures)

@@ -10,4 +10,4 @@ pub loop-host-preserved : goal.loop-host-preserved
 loop-host-preserved c =
     goes_on (start_of c.args.keeping (replayed c.args.world.now)) c.loop-host.host c.args.scene.now.items
     c.loop-host.scene.items c.add_start.new.scene.items
-    c.loop-host.invariant c.in_ok-add_start.ensures.ok
+    c.loop-host.invariant c.in_ok-add_start.ensures

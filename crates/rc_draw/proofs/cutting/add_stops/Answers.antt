@@ -9,4 +9,4 @@ loop-host-init c = begins (stop_of (replayed c.args.world.now)) c.args.scene.now
 pub loop-host-preserved : goal.loop-host-preserved
 loop-host-preserved c =
     goes_on (stop_of (replayed c.args.world.now)) c.loop-host.host c.args.scene.now.items c.loop-host.scene.items c.add_stop.new.scene.items
-    c.loop-host.invariant c.in_ok-add_stop.ensures.ok
+    c.loop-host.invariant c.in_ok-add_stop.ensures

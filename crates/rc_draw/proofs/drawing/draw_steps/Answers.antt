@@ -13,9 +13,9 @@ loop-number-preserved c =
     steps_go_on c.args.steps c.loop-number.number c.loop-number.generator c.take-words.new.generator c.take-words.result
     (replayed c.loop-number.run) (replayed c.draw_step.new.run)
     (drawn_from c.args.steps 0 (generator c.args.seed) (replayed c.args.run.now))
-    c.loop-number-test.true c.take-words.ensures.words c.take-words.ensures.rest c.in_ok-draw_step.ensures.ok c.loop-number.invariant
+    c.loop-number-test.true c.take-words.ensures.words c.take-words.ensures.rest c.in_ok-draw_step.ensures c.loop-number.invariant
 
-pub returns-clause-ok : goal.returns-clause-ok
-returns-clause-ok c =
+pub returns : goal.returns
+returns c =
     steps_end c.args.steps c.loop-number.number c.loop-number.generator (replayed c.loop-number.run)
     (drawn_from c.args.steps 0 (generator c.args.seed) (replayed c.args.run.now)) c.loop-number-test.false c.loop-number.invariant

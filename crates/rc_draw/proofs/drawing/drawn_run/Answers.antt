@@ -4,11 +4,11 @@ use Rattle.rc_draw.proofs.drawing.drawn_run.Goals as goal
 
 pub returns-in-Ok-draw_steps-clause-world : goal.returns-in-Ok-draw_steps-clause-world
 returns-in-Ok-draw_steps-clause-world c =
-    drawn_all c.args.seed c.args.steps c.args.free (replayed c.in-Ok.run') (replayed c.draw_steps.new.run) c.in-Ok.ensures.ok
-    c.in-Ok-draw_steps.ensures.ok
+    drawn_all c.args.seed c.args.steps c.args.free (replayed c.in-Ok.run') (replayed c.draw_steps.new.run) c.in-Ok.ensures
+    c.in-Ok-draw_steps.ensures
 
 pub returns-in-Ok-draw_steps-clause-events : goal.returns-in-Ok-draw_steps-clause-events
 returns-in-Ok-draw_steps-clause-events c =
     drawn_events c.args.seed c.args.steps c.args.free c.draw_steps.new.run c.world-world.ensures.taken
-    (drawn_all c.args.seed c.args.steps c.args.free (replayed c.in-Ok.run') (replayed c.draw_steps.new.run) c.in-Ok.ensures.ok
-    c.in-Ok-draw_steps.ensures.ok)
+    (drawn_all c.args.seed c.args.steps c.args.free (replayed c.in-Ok.run') (replayed c.draw_steps.new.run) c.in-Ok.ensures
+    c.in-Ok-draw_steps.ensures)

@@ -1,7 +1,7 @@
 use Rattle.rc_draw.proofs.CutWorlds.{run_is}
 use Rattle.rc_draw.proofs.stopping.run_of.Goals as goal
 
-pub returns-in-Ok-take_all-clause-ok : goal.returns-in-Ok-take_all-clause-ok
-returns-in-Ok-take_all-clause-ok c =
+pub returns-in-Ok-take_all : goal.returns-in-Ok-take_all
+returns-in-Ok-take_all c =
     run_is c.args.events.now c.args.setup.now c.in-Ok.setup c.new-run.result c.take_all.new.run
-    c.in-Ok.ensures.copy c.new-run.ensures c.in-Ok-take_all.ensures.ok
+    c.in-Ok.ensures c.new-run.ensures c.in-Ok-take_all.ensures

@@ -4,8 +4,8 @@ use Rattle.rc_evidence.specs.Writes.{ack_of}
 use Rattle.rc_evidence.proofs.BarLemmas.{ack_noted}
 use Rattle.rc_evidence.proofs.bars.note_acked.Goals as goal
 
-pub returns-clause-noted : goal.returns-clause-noted
-returns-clause-noted c =
+pub returns : goal.returns
+returns c =
     ack_noted c.args.highs.now c.note_version.new.highs (ack_of c.in-Some.write) _ c.in-Some.ensures
     (subst (λ key. NotesVersion c.args.highs.now c.note_version.new.highs key c.in-Some.write.version)
-    c.term_key.ensures c.in_ok-note_version.ensures.noted)
+    c.term_key.ensures c.in_ok-note_version.ensures)

@@ -21,5 +21,5 @@ loop-row-preserved c =
       has_reaches_more _ _ _ so_far.0 so_far.2 c.in_ok-raise.ensures.keys c.in_ok-raise.ensures.raised.each,
     )
 
-pub returns-clause-reaches : goal.returns-clause-reaches
-returns-clause-reaches c = let so_far = c.loop-row.invariant in has_reaches_all _ _ so_far.0 _ c.in-None.ensures.steps.0 so_far.1 so_far.2
+pub returns : goal.returns
+returns c = let so_far = c.loop-row.invariant in has_reaches_all _ _ so_far.0 _ c.in-None.ensures.steps.0 so_far.1 so_far.2

@@ -23,5 +23,5 @@ loop-message-preserved c =
     (stands_more c.loop-message.standings c.note_write.new.standings c.args.evidence.now.messages.now
     (take c.loop-message.message-index c.args.evidence.now.messages.now) c.message-item.result c.in-Some.master
     c.in-Some.write c.all_agree-agrees.result
-    c.loop-message.invariant c.in-Some.ensures c.all_agree-agrees.ensures c.in_ok-note_write.ensures.added.kept
-    c.in_ok-note_write.ensures.added.below)
+    c.loop-message.invariant c.in-Some.ensures c.all_agree-agrees.ensures c.in_ok-note_write.ensures.kept
+    c.in_ok-note_write.ensures.below)

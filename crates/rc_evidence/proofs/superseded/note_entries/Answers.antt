@@ -8,4 +8,4 @@ loop-index-preserved c =
     (omega arith) c.saturating_add.ensures in
     entries_noted c.args.highs.now c.loop-index.highs c.note_entry.new.highs c.args.reach c.args.start
     c.saturating_add.result c.loop-index.index c.args.entries.now c.index-entries-index.result
-    (omega arith) c.index-entries-index.is at c.loop-index.invariant c.in_ok-note_entry.ensures.noted
+    (omega arith) c.index-entries-index.is at c.loop-index.invariant c.in_ok-note_entry.ensures

@@ -8,8 +8,8 @@ loop-key-init c = turns_begin c.args.order.now c.args.highs.now c.into_iter-key-
 pub loop-key-preserved : goal.loop-key-preserved
 loop-key-preserved c =
     turns_more c.args.order.now c.args.highs.now c.loop-key.key-iterator c.next.new.self c.in-Some.key.now _
-    c.loop-key.turns c.add_turns.new.turns c.in-Some.ensures.steps c.loop-key.invariant c.in_ok-add_turns.ensures.added
+    c.loop-key.turns c.add_turns.new.turns c.in-Some.ensures.steps c.loop-key.invariant c.in_ok-add_turns.ensures
 
-pub returns-clause-turns : goal.returns-clause-turns
-returns-clause-turns c = turns_end c.args.order.now c.args.highs.now c.loop-key.key-iterator c.loop-key.turns
+pub returns : goal.returns
+returns c = turns_end c.args.order.now c.args.highs.now c.loop-key.key-iterator c.loop-key.turns
     c.in-None.ensures.steps.0 c.loop-key.invariant

@@ -3,7 +3,7 @@ use Rattle.std.proofs.Common.{arith}
 use Rattle.std.specs.List.{range_with_len}
 use Rattle.std.proofs.lemmas.List.FromFn.{length-map-range_with_len}
 use Rattle.rc_journal.specs.Views.{new_place}
-use Rattle.rc_journal.specs.Names.{number_of}
+use Rattle.rc_types.specs.Names.{number_of}
 use Rattle.rc_seats.specs.SeatView.{new_seat}
 use Rattle.rc_seats.specs.Seats.{new_seats}
 use Rattle.rc_seats.proofs.Seating.{seat_named-number, places_from, places-first, seats-push}
@@ -55,8 +55,8 @@ loop-number-preserved g c =
           ∙ (ap (λ s. new_seats number ++ s ∷ []) (c.new.ensures ∙ ap new_seat c.seat_named.ensures) ∙ sym (seats-push number)));
     }
 
-pub returns-clause-seats : goal.returns-clause-seats
-returns-clause-seats g c =
+pub returns : goal.returns
+returns g c =
     let all : length c.args.tokens.items ≡ g.N.Naming.wire.nodes =
     ap length c.requires.tokens ∙ length-map-range_with_len new_place 0 g.N.Naming.wire.nodes in
     let last : c.loop-number.number ≡ g.N.Naming.wire.nodes =

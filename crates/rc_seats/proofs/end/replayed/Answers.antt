@@ -4,11 +4,11 @@ use Rattle.rc_world.specs.Happened.{opened, with_events}
 use Rattle.rc_seats.proofs.Replaying.{not-refused}
 use Rattle.rc_seats.proofs.end.replayed.Goals as goal
 
-pub returns-clause-no_memory : goal.returns-clause-no_memory
-returns-clause-no_memory g c =
+pub only_memory-requires : goal.only_memory-requires
+only_memory-requires g c =
     let events = c.events.result.now in
     let stopped = c.in-Err.ensures.stopped in
-    let opened_is = c.new.ensures ∙ ap opened (c.in_ok-setup.ensures.copy ∙ c.setup.ensures) in
+    let opened_is = c.new.ensures ∙ ap opened (c.in_ok-setup.ensures ∙ c.setup.ensures) in
     ⊎_elim (λ (e : c.in-Err.fault ≡ OutOfMemory). e)
     (λ (e : c.in-Err.fault ≡ BadEvent).
     absurd (not-refused g.N.Naming.wire events c.in-Err.field-0-1 c.in-Err.field-0-0 c.events.ensures.history stopped.0

@@ -1,4 +1,5 @@
-use Rattle.std.proofs.Common.{◌≡◌, true, false, length, sym, ap, ◌∙◌, ◌+◌}
+use Rattle.rc_types.specs.declared.faults.Fault.TheVariants.{OutOfMemory}
+use Rattle.std.proofs.Common.{◌≡◌, true, false, length, sym, ap, ◌∙◌, ◌+◌, refl}
 use Rattle.std.specs.Prelude.{Err}
 use Rattle.std.proofs.lemmas.Result.{err_from_is_err_and}
 use Rattle.rc_types.specs.declared.limits.TheConstants.{MAX_EVENTS}
@@ -117,8 +118,8 @@ returns-then-found-clause-grows g c =
 pub returns-in_err-found-clause-bad : goal.returns-in_err-found-clause-bad
 returns-in_err-found-clause-bad g c =
     let p = err_from_is_err_and c.from_residual.result c.from_residual.ensures.1 in
-    bad-at (length c.fetch.new.seat.seen ≡ MAX_EVENTS) c.from_residual.result c.in_err-found.field-0.0 (p.1 ∙ ap Err p.2)
-    (memory-not-bad _ c.in_err-found.field-0.0 c.in_err-found.ensures.no_memory)
+    bad-at (length c.fetch.new.seat.seen ≡ MAX_EVENTS) c.from_residual.result OutOfMemory (p.1 ∙ ap Err p.2)
+    (memory-not-bad _ OutOfMemory refl)
 
 pub returns-in_err-take_step-clause-bad : goal.returns-in_err-take_step-clause-bad
 returns-in_err-take_step-clause-bad g c =

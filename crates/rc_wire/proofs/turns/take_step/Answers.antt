@@ -1,7 +1,8 @@
-use Rattle.std.proofs.Common.{inl, inr, ap, ◌∙◌}
+use Rattle.rc_types.specs.declared.faults.Fault.TheVariants.{OutOfMemory}
+use Rattle.std.proofs.Common.{inl, inr, ap, ◌∙◌, refl}
 use Rattle.std.specs.Prelude.{Err}
 use Rattle.std.proofs.lemmas.Result.{err_from_is_err_and}
-use Rattle.rc_wire.proofs.Stuck.{IsRefused, bad-at, memory-alone}
+use Rattle.rc_wire.proofs.Stuck.{IsRefused, bad-at, memory-not-bad}
 use Rattle.rc_wire.proofs.Turning.{ok-always, err-always, takes-committed, grows-prepared, grows-through, grows-later, grows-takes}
 use Rattle.rc_wire.proofs.turns.take_step.Goals as goal
 
@@ -14,13 +15,12 @@ returns-in_err-commit-clause-err g c =
 
 pub returns-clause-ok : goal.returns-clause-ok
 returns-clause-ok g c =
-    ok-always c.after_commit.result
     (takes-committed g.N.Naming.wire.setup c.args.seat.now c.args.work c.prepare.new.self c.in_ok-commit.field-0 c.commit.new.seat
     c.in_ok-prepare.ensures.ok c.in_ok-commit.ensures.ok)
 
-pub returns-clause-err : goal.returns-clause-err
-returns-clause-err g c =
-    err-always c.after_commit.result
+pub returns-in_err-after_commit-clause-err : goal.returns-in_err-after_commit-clause-err
+returns-in_err-after_commit-clause-err g c =
+    err-always c.from_residual-in_err-after_commit.result
     (grows-takes g.N.Naming.wire.setup c.args.seat.now c.args.work c.commit.new.seat
     (takes-committed g.N.Naming.wire.setup c.args.seat.now c.args.work c.prepare.new.self c.in_ok-commit.field-0 c.commit.new.seat
     c.in_ok-prepare.ensures.ok c.in_ok-commit.ensures.ok))
@@ -39,7 +39,8 @@ returns-in_err-commit-clause-bad g c =
     c.from_residual-in_err-commit.result c.in_err-commit.field-0.0 (p.1 ∙ ap Err p.2)
     (λ bad. inr (c.commit.ensures.limit (c.in_err-commit.was ∙ ap Err bad)))
 
-pub returns-clause-bad : goal.returns-clause-bad
-returns-clause-bad g c =
-    memory-alone (IsRefused g.N.Naming.wire.setup c.args.seat.now c.args.work c.commit.new.seat) c.after_commit.result
-    c.after_commit.ensures.no_memory
+pub returns-in_err-after_commit-clause-bad : goal.returns-in_err-after_commit-clause-bad
+returns-in_err-after_commit-clause-bad g c =
+    let p = err_from_is_err_and c.from_residual-in_err-after_commit.result c.from_residual-in_err-after_commit.ensures.1 in
+    bad-at (IsRefused g.N.Naming.wire.setup c.args.seat.now c.args.work c.commit.new.seat)
+    c.from_residual-in_err-after_commit.result OutOfMemory (p.1 ∙ ap Err p.2) (memory-not-bad _ OutOfMemory refl)

@@ -7,12 +7,12 @@ use Rattle.rc_wire.proofs.world.run.Goals as goal
 
 pub run_nodes-requires-clause-idle : goal.run_nodes-requires-clause-idle
 run_nodes-requires-clause-idle g c κs within =
-    opened-idle g.N.Naming.wire.nodes c.in_ok-wire.seats.items c.in_ok-wire.ensures.seats
+    opened-idle g.N.Naming.wire.nodes c.in_ok-wire.seats.items c.in_ok-wire.ensures
 
 pub returns-in_ok-closed-in-Ok-clause-works : goal.returns-in_ok-closed-in-Ok-clause-works
 returns-in_ok-closed-in-Ok-clause-works g c = λ done.
     let events = c.in_ok-closed-in-Ok.field-0.events in
     let wire = g.N.Naming.wire in
     subst (λ (w : WireName). AllHaveWorked w.setup events c.args.steps.now w.nodes) (sym c.requires.name)
-    (works-done wire.setup events c.args.steps.now wire.nodes c.in_ok-wire.seats.items c.in-Ok.seats.items c.in_ok-wire.ensures.seats
+    (works-done wire.setup events c.args.steps.now wire.nodes c.in_ok-wire.seats.items c.in-Ok.seats.items c.in_ok-wire.ensures
     c.in-Ok.ensures.ok c.in_ok-closed-in-Ok.ensures.seats)

@@ -5,8 +5,8 @@ use Rattle.rc_replica.specs.HeldAfter.{fetched}
 use Rattle.rc_backup.proofs.TableLemmas.{found-held}
 use Rattle.rc_backup.proofs.backup.Backup.data.Goals as goal
 
-pub returns-in-Some-clause-ok : goal.returns-in-Some-clause-ok
-returns-in-Some-clause-ok c =
+pub returns-in-Some : goal.returns-in-Some
+returns-in-Some c =
     let r = c.args.request.now in
     let m = c.args.master in
     IfOk-weaker c.data.result _ _
@@ -15,4 +15,4 @@ returns-in-Some-clause-ok c =
     ∙ ap (λ held. fetched held r.attempt r.seg r.len r.part)
     (found-held m c.self.inside.held.entries (Some c.in-Some.held.now) c.in-Some.ensures.value ∙
     ap (λ holdings. held_in holdings.table m) c.self.view_is))
-    c.data.ensures.ok
+    c.data.ensures

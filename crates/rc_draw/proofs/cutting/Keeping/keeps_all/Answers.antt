@@ -9,5 +9,5 @@ loop-host-init c = start_alike_none c.args.self (replayed c.args.world.now)
 pub loop-host-preserved : goal.loop-host-preserved
 loop-host-preserved c =
     start_alike_more c.args.self (replayed c.args.world.now) c.loop-host.host c.in_ok-names.names.items c.of.result.items
-    c.loop-host.invariant c.in_ok-names.ensures.ok c.of.ensures
+    c.loop-host.invariant c.in_ok-names.ensures c.of.ensures
     (omega (arith, c.if-len-count.false, c.len.ensures, c.len-count.ensures))

@@ -15,7 +15,7 @@ invariant_of-self-2 c =
     let head : c.head-seg.result ≡ length c.args.self.now.segments = c.head-seg.ensures in
     let seg : c.head-seg.result + 1 ≡ length c.self.inside.segments.items + 1 = rw (← c.self.view_is) at (ap (λ (n : ℕ). n + 1) head) in
     let room : length c.args.self.now.segments < LAST_SEGMENT = c.requires.room in
-    let known : All (IsKnown (length c.args.self.now.segments + 1)) c.args.digest.items = c.requires.known in
+    let known : All (IsKnown (length c.args.self.now.segments + 1)) c.args.digest = c.requires.known in
     let shut : (seg : ℕ) → 0 < seg → seg < length c.args.self.now.segments →
     (segment_at c.args.self.now.segments seg).shut ≡ true = c.requires.shut in
     let pushed : c.push.new.self.items ≡ c.self.inside.segments.items ++ c.new-head.result ∷ [] =
@@ -32,7 +32,7 @@ invariant_of-self-2 c =
           c.self.invariant.0
           (opened-before (the_view c.self.inside) c.new-head.result c.push.new.self.items c.self.invariant.0.back pushed)
           (opened-back (the_view c.self.inside) c.new-head.result c.push.new.self.items c.self.invariant.0.back pushed)
-          (sound-opened (the_view c.self.inside) c.self.inside.passed c.self.inside.passed_entries c.args.digest.items
+          (sound-opened (the_view c.self.inside) c.self.inside.passed c.self.inside.passed_entries c.args.digest
           c.args.ids.now c.new-head.result c.push.new.self.items (c.head-seg.result + 1)
           c.self.invariant.0.now (rw (← c.self.view_is) at room) (rw (← c.self.view_is) at shut)
           (rw (← c.self.view_is) at known) seg c.new-head.ensures pushed))),
@@ -60,7 +60,7 @@ returns-clause-ok c =
     pushed-within c.push.result c.push.new.self.items c.reserve.new.self.items c.self.inside.segments.items c.new-head.result
     (c.push.ensures.succeeds (omega (arith, c.in_ok-reserve.ensures.ok))) c.push.ensures.items c.reserve.ensures.items in
     rw (← c.self.view_is)
-    (opened-is (the_view c.self.inside) c.args.digest.items c.args.ids.now c.new-head.result c.push.new.self.items
+    (opened-is (the_view c.self.inside) c.args.digest c.args.ids.now c.new-head.result c.push.new.self.items
     (c.head-seg.result + 1) seg c.new-head.ensures pushed)
 
 pub returns-clause-before : goal.returns-clause-before

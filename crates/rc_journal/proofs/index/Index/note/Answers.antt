@@ -3,8 +3,8 @@ use Rattle.std.proofs.Common.{sym, ap, ◌∙◌, arith}
 use Rattle.std.proofs.lemmas.List.{length-set, length-map, map-set}
 use Rattle.std.proofs.lemmas.Option.{slice_get_read}
 use Rattle.rc_model.specs.World.{node_of}
-use Rattle.rc_journal.specs.Names.{number_at}
-use Rattle.rc_journal.specs.declared.index.TheConstants.{NAMES}
+use Rattle.rc_types.specs.Names.{number_of}
+use Rattle.rc_types.specs.declared.ids.TheConstants.{NODE_NUMBERS}
 use Rattle.rc_journal.proofs.Indexes.{note-step}
 use Rattle.rc_journal.proofs.Rooms.{reach-set}
 use Rattle.rc_journal.proofs.index.Index.note.Goals as goal
@@ -17,11 +17,11 @@ loop-place-preserved c =
     let message = c.index-messages-place.result in
     let before = c.index_mut.result.now in
     let after = c.push.new.self in
-    let k : c.number.result ≡ number_at (node_of message.to) = c.number.ensures.number ∙ ap number_at c.at.ensures in
+    let k : c.number.result ≡ number_of (node_of message.to) = c.number.ensures.is ∙ ap number_of c.at.ensures in
     let at : slice_get messages place ≡ Some message =
     slice_get_read messages (length messages) place message refl c.loop-place-test.true c.index-messages-place.is in
-    let all : length lists ≡ NAMES = sym (length-map lists (λ list. list.items)) ∙ c.loop-place.invariant.all in
-    let within : c.number.result < length lists = omega (arith, all, c.number.ensures.within) in
+    let all : length lists ≡ NODE_NUMBERS = sym (length-map lists (λ list. list.items)) ∙ c.loop-place.invariant.all in
+    let within : c.number.result < length lists = omega (arith, all, c.number.ensures.few) in
     let there : slice_get lists c.number.result ≡ Some before =
     slice_get_read lists (length lists) c.number.result before refl within c.index_mut.ensures.value in
     let pushed : after.items ≡ before.items ++ (c.args.first + place) ∷ [] =
@@ -37,5 +37,5 @@ loop-place-preserved c =
           (λ list less. omega (arith, less));
       noted = λ sent index count.
           note-step (λ list. list.items) lists c.number.result before after sent messages place c.args.first message
-          (c.loop-place.invariant.noted sent index count) there k c.number.ensures.within at count pushed;
+          (c.loop-place.invariant.noted sent index count) there k c.number.ensures.few at count pushed;
     }

@@ -4,8 +4,8 @@ use Rattle.std.proofs.Math.Seq.{map-set_same}
 use Rattle.std.proofs.lemmas.List.{length-map}
 use Rattle.std.proofs.lemmas.Option.{slice_get_read, slice_get_within}
 use Rattle.rc_model.specs.World.{node_of}
-use Rattle.rc_journal.specs.Names.{number_at}
-use Rattle.rc_journal.specs.declared.index.TheConstants.{NAMES}
+use Rattle.rc_types.specs.Names.{number_of}
+use Rattle.rc_types.specs.declared.ids.TheConstants.{NODE_NUMBERS}
 use Rattle.rc_journal.proofs.Rooms.{Reach, reach-more}
 use Rattle.rc_journal.proofs.index.Index.reserve.Goals as goal
 
@@ -21,10 +21,10 @@ loop-message-preserved c =
     let place = c.loop-message.message-index in
     let message = c.message-item.result in
     let after = c.reserve.new.self in
-    let k : c.number.result ≡ number_at (node_of message.to) = c.number.ensures.number ∙ ap number_at c.at.ensures in
-    let all : length lists ≡ NAMES =
+    let k : c.number.result ≡ number_of (node_of message.to) = c.number.ensures.is ∙ ap number_of c.at.ensures in
+    let all : length lists ≡ NODE_NUMBERS =
     sym (length-map lists (λ list. list.items)) ∙ (ap length c.loop-message.invariant.same ∙ c.requires) in
-    let within : number_at (node_of message.to) < length lists = omega (arith, all, k, c.number.ensures.within) in
+    let within : number_of (node_of message.to) < length lists = omega (arith, all, k, c.number.ensures.few) in
     let at : slice_get messages place ≡ Some message =
     slice_get_read messages (length messages) place message refl c.loop-message-test.true c.message-item.is in
     record {

@@ -15,8 +15,8 @@ pub add_reminders-requires-clause-tasks : goal.add_reminders-requires-clause-tas
 add_reminders-requires-clause-tasks c =
     subst (AreTasksOf c.args.self.now.ownership.own.parts) (sym c.as_slice.ensures.value) c.requires.noted.tasks_are
 
-pub returns-clause-sends : goal.returns-clause-sends
-returns-clause-sends c =
+pub returns : goal.returns
+returns c =
     let s = c.args.self.now in
     c.in_ok-add_reminders.ensures.ok
     ∙ (ap (λ (tasks : List Task). c.args.sent.now.items ++

@@ -29,7 +29,7 @@ returns-in_ok-unless_memory-in-Err-clause-state c =
     ap (λ (r : Master × List Message). r.0)
     (sym (lost-refused (state_view c.args.self.now) c.args.seg (log_of c.lose.new.self) _ _
     (sym (c.is_freed.ensures) ∙ c.if-is_freed.false) c.in-Err.ensures.err
-    c.in_ok-unless_memory-in-Err.ensures.other))
+    c.in_ok-unless_memory-in-Err.ensures))
 
 pub returns-in_ok-unless_memory-in-Err-clause-sends : goal.returns-in_ok-unless_memory-in-Err-clause-sends
 returns-in_ok-unless_memory-in-Err-clause-sends c =
@@ -37,16 +37,16 @@ returns-in_ok-unless_memory-in-Err-clause-sends c =
     ∙ ap (λ (r : Master × List Message). c.args.sent.now.items ++ r.1)
     (sym (lost-refused (state_view c.args.self.now) c.args.seg (log_of c.lose.new.self) _ _
     (sym (c.is_freed.ensures) ∙ c.if-is_freed.false) c.in-Err.ensures.err
-    c.in_ok-unless_memory-in-Err.ensures.other))
+    c.in_ok-unless_memory-in-Err.ensures))
 
 pub returns-in_ok-unless_memory-in-Err-clause-noted : goal.returns-in_ok-unless_memory-in-Err-clause-noted
 returns-in_ok-unless_memory-in-Err-clause-noted c =
     notes-same _ _ _ _ (loses-same c.args.self.now.known c.args.seg (log_of c.args.self.now.log) (log_of c.lose.new.self) _
     (lost-in (state_view c.args.self.now) c.args.seg (log_of c.lose.new.self) _ _ c.in-Err.ensures.err
-    c.in_ok-unless_memory-in-Err.ensures.other)).0 c.requires.noted
+    c.in_ok-unless_memory-in-Err.ensures)).0 c.requires.noted
 
 pub returns-in_ok-unless_memory-in-Err-clause-head : goal.returns-in_ok-unless_memory-in-Err-clause-head
 returns-in_ok-unless_memory-in-Err-clause-head c =
     (loses-same c.args.self.now.known c.args.seg (log_of c.args.self.now.log) (log_of c.lose.new.self) _
     (lost-in (state_view c.args.self.now) c.args.seg (log_of c.lose.new.self) _ _ c.in-Err.ensures.err
-    c.in_ok-unless_memory-in-Err.ensures.other)).1
+    c.in_ok-unless_memory-in-Err.ensures)).1

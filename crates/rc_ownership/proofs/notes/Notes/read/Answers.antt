@@ -3,21 +3,21 @@ use Rattle.rc_model.specs.Versions.{Found}
 use Rattle.rc_ownership.proofs.Reading.{read-none, read-nothing, read-some}
 use Rattle.rc_ownership.proofs.notes.Notes.read.Goals as goal
 
-pub returns-in_default-clause-ok : goal.returns-in_default-clause-ok
-returns-in_default-clause-ok c =
+pub returns-in_default : goal.returns-in_default
+returns-in_default c =
     read-none c.args.term c.args.table c.args.key (take c.args.self.now.durable c.args.self.now.noted) c.durable_highs.result.now
     c.durable_highs.ensures (sym c.in_default.ensures.value)
 
-pub returns-in_default-durable_entry-clause-ok : goal.returns-in_default-durable_entry-clause-ok
-returns-in_default-durable_entry-clause-ok c =
+pub returns-in_default-durable_entry : goal.returns-in_default-durable_entry
+returns-in_default-durable_entry c =
     read-nothing c.args.term c.args.table c.args.key (take c.args.self.now.durable c.args.self.now.noted)
     c.durable_highs.result.now c.in-Some.field-0.now
     c.durable_highs.ensures (sym c.in-Some.ensures.value) (sym c.in_default-durable_entry.ensures)
 
-pub returns-clause-ok : goal.returns-clause-ok
-returns-clause-ok c =
+pub returns : goal.returns
+returns c =
     read-some c.args.term c.args.table c.args.key (take c.args.self.now.durable c.args.self.now.noted)
     c.durable_highs.result.now c.in-Some.field-0.now
     c.in-Some-durable_entry.entry.now c.durable_highs.ensures (sym c.in-Some.ensures.value) (sym c.in-Some-durable_entry.ensures)
     ∙ ap (λ value. let found : Found = record { version = c.in-Some-durable_entry.entry.now.version; value = value } in found)
-    (sym c.in_ok-value.ensures.copy)
+    (sym c.in_ok-value.ensures)

@@ -25,7 +25,7 @@ invariant_of-self c =
     c.awaited_place.ensures c.in-Some.is in
     let put = put_at c.args.seg c.args.from c.args.entries.now c.in_ok-came.came rows c.awaited_place.result
     c.in-Some.place c.index_mut.result.now c.fill.new.self
-    c.awaited_place.ensures c.in-Some.is c.index_mut.ensures.value c.fill.ensures c.in_ok-came.ensures.ok in
+    c.awaited_place.ensures c.in-Some.is c.index_mut.ensures.value c.fill.ensures c.in_ok-came.ensures in
     subst (λ after. AreCounted after (c.self.inside.missing - 1) c.in-Some-checked_add.count) (sym put)
     (subst (AreCounted _ (c.self.inside.missing - 1)) (sym c.in-Some-checked_add.ensures.1)
     (counted-with_row c.args.seg c.args.from c.args.entries.now rows c.self.inside.missing c.self.inside.count some c.self.invariant))
@@ -37,7 +37,7 @@ returns-clause-ok c =
     c.awaited_place.ensures c.in-Some.is in
     let put = put_at c.args.seg c.args.from c.args.entries.now c.in_ok-came.came rows c.awaited_place.result
     c.in-Some.place c.index_mut.result.now c.fill.new.self
-    c.awaited_place.ensures c.in-Some.is c.index_mut.ensures.value c.fill.ensures c.in_ok-came.ensures.ok in
+    c.awaited_place.ensures c.in-Some.is c.index_mut.ensures.value c.fill.ensures c.in_ok-came.ensures in
     part_put c.args.seg c.args.from c.args.entries.now c.self.inside.part rows _ c.self.inside.count
     c.in-Some-checked_add.count c.self.inside.answered c.args.self.now
     c.self.view_is put some
@@ -49,7 +49,7 @@ returns-clause-before c =
     c.awaited_place.ensures c.in-Some.is in
     let put = put_at c.args.seg c.args.from c.args.entries.now c.in_ok-came.came rows c.awaited_place.result
     c.in-Some.place c.index_mut.result.now c.fill.new.self
-    c.awaited_place.ensures c.in-Some.is c.index_mut.ensures.value c.fill.ensures c.in_ok-came.ensures.ok in
+    c.awaited_place.ensures c.in-Some.is c.index_mut.ensures.value c.fill.ensures c.in_ok-came.ensures in
     part_unput c.args.seg c.args.from c.args.entries.now c.self.inside.part rows _ c.self.inside.count
     c.in-Some-checked_add.count c.in-Some.place c.self.inside.answered c.args.self.now
     c.self.view_is put some

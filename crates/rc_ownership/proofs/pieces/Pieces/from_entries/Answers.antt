@@ -11,7 +11,7 @@ loop-piece-preserved c =
     let piece = c.in-Some.piece.now in
     let list = c.loop-piece.others.items in
     let put : c.push.new.self.items ≡ list ++ c.in_ok-copies.copies ∷ [] = grind (arith, common_steps) in
-    let pushed : c.push.new.self.items ≡ list ++ piece ∷ [] = put ∙ ap (λ copies. list ++ copies ∷ []) c.in_ok-copies.ensures.ok in
+    let pushed : c.push.new.self.items ≡ list ++ piece ∷ [] = put ∙ ap (λ copies. list ++ copies ∷ []) c.in_ok-copies.ensures in
     record {
       entries = cut-off list c.push.new.self.items piece c.loop-piece.rest.now c.in-Some.later.now c.split_piece.result.1.now
           c.loop-piece.invariant.entries pushed cut.whole;
@@ -20,15 +20,15 @@ loop-piece-preserved c =
 
 pub invariant_of-result : goal.invariant_of-result
 invariant_of-result c = record {
-  first_short = subst (λ first. length first ≤ PIECE) (sym c.in_ok-first.ensures.ok) c.split_piece.ensures.short;
+  first_short = subst (λ first. length first ≤ PIECE) (sym c.in_ok-first.ensures) c.split_piece.ensures.short;
   others_short = c.loop-piece.invariant.none_long;
   counted = ap length (sym (all-cut c.in_ok-first.first c.split_piece.result.0.now c.loop-piece.others.items
-      c.loop-piece.rest.now c.split_piece.result.1.now c.args.entries.now c.in_ok-first.ensures.ok
+      c.loop-piece.rest.now c.split_piece.result.1.now c.args.entries.now c.in_ok-first.ensures
       c.loop-piece.invariant.entries c.in_default.ensures c.split_piece.ensures.whole));
 }
 
-pub returns-clause-ok : goal.returns-clause-ok
-returns-clause-ok c =
+pub returns : goal.returns
+returns c =
     all-cut c.in_ok-first.first c.split_piece.result.0.now c.loop-piece.others.items c.loop-piece.rest.now
-    c.split_piece.result.1.now c.args.entries.now c.in_ok-first.ensures.ok c.loop-piece.invariant.entries
+    c.split_piece.result.1.now c.args.entries.now c.in_ok-first.ensures c.loop-piece.invariant.entries
     c.in_default.ensures c.split_piece.ensures.whole

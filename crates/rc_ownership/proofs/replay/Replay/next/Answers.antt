@@ -11,7 +11,7 @@ returns-then-self-count-clause-first c =
     let within : c.self.inside.row < length c.self.inside.rows.items = grind (arith, common_steps) in
     let at : IsRowAt c.self.inside.rows.items c.self.inside.row c.self.inside.place c.in-Some.row.now =
     record { within = within; is = c.in-Some.ensures.lookup; place_now = c.self.invariant.place_now } in
-    c.in_ok-entry.ensures.ok
+    c.in_ok-entry.ensures
     ∙ first_waiting c.self.inside.rows.items c.self.inside.row c.self.inside.place c.in-Some.row.now at
     ∙ ap (λ waiting. slice_get waiting.entries 0) c.self.view_is
 
@@ -36,7 +36,7 @@ returns-clause-first c =
     let within : c.self.inside.row < length c.self.inside.rows.items = grind (arith, common_steps) in
     let at : IsRowAt c.self.inside.rows.items c.self.inside.row c.self.inside.place c.in-Some.row.now =
     record { within = within; is = c.in-Some.ensures.lookup; place_now = c.self.invariant.place_now } in
-    c.in_ok-entry.ensures.ok
+    c.in_ok-entry.ensures
     ∙ first_waiting c.self.inside.rows.items c.self.inside.row c.self.inside.place c.in-Some.row.now at
     ∙ ap (λ waiting. slice_get waiting.entries 0) c.self.view_is
 

@@ -3,17 +3,17 @@ use Rattle.std.proofs.lemmas.Result.{IfOk-weaker}
 use Rattle.rc_replica.proofs.HeldLemmas.{fetched-lookup}
 use Rattle.rc_replica.proofs.held.Held.data.Goals as goal
 
-pub returns-in-Some-clause-ok : goal.returns-in-Some-clause-ok
-returns-in-Some-clause-ok c =
+pub returns-in-Some : goal.returns-in-Some
+returns-in-Some c =
     let h = c.self.inside in
     let r = c.args.request.now in
     IfOk-weaker c.data.result _ _
     (λ answer. fetched-lookup c.args.self.now h.fenced h.replicas.entries h.freed.keys r.attempt r.seg r.len r.part
     (Some c.in-Some.replica.now) answer c.self.view_is c.if-not-self.false c.in-Some.ensures.value)
-    c.data.ensures.ok
+    c.data.ensures
 
-pub returns-in-None-clause-ok : goal.returns-in-None-clause-ok
-returns-in-None-clause-ok c =
+pub returns-in-None : goal.returns-in-None
+returns-in-None c =
     let h = c.self.inside in
     let r = c.args.request.now in
     fetched-lookup c.args.self.now h.fenced h.replicas.entries h.freed.keys r.attempt r.seg r.len r.part None None

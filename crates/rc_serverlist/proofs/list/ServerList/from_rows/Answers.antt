@@ -10,7 +10,7 @@ loop-id-preserved c =
     let rows : Rows = c.args.rows.now in
     let place : ℕ = c.loop-id.id-index in
     let no_row : ServerId × Bool = (record { index = 0; generation = 0 }, false) in
-    ap (λ l. first_rows l (drop (place + 1) rows)) c.in_ok-insert_if_unknown.ensures.ok
+    ap (λ l. first_rows l (drop (place + 1) rows)) c.in_ok-insert_if_unknown.ensures
     ∙ sym (first_rows-row before (drop (place + 1) rows) (get_or rows place no_row))
     ∙ sym (at_drop_more (λ l. first_rows before l) rows place no_row c.loop-id-test.true)
     ∙ c.loop-id.invariant

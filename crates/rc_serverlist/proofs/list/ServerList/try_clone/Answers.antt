@@ -4,8 +4,8 @@ use Rattle.indexmap.specs.IndexMap.{insert_all}
 use Rattle.rc_serverlist.proofs.RowLemmas.{Rows, insert_all-rows}
 use Rattle.rc_serverlist.proofs.list.ServerList.try_clone.Goals as goal
 
-pub returns-clause-ok : goal.returns-clause-ok
-returns-clause-ok c =
+pub returns : goal.returns
+returns c =
     let all : c.in_ok-copy.copy.entries ≡ insert_all same_id [] c.self.inside.rows.entries = search rules in
     let same : c.in_ok-copy.copy.entries ≡ c.self.inside.rows.entries =
     all ∙ insert_all-rows c.self.inside.rows.entries c.iter.ensures.unique in

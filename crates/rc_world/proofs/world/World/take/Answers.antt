@@ -14,7 +14,7 @@ pub invariant_of-self-2 : goal.invariant_of-self-2
 invariant_of-self-2 g c =
     let few : length c.self.inside.events.items < MAX_EVENTS = omega arith in
     let pushed : c.push.new.self.items ≡ c.self.inside.events.items ++ c.args.event.now ∷ [] =
-    rw (c.push.ensures.items, c.unwrap.ensures, c.in_ok-reserve.ensures.items, c.in_ok-copy.ensures.copy) refl in
+    rw (c.push.ensures.items, c.unwrap.ensures, c.in_ok-reserve.ensures.items, c.in_ok-copy.ensures) refl in
     rw pushed
     (holds_on c.self.inside.nodes c.take.new.self c.self.inside.sent.items c.as_slice.result.now c.take.new.sent.items
     c.self.inside.events.items c.args.event.now

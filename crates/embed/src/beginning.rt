@@ -1,0 +1,28 @@
+//! How each node begins.
+
+ghost use Rattle.rc_world.specs.HostView.{IsWithinLimits};
+
+use rc_types::{NodeName, Seq, Setup};
+use rc_world::NodeState;
+use std::alloc::Global;
+
+/// The node before anything has happened. It takes no memory.
+pub(crate) fn begun(name: NodeName, alloc: Global) -> NodeState<Global> {
+    match name {
+        NodeName::Outside => NodeState::outside(alloc),
+        NodeName::Coordinator => NodeState::coordinator(alloc, alloc),
+        NodeName::Host(index) => NodeState::host(alloc, index, &setup(alloc)),
+    }
+}
+
+/// What all hosts are made with: small segments, so that heads roll, which are freed once they are dead.
+fn setup(alloc: Global) -> Setup
+    ensures { IsWithinLimits result }
+{
+    Setup {
+        factor: 2,
+        segment: 4,
+        free: true,
+        factors: Seq::new(alloc),
+    }
+}
